@@ -1,29 +1,20 @@
 -- The EUC-JP decoder holds back only what its machine may hold back, and its moves are the machine's.
-use Rattle.std.proofs.Common.{◌≡◌, ◌≢◌, ℕ, ◌+◌, ◌-◌, ◌*◌, ◌/◌, ◌%◌, ◌^◌, ◌<◌, List, [], ◌∷◌, length, get_or, true, false}
-use Rattle.std.proofs.Common.{◌==◌, refl, arith}
-use Rattle.std.proofs.lemmas.Bool.{cond_both}
-use Rattle.std.proofs.lemmas.Bool.Decides.{nat_tests}
-use Rattle.std.proofs.lemmas.List.{nil_from_length}
-use Rattle.std.proofs.lemmas.List.Elements.{All-nil, All-cons}
+use Rattle.std.proofs.Common.{◌≡◌, ◌≢◌, ℕ, ◌+◌, ◌-◌, ◌*◌, ◌/◌, ◌%◌, ◌^◌, ◌<◌, List, [], ◌∷◌, length, get_or, true, false, ◌==◌, refl, arith}
+use Rattle.std.proofs.lemmas.{Bool.cond_both, Bool.Decides.nat_tests, List.nil_from_length, List.Elements.All-nil, List.Elements.All-cons}
 use Rattle.std.specs.{Int.is_in_range, Char.IsScalar, Char.is_ascii}
-use Rattle.legacy_base.specs.EucJp.{euc_jp_scalars}
-use Rattle.legacy_tables.specs.AcceptedTables.{AcceptedIndexes}
-use Rattle.legacy_tables.specs.Unicode.{IsByte, AreBytes}
-use Rattle.legacy_base.specs.Fronts.{malformed}
-use Rattle.legacy_base.specs.Calls.{IsLoneFault}
-use Rattle.legacy_decoder_engine.specs.Steps.{finish}
-use Rattle.legacy_base.specs.Grammar.{Grammar, euc_jp, events_of}
+use Rattle.legacy_base.specs.{EucJp.euc_jp_scalars, Fronts.malformed, Calls.IsLoneFault, Grammar.Grammar, Grammar.euc_jp, Grammar.events_of}
 use Rattle.legacy_base.specs.States.{is_euc_jp_lead, euc_jp_may_hold, state_of}
+use Rattle.legacy_tables.specs.{AcceptedTables.AcceptedIndexes, Unicode.IsByte, Unicode.AreBytes}
+use Rattle.legacy_decoder_engine.specs.{Steps.finish, Moves.IsCovered, Moves.Feeds, Moves.Reports, Costs.IsNarrowIndex, Feeding.Took, Shown.IsShown}
+use Rattle.legacy_decoder_engine.specs.{Ahead.Runs, Ahead.HasAscii, Ahead.IsPair, LaneRows.row_place}
 use Rattle.legacy_tables.proofs.Accepted.{jis0208-below, jis0212-below, jis0208-scalars, length-jis0208}
-use Rattle.legacy_decoder_engine.specs.Moves.{IsCovered, Feeds, Reports}
-use Rattle.legacy_decoder_engine.specs.{declared.moves.Fed.Fed, Costs.IsNarrowIndex, Feeding.Took, Shown.IsShown, Ahead.Runs, Ahead.HasAscii, Ahead.IsPair}
-use Rattle.legacy_decoder_engine.specs.{LaneRows.row_place}
-use Rattle.legacy_decoder_engine.proofs.Feeding as moves
+use Rattle.legacy_decoder_engine.specs.declared.moves.Fed.{Fed}
 use Rattle.legacy_decoder_engine.proofs.{RunForms.pair_runs, RunForms.has_ascii, RunForms.ascii_is, Widths.idx_below, LanePlaces.entry_is}
-use Rattle.legacy_japanese.specs.declared.euc_jp.{decoder.Held.Held, lead.EucJpLead.EucJpLead}
 use Rattle.legacy_japanese.specs.declared.euc_jp.decoder.Held.TheVariants.{Nothing, Katakana, Jis0212, Lead, Jis0212Lead}
+use Rattle.legacy_japanese.specs.declared.euc_jp.{decoder.Held.Held, lead.EucJpLead.EucJpLead}
 use Rattle.legacy_japanese.specs.{EucJpHeld.held_bytes, EucJpMachine.euc_jp_first, EucJpMachine.euc_jp_step, EucJpMachine.euc_jp_machine}
 use Rattle.legacy_japanese.proofs.EucJpShown.{euc_jp_shown}
+use Rattle.legacy_decoder_engine.proofs.Feeding as moves
 
 of_lead : (lead : EucJpLead) → (is_euc_jp_lead lead.byte ≡ true) × ((lead.byte == 0x8E) ≡ false) × ((lead.byte == 0x8F) ≡ false) × (lead.byte < 2 ^ 8)
 of_lead lead = grind (arith, nat_tests)

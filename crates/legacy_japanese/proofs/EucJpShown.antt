@@ -1,24 +1,20 @@
 -- The steps of EUC-JP agree with its grammar.
-use Rattle.std.proofs.Common.{◌≡◌, ℕ, ◌+◌, ◌-◌, ◌*◌, ◌≤◌, List, [], ◌∷◌, length, Bool, true, false, cond, refl, inl, ◌∙◌, ◌||◌, ◌==◌, arith}
+use Rattle.std.proofs.Common.{◌≡◌, ℕ, ◌+◌, ◌-◌, ◌*◌, ◌≤◌, List, [], ◌∷◌, length, true, false, cond, refl, inl, ◌∙◌, ◌||◌, ◌==◌, arith}
 use Rattle.std.proofs.lemmas.Bool.{false≢true, eqb-true, and_parts, or_parts, ltb-true, cond_both}
 use Rattle.std.proofs.lemmas.Bool.Decides.{nat_tests}
 use Rattle.std.specs.{Int.is_in_range, Char.is_ascii}
-use Rattle.legacy_base.specs.Fronts.{malformed, reads_or, trail_rule, cut}
 use Rattle.legacy_base.specs.EucJp.{euc_jp_front, euc_jp_katakana, euc_jp_second, euc_jp_third, euc_jp_pair, euc_jp_scalars, euc_jp_weight}
-use Rattle.legacy_tables.specs.Unicode.{is_katakana_byte, katakana_of}
-use Rattle.legacy_base.specs.Grammar.{euc_jp, events_of}
-use Rattle.legacy_base.specs.{Acts.act_room, Acts.takes, Lengths.to_utf16}
+use Rattle.legacy_base.specs.Fronts.{malformed, reads_or, trail_rule, cut}
+use Rattle.legacy_base.specs.{Grammar.euc_jp, Grammar.events_of, Acts.act_room, Acts.takes, Lengths.to_utf16}
 use Rattle.legacy_base.specs.States.{is_euc_jp_lead, euc_jp_may_hold, state_of}
-use Rattle.legacy_base.proofs.Cuts.{cut-nil}
-use Rattle.legacy_base.proofs.FrontLaws.{euc_jp_front-of}
+use Rattle.legacy_tables.specs.Unicode.{is_katakana_byte, katakana_of}
+use Rattle.legacy_base.proofs.{Cuts.cut-nil, FrontLaws.euc_jp_front-of}
 use Rattle.legacy_decoder_engine.specs.Steps.{Step, end_events, trail_step, Meets}
 use Rattle.legacy_decoder_engine.specs.Costs.{units, IsWidth, IsNarrowIndex, Cost}
-use Rattle.legacy_decoder_engine.specs.Settling.{IsOneOrMarked, Settles}
-use Rattle.legacy_decoder_engine.specs.Shown.{IsShown}
+use Rattle.legacy_decoder_engine.specs.{Settling.IsOneOrMarked, Settling.Settles, Shown.IsShown}
 use Rattle.legacy_decoder_engine.proofs.FrontMoves.{Fits, fits_trail, fits_meets, end_meets, report_meets}
-use Rattle.legacy_decoder_engine.proofs.{CallUnderWay.same_rooms, Widths.narrow_idx_units}
 use Rattle.legacy_decoder_engine.proofs.RoomMoves.{first_room, held_room_is, HasCosts, IsSloped, sloped_rooms}
-use Rattle.legacy_decoder_engine.proofs.TwoByteCosts.{katakana_below}
+use Rattle.legacy_decoder_engine.proofs.{CallUnderWay.same_rooms, Widths.narrow_idx_units, TwoByteCosts.katakana_below}
 use Rattle.legacy_decoder_engine.proofs.SettledSteps.{one_option, trail_settles}
 use Rattle.legacy_japanese.specs.EucJpMachine.{euc_jp_first, euc_jp_second_step, euc_jp_step, euc_jp_machine}
 
@@ -64,7 +60,7 @@ module _ (jis0208 jis0212 : List ℕ) where
   front_pair : (b : ℕ) (rest : List ℕ) → (b == 0x8E) ≡ false → (b == 0x8F) ≡ false → is_euc_jp_lead b ≡ true →
       euc_jp_front jis0208 jis0212 b rest ≡ euc_jp_pair jis0208 b rest
   unfolding euc_jp_front
-  front_pair b rest e f l = let a : is_ascii b ≡ false = grind (arith, nat_tests) in rw (a, e, f, l)
+  front_pair b rest e f l = grind (arith, nat_tests)
 
   -- ---- each step
 
@@ -148,23 +144,20 @@ module _ (jis0208 jis0212 : List ℕ) where
   ev_is bytes = refl
 
   few_held : (held : List ℕ) → euc_jp_may_hold held ≡ true → length held ≤ 3
-  few_held (first ∷ lead ∷ c ∷ held) h = absurd (false≢true h)
-  few_held held h = omega arith
+  few_held held h = grind arith
 
   -- held-back bytes have a front at the end of the input
-  one_ends : (b : ℕ) → euc_jp_may_hold (b ∷ []) ≡ true → (e f : Bool) → (b == 0x8E) ≡ e → (b == 0x8F) ≡ f → euc_jp_front jis0208 jis0212 b [] ≡ malformed 1
+  one_ends : (b : ℕ) → euc_jp_may_hold (b ∷ []) ≡ true → euc_jp_front jis0208 jis0212 b [] ≡ malformed 1
   unfolding euc_jp_front euc_jp_katakana euc_jp_second euc_jp_pair
-  one_ends b h true f is_e is_f = rw (eqb-true b 0x8E is_e)
-  one_ends b h false true is_e is_f = rw (eqb-true b 0x8F is_f)
-  one_ends b h false false is_e is_f = front_pair b [] is_e is_f (rw (is_e, is_f) at h)
+  one_ends b h = grind (arith, nat_tests)
 
   two_end : (first lead : ℕ) → euc_jp_may_hold (first ∷ lead ∷ []) ≡ true → euc_jp_front jis0208 jis0212 first (lead ∷ []) ≡ malformed 2
   unfolding euc_jp_front euc_jp_second euc_jp_third
-  two_end first lead h = let p = and_parts (first == 0x8F) (is_euc_jp_lead lead) h in rw (eqb-true first 0x8F p.0, p.1)
+  two_end first lead h = grind (arith, nat_tests)
 
   all_end : (held : List ℕ) → euc_jp_may_hold held ≡ true → events_of (euc_jp jis0208 jis0212) held ≡ end_events held
   all_end [] h = ev_is [] ∙ cut-nil (euc_jp_front jis0208 jis0212)
-  all_end (b ∷ []) h = end_meets (euc_jp jis0208 jis0212) (euc_jp_front jis0208 jis0212) ev_is b [] (one_ends b h (b == 0x8E) (b == 0x8F) refl refl)
+  all_end (b ∷ []) h = end_meets (euc_jp jis0208 jis0212) (euc_jp_front jis0208 jis0212) ev_is b [] (one_ends b h)
   all_end (first ∷ lead ∷ []) h = end_meets (euc_jp jis0208 jis0212) (euc_jp_front jis0208 jis0212) ev_is first (lead ∷ []) (two_end first lead h)
   all_end (first ∷ lead ∷ c ∷ held) h = absurd (false≢true h)
 

@@ -1,49 +1,32 @@
 -- Writing a held-back scalar and ending the input, as the decoders' loop sees them.
-use Rattle.std.proofs.Common.{◌≡◌, ◌≢◌, ◌∙◌, ℕ, ◌++◌, ◌⊎◌, cond, Bool, true, false, Option, Some, None, List, [], ◌∷◌, inl, inr}
-use Rattle.std.proofs.Common.{length, refl, sym, ap, arith, append-nil}
 use Rattle.std.specs.Prelude.{◌==◌, is_some}
-use Rattle.std.proofs.lemmas.Bool.{cases_Bool, cond_both, eqb-true, or_cases}
 use Rattle.std.specs.Int.{is_in_range}
-use Rattle.legacy_base.specs.declared.results.DecodeEvent.{DecodeEvent, TheVariants.Scalar, TheVariants.Bad}
-use Rattle.legacy_base.specs.Beginnings.{BeginsWith}
-use Rattle.legacy_text.specs.EncodingForm.{unit_count}
-use Rattle.legacy_base.specs.{Events.shift, Grammar.iso_2022_jp, Grammar.events_of}
+use Rattle.std.proofs.Common.{◌≡◌, ◌≢◌, ◌∙◌, ℕ, ◌++◌, ◌⊎◌, cond, Bool, true, false, Option, Some, None, List, [], ◌∷◌, inl, inr, length, refl, sym, ap, arith}
+use Rattle.std.proofs.Common.{append-nil}
+use Rattle.std.proofs.lemmas.{Bool.cases_Bool, Bool.cond_both, Bool.Decides.nat_tests}
+use Rattle.legacy_base.specs.declared.results.{DecodeEvent.DecodeEvent, DecodeEvent.TheVariants.Scalar, DecodeEvent.TheVariants.Bad}
 use Rattle.legacy_base.specs.Fronts.{Front, reads, malformed, front_length, front_events}
-use Rattle.legacy_base.specs.Iso2022Jp as iso
 use Rattle.legacy_base.specs.Iso2022Jp.{esc, escape_mode, part_mode, iso_2022_jp_events}
-use Rattle.legacy_base.specs.Lengths.{query_form, replacement_units}
-use Rattle.legacy_base.specs.States.{is_escape_second, is_two_byte_mode, rests}
+use Rattle.legacy_base.specs.{Beginnings.BeginsWith, Events.shift, Grammar.iso_2022_jp, Grammar.events_of, Lengths.query_form, Lengths.replacement_units}
+use Rattle.legacy_base.specs.States.{is_two_byte_mode, rests}
+use Rattle.legacy_text.specs.EncodingForm.{unit_count}
 use Rattle.legacy_text.proofs.CodeUnits.{length-code_units-bmp}
-use Rattle.legacy_base.proofs.{Shifts.shift-shift, Iso2022JpParts.first_part}
 use Rattle.legacy_base.proofs.Iso2022JpFronts.{step_end, step_one, step_two, step_escape, step_no_escape}
-use Rattle.legacy_base.proofs.Beginnings.{no_sooner}
+use Rattle.legacy_base.proofs.{Shifts.shift-shift, Iso2022JpParts.first_part, Beginnings.no_sooner}
 use Rattle.legacy_decoder_engine.specs.Moves.{Releases, Reports}
-use Rattle.legacy_japanese.specs.declared.iso_2022_jp.steps.{Mode.Mode, Mode.TheVariants.TwoByte, Escape.Escape, Start.Start, Held.Held}
 use Rattle.legacy_japanese.specs.declared.iso_2022_jp.steps.Start.TheVariants.{Nothing, EscapeByte, Dollar, Paren}
+use Rattle.legacy_japanese.specs.declared.iso_2022_jp.{steps.Mode.Mode, steps.Mode.TheVariants.TwoByte, steps.Escape.Escape, steps.Start.Start, steps.Held.Held}
 use Rattle.legacy_japanese.specs.declared.iso_2022_jp.steps.Held.TheVariants.{Byte, Begun, Whole}
 use Rattle.legacy_japanese.specs.Iso2022JpMachine.{mode_meaning, bytes_of, finish, finish_start, is_held, is_resting, mode_of, pending, second_of, single}
 use Rattle.legacy_japanese.specs.Iso2022JpMachine.{start_bytes, third_of}
 use Rattle.legacy_japanese.specs.Iso2022JpMoves.{state_in, IsNarrowScalar}
-use Rattle.legacy_japanese.proofs.Iso2022JpLaw.{MeetsEnd, ended, events_in, front_in}
 use Rattle.legacy_japanese.proofs.Iso2022JpStep.{front-lone, front-single, front-trail, front_of, escape_alone, in_range_plain, valid}
-use Rattle.legacy_japanese.proofs.Iso2022JpHeld.{held_allowed, held_rests, finish_sound, EndsSound}
 use Rattle.legacy_japanese.proofs.Iso2022JpRooms.{same_rooms, room-falls, replacement_fits, times_one}
+use Rattle.legacy_japanese.proofs.Iso2022JpLaw.{MeetsEnd, ended, events_in, front_in}
+use Rattle.legacy_japanese.proofs.Iso2022JpHeld.{held_allowed, held_rests, finish_sound, EndsSound}
+use Rattle.legacy_base.specs.Iso2022Jp as iso
 
 -- ---- a byte that is held back alone
-
--- what holds for `24` and for `28` holds for the byte that is one of them
-by_second : (P : ℕ → Type 0) (b : ℕ) → is_escape_second b ≡ true → P 0x24 → P 0x28 → P b
-by_second P b h p q = elim (or_cases (b == 0x24) (b == 0x28) h) [ inl e ↦ rw (eqb-true b 0x24 e) p | inr e ↦ rw (eqb-true b 0x28 e) q ]
-
--- outside two-byte mode the byte is `24` or `28`, and has a scalar
-second_scalar : (mode : Mode) (b : ℕ) → is_held mode (Byte b) ≡ true → is_resting mode (Byte b) ≡ false → is_some (single mode b) ≡ true
-second_scalar TwoByte b held two = cc
-second_scalar mode b held two = by_second (λ b. is_some (single mode b) ≡ true) b held refl refl
-
--- the byte is not the escape byte
-byte_plain : (mode : Mode) (b : ℕ) → is_held mode (Byte b) ≡ true → (b == esc) ≡ false
-byte_plain TwoByte b h = in_range_plain b h
-byte_plain mode b h = by_second (λ b. (b == esc) ≡ false) b h refl refl
 
 module _ (jis0208 : List ℕ) where
   write_front : (mode : Mode) (b c : ℕ) (rest : List ℕ) → single mode b ≡ Some c → front_in jis0208 mode b rest ≡ reads 1 (c ∷ [])
@@ -54,11 +37,11 @@ module _ (jis0208 : List ℕ) where
   write_law : (mode : Mode) (b c : ℕ) (more : List ℕ) → is_held mode (Byte b) ≡ true → single mode b ≡ Some c
       → events_in jis0208 mode (b ∷ more) ≡ Scalar c ∷ shift 1 (events_in jis0208 mode more)
   write_law mode b c more held is =
-      step_one jis0208 (mode_meaning mode) b more (reads 1 (c ∷ [])) (byte_plain mode b held) (write_front mode b c (first_part more) is) refl
+      step_one jis0208 (mode_meaning mode) b more (reads 1 (c ∷ [])) (grind (arith, nat_tests)) (write_front mode b c (first_part more) is) refl
 
   -- so the byte has an event
   write_some : (mode : Mode) (b : ℕ) → is_held mode (Byte b) ≡ true → is_resting mode (Byte b) ≡ false → events_in jis0208 mode (b ∷ []) ≢ []
-  write_some mode b held two = by_option (single mode b) refl (second_scalar mode b held two)
+  write_some mode b held two = by_option (single mode b) refl (grind (arith, nat_tests))
     where
       by_option : (o : Option ℕ) → single mode b ≡ o → is_some o ≡ true → events_in jis0208 mode (b ∷ []) ≢ []
       by_option None e s n = cc
@@ -153,8 +136,7 @@ module _ (jis0208 : List ℕ) where
   -- if an escape byte after a whole escape is reported alone, the whole escape is not malformed
   whole_alone : (mode : Mode) (e : Escape) (items rest : List DecodeEvent) (o : Option iso.Mode) →
       cond (is_some o) (Bad 0 3 ∷ []) [] ++ items ≡ Bad 3 1 ∷ rest → o ≡ None
-  whole_alone mode e items rest None h = refl
-  whole_alone mode e items rest (Some next) h = cc
+  whole_alone mode e items rest o h = grind arith
 
   whole_end : (mode : Mode) (e : Escape) (rest more : List ℕ) → part_mode (esc ∷ rest) ≡ None
       → (more ≡ []) ⊎ BeginsWith (events_in jis0208 mode (esc ∷ second_of e ∷ third_of e ∷ esc ∷ rest ++ more)) (Bad 3 1 ∷ [])

@@ -1,31 +1,19 @@
 -- The runs of ISO-2022-JP before and after an escape.
 use Rattle.std.proofs.Common.{◌≡◌, ◌≢◌, ◌∙◌, ℕ, suc, ◌+◌, ◌-◌, ◌<◌, List, ◌∷◌, ◌++◌, length, map, take, drop, get_or, refl, sym, ap, subst, arith, append-nil}
 use Rattle.std.proofs.Common.{length-drop}
-use Rattle.std.proofs.lemmas.Bool.{ne_eqb}
-use Rattle.std.proofs.lemmas.List.{drop-drop}
 use Rattle.std.proofs.Math.Seq.{drop-cons, take-add}
+use Rattle.std.proofs.lemmas.{Grind.common_steps, Bool.ne_eqb, List.drop-drop}
 use Rattle.legacy_text.specs.declared.destination.Destination.{Ghosts}
 use Rattle.legacy_base.specs.declared.results.DecodeEvent.TheVariants.{Scalar}
 use Rattle.legacy_text.specs.EncodingForm.{all_code_units}
-use Rattle.legacy_base.specs.States.{DecoderState}
-use Rattle.legacy_base.specs.Events.{shift}
-use Rattle.legacy_base.specs.Grammar.{iso_2022_jp, events_of}
-use Rattle.legacy_base.specs.Iso2022Jp.{esc}
-use Rattle.legacy_base.proofs.Iso2022JpParts.{no_escape}
-use Rattle.legacy_base.proofs.Shifts.{shift-append, shift-shift, shift-scalars}
+use Rattle.legacy_base.specs.{States.DecoderState, Events.shift, Grammar.iso_2022_jp, Grammar.events_of, Iso2022Jp.esc}
+use Rattle.legacy_base.proofs.{Iso2022JpParts.no_escape, Shifts.shift-append, Shifts.shift-shift, Shifts.shift-scalars}
 use Rattle.legacy_decoder_engine.specs.Ahead.{RunsTo, Runs, ReadsTo, ReadsAhead}
-use Rattle.legacy_decoder_engine.proofs.AheadRuns.{reads_nothing}
-use Rattle.legacy_decoder_engine.proofs.JoinedRuns.{reads_then}
-use Rattle.legacy_decoder_engine.proofs.WrittenRuns.{rest_of}
-use Rattle.legacy_japanese.specs.declared.iso_2022_jp.steps.Mode.{Mode}
-use Rattle.legacy_japanese.specs.declared.iso_2022_jp.steps.Escape.{Escape}
-use Rattle.legacy_japanese.specs.declared.iso_2022_jp.steps.Start.TheVariants.{Nothing}
-use Rattle.legacy_japanese.specs.declared.iso_2022_jp.steps.Held.TheVariants.{Begun}
+use Rattle.legacy_decoder_engine.proofs.{AheadRuns.reads_nothing, JoinedRuns.reads_then, WrittenRuns.rest_of}
+use Rattle.legacy_japanese.specs.declared.iso_2022_jp.{steps.Mode.Mode, steps.Escape.Escape, steps.Start.TheVariants.Nothing, steps.Held.TheVariants.Begun}
 use Rattle.legacy_japanese.specs.Iso2022JpMachine.{mode_meaning, mode_of, second_of, third_of}
 use Rattle.legacy_japanese.specs.Iso2022JpRuns.{run_state, HasEscape}
-use Rattle.legacy_japanese.proofs.Iso2022JpRooms.{same_rooms, room-falls}
-use Rattle.legacy_japanese.proofs.Iso2022JpLaw.{events_in}
-use Rattle.legacy_japanese.proofs.Iso2022JpStep.{escape_alone}
+use Rattle.legacy_japanese.proofs.{Iso2022JpRooms.same_rooms, Iso2022JpRooms.room-falls, Iso2022JpLaw.events_in, Iso2022JpStep.escape_alone}
 
 -- an escape before a run of its mode; the run does not begin with an escape byte
 escape_runs : (jis0208 : List ℕ) (mode : Mode) (e : Escape) (x : ℕ) (bytes ds : List ℕ) → x ≢ esc →
@@ -51,9 +39,7 @@ escape_runs jis0208 mode e x bytes ds alone runs = record {
 
 -- the bytes of a run after three others, and those of an escape and the run after it
 run_bytes : (source : List ℕ) (read : ℕ) → 3 < length source → 0 < read → take read (drop 3 source) ≡ get_or source 3 0 ∷ take (read - 1) (drop 4 source)
-run_bytes source read within some =
-    let one_more : read ≡ suc (read - 1) = omega arith in
-    ap (λ bytes. take read bytes) (drop-cons source 3 0 within) ∙ ap (λ n. take n (get_or source 3 0 ∷ drop 4 source)) one_more
+run_bytes source read within some = grind (arith, common_steps, drop-cons source 3 0)
 
 escape_bytes : (e : Escape) (source : List ℕ) (read : ℕ) → HasEscape e source → 0 < read
     → take (3 + read) source ≡ esc ∷ second_of e ∷ third_of e ∷ get_or source 3 0 ∷ take (read - 1) (drop 4 source)

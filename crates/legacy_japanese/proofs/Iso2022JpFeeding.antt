@@ -1,36 +1,27 @@
 -- The machine's steps, as the decoders' loop sees them.
+use Rattle.std.specs.Prelude.{if◌then◌else◌}
+use Rattle.std.specs.Char.{IsScalar}
 use Rattle.std.proofs.Common.{◌≡◌, ◌≢◌, ◌∙◌, ℕ, ◌+◌, ◌*◌, ◌≤◌, true, All, None, List, [], ◌∷◌, ◌++◌, length, map, refl, sym, ap, arith, append-nil}
-use Rattle.std.specs.{Char.IsScalar, Prelude.if◌then◌else◌}
 use Rattle.std.proofs.lemmas.List.Elements.{All-cons, All-nil}
 use Rattle.legacy_base.specs.declared.results.DecodeEvent.TheVariants.{Scalar}
-use Rattle.legacy_base.specs.{Acts.HadRoom, States.rests}
+use Rattle.legacy_base.specs.{Acts.HadRoom, States.rests, Grammar.iso_2022_jp, Grammar.events_of, Lengths.LengthQuery, Lengths.query_form}
 use Rattle.legacy_text.specs.EncodingForm.{EncodingForm, bmp_room, total_unit_count}
-use Rattle.legacy_base.specs.Grammar.{iso_2022_jp, events_of}
-use Rattle.legacy_base.specs.Lengths.{LengthQuery, query_form}
 use Rattle.legacy_decoder_engine.specs.Moves.{fed_scalars, fed_fault, fed_units, unread_byte, FedHolds, Feeds}
-use Rattle.legacy_japanese.specs.declared.iso_2022_jp.steps.{Mode.Mode, Held.Held, Action.Action, Outcome.Outcome}
-use Rattle.legacy_japanese.specs.declared.iso_2022_jp.steps.Action.TheVariants.{Holds, Writes, Leaves}
-use Rattle.legacy_japanese.specs.Iso2022JpMachine.{mode_meaning, bytes_of, is_held, read}
+use Rattle.legacy_japanese.specs.declared.iso_2022_jp.{steps.Mode.Mode, steps.Held.Held, steps.Action.Action, steps.Outcome.Outcome}
+use Rattle.legacy_japanese.specs.declared.iso_2022_jp.steps.Action.TheVariants.{Holds, Writes}
 use Rattle.legacy_japanese.specs.Iso2022JpMoves.{state_in, is_left, move_events, rooms_of, fed_by, fed_of, IsNarrow}
-use Rattle.legacy_japanese.proofs.Iso2022JpLaw.{HasSizes, RestsAfter, done}
-use Rattle.legacy_japanese.proofs.Iso2022JpStep.{IsStep, read_step}
-use Rattle.legacy_japanese.proofs.Iso2022JpHeld.{held_allowed, held_rests}
+use Rattle.legacy_japanese.specs.Iso2022JpMachine.{mode_meaning, bytes_of, is_held, read}
 use Rattle.legacy_japanese.proofs.Iso2022JpRooms.{same_rooms, read_room-is, one_fits, room-falls, replacement_fits, times_one}
+use Rattle.legacy_japanese.proofs.{Iso2022JpLaw.HasSizes, Iso2022JpLaw.RestsAfter, Iso2022JpLaw.done, Iso2022JpStep.IsStep, Iso2022JpStep.read_step}
+use Rattle.legacy_japanese.proofs.Iso2022JpHeld.{held_allowed, held_rests}
 
 -- ---- a move, and what the loop gets from it
 
 events_are : (k : ℕ) (move : Action) (back : ℕ) → move_events k move ≡ map Scalar (fed_scalars (fed_by move back)) ++ fed_fault k (fed_by move back)
-events_are k Holds back = refl
-events_are k _ back = refl
+events_are k move back = grind arith
 
 left_is : (move : Action) (back b : ℕ) (more : List ℕ) → (if is_left move then b ∷ more else more) ≡ unread_byte b (fed_by move back) ++ more
-left_is Leaves back b more = refl
-left_is _ back b more = refl
-
--- the byte is either consumed or left unread
-left_counts : (move : Action) (back b : ℕ) → (if is_left move then 0 else 1) + length (unread_byte b (fed_by move back)) ≡ 1
-left_counts Leaves back b = refl
-left_counts _ back b = refl
+left_is move back b more = grind arith
 
 scalars_fit : (form : EncodingForm) (move : Action) (back : ℕ) → IsNarrow move → total_unit_count form (fed_scalars (fed_by move back)) ≤ bmp_room form
 scalars_fit form (Writes c) back h = one_fits form c (h.0)
@@ -85,7 +76,7 @@ feeds jis0208 mode held byte o may rest is narrow =
     let fits = sound.fits in
     let lower = sound.room in
     let back = length (bytes_of o.held) in
-    let counts = left_counts o.action back byte in
+    let counts : (if is_left o.action then 0 else 1) + length (unread_byte byte (fed_by o.action back)) ≡ 1 = grind arith in
     record {
       passed = done held o;
       progress = record {

@@ -1,33 +1,21 @@
 -- The decoder holds back a whole escape at once.
-use Rattle.std.proofs.Common.{◌≡◌, ℕ, ◌≤◌, List, [], ◌∷◌, take, refl, sym, subst}
+use Rattle.std.proofs.Common.{◌≡◌, ℕ, ◌≤◌, List, [], ◌∷◌, take, refl, sym, subst, arith}
 use Rattle.legacy_text.specs.EncodingForm.{EncodingForm, bmp_room}
 use Rattle.legacy_base.specs.Iso2022Jp.{esc}
 use Rattle.legacy_decoder_engine.specs.Moves.{HoldsBytes}
-use Rattle.legacy_japanese.specs.declared.iso_2022_jp.steps.{Mode.Mode, Escape.Escape, Start.Start, Held.Held}
-use Rattle.legacy_japanese.specs.declared.iso_2022_jp.steps.Escape.TheVariants.{ToAscii, ToJis1978, ToJis1983}
+use Rattle.legacy_japanese.specs.declared.iso_2022_jp.steps.Escape.TheVariants.{ToJis1978, ToJis1983}
 use Rattle.legacy_japanese.specs.declared.iso_2022_jp.steps.Start.TheVariants.{Nothing, EscapeByte, Dollar, Paren}
+use Rattle.legacy_japanese.specs.declared.iso_2022_jp.{steps.Mode.Mode, steps.Escape.Escape, steps.Start.Start, steps.Held.Held, steps.Action.TheVariants.Holds}
 use Rattle.legacy_japanese.specs.declared.iso_2022_jp.steps.Held.TheVariants.{Begun, Whole}
-use Rattle.legacy_japanese.specs.declared.iso_2022_jp.steps.Action.TheVariants.{Holds}
 use Rattle.legacy_japanese.specs.Iso2022JpMachine.{moves, read, second_of, third_of}
-use Rattle.legacy_japanese.specs.Iso2022JpMoves.{state_in}
-use Rattle.legacy_japanese.specs.Iso2022JpRuns.{run_state, HasEscape}
-use Rattle.legacy_japanese.proofs.Iso2022JpFeeding.{feeds}
-use Rattle.legacy_japanese.proofs.Iso2022JpHeld.{held_rests}
-use Rattle.legacy_japanese.proofs.Iso2022JpRooms.{read_room-is}
+use Rattle.legacy_japanese.specs.{Iso2022JpMoves.state_in, Iso2022JpRuns.run_state, Iso2022JpRuns.HasEscape}
+use Rattle.legacy_japanese.proofs.{Iso2022JpFeeding.feeds, Iso2022JpHeld.held_rests, Iso2022JpRooms.read_room-is}
 
 -- the start of an escape: its first two bytes
 abbrev second_start : Escape → Start
 second_start ToJis1978 = Dollar
 second_start ToJis1983 = Dollar
 second_start _ = Paren
-
-second_read : (jis0208 : List ℕ) (mode : Mode) (e : Escape) → moves Holds mode (Begun (second_start e)) ≡ read jis0208 mode (Begun EscapeByte) (second_of e)
-second_read jis0208 mode ToAscii = refl
-second_read jis0208 mode _ = refl
-
-third_read : (jis0208 : List ℕ) (mode : Mode) (e : Escape) → moves Holds mode (Whole e Nothing) ≡ read jis0208 mode (Begun (second_start e)) (third_of e)
-third_read jis0208 mode ToAscii = refl
-third_read jis0208 mode _ = refl
 
 module _ (form : EncodingForm) (free : ℕ) (enough : bmp_room form ≤ free) (jis0208 : List ℕ) (mode : Mode) where
   -- one byte is read and held back, after those already held back
@@ -46,8 +34,8 @@ module _ (form : EncodingForm) (free : ℕ) (enough : bmp_room form ≤ free) (j
   unfolding HoldsBytes
   holds_whole e =
       holds_byte Nothing esc (Begun EscapeByte) (second_of e ∷ third_of e ∷ []) (Whole e Nothing) refl
-      (holds_byte EscapeByte (second_of e) (Begun (second_start e)) (third_of e ∷ []) (Whole e Nothing) (second_read jis0208 mode e)
-      (holds_byte (second_start e) (third_of e) (Whole e Nothing) [] (Whole e Nothing) (third_read jis0208 mode e) refl))
+      (holds_byte EscapeByte (second_of e) (Begun (second_start e)) (third_of e ∷ []) (Whole e Nothing) (grind arith)
+      (holds_byte (second_start e) (third_of e) (Whole e Nothing) [] (Whole e Nothing) (grind arith) refl))
 
   -- the escape at the beginning of the source
   pub holds_escape : (e : Escape) (source : List ℕ) → HasEscape e source →

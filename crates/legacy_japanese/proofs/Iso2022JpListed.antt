@@ -1,14 +1,10 @@
 -- Writing a pair that is in the list.
 use Rattle.std.proofs.Common.{◌≡◌, ℕ, ◌/◌, ◌%◌, List, [], ◌∷◌, refl}
-use Rattle.legacy_base.specs.EncoderProfile.{EncoderMode, in_two_byte}
-use Rattle.legacy_base.specs.Iso2022Jp.{mode_behind}
-use Rattle.legacy_encoder_engine.specs.Moves.{Moves}
-use Rattle.legacy_encoder_engine.specs.UnitTurns.{ReadsUnit}
+use Rattle.legacy_base.specs.{EncoderProfile.EncoderMode, EncoderProfile.in_two_byte, Iso2022Jp.mode_behind}
+use Rattle.legacy_encoder_engine.specs.{Moves.Moves, UnitTurns.ReadsUnit}
 use Rattle.legacy_encoder_engine.specs.declared.moves.EncoderMove.TheVariants.{Two}
-use Rattle.legacy_japanese.specs.declared.iso_2022_jp.encoder.Mode.{Mode}
-use Rattle.legacy_japanese.specs.declared.iso_2022_jp.encoder.Mode.TheVariants.{TwoByte}
-use Rattle.legacy_japanese.specs.Iso2022JpEncoder.{Asks, state_in}
-use Rattle.legacy_japanese.specs.Iso2022JpPairs.{IsPairOf}
+use Rattle.legacy_japanese.specs.declared.iso_2022_jp.{encoder.Mode.Mode, encoder.Mode.TheVariants.TwoByte}
+use Rattle.legacy_japanese.specs.{Iso2022JpEncoder.Asks, Iso2022JpEncoder.state_in, Iso2022JpPairs.IsPairOf}
 use Rattle.legacy_japanese.proofs.Iso2022JpEncoderMoves.{reads}
 
 module _ (jis0208 katakana_index : List ℕ) where

@@ -3,16 +3,14 @@ use Rattle.std.proofs.Common.{◌≡◌, ℕ, ◌+◌, ◌*◌, ◌<◌, ◌≤�
 use Rattle.std.specs.Char.{is_ascii}
 use Rattle.legacy_base.specs.declared.results.DecodeEvent.{DecodeEvent}
 use Rattle.legacy_text.specs.EncodingForm.{EncodingForm, bmp_room, wide_room, code_units, total_unit_count}
-use Rattle.legacy_base.specs.Grammar.{iso_2022_jp, events_of}
-use Rattle.legacy_base.specs.States.{rests, is_empty}
 use Rattle.legacy_base.specs.Acts.{writes, act_at_end, act_at_rest, room_of_act}
 use Rattle.legacy_base.specs.Lengths.{LengthQuery, to_utf16, query_form, replacement_units, room}
+use Rattle.legacy_base.specs.{Grammar.iso_2022_jp, Grammar.events_of, States.rests, States.is_empty}
 use Rattle.legacy_text.proofs.CodeUnits.{length-code_units-bmp}
 use Rattle.legacy_base.proofs.Iso2022JpFronts.{step_end}
 use Rattle.legacy_decoder_engine.specs.Moves.{IsCovered, SameRooms, read_room}
-use Rattle.legacy_japanese.specs.declared.iso_2022_jp.steps.{Mode.Mode, Start.TheVariants.Nothing, Held.Held, Held.TheVariants.Begun}
-use Rattle.legacy_japanese.specs.Iso2022JpMachine.{mode_meaning, bytes_of}
-use Rattle.legacy_japanese.specs.Iso2022JpMoves.{state_in, weight_of}
+use Rattle.legacy_japanese.specs.declared.iso_2022_jp.{steps.Mode.Mode, steps.Start.TheVariants.Nothing, steps.Held.Held, steps.Held.TheVariants.Begun}
+use Rattle.legacy_japanese.specs.{Iso2022JpMachine.mode_meaning, Iso2022JpMachine.bytes_of, Iso2022JpMoves.state_in, Iso2022JpMoves.weight_of}
 use Rattle.legacy_decoder_engine.proofs.RoomMoves.{no_short_room}
 use Rattle.legacy_japanese.proofs.Iso2022JpHeld.{held_weight}
 
@@ -41,8 +39,7 @@ room-is _ jis0208 mode held n = rw (held_weight jis0208 mode held) refl
 
 falls : (query : LengthQuery) (x y r u : ℕ) → x + r ≤ y → u ≤ bmp_room (query_form query) * r →
     bmp_room (query_form query) * x + u ≤ bmp_room (query_form query) * y
-falls to_utf16 x y r u h k = omega arith
-falls _ x y r u h k = omega arith
+falls query x y r u h k = grind arith
 
 -- the room decreases by what is written, if the weight decreases by the number of scalars and reports
 pub room-falls : (query : LengthQuery) (jis0208 : List ℕ) (mode new_mode : Mode) (held new_held : Held) (n m r u : ℕ)
@@ -53,18 +50,15 @@ room-falls query jis0208 mode new_mode held new_held n m r u h k =
 
 -- the room of a malformed sequence
 pub replacement_fits : (query : LengthQuery) → replacement_units query ≤ bmp_room (query_form query) * 1
-replacement_fits to_utf16 = omega arith
-replacement_fits _ = omega arith
+replacement_fits query = grind arith
 
 pub times_one : (query : LengthQuery) (u : ℕ) → u ≤ bmp_room (query_form query) → u ≤ bmp_room (query_form query) * 1
-times_one to_utf16 u h = omega arith
-times_one _ u h = omega arith
+times_one query u h = grind arith
 
 -- ---- the room of the next act
 
 some_room : (query : LengthQuery) (x : ℕ) → 1 ≤ x → bmp_room (query_form query) ≤ bmp_room (query_form query) * x
-some_room to_utf16 x h = omega arith
-some_room _ x h = omega arith
+some_room query x h = grind arith
 
 module _ (query : LengthQuery) (jis0208 : List ℕ) (mode : Mode) where
   -- the room of the next act, by whether the held-back bytes rest

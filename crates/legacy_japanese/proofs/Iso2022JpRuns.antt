@@ -1,32 +1,23 @@
 -- The runs of ISO-2022-JP.
-use Rattle.std.proofs.Common.{inl, inr, ◌≡◌, ◌∙◌, ℕ, suc, ◌+◌, ◌-◌, ◌*◌, ◌<◌, ◌≤◌, true, Option, Some, None, List, [], ◌∷◌, ◌++◌, length}
-use Rattle.std.proofs.Common.{take, get_or, refl, sym, ap, subst, arith}
-use Rattle.std.specs.Prelude.{All, IsAscii, IfSome}
-use Rattle.std.proofs.lemmas.Bool.{cases_lt, ne_eqb}
-use Rattle.std.proofs.lemmas.Bool.Decides.{nat_tests}
-use Rattle.std.proofs.lemmas.List.{length-take, length-take-le, take-take, get_or-take}
-use Rattle.std.proofs.lemmas.List.Elements.{All-nil, All-cons, All-get_or}
-use Rattle.std.proofs.lemmas.Str.Ascii.{IsAscii-from_all}
-use Rattle.std.specs.Char.{IsScalar, is_ascii}
-use Rattle.std.specs.Int.{is_in_range}
+use Rattle.std.proofs.Common.{inl, inr, ◌≡◌, ◌∙◌, ℕ, suc, ◌+◌, ◌-◌, ◌*◌, ◌<◌, ◌≤◌, true, Option, Some, None, List, [], ◌∷◌, ◌++◌, length, take, get_or, refl}
+use Rattle.std.proofs.Common.{sym, ap, arith}
+use Rattle.std.specs.{Prelude.All, Prelude.IsAscii, Prelude.IfSome, Char.IsScalar, Char.is_ascii, Int.is_in_range}
+use Rattle.std.proofs.lemmas.{Bool.cases_lt, Bool.ne_eqb, Bool.Decides.nat_tests, List.length-take, List.length-take-le, List.get_or-take}
+use Rattle.std.proofs.lemmas.{List.Elements.All-nil, List.Elements.All-cons, List.Elements.All-from_get_or, Str.Ascii.IsAscii-from_all}
 use Rattle.legacy_text.specs.declared.destination.Destination.{Ghosts}
 use Rattle.legacy_text.specs.EncodingForm.{EncodingForm, code_units, total_unit_count}
-use Rattle.legacy_base.specs.Fronts.{reads}
-use Rattle.legacy_base.specs.Grammar.{iso_2022_jp, events_of}
-use Rattle.legacy_tables.specs.Indexes.{idx}
 use Rattle.legacy_base.specs.Iso2022Jp.{esc, ascii, two_byte, iso_2022_jp_front}
-use Rattle.legacy_base.specs.Lengths.{query_form}
+use Rattle.legacy_base.specs.{Fronts.reads, Grammar.iso_2022_jp, Grammar.events_of, Lengths.query_form}
+use Rattle.legacy_tables.specs.Indexes.{idx}
 use Rattle.legacy_base.proofs.Iso2022JpFronts.{step_one, step_two}
-use Rattle.legacy_japanese.specs.declared.iso_2022_jp.steps.Mode.TheVariants.{Ascii, TwoByte}
-use Rattle.legacy_japanese.specs.declared.iso_2022_jp.steps.Start.TheVariants.{Nothing}
+use Rattle.legacy_japanese.specs.declared.iso_2022_jp.{steps.Mode.TheVariants.Ascii, steps.Mode.TheVariants.TwoByte, steps.Start.TheVariants.Nothing}
 use Rattle.legacy_japanese.specs.declared.iso_2022_jp.steps.Held.TheVariants.{Begun}
 use Rattle.legacy_decoder_engine.specs.Ahead.{Runs, IsPair, ReadsAhead}
-use Rattle.legacy_japanese.specs.Iso2022JpMoves.{IsNarrowScalar}
-use Rattle.legacy_japanese.specs.Iso2022JpRuns.{IsPlain, run_state}
+use Rattle.legacy_japanese.specs.{Iso2022JpMoves.IsNarrowScalar, Iso2022JpRuns.ArePlain, Iso2022JpRuns.IsPlain, Iso2022JpRuns.run_state}
 use Rattle.legacy_japanese.specs.Jis0208Places.{jis_lead_place, jis_trail_place}
+use Rattle.legacy_decoder_engine.proofs.WrittenRuns.{runs_none, runs_more, code_units_ascii, all_code_units_ascii}
 use Rattle.legacy_decoder_engine.proofs.PairPlaces.{idx_past}
 use Rattle.legacy_japanese.proofs.Iso2022JpRooms.{same_rooms, one_fits, room-falls, times_one}
-use Rattle.legacy_decoder_engine.proofs.WrittenRuns.{runs_none, runs_more, code_units_ascii, all_code_units_ascii}
 
 -- ---- a plain byte
 
@@ -88,30 +79,26 @@ placed_scalar jis0208 short a b found is narrow = elim (cases_lt (jis_lead_place
 -- ---- a run of plain bytes
 
 -- a front of a front
-pub plain_front : (source : List ℕ) (n count : ℕ) → count ≤ length (take n source) → All IsPlain (take count (take n source)) →
-    (count ≤ length source) × (count ≤ n) × All IsPlain (take count source)
+pub plain_front : (source : List ℕ) (n count : ℕ) → count ≤ length (take n source) → ArePlain (take n source) count →
+    (count ≤ length source) × (count ≤ n) × ArePlain source count
 plain_front source n count within plain =
-    let l = length-take n source in let le : count ≤ n = omega arith in (omega arith, le, rw (take-take count n source le) at plain)
-
-plain_at : (source : List ℕ) (count at : ℕ) → count ≤ length source → All IsPlain (take count source) → at < count → IsPlain (get_or source at 0)
-plain_at source count at within plain h =
-    let l : length (take count source) ≡ count = length-take-le count source within in
-    subst IsPlain (get_or-take count source at 0 h) (All-get_or IsPlain (take count source) at 0 (omega arith) plain)
+    let l = length-take n source in (omega arith, omega arith, λ k h. rw (get_or-take n source k 0 (omega arith)) at (plain k h))
 
 -- the code units of a run, one for each byte
-pub plain_units : (form : EncodingForm) (source : List ℕ) (count at : ℕ) → count ≤ length source → All IsPlain (take count source) → at < count
+pub plain_units : (form : EncodingForm) (source : List ℕ) (count at : ℕ) → count ≤ length source → ArePlain source count → at < count
     → code_units form (get_or source at 0) ≡ get_or source at 0 ∷ []
-plain_units form source count at within plain h = code_units_ascii form (get_or source at 0) ((plain_at source count at within plain h).0)
+plain_units form source count at within plain h = code_units_ascii form (get_or source at 0) ((plain at h).0)
 
 are_ascii : (bytes : List ℕ) → All IsPlain bytes → IsAscii bytes
 are_ascii bytes h = IsAscii-from_all bytes (λ i d l. (h i d l).0)
 
-pub reads_plain : {D : Type 0} (T : Ghosts D) (jis0208 source : List ℕ) (old new : D) (count : ℕ) → count ≤ length source → All IsPlain (take count source)
+pub reads_plain : {D : Type 0} (T : Ghosts D) (jis0208 source : List ℕ) (old new : D) (count : ℕ) → count ≤ length source → ArePlain source count
     → T.contents new ≡ T.contents old ++ take count source → T.room new + count ≡ T.room old → T.loan new ≡ T.loan old → (0 < count → count + 3 ≤ T.room old)
     → ReadsAhead T (run_state jis0208 Ascii) source count old new
 reads_plain T jis0208 source old new count within plain contents room loan enough =
     let l : length (take count source) ≡ count = length-take-le count source within in
-    let same = all_code_units_ascii T.form (take count source) (are_ascii (take count source) plain) in
+    let all = All-from_get_or IsPlain (take count source) 0 (λ k h. rw (get_or-take count source k 0 (omega arith)) (plain k (omega arith))) in
+    let same = all_code_units_ascii T.form (take count source) (are_ascii (take count source) all) in
     record {
       within = within;
       idle = λ h. refl;
@@ -120,7 +107,7 @@ reads_plain T jis0208 source old new count within plain contents room loan enoug
       rooms = same_rooms jis0208 Ascii Ascii;
       writes = record {
         scalars = take count source;
-        runs = plain_bytes jis0208 (take count source) plain;
+        runs = plain_bytes jis0208 (take count source) all;
         written = contents ∙ ap (λ units. T.contents old ++ units) (sym same);
         room = omega (arith, ap length same, l, room);
         loan = loan;

@@ -1,45 +1,38 @@
 -- Each step of the machine meets its law, and leaves only what may be held back.
-use Rattle.std.proofs.Common.{◌≡◌, ℕ, suc, ◌+◌, ◌-◌, ◌*◌, ◌≤◌, true, false, leb, Option, Some, None}
-use Rattle.std.proofs.Common.{List, [], ◌∷◌, ◌++◌, length, refl, sym, ap, ◌∙◌, append_assoc, length-append, arith, lit≤}
 use Rattle.std.specs.Prelude.{◌==◌, if◌then◌else◌, option_to_list}
 use Rattle.std.specs.Int.{is_in_range}
+use Rattle.std.proofs.Common.{◌≡◌, ℕ, suc, ◌+◌, ◌-◌, ◌*◌, ◌≤◌, true, false, leb, Option, Some, None, List, [], ◌∷◌, ◌++◌, length, refl, sym, ap, ◌∙◌}
+use Rattle.std.proofs.Common.{append_assoc, length-append, arith, lit≤}
 use Rattle.std.proofs.lemmas.Bool.{eqb-true, ne_eqb, leb-true, and_parts, cond_both}
+use Rattle.std.proofs.lemmas.Bool.Decides.{nat_tests}
 use Rattle.legacy_base.specs.declared.results.DecodeEvent.TheVariants.{Bad}
+use Rattle.legacy_base.specs.Fronts.{Front, reads, malformed, reads_or}
+use Rattle.legacy_base.specs.Iso2022Jp.{esc, escape_mode, part_mode, iso_2022_jp_front}
 use Rattle.legacy_base.specs.{Events.shift, States.is_two_byte_mode}
 use Rattle.legacy_tables.specs.Indexes.{idx}
-use Rattle.legacy_base.specs.Fronts.{Front, reads, malformed, reads_or}
-use Rattle.legacy_base.specs.Iso2022Jp as iso
-use Rattle.legacy_base.specs.Iso2022Jp.{esc, escape_mode, part_mode, iso_2022_jp_front}
-use Rattle.legacy_base.proofs.Shifts.{shift-append, shift-shift, shift-zero}
-use Rattle.legacy_base.proofs.Iso2022JpParts.{first_part, no_escape}
 use Rattle.legacy_base.proofs.Iso2022JpFronts.{step_one, step_two, step_no_escape, step_escape, escape_ahead}
-use Rattle.legacy_japanese.specs.declared.iso_2022_jp.steps.{Mode.Mode, Escape.Escape, Escape.TheVariants.ToAscii, Start.Start, Held.Held, Action.Action}
-use Rattle.legacy_japanese.specs.declared.iso_2022_jp.steps.{Outcome.Outcome}
-use Rattle.legacy_japanese.specs.declared.iso_2022_jp.steps.Mode.TheVariants.{TwoByte}
+use Rattle.legacy_base.proofs.{Shifts.shift-append, Shifts.shift-shift, Shifts.shift-zero, Iso2022JpParts.first_part, Iso2022JpParts.no_escape}
 use Rattle.legacy_japanese.specs.declared.iso_2022_jp.steps.Start.TheVariants.{Nothing, EscapeByte, Dollar, Paren}
-use Rattle.legacy_japanese.specs.declared.iso_2022_jp.steps.Held.TheVariants.{Byte, Begun, Whole}
 use Rattle.legacy_japanese.specs.declared.iso_2022_jp.steps.Action.TheVariants.{Holds, Reports, Leaves}
+use Rattle.legacy_japanese.specs.declared.iso_2022_jp.{steps.Mode.Mode, steps.Escape.Escape, steps.Start.Start, steps.Held.Held, steps.Action.Action}
+use Rattle.legacy_japanese.specs.declared.iso_2022_jp.{steps.Outcome.Outcome, steps.Mode.TheVariants.TwoByte}
+use Rattle.legacy_japanese.specs.declared.iso_2022_jp.steps.Held.TheVariants.{Byte, Begun, Whole}
 use Rattle.legacy_japanese.specs.Iso2022JpMachine.{mode_meaning, bytes_of, completes, is_held, is_resting, mode_of, moves, read, read_next_third, read_pair}
-use Rattle.legacy_japanese.specs.Iso2022JpMachine.{read_plain}
-use Rattle.legacy_japanese.specs.Iso2022JpMachine.{read_single, read_start, read_third, read_trail, read_whole, second_of, single, start_bytes, third_of}
-use Rattle.legacy_japanese.specs.Iso2022JpMoves.{is_left, move_events, weight_of}
+use Rattle.legacy_japanese.specs.Iso2022JpMachine.{read_plain, read_single, read_start, read_third, read_trail, read_whole, second_of, single, start_bytes}
+use Rattle.legacy_japanese.specs.Iso2022JpMachine.{third_of}
+use Rattle.legacy_japanese.specs.Iso2022JpMoves.{move_events, weight_of}
 use Rattle.legacy_japanese.proofs.Iso2022JpLaw.{HasSizes, MeetsLaw, Sound, done, events_in, front_in}
 
 pub valid : (e : Escape) → escape_mode (second_of e) (third_of e) ≡ Some (mode_meaning (mode_of e))
-valid ToAscii = refl
-valid _ = refl
+valid e = grind arith
 
 -- the second byte of an escape may be held back alone
 pub second_kept : (mode : Mode) → (is_held mode (Byte 0x24) ≡ true) × (is_held mode (Byte 0x28) ≡ true)
-second_kept TwoByte = (refl, refl)
-second_kept _ = (refl, refl)
+second_kept mode = grind arith
 
 -- the bytes of a pair are not escape bytes
 pub in_range_plain : (b : ℕ) → is_in_range 0x21 0x7E b ≡ true → (b == esc) ≡ false
 in_range_plain b h = let low = leb-true 0x21 b (and_parts (leb 0x21 b) (leb b 0x7E) h).0 in ne_eqb b esc (λ e. omega arith)
-
-three_done : (s l c : ℕ) → l ≤ s + c → suc (suc (suc s)) + c - l ≡ suc (suc (suc (s + c - l)))
-three_done s l c h = omega arith
 
 -- a move with three more bytes before it
 three_further : (k : ℕ) (move : Action) (held : List ℕ) → HasSizes k move held
@@ -79,11 +72,6 @@ module _ (jis0208 : List ℕ) where
       → events_in jis0208 mode (esc ∷ second_of e ∷ third_of e ∷ more) ≡ shift 3 (events_in jis0208 (mode_of e) more)
   escape_alone mode e more h = rw (step_escape jis0208 (mode_meaning mode) (mode_meaning (mode_of e)) (second_of e) (third_of e) more (valid e), h)
 
-  -- an escape is malformed if a valid escape follows directly
-  escape_again : (mode : Mode) (next : iso.Mode) (e : Escape) (more : List ℕ) → part_mode more ≡ Some next
-      → events_in jis0208 mode (esc ∷ second_of e ∷ third_of e ∷ more) ≡ Bad 0 3 ∷ shift 3 (events_in jis0208 (mode_of e) more)
-  escape_again mode next e more h = rw (step_escape jis0208 (mode_meaning mode) (mode_meaning (mode_of e)) (second_of e) (third_of e) more (valid e), h)
-
   -- a step after a whole escape is the step without it in its mode, if no valid escape follows directly
   behind_step : (mode : Mode) (e : Escape) (s : Start) (b : ℕ) (o : Outcome) → ((more : List ℕ) → part_mode (start_bytes s ++ b ∷ more) ≡ None)
       → IsStep (mode_of e) (Begun s) b o → IsStep mode (Whole e s) b o
@@ -92,8 +80,7 @@ module _ (jis0208 : List ℕ) where
       let sound = step.sound in
       let other = three_further k o.action (bytes_of o.held) sound.sizes in
       let more_done : 3 + k ≡ suc (suc (suc k)) = omega arith in
-      let further : done (Whole e s) o ≡ suc (suc (suc k)) = three_done (length (start_bytes s)) (length (bytes_of o.held)) (if is_left o.action then 0 else 1)
-      sound.fits in record {
+      let further : done (Whole e s) o ≡ suc (suc (suc k)) = omega (arith, sound.fits) in record {
         law = λ more.
             rw (further, escape_alone mode e (start_bytes s ++ b ∷ more) (alone more), step.law more, shift-append, other.0, shift-shift 3 k, more_done);
         sound = record {
@@ -183,8 +170,7 @@ module _ (jis0208 : List ℕ) where
   -- after an escape byte, another byte than `24` and `28` gives no valid escape
   no_second : (b : ℕ) (more : List ℕ) → (b == 0x24) ≡ false → (b == 0x28) ≡ false → part_mode (esc ∷ b ∷ more) ≡ None
   unfolding part_mode
-  no_second b [] h k = refl
-  no_second b (c ∷ more) h k = rw (h, k)
+  no_second b more h k = grind (arith, nat_tests)
 
   no_third : (a b : ℕ) (more : List ℕ) → escape_mode a b ≡ None → part_mode (esc ∷ a ∷ b ∷ more) ≡ None
   unfolding part_mode
@@ -219,8 +205,7 @@ module _ (jis0208 : List ℕ) where
       suffix = λ more. rw is;
       sizes = rw is (lit≤ tt, lit≤ tt, lit≤ tt, lit≤ tt);
       room = rw is (lit≤ tt);
-      fits =
-          rw is (lit≤ tt);
+      fits = rw is (lit≤ tt);
       rest = tt;
     };
   }
@@ -250,15 +235,18 @@ module _ (jis0208 : List ℕ) where
       → IsStep mode (Whole e s) b (moves (Reports 3) (mode_of e) (Whole next Nothing))
   again_step mode e next s a b is second third = rw (← third) (
       let bytes : start_bytes s ≡ esc ∷ second_of next ∷ [] = is ∙ ap (λ x. esc ∷ x ∷ []) (sym second) in record {
-        law = λ more. rw bytes (escape_again mode (mode_meaning (mode_of next)) e (esc ∷ second_of next ∷ third_of next ∷ more)
-            (escape_ahead (second_of next) (third_of next) (mode_meaning (mode_of next)) more (valid next)));
+        law = λ more. rw (
+          bytes,
+          step_escape jis0208 (mode_meaning mode) (mode_meaning (mode_of e)) (second_of e) (third_of e)
+              (esc ∷ second_of next ∷ third_of next ∷ more) (valid e),
+          escape_ahead (second_of next) (third_of next) (mode_meaning (mode_of next)) more (valid next),
+        );
         sound = record {
           kept = refl;
           suffix = λ more. rw bytes;
           sizes = rw bytes (lit≤ tt, lit≤ tt, lit≤ tt, lit≤ tt);
           room = rw bytes (lit≤ tt);
-          fits =
-              rw bytes (lit≤ tt);
+          fits = rw bytes (lit≤ tt);
           rest = tt;
         };
       })

@@ -13,12 +13,9 @@ pub mod Iso2022JpRuns
 pub mod Iso2022JpEncoderRooms
 pub mod Iso2022JpEncoderMoves
 pub mod Iso2022JpListed
-pub mod Iso2022JpWalk
 pub mod Iso2022JpPieces
 pub mod ShiftJisRuns
 pub mod ShiftJisPlaces
 pub mod ShiftJisLanes
 pub mod Jis0208Places
-pub mod AskedScalars
-pub mod ShiftJisWalk
-pub mod EucJpWalk
+pub mod PointerWalks

@@ -1,28 +1,19 @@
 -- Eight codes of Shift_JIS, lane by lane, and the pairs of those that have an entry.
 use Rattle.std.proofs.Common.{◌≡◌, ◌≢◌, ◌∙◌, ℕ, ◌+◌, ◌-◌, ◌*◌, ◌/◌, ◌%◌, ◌<◌, ◌≤◌, ◌||◌, ◌&&◌, ◌==◌, min, Bool, true, false, cond, leb, List, [], ◌∷◌, length}
 use Rattle.std.proofs.Common.{get_or, map, replicate, refl, sym, ap, arith, w16, Fits}
-use Rattle.std.proofs.lemmas.Bool.{agree_below_at}
-use Rattle.std.proofs.lemmas.Bool.Decides.{nat_tests}
-use Rattle.std.proofs.lemmas.Nat.{xor_mod}
-use Rattle.std.specs.Char.{IsScalar}
-use Rattle.std.specs.Int.{is_in_range}
-use Rattle.std.specs.Int.Bits.{bit_xor}
+use Rattle.std.proofs.lemmas.{Bool.agree_below_at, Bool.Decides.nat_tests, Nat.xor_mod}
+use Rattle.std.specs.{Char.IsScalar, Int.is_in_range, Int.Bits.bit_xor}
 use lib.Lanes.{Each1, zip2}
 use Rattle.legacy_text.proofs.UnitLanes.{of_eight}
 use Rattle.legacy_tables.specs.AcceptedTables.{AcceptedIndexes}
 use Rattle.legacy_tables.proofs.Accepted.{jis0208-scalars, length-jis0208}
-use Rattle.legacy_base.specs.Grammar.{shift_jis}
-use Rattle.legacy_base.specs.ShiftJis.{is_shift_jis_lead, shift_jis_scalars}
-use Rattle.legacy_decoder_engine.specs.Ahead.{HasAscii, IsPair}
-use Rattle.legacy_decoder_engine.specs.SplitRows.{lead_place_of, trail_place_of}
+use Rattle.legacy_base.specs.{Grammar.shift_jis, ShiftJis.is_shift_jis_lead, ShiftJis.shift_jis_scalars}
+use Rattle.legacy_decoder_engine.specs.{Ahead.HasAscii, Ahead.IsPair, SplitRows.lead_place_of, SplitRows.trail_place_of}
 use Rattle.legacy_decoder_engine.proofs.LanePlaces.{entry_is}
-use Rattle.legacy_decoder_engine.proofs.LeadHeld as held
-use Rattle.legacy_japanese.specs.ShiftJisLanes.{shift_jis_place}
-use Rattle.legacy_japanese.specs.ShiftJisMachine.{shift_jis_pair_scalars}
+use Rattle.legacy_japanese.specs.{ShiftJisLanes.shift_jis_place, ShiftJisMachine.shift_jis_pair_scalars, ShiftJisShown.shift_jis_codec}
 use Rattle.legacy_japanese.specs.ShiftJisPlaces.{shift_jis_lead_place, shift_jis_trail_place}
-use Rattle.legacy_japanese.specs.ShiftJisShown.{shift_jis_codec}
-use Rattle.legacy_japanese.proofs.ShiftJisPlaces.{shift_jis_entry}
-use Rattle.legacy_japanese.proofs.ShiftJisRuns.{pair_form}
+use Rattle.legacy_japanese.proofs.{ShiftJisPlaces.shift_jis_entry, ShiftJisRuns.pair_form}
+use Rattle.legacy_decoder_engine.proofs.LeadHeld as held
 
 -- ---- the places of a lead and a trail
 
@@ -69,9 +60,6 @@ changed_leads = of_eight (λ v. map (lead_place_of 0x21 0x2E 188) (zip2 bit_xor 
 
 -- ---- pairs
 
-not_private : (p : ℕ) → p ≤ 8835 → is_in_range 8836 10715 p ≡ false
-not_private p h = grind (arith, nat_tests)
-
 module _ (tables : AcceptedIndexes) where
   abbrev index : List ℕ
   index = tables.flat.jis0208
@@ -92,7 +80,7 @@ module _ (tables : AcceptedIndexes) where
       let place : min (changed_place lead + shift_jis_trail_place trail) 65535 ≡ p = rw (← lead_of code, ← trail_of code) refl in
       let is = placed _ _ (shift_jis_lead_place lead) p (lead_tests lead (omega arith)) (trail_tests trail (omega arith)) place below in
       let scalar : IsScalar c = jis0208-scalars tables.flat tables.accepted p 0 within in
-      let scalars : shift_jis_scalars index p ≡ c ∷ [] = rw (not_private p is.1) (entry_is c some) in
+      let scalars : shift_jis_scalars index p ≡ c ∷ [] = let low : is_in_range 8836 10715 p ≡ false = grind (arith, nat_tests, is.1) in rw low (entry_is c some) in
       let found : c ∷ [] ≡ cond (is_shift_jis_lead lead) (shift_jis_pair_scalars index lead trail) [] =
       sym scalars ∙ ap (shift_jis_scalars index) is.0 ∙ shift_jis_entry index (omega (arith, short)) lead trail in
       (scalar, pair_form tables lead trail c (omega arith) (omega arith) scalar found)

@@ -1,12 +1,10 @@
 -- The tables contain the places of leads and trails; index jis0208 is read at their sum.
 use Rattle.std.proofs.Common.{◌≡◌, ◌∙◌, ℕ, ◌+◌, ◌-◌, ◌*◌, ◌≤◌, List, [], length, Bool, false, cond, Some, None, refl, ap, arith}
 use Rattle.std.proofs.lemmas.Bool.Decides.{nat_tests}
-use Rattle.std.specs.Int.{is_in_range}
-use Rattle.std.specs.Option.{option_map_or}
+use Rattle.std.specs.{Int.is_in_range, Option.option_map_or}
 use Rattle.legacy_base.specs.ShiftJis.{is_shift_jis_lead, shift_jis_lead_part, shift_jis_scalars}
 use Rattle.legacy_decoder_engine.specs.Places.{IsTableOf}
-use Rattle.legacy_japanese.specs.ShiftJisPlaces.{shift_jis_lead_place, shift_jis_trail_place}
-use Rattle.legacy_japanese.specs.ShiftJisMachine.{shift_jis_pair_scalars}
+use Rattle.legacy_japanese.specs.{ShiftJisPlaces.shift_jis_lead_place, ShiftJisPlaces.shift_jis_trail_place, ShiftJisMachine.shift_jis_pair_scalars}
 use Rattle.legacy_japanese.specs.declared.shift_jis.places.TheConstants.{LEADS, TRAILS}
 use Rattle.legacy_decoder_engine.proofs.PairPlaces.{none_past, pair_entry}
 

@@ -1,17 +1,13 @@
 -- Byte sequences of Shift_JIS that give one scalar.
 use Rattle.std.proofs.Common.{◌≡◌, ◌≤◌, ◌<◌, ◌^◌, ◌+◌, ◌-◌, ◌==◌, ℕ, List, [], ◌∷◌, Option, Some, None, false, true, cond, refl, arith}
-use Rattle.std.proofs.lemmas.Bool.{cond_both}
-use Rattle.std.proofs.lemmas.Bool.Decides.{nat_tests}
+use Rattle.std.proofs.lemmas.{Bool.cond_both, Bool.Decides.nat_tests}
 use Rattle.std.specs.{Char.IsScalar, Char.is_ascii, Int.is_in_range, Option.option_map_or, Prelude.option_to_list}
-use Rattle.legacy_tables.specs.{AcceptedTables.AcceptedIndexes, Indexes.idx}
-use Rattle.legacy_base.specs.Grammar.{shift_jis}
-use Rattle.legacy_tables.specs.Unicode.{is_katakana_byte, katakana_of}
-use Rattle.legacy_base.specs.ShiftJis.{is_shift_jis_lead, shift_jis_pointer, shift_jis_scalars}
+use Rattle.legacy_tables.specs.{AcceptedTables.AcceptedIndexes, Indexes.idx, Unicode.is_katakana_byte, Unicode.katakana_of}
+use Rattle.legacy_base.specs.{Grammar.shift_jis, ShiftJis.is_shift_jis_lead, ShiftJis.shift_jis_pointer, ShiftJis.shift_jis_scalars}
 use Rattle.legacy_tables.proofs.Accepted.{jis0208-below}
 use Rattle.legacy_decoder_engine.specs.{Ahead.Runs, Costs.IsNarrowIndex}
 use Rattle.legacy_decoder_engine.proofs.{LeadHeld.pair, PairPlaces.found, RunForms.single_runs, Widths.idx_below}
-use Rattle.legacy_japanese.specs.ShiftJisMachine.{shift_jis_pair_scalars}
-use Rattle.legacy_japanese.specs.ShiftJisShown.{shift_jis_codec}
+use Rattle.legacy_japanese.specs.{ShiftJisMachine.shift_jis_pair_scalars, ShiftJisShown.shift_jis_codec}
 
 private_use_below : (p c : ℕ) → is_in_range 8836 10715 p ≡ true → (0xE000 + (p - 8836)) ∷ [] ≡ c ∷ [] → c < 0x1_0000
 private_use_below p c t e =
@@ -23,9 +19,6 @@ scalar_below : (jis0208 : List ℕ) (o : Option ℕ) (c : ℕ) → IsNarrowIndex
 scalar_below jis0208 None c narrow e = cc
 scalar_below jis0208 (Some p) c narrow e = cond_both (is_in_range 8836 10715 p) ((0xE000 + (p - 8836)) ∷ []) (option_to_list (idx jis0208 p))
     (λ scalars. scalars ≡ c ∷ [] → c < 0x1_0000) (private_use_below p c) (λ t. idx_below jis0208 p c narrow) e
-
-katakana_tests : (b : ℕ) → 0xA1 ≤ b → b ≤ 0xDF → (is_ascii b ≡ false) × ((b == 0x80) ≡ false) × (is_katakana_byte b ≡ true)
-katakana_tests b low high = grind (arith, nat_tests)
 
 module _ (tables : AcceptedIndexes) where
   -- a lead and a trail
@@ -42,6 +35,6 @@ module _ (tables : AcceptedIndexes) where
   -- half-width katakana
   pub katakana_form : (b c : ℕ) → 0xA1 ≤ b → b ≤ 0xDF → c ≡ katakana_of b → (c < 0x1_0000) × Runs (shift_jis tables.flat.jis0208) (b ∷ []) (c ∷ [])
   katakana_form b c low high e =
-      let tests = katakana_tests b low high in
+      let tests : (is_ascii b ≡ false) × ((b == 0x80) ≡ false) × (is_katakana_byte b ≡ true) = grind (arith, nat_tests) in
       let scalar : IsScalar c = grind (arith, nat_tests) in
       (omega arith, single_runs (shift_jis_codec.shown tables.flat tables.accepted) b c (omega arith) scalar refl (rw (tests.0, tests.1, tests.2, e) refl))

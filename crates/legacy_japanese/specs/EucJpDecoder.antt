@@ -1,6 +1,5 @@
 -- The state of the EUC-JP decoder between two calls.
-use Rattle.legacy_base.specs.Grammar.{euc_jp}
-use Rattle.legacy_base.specs.States.{DecoderState}
+use Rattle.legacy_base.specs.{Grammar.euc_jp, States.DecoderState}
 use Rattle.legacy_japanese.specs.declared.euc_jp.decoder.EucJpDecoder.{EucJpDecoder}
 use Rattle.legacy_japanese.specs.EucJpHeld.{held_bytes}
 

@@ -1,11 +1,8 @@
 -- The machine of the EUC-JP decoder, byte by byte.
-use Rattle.std.specs.Prelude.{ℕ, List, [], ◌∷◌, ◌||◌, ◌==◌, if◌then◌else◌}
+use Rattle.std.specs.Prelude.{◌∷◌, ◌||◌, ◌==◌, if◌then◌else◌, ℕ, List, []}
 use Rattle.std.specs.Char.{is_ascii}
-use Rattle.legacy_base.specs.Fronts.{reads, malformed}
+use Rattle.legacy_base.specs.{Fronts.reads, Fronts.malformed, EucJp.euc_jp_scalars, Grammar.euc_jp, States.is_euc_jp_lead}
 use Rattle.legacy_tables.specs.Unicode.{is_katakana_byte, katakana_of}
-use Rattle.legacy_base.specs.EucJp.{euc_jp_scalars}
-use Rattle.legacy_base.specs.Grammar.{euc_jp}
-use Rattle.legacy_base.specs.States.{is_euc_jp_lead}
 use Rattle.legacy_decoder_engine.specs.Steps.{Step, hold, finish, DecoderMachine, no_pending, trail_step}
 
 abbrev pub euc_jp_first : ℕ → Step

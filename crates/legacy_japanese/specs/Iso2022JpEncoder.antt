@@ -1,15 +1,14 @@
 -- The state of the ISO-2022-JP encoder between two calls, and its moves.
-use Rattle.std.specs.Prelude.{◌≡◌, ◌<◌, ℕ, List, [], ◌∷◌, Bool, true, false}
+use Rattle.std.specs.Prelude.{◌≡◌, ◌<◌, ℕ, List, [], ◌∷◌, length, slice_index, Bool, true, false}
 use Rattle.legacy_tables.specs.AcceptedTables.{AcceptedIndexes}
+use Rattle.legacy_base.specs.Iso2022Jp.{iso_2022_jp_code, iso_2022_jp_reported, is_mode_control, mode_behind}
 use Rattle.legacy_base.specs.EncoderProfile.{EncoderMode, in_ascii, in_roman, in_two_byte}
 use Rattle.legacy_base.specs.Encoders.{EncoderState, iso_2022_jp}
-use Rattle.legacy_base.specs.Iso2022Jp.{iso_2022_jp_code, iso_2022_jp_reported, is_mode_control, mode_behind}
 use Rattle.legacy_encoder_engine.specs.Moves.{IsCode}
 use Rattle.legacy_encoder_engine.specs.declared.moves.EncoderMove.{EncoderMove}
-use Rattle.legacy_encoder_engine.specs.declared.moves.EncoderMove.TheVariants as moves
-use Rattle.legacy_japanese.specs.declared.iso_2022_jp.encoder.Mode.{Mode}
 use Rattle.legacy_japanese.specs.declared.iso_2022_jp.encoder.Mode.TheVariants.{Ascii, Roman, TwoByte}
-use Rattle.legacy_japanese.specs.declared.iso_2022_jp.encoder.Iso2022JpEncoder.{Iso2022JpEncoder}
+use Rattle.legacy_japanese.specs.declared.iso_2022_jp.{encoder.Mode.Mode, encoder.Iso2022JpEncoder.Iso2022JpEncoder}
+use Rattle.legacy_encoder_engine.specs.declared.moves.EncoderMove.TheVariants as moves
 
 -- the mode of the profile
 abbrev pub mode_of : Mode → EncoderMode
@@ -56,6 +55,10 @@ escape_move TwoByte = moves.Escape 0x24 0x42
 pub record Asks (jis0208 katakana_index : List ℕ) (mode : Mode) (c : ℕ) (new : Mode) (move : EncoderMove) : Type 0 where
   pub mode_is : mode_behind jis0208 katakana_index (mode_of mode) (c ∷ []) ≡ mode_of new
   pub code_is : IsCode (iso_2022_jp_code jis0208 katakana_index c) (iso_2022_jp_reported c) move
+
+-- none of the bytes is a control that would switch modes
+abbrev pub HasNoControl : List ℕ → Type 0
+HasNoControl bytes = (k : ℕ) → k < length bytes → is_mode_control (slice_index bytes k) ≡ false
 
 -- in ASCII mode the scalar c is written as this byte, which is c
 abbrev pub IsOwnByte : ℕ → ℕ → Type 0

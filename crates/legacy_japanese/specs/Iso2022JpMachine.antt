@@ -1,23 +1,17 @@
 -- The machine of the ISO-2022-JP decoder, in small functions. It reads one byte at a time, and keeps a mode and the
 -- held-back bytes.
 use Rattle.std.specs.Prelude.{ℕ, ◌+◌, ◌-◌, ◌*◌, Bool, true, not, ◌==◌, ◌||◌, if◌then◌else◌, Option, Some, None, List, [], ◌∷◌}
-use Rattle.std.specs.Int.{is_in_range}
-use Rattle.std.specs.Char.{is_ascii}
+use Rattle.std.specs.{Int.is_in_range, Char.is_ascii}
 use Rattle.legacy_tables.specs.Indexes.{idx}
-use Rattle.legacy_base.specs.Iso2022Jp as iso
-use Rattle.legacy_base.specs.Iso2022Jp.{esc}
-use Rattle.legacy_base.specs.States.{is_iso_2022_jp_byte, is_two_byte_mode}
-use Rattle.legacy_japanese.specs.declared.iso_2022_jp.steps.Mode.{Mode}
+use Rattle.legacy_base.specs.{Iso2022Jp.esc, States.is_iso_2022_jp_byte, States.is_two_byte_mode}
 use Rattle.legacy_japanese.specs.declared.iso_2022_jp.steps.Mode.TheVariants.{Ascii, Roman, Katakana, TwoByte}
-use Rattle.legacy_japanese.specs.declared.iso_2022_jp.steps.Escape.{Escape}
 use Rattle.legacy_japanese.specs.declared.iso_2022_jp.steps.Escape.TheVariants.{ToAscii, ToRoman, ToKatakana, ToJis1978, ToJis1983}
-use Rattle.legacy_japanese.specs.declared.iso_2022_jp.steps.Start.{Start}
 use Rattle.legacy_japanese.specs.declared.iso_2022_jp.steps.Start.TheVariants.{Nothing, EscapeByte, Dollar, Paren}
-use Rattle.legacy_japanese.specs.declared.iso_2022_jp.steps.Held.{Held}
-use Rattle.legacy_japanese.specs.declared.iso_2022_jp.steps.Held.TheVariants.{Byte, Begun, Whole}
-use Rattle.legacy_japanese.specs.declared.iso_2022_jp.steps.Action.{Action}
 use Rattle.legacy_japanese.specs.declared.iso_2022_jp.steps.Action.TheVariants.{Holds, Writes, Reports, Leaves}
+use Rattle.legacy_japanese.specs.declared.iso_2022_jp.{steps.Mode.Mode, steps.Escape.Escape, steps.Start.Start, steps.Held.Held, steps.Action.Action}
+use Rattle.legacy_japanese.specs.declared.iso_2022_jp.steps.Held.TheVariants.{Byte, Begun, Whole}
 use Rattle.legacy_japanese.specs.declared.iso_2022_jp.steps.Outcome.{Outcome}
+use Rattle.legacy_base.specs.Iso2022Jp as iso
 
 -- the mode of the grammar
 abbrev pub mode_meaning : Mode → iso.Mode

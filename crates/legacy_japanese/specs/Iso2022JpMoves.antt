@@ -1,18 +1,12 @@
 -- The steps of the ISO-2022-JP decoder, as the decoders' loop sees them.
 use Rattle.std.specs.Prelude.{ℕ, ◌+◌, ◌-◌, ◌<◌, List, [], ◌∷◌, Bool, true, false, length}
 use Rattle.std.specs.Char.{IsScalar}
-use Rattle.legacy_base.specs.declared.results.DecodeEvent.{DecodeEvent}
-use Rattle.legacy_base.specs.declared.results.DecodeEvent.TheVariants.{Scalar, Bad}
-use Rattle.legacy_base.specs.Grammar.{iso_2022_jp}
-use Rattle.legacy_base.specs.States.{DecoderState}
-use Rattle.legacy_decoder_engine.specs.declared.moves.Fed.{Fed}
-use Rattle.legacy_decoder_engine.specs.declared.moves.Fed.TheVariants.{Nothing, One, Fault}
-use Rattle.legacy_japanese.specs.declared.iso_2022_jp.steps.Mode.{Mode}
-use Rattle.legacy_japanese.specs.declared.iso_2022_jp.steps.Held.{Held}
-use Rattle.legacy_japanese.specs.declared.iso_2022_jp.steps.Action.{Action}
+use Rattle.legacy_base.specs.declared.results.{DecodeEvent.DecodeEvent, DecodeEvent.TheVariants.Scalar, DecodeEvent.TheVariants.Bad}
+use Rattle.legacy_base.specs.{Grammar.iso_2022_jp, States.DecoderState}
+use Rattle.legacy_decoder_engine.specs.declared.moves.{Fed.Fed, Fed.TheVariants.Nothing, Fed.TheVariants.One, Fed.TheVariants.Fault}
 use Rattle.legacy_japanese.specs.declared.iso_2022_jp.steps.Action.TheVariants.{Holds, Writes, Reports, Leaves}
+use Rattle.legacy_japanese.specs.declared.iso_2022_jp.{steps.Mode.Mode, steps.Held.Held, steps.Action.Action, steps.Outcome.Outcome}
 use Rattle.legacy_japanese.specs.declared.iso_2022_jp.steps.Held.TheVariants.{Byte, Begun, Whole}
-use Rattle.legacy_japanese.specs.declared.iso_2022_jp.steps.Outcome.{Outcome}
 use Rattle.legacy_japanese.specs.Iso2022JpMachine.{mode_meaning, start_bytes, bytes_of}
 
 -- the state with this index, this mode and these held-back bytes

@@ -1,18 +1,16 @@
 -- The runs of the ISO-2022-JP decoder.
-use Rattle.std.specs.Prelude.{◌≡◌, ◌≢◌, ℕ, ◌<◌, List, [], ◌∷◌, length, take, get_or}
-use Rattle.legacy_base.specs.Grammar.{Grammar, iso_2022_jp}
-use Rattle.legacy_base.specs.Iso2022Jp.{esc, two_byte}
-use Rattle.legacy_base.specs.States.{DecoderState}
-use Rattle.legacy_japanese.specs.declared.iso_2022_jp.steps.Escape.{Escape}
-use Rattle.legacy_japanese.specs.declared.iso_2022_jp.steps.Mode.{Mode}
-use Rattle.legacy_japanese.specs.declared.iso_2022_jp.steps.Start.TheVariants.{Nothing}
-use Rattle.legacy_japanese.specs.declared.iso_2022_jp.steps.Held.TheVariants.{Begun}
-use Rattle.legacy_japanese.specs.Iso2022JpMachine.{second_of, third_of}
-use Rattle.legacy_japanese.specs.Iso2022JpMoves.{state_in}
+use Rattle.std.specs.Prelude.{◌≡◌, ◌≢◌, ℕ, ◌<◌, List, [], ◌∷◌, length, take, get_or, slice_index}
+use Rattle.legacy_base.specs.{Grammar.Grammar, Grammar.iso_2022_jp, Iso2022Jp.esc, Iso2022Jp.two_byte, States.DecoderState}
+use Rattle.legacy_japanese.specs.declared.iso_2022_jp.{steps.Escape.Escape, steps.Mode.Mode, steps.Start.TheVariants.Nothing, steps.Held.TheVariants.Begun}
+use Rattle.legacy_japanese.specs.{Iso2022JpMachine.second_of, Iso2022JpMachine.third_of, Iso2022JpMoves.state_in}
 
 -- an ASCII byte that is itself in ASCII mode, and not the escape byte
 abbrev pub IsPlain : ℕ → Type 0
 IsPlain b = (b < 0x80) × (b ≢ 0x0E) × (b ≢ 0x0F) × (b ≢ esc)
+
+-- the first n bytes are plain
+abbrev pub ArePlain : List ℕ → ℕ → Type 0
+ArePlain bytes n = (k : ℕ) → k < n → IsPlain (slice_index bytes k)
 
 -- a mode, with nothing held back
 abbrev pub run_state : List ℕ → Mode → DecoderState

@@ -1,6 +1,6 @@
 -- The place of a lead's row in its index, and of a trail in a row. A pair's pointer is their sum. A byte that is not a
 -- lead or not a trail has a place past the end of every index.
-use Rattle.std.specs.Prelude.{ℕ, ◌-◌, ◌*◌, if◌then◌else◌}
+use Rattle.std.specs.Prelude.{◌-◌, ◌*◌, if◌then◌else◌, ℕ}
 use Rattle.std.specs.Int.{is_in_range}
 
 -- the place of a lead in two-byte mode of ISO-2022-JP; a row has 94 entries

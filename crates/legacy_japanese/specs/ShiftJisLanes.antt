@@ -1,5 +1,5 @@
 -- The place of a code of Shift_JIS in index jis0208, as eight at once are looked up.
-use Rattle.std.specs.Prelude.{ℕ, ◌+◌, min}
+use Rattle.std.specs.Prelude.{◌+◌, ℕ, min}
 use Rattle.std.specs.Int.Bits.{bit_xor}
 use Rattle.legacy_decoder_engine.specs.SplitRows.{lead_place_of, trail_place_of}
 

@@ -1,10 +1,8 @@
 -- The first step of the Shift_JIS decoder, and the scalars of its pairs.
-use Rattle.std.specs.Prelude.{ℕ, List, [], ◌∷◌, ◌||◌, ◌==◌, if◌then◌else◌}
-use Rattle.std.specs.Option.{option_map_or}
-use Rattle.std.specs.Char.{is_ascii}
-use Rattle.legacy_base.specs.Fronts.{reads, malformed}
+use Rattle.std.specs.Prelude.{◌∷◌, ◌||◌, ◌==◌, if◌then◌else◌, ℕ, List, []}
+use Rattle.std.specs.{Option.option_map_or, Char.is_ascii}
+use Rattle.legacy_base.specs.{Fronts.reads, Fronts.malformed, ShiftJis.is_shift_jis_lead, ShiftJis.shift_jis_pointer, ShiftJis.shift_jis_scalars}
 use Rattle.legacy_tables.specs.Unicode.{is_katakana_byte, katakana_of}
-use Rattle.legacy_base.specs.ShiftJis.{is_shift_jis_lead, shift_jis_pointer, shift_jis_scalars}
 use Rattle.legacy_decoder_engine.specs.Steps.{Step, hold, finish}
 
 abbrev pub shift_jis_first : ℕ → Step

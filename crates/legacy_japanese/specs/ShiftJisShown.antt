@@ -1,26 +1,16 @@
 -- The steps of Shift_JIS agree with its grammar.
 use Rattle.std.proofs.Common.{◌≡◌, ℕ, ◌+◌, ◌-◌, ◌<◌, ◌≤◌, List, [], ◌∷◌, Option, Some, None, Bool, true, false, cond, refl, ◌||◌, ◌==◌, arith}
-use Rattle.std.proofs.lemmas.Bool.{or_parts}
-use Rattle.std.proofs.lemmas.Bool.Decides.{nat_tests}
-use Rattle.std.specs.Int.{is_in_range}
-use Rattle.std.specs.Option.{option_map_or}
-use Rattle.std.specs.Char.{is_ascii}
-use Rattle.legacy_base.specs.Fronts.{Front, reads, malformed}
-use Rattle.legacy_tables.specs.Unicode.{is_katakana_byte, katakana_of}
-use Rattle.legacy_tables.specs.Indexes.{idx}
+use Rattle.std.proofs.lemmas.{Bool.or_parts, Bool.Decides.nat_tests}
+use Rattle.std.specs.{Int.is_in_range, Option.option_map_or, Char.is_ascii}
 use Rattle.legacy_base.specs.ShiftJis.{shift_jis_front, shift_jis_pair, is_shift_jis_lead, shift_jis_scalars, shift_jis_pointer}
-use Rattle.legacy_base.specs.Grammar.{shift_jis}
-use Rattle.legacy_base.specs.Lengths.{to_utf16}
-use Rattle.legacy_decoder_engine.specs.Steps.{hold, finish}
-use Rattle.legacy_japanese.specs.ShiftJisMachine.{shift_jis_first, shift_jis_pair_scalars}
-use Rattle.legacy_decoder_engine.specs.Costs.{units, IsWidth, IsNarrowIndex}
-use Rattle.legacy_decoder_engine.specs.Settling.{IsOneOrMarked}
-use Rattle.legacy_decoder_engine.proofs.Widths.{narrow_idx_units}
-use Rattle.legacy_decoder_engine.proofs.SettledSteps.{one_test, one_option}
-use Rattle.legacy_decoder_engine.proofs.TwoByteMeets.{IsFirst, ascii, other, leads, fails, IsTwoByte, step_front, first_test, front_test}
-use Rattle.legacy_decoder_engine.proofs.TwoByteCosts.{units_test, katakana_below}
-use Rattle.legacy_decoder_engine.proofs.TwoByteShown.{HasTwoByteRooms, lead_codec}
+use Rattle.legacy_base.specs.{Fronts.Front, Fronts.reads, Fronts.malformed, Grammar.shift_jis, Lengths.to_utf16}
+use Rattle.legacy_tables.specs.{Unicode.is_katakana_byte, Unicode.katakana_of, Indexes.idx}
+use Rattle.legacy_decoder_engine.specs.{Steps.hold, Steps.finish, Costs.units, Costs.IsWidth, Costs.IsNarrowIndex, Settling.IsOneOrMarked}
 use Rattle.legacy_decoder_engine.specs.LeadCodecs.{IsLeadCodec}
+use Rattle.legacy_japanese.specs.ShiftJisMachine.{shift_jis_first, shift_jis_pair_scalars}
+use Rattle.legacy_decoder_engine.proofs.TwoByteMeets.{IsFirst, ascii, other, leads, fails, IsTwoByte, step_front, first_test, front_test}
+use Rattle.legacy_decoder_engine.proofs.{Widths.narrow_idx_units, SettledSteps.one_test, SettledSteps.one_option}
+use Rattle.legacy_decoder_engine.proofs.{TwoByteCosts.units_test, TwoByteCosts.katakana_below, TwoByteShown.HasTwoByteRooms, TwoByteShown.lead_codec}
 use Rattle.legacy_tables.proofs.Accepted.{jis0208-below}
 
 -- no ASCII byte is a lead
@@ -90,5 +80,6 @@ lead_byte_below : (b : ℕ) → is_shift_jis_lead b ≡ true → b < 0x100
 lead_byte_below b h = grind (arith, nat_tests)
 
 pub shift_jis_codec : IsLeadCodec (λ flat. shift_jis flat.jis0208) is_shift_jis_lead shift_jis_first (λ flat. shift_jis_pair_scalars flat.jis0208)
-shift_jis_codec = lead_codec (λ flat. shift_jis flat.jis0208) (λ flat. shift_jis_front flat.jis0208) is_shift_jis_lead shift_jis_first (λ flat. shift_jis_pair_scalars flat.jis0208)
-    (λ flat. is flat.jis0208) 6 first_is (λ flat accepted. rooms flat.jis0208 (jis0208-below flat accepted)) lead_byte_below
+shift_jis_codec =
+    lead_codec (λ flat. shift_jis flat.jis0208) (λ flat. shift_jis_front flat.jis0208) is_shift_jis_lead shift_jis_first
+    (λ flat. shift_jis_pair_scalars flat.jis0208) (λ flat. is flat.jis0208) 6 first_is (λ flat accepted. rooms flat.jis0208 (jis0208-below flat accepted)) lead_byte_below

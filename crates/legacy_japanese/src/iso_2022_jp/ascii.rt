@@ -1,8 +1,8 @@
 //! The codes of ISO-2022-JP's encoder in ASCII mode, which it copies by blocks.
-ghost use Rattle.std.specs.Prelude.{◌≡◌, ◌+◌, ◌<◌, ◌≤◌, ℕ, length, slice_index, true, false};
+ghost use Rattle.std.specs.Prelude.{◌≡◌, ◌+◌, ◌≤◌, length, true, false};
 ghost use Rattle.legacy_base.specs.Iso2022Jp.{is_mode_control};
 ghost use Rattle.legacy_encoder_engine.specs.UnderWay.{EncodesBy};
-ghost use Rattle.legacy_japanese.specs.Iso2022JpEncoder.{IsOwnByte, ascii_state};
+ghost use Rattle.legacy_japanese.specs.Iso2022JpEncoder.{HasNoControl, IsOwnByte, ascii_state};
 
 use legacy_base::Tables;
 use legacy_encoder_engine::ahead_codes::AheadCodes;
@@ -22,8 +22,7 @@ pub fn is_control(scalar: u32) -> bool
 /// Checks whether one of the bytes is a control that would switch modes.
 #[inline(always)]
 fn has_control(bytes: &[u8]) -> bool
-    ensures { result ≡ false → (k : ℕ) → k < length bytes.now →
-        is_mode_control (slice_index bytes.now k) ≡ false }
+    ensures { result ≡ false → HasNoControl bytes.now }
 {
     let mut found = false;
     let mut at = 0;
@@ -38,8 +37,7 @@ fn has_control(bytes: &[u8]) -> bool
 // A function of its own: inlined into a long one its loop would not be compiled to vectors.
 #[inline(never)]
 fn has_control_in_many(bytes: &[u8]) -> bool
-    ensures { result ≡ false → (k : ℕ) → k < length bytes.now →
-        is_mode_control (slice_index bytes.now k) ≡ false }
+    ensures { result ≡ false → HasNoControl bytes.now }
 {
     has_control(bytes)
 }
@@ -47,8 +45,7 @@ fn has_control_in_many(bytes: &[u8]) -> bool
 /// Does what `has_control` does, without a loop for a block of sixteen bytes.
 #[inline(always)]
 fn has_any_control(bytes: &[u8]) -> bool
-    ensures { result ≡ false → (k : ℕ) → k < length bytes.now →
-        is_mode_control (slice_index bytes.now k) ≡ false }
+    ensures { result ≡ false → HasNoControl bytes.now }
 {
     if bytes.len() == 16 {
         has_control(bytes)

@@ -1,5 +1,5 @@
 //! The encoder of ISO-2022-JP that reads pairs from a list, in memory that the user lends.
-ghost use Rattle.std.specs.Prelude.{◌≡◌, ◌≢◌, ◌<◌, ◌≤◌, length, true, MatchOption};
+ghost use Rattle.std.specs.Prelude.{◌≡◌, ◌≢◌, ◌<◌, ◌≤◌, length, MatchOption};
 ghost use Rattle.legacy_base.specs.Encoders.{is_pending};
 ghost use Rattle.legacy_japanese.specs.Iso2022JpEncoder.{Asks, iso_2022_jp_encoder_state, pairs_state};
 ghost use Rattle.legacy_japanese.specs.Iso2022JpPairs.{IsListedEntry, IsPairOf, ListsPairs};
@@ -84,16 +84,6 @@ impl ListedPairs<'_, '_> {
         self.pairs[code]
     }
 
-    /// Returns the pair of a UTF-16 code unit as one number, and whether it has one here.
-    #[inline(always)]
-    fn unit_pair(&self, unit: u16) -> (u16, bool)
-        ensures { result.1 ≡ true → IsPairOf self.now.tables.now.flat.jis0208
-            self.now.tables.now.flat.katakana unit result.0 }
-    {
-        let entry = self.pairs[usize::from(unit)];
-        (entry, entry != 0)
-    }
-
     /// Returns what the function `asked` returns, by the list if the scalar has a pair in it.
     #[inline]
     fn asked(&self, mode: Mode, c: char) -> (Mode, EncoderMove)
@@ -136,9 +126,10 @@ impl AheadCodes for ListedPairs<'_, '_> {
     }
 
     #[inline(always)]
+    #[tactic(auto, using(crate::proofs::Iso2022JpListed::reads_listed))]
     fn unit_bytes(&self, unit: u16) -> (u16, usize, bool) {
-        let (both, has_pair) = self.unit_pair(unit);
-        (both, 2, has_pair)
+        let both = self.pairs[usize::from(unit)];
+        (both, 2, both != 0)
     }
 }
 

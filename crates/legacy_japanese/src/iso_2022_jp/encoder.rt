@@ -5,7 +5,8 @@ ghost use Rattle.legacy_base.specs.Iso2022Jp.{iso_2022_jp_fold, iso_2022_jp_poin
 ghost use Rattle.legacy_base.specs.Iso2022Jp.{roman_or_ascii};
 ghost use Rattle.legacy_encoder_engine.specs.Moves.{Moves};
 ghost use Rattle.legacy_japanese.specs.Iso2022JpEncoder.{Asks, escape_move, is_same_mode};
-ghost use Rattle.legacy_japanese.specs.Iso2022JpEncoder.{mode_of, state_in};
+ghost use Rattle.legacy_japanese.specs.Iso2022JpEncoder.{iso_2022_jp_encoder_state, mode_of};
+ghost use Rattle.legacy_japanese.specs.Iso2022JpEncoder.{state_in};
 
 use crate::folds::minus_as_hyphen;
 use crate::iso_2022_jp::ascii::{AsciiCodes, is_control};
@@ -90,14 +91,6 @@ fn pointer<V: EncoderTables>(tables: &V, c: char) -> Option<usize>
     }
 }
 
-/// Checks whether the byte is another scalar in Roman mode.
-#[inline]
-fn is_special(scalar: u32) -> bool
-    ensures { result ≡ (scalar == 0x5C || scalar == 0x7E) }
-{
-    scalar == 0x5C || scalar == 0x7E
-}
-
 /// Returns the mode that a scalar needs after this one, and the move that reads it there.
 #[inline]
 pub fn asked<V: EncoderTables>(tables: &V, mode: Mode, c: char) -> (Mode, EncoderMove)
@@ -110,7 +103,8 @@ pub fn asked<V: EncoderTables>(tables: &V, mode: Mode, c: char) -> (Mode, Encode
         return (settled, EncoderMove::Unmappable('\u{FFFD}'));
     }
     if scalar < 0x80 {
-        if is_special(scalar) {
+        // In Roman mode these two bytes are other scalars.
+        if scalar == 0x5C || scalar == 0x7E {
             return (Mode::Ascii, EncoderMove::One(scalar as u8));
         }
         return (settled, EncoderMove::One(scalar as u8));
@@ -161,8 +155,6 @@ pub struct Iso2022JpEncoder<'a> {
 }
 
 impl<'a> Iso2022JpEncoder<'a> {
-    ghost use Rattle.legacy_japanese.specs.Iso2022JpEncoder.{iso_2022_jp_encoder_state};
-
     /// Returns an encoder before its first scalar, in ASCII mode.
     ///
     /// It looks scalars up in index jis0208 of the tables, and the half-width katakana U+FF61 to
@@ -191,8 +183,6 @@ impl<'a> Iso2022JpEncoder<'a> {
 }
 
 impl EncoderMoves for Iso2022JpEncoder<'_> {
-    ghost use Rattle.legacy_japanese.specs.Iso2022JpEncoder.{iso_2022_jp_encoder_state};
-
     ghost state = { iso_2022_jp_encoder_state };
 
     #[inline]
@@ -229,8 +219,6 @@ impl EncoderMoves for Iso2022JpEncoder<'_> {
 }
 
 impl AheadCodes for Iso2022JpEncoder<'_> {
-    ghost use Rattle.legacy_japanese.specs.Iso2022JpEncoder.{iso_2022_jp_encoder_state};
-
     ghost state = { iso_2022_jp_encoder_state };
 
     ghost room = { 3 };
@@ -255,8 +243,6 @@ impl AheadCodes for Iso2022JpEncoder<'_> {
 }
 
 impl RawEncoder for Iso2022JpEncoder<'_> {
-    ghost use Rattle.legacy_japanese.specs.Iso2022JpEncoder.{iso_2022_jp_encoder_state};
-
     ghost state = { iso_2022_jp_encoder_state };
 
     fn step<S: Source>(

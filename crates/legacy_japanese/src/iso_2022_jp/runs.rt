@@ -2,9 +2,9 @@
 //! escapes between them.
 // Functions that run for each sequence or block are always inlined, and so are their callers. A call would pass vectors
 // through memory, and keep the destination's place there.
-ghost use Rattle.std.specs.Prelude.{◌≡◌, ℕ, ◌+◌, ◌<◌, ◌≤◌, List, All, IfSome, length, take, true};
-ghost use Rattle.legacy_japanese.specs.Iso2022JpRuns.{IsPlain, run_state, pairs_grammar};
-ghost use Rattle.legacy_japanese.specs.Iso2022JpRuns.{HasEscape};
+ghost use Rattle.std.specs.Prelude.{◌≡◌, ℕ, ◌≤◌, List, IfSome, length, true};
+ghost use Rattle.legacy_japanese.specs.Iso2022JpRuns.{ArePlain, HasEscape, IsPlain};
+ghost use Rattle.legacy_japanese.specs.Iso2022JpRuns.{pairs_grammar, run_state};
 ghost use Rattle.legacy_decoder_engine.specs.Ahead.{ReadsTo, ReadsAhead};
 
 use super::places::{LEADS, TRAILS};
@@ -47,7 +47,7 @@ fn is_plain(byte: u8) -> bool
 #[inline(always)]
 fn are_plain(src: &[u8]) -> bool
     requires { 16 ≤ length src.now }
-    ensures { result ≡ true → All IsPlain (take 16 src.now) }
+    ensures { result ≡ true → ArePlain src.now 16 }
 {
     let mut hold = true;
     let mut at = 0;
@@ -62,7 +62,7 @@ fn are_plain(src: &[u8]) -> bool
 #[inline]
 fn plain_blocks(src: &[u8]) -> usize
     ensures within { result ≤ length src.now }
-    ensures plain { All IsPlain (take result src.now) }
+    ensures plain { ArePlain src.now result }
 {
     let mut at = 0;
     while src.len() - at >= 16 && are_plain(&src[at..]) {
@@ -75,7 +75,7 @@ fn plain_blocks(src: &[u8]) -> usize
 #[inline]
 fn plain_count(src: &[u8]) -> usize
     ensures within { result ≤ length src.now }
-    ensures plain { All IsPlain (take result src.now) }
+    ensures plain { ArePlain src.now result }
 {
     let mut at = plain_blocks(src);
     while at < src.len() && is_plain(src[at]) {

@@ -1,5 +1,5 @@
 use Rattle.std.proofs.Common.{◌∙◌}
-use Rattle.legacy_japanese.proofs.Iso2022JpWalk.{walked-listed}
+use Rattle.legacy_japanese.proofs.PointerWalks.{walked-listed}
 use Rattle.legacy_japanese.proofs.iso_2022_jp.cached.list_pairs.Goals as goal
 
 pub returns : goal.returns

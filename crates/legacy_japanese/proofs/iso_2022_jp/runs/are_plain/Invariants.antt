@@ -1,10 +1,10 @@
-use Rattle.std.proofs.Common.{◌≡◌, ◌-◌, ◌≤◌, All, true, take}
-use Rattle.legacy_japanese.specs.Iso2022JpRuns.{IsPlain}
+use Rattle.std.proofs.Common.{◌≡◌, ◌-◌, ◌≤◌, true}
+use Rattle.legacy_japanese.specs.Iso2022JpRuns.{ArePlain}
 use Rattle.legacy_japanese.proofs.iso_2022_jp.runs.are_plain.Given as goal
 
 -- the bytes before `at` are plain if `hold` is true
 abbrev pub invariant-loop-at : goal.invariant-loop-at
-invariant-loop-at l = (l.at ≤ 16) × (l.hold ≡ true → All IsPlain (take l.at l.src))
+invariant-loop-at l = (l.at ≤ 16) × (l.hold ≡ true → ArePlain l.src l.at)
 
 abbrev pub decreases-loop-at : goal.decreases-loop-at
 decreases-loop-at l = 16 - l.at

@@ -1,0 +1,50 @@
+-- A walk over the pointers of index jis0208 lists the codes of the scalars that have the code of their pointer. The other
+-- scalars are looked up one by one.
+use Rattle.std.proofs.Common.{◌≡◌, ℕ, ◌+◌, ◌/◌, ◌<◌, Bool, cond, nat_lt, List, length, slice_index, refl, arith, option_map}
+use Rattle.std.proofs.lemmas.Bool.Decides.{nat_tests}
+use Rattle.legacy_tables.specs.{Indexes.FlatIndexes, TableChecks.AreAccepted, Walks.IsFilled, Pointers.euc_jp_pointer_of, Pointers.shift_jis_pointer_of}
+use Rattle.legacy_tables.specs.declared.tables.packed.PackedPart.TheVariants.{EucJpOrder, ShiftJisOrder}
+use Rattle.legacy_tables.proofs.{Accepted.jis0208-scalars, PointerBounds.euc-jp-bound, PointerBounds.shift-jis-bound}
+use Rattle.legacy_base.specs.{EucJp.euc_jp_code, EucJp.euc_jp_bytes, ShiftJis.shift_jis_code, ShiftJis.shift_jis_bytes}
+use Rattle.legacy_base.specs.{Iso2022Jp.iso_2022_jp_code, Iso2022Jp.iso_2022_jp_pair, Encoders.euc_jp, Encoders.shift_jis, Encoders.iso_2022_jp}
+use Rattle.legacy_encoder_engine.proofs.WalkedPairs.{GoesByPointers, by-pairs, halves, walked-right}
+use Rattle.legacy_japanese.specs.Iso2022JpPairs.{IsListedEntry, iso_2022_jp_mark, iso_2022_jp_mark-some}
+use Rattle.legacy_japanese.specs.{ByPointer.GoesByPointer, EucJpCodes.euc_jp_mark, EucJpCodes.euc_jp_mark-some}
+use Rattle.legacy_japanese.specs.ShiftJisCodes.{shift_jis_mark, shift_jis_mark-some}
+
+module _ (flat : FlatIndexes) (accepted : AreAccepted flat) where
+  euc-jp-code : (c : ℕ) → GoesByPointer c → euc_jp_code flat.jis0208 c ≡ option_map euc_jp_bytes (euc_jp_pointer_of flat.jis0208 c)
+  unfolding euc_jp_code
+  euc-jp-code c by = grind (arith, nat_tests, by.ascii, by.yen, by.overline, by.minus, by.katakana)
+
+  pub euc-jp-by-pointers : GoesByPointers (euc_jp flat.jis0208 flat.jis0212) EucJpOrder euc_jp_mark flat.jis0208 GoesByPointer
+  euc-jp-by-pointers = by-pairs _ _ _ _ GoesByPointer euc_jp_bytes 8836 (jis0208-scalars flat accepted) euc_jp_mark-some (λ c d. grind (arith, d.ascii))
+      (λ c. euc-jp-bound c flat.jis0208) (λ p h. halves (p / 94 + 0xA1) _ (omega arith)) euc-jp-code
+
+  shift-jis-code : (c : ℕ) → GoesByPointer c → shift_jis_code flat.jis0208 c ≡ option_map shift_jis_bytes (shift_jis_pointer_of flat.jis0208 c)
+  unfolding shift_jis_code
+  shift-jis-code c by = grind (arith, nat_tests, by.ascii, by.yen, by.overline, by.minus, by.katakana)
+
+  first-small : (t : Bool) (row : ℕ) → row < 60 → nat_lt row 0x1F ≡ t → row + cond t 0x81 0xC1 < 256
+  first-small t row h e = grind arith
+
+  pub shift-jis-by-pointers : GoesByPointers (shift_jis flat.jis0208) ShiftJisOrder shift_jis_mark flat.jis0208 GoesByPointer
+  shift-jis-by-pointers =
+      by-pairs _ _ _ _ GoesByPointer shift_jis_bytes 11280 (jis0208-scalars flat accepted) shift_jis_mark-some (λ c d. grind (arith, d.ascii))
+      (shift-jis-bound flat accepted) (λ p h. halves (p / 188 + _) _ (first-small (nat_lt (p / 188) 0x1F) (p / 188) (omega arith) refl)) shift-jis-code
+
+  iso-2022-jp-code : (c : ℕ) → GoesByPointer c → iso_2022_jp_code flat.jis0208 flat.katakana c ≡ option_map iso_2022_jp_pair (euc_jp_pointer_of flat.jis0208 c)
+  unfolding iso_2022_jp_code
+  iso-2022-jp-code c by = grind (arith, nat_tests, by.ascii, by.yen, by.overline, by.minus, by.katakana)
+
+  iso-2022-jp-by-pointers : GoesByPointers (iso_2022_jp flat.jis0208 flat.katakana) EucJpOrder iso_2022_jp_mark flat.jis0208 GoesByPointer
+  iso-2022-jp-by-pointers =
+      by-pairs _ _ _ _ GoesByPointer iso_2022_jp_pair 8836 (jis0208-scalars flat accepted) iso_2022_jp_mark-some (λ c d. grind (arith, d.ascii))
+      (λ c. euc-jp-bound c flat.jis0208) (λ p h. halves (p / 94 + 0x21) _ (omega arith)) iso-2022-jp-code
+
+  -- so the list is right for the scalars of the walk
+  pub walked-listed : (pairs : List ℕ) → length pairs ≡ 65536 → IsFilled EucJpOrder iso_2022_jp_mark flat.jis0208 pairs
+      → (c : ℕ) → c < 65536 → GoesByPointer c → IsListedEntry flat.jis0208 flat.katakana c (slice_index pairs c)
+  walked-listed pairs all filled c h d = λ n.
+      let told = (walked-right _ _ _ _ _ iso-2022-jp-by-pointers pairs all filled c h d).told n in
+      record { lone = told.0; pair = told.1.past (grind (arith, d.ascii)) }
