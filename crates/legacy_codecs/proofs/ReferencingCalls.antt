@@ -3,6 +3,7 @@ use Rattle.std.proofs.Common.{◌≡◌, ◌∙◌, ℕ, ◌+◌, ◌-◌, ◌�
 use Rattle.std.proofs.Common.{append-nil, length-append, Bool, true, false, ◌||◌, IsTrue, Some, inl, inr}
 use Rattle.std.specs.Prelude.{is_some}
 use Rattle.std.proofs.lemmas.Bool.{true≢false}
+use Rattle.std.proofs.lemmas.List.{nil_from_length}
 use Rattle.std.proofs.Math.Bool.{or-false, or-true}
 use Rattle.std.proofs.Math.Nat.{sub-zero}
 use Rattle.legacy_base.specs.declared.results.EncodeEvent.{EncodeEvent}
@@ -136,20 +137,6 @@ referencing_start before source last free = record {
   unfound = λ _ _. refl;
 }
 
--- if nothing was done, what lacked room still lacks it
-still_lacks : (before now : EncoderState) (source left bytes : List ℕ) (last : Bool) (free room : ℕ) → now ≡ before → left ≡ source → bytes ≡ [] →
-    room ≡ free - length bytes - reference_room → 0 < encoder_need before source last → LacksReferenceRoom before source last free →
-    EncoderLacksRoom now left last room
-still_lacks before now source left bytes last free room e f g h some lacks =
-    let need : encoder_need now left last ≡ encoder_need before source last = rw (e, f) refl in
-    let none : length bytes ≡ 0 = ap length g in
-    omega arith
-
--- nothing is written if there is no room
-none_written : (written : List ℕ) → length written ≤ 0 → written ≡ []
-none_written [] h = refl
-none_written (b ∷ written) h = absurd (omega arith)
-
 module _ {before : EncoderState} {source : List ℕ} {last : Bool} {free : ℕ} {now : EncoderState} {left bytes : List ℕ} {found : Bool}
     (u : IsReferencing before source last free now left bytes found) where
   -- the events after a call that wrote these bytes
@@ -161,7 +148,7 @@ module _ {before : EncoderState} {source : List ℕ} {last : Bool} {free : ℕ} 
 
   -- a result that reports nothing adds no bytes
   end_text : (written : List ℕ) (answer : EncoderResult) → reported_bytes answer ≡ [] → bytes ++ written ≡ referenced_bytes (out_after written answer)
-  end_text written answer e = ap (λ l. bytes ++ l) (sym (ap (λ l. written ++ l) e ∙ append-nil written)) ∙ text_after written answer
+  end_text written answer e = rw (e, append-nil written) at (text_after written answer)
 
   -- the reserve is kept after a call, if its bytes leave it free and its report keeps it
   reserve_after : (room : ℕ) → room ≡ free - length bytes - reference_room → (written : List ℕ) (answer : EncoderResult) → length written ≤ room →
@@ -195,10 +182,10 @@ module _ {before : EncoderState} {source : List ℕ} {last : Bool} {free : ℕ} 
         (answer ≡ OutputFull) × (rest ≡ source) × (bytes ++ written ≡ []) × (after ≡ before)
     full_so answer c need lacks =
         let n = u.untouched (u.unfound need lacks) in
-        let full = c.full_at_once (still_lacks before now source left bytes last free room n.0 n.1 n.2 room_is need lacks) in
-        (full.0, full.1 ∙ n.1, nothing n.2 full.2, full.3 ∙ n.0) where
-          nothing : bytes ≡ [] → written ≡ [] → bytes ++ written ≡ []
-          nothing e f = rw (e, f) refl
+        let none : length bytes ≡ 0 = ap length n.2 in
+        let same : encoder_need now left last ≡ encoder_need before source last = rw (n.0, n.1) refl in
+        let full = c.full_at_once (omega arith) in
+        (full.0, full.1 ∙ n.1, rw (n.2, full.2) refl, full.3 ∙ n.0)
 
     -- ---- an unmappable scalar
 
@@ -219,10 +206,8 @@ module _ {before : EncoderState} {source : List ℕ} {last : Bool} {free : ℕ} 
           reserve = reserve_after room room_is written x call.fits (some, tt);
           found_is = ap (λ b. found_after b x) u.found_is ∙ found-call u.out written x;
           untouched = λ e. absurd (true≢false e);
-          unfound = λ need lacks. absurd (never (full_so x call need lacks).0);
-        } where
-          never : {c : ℕ} → Unmappable c ≡ OutputFull → ⊥
-          never e = cc
+          unfound = λ need lacks. let never : x ≡ OutputFull = (full_so x call need lacks).0 in cc;
+        }
 
     pub referencing_less : (c : ℕ) → EncoderCall now left last room after (Unmappable c) rest written →
         length (encoded after rest true) < length (encoded now left true)
@@ -241,29 +226,22 @@ module _ {before : EncoderState} {source : List ℕ} {last : Bool} {free : ℕ} 
     unfolding KeepsReserve
     referencing_end c =
         let x = InputEmpty in
-        let fits = c.fits in
-        let had = u.fits in
         let long = length-append bytes written in
         record {
           taken = u.taken ++ c.taken;
           cut = cut_after x c;
-          fits = omega (arith, long, fits, had);
+          fits = omega (arith, long, c.fits, u.fits);
           out = out_after written x;
           gives = gives_after x c;
           text = end_text written x refl;
-          reserve = reserve_after room room_is written x fits tt;
+          reserve = reserve_after room room_is written x c.fits tt;
           found_is = u.found_is ∙ found-call u.out written x;
           input_empty = λ _. c.input_empty refl;
-          output_full = λ e. absurd (no_full e);
-          few = λ e. absurd (no_full e);
-          full_at_once = λ need lacks. absurd (never (full_so x c need lacks).0);
-          enough = λ form n k h e f full. absurd (no_full full);
-        } where
-          no_full : coder.InputEmpty ≡ coder.OutputFull → ⊥
-          no_full e = cc
-
-          never : InputEmpty ≡ OutputFull → ⊥
-          never e = cc
+          output_full = λ e. cc;
+          few = λ e. cc;
+          full_at_once = λ need lacks. let never : x ≡ OutputFull = (full_so x c need lacks).0 in cc;
+          enough = λ form n k h e f full. cc;
+        }
 
     -- with a queried length free, the room is lacking only after an unmappable scalar
     found_if_full : (found : Bool) → (found ≡ false → (now ≡ before) × (left ≡ source) × (bytes ≡ [])) →
@@ -280,33 +258,29 @@ module _ {before : EncoderState} {source : List ℕ} {last : Bool} {free : ℕ} 
     unfolding KeepsReserve
     referencing_full c =
         let x = OutputFull in
-        let fits = c.fits in
-        let had = u.fits in
         let long = length-append bytes written in
         let lacks = c.output_full refl in
         let small = encoder_need-small after rest last in
         record {
           taken = u.taken ++ c.taken;
           cut = cut_after x c;
-          fits = omega (arith, long, fits, had);
+          fits = omega (arith, long, c.fits, u.fits);
           out = out_after written x;
           gives = gives_after x c;
           text = end_text written x refl;
-          reserve = reserve_after room room_is written x fits tt;
+          reserve = reserve_after room room_is written x c.fits tt;
           found_is = u.found_is ∙ found-call u.out written x;
-          input_empty = λ e. absurd (no_end e);
-          output_full = λ _. omega (arith, long, fits, had, lacks);
-          few = λ _. omega (arith, long, fits, had, lacks, small);
+          input_empty = λ e. cc;
+          output_full = λ _. omega (arith, long, c.fits, u.fits, lacks);
+          few = λ _. omega (arith, long, c.fits, u.fits, lacks, small);
           full_at_once = λ need l. let full = full_so x c need l in (refl, full.1, full.2, u.unfound need l, full.3);
           enough = λ form n k h e f _. found_if_full found u.untouched c form n k h e f;
-        } where
-          no_end : coder.OutputFull ≡ coder.InputEmpty → ⊥
-          no_end e = cc
+        }
 
   -- ---- no room for a reference
 
   same_bytes : (written : List ℕ) → length written ≤ 0 → bytes ++ written ≡ bytes
-  same_bytes written h = ap (λ l. bytes ++ l) (none_written written h) ∙ append-nil bytes
+  same_bytes written h = rw (nil_from_length written (omega arith)) (append-nil bytes)
 
   -- no scalar is left, and a call without room shows whether the end has something to write
   module _ (none : free < length bytes + reference_room) {after : EncoderState} {rest written : List ℕ} where

@@ -81,24 +81,12 @@ query_form-is : (form : EncodingForm) → query_form (replacing_query form) ≡ 
 query_form-is Utf8 = refl
 query_form-is Utf16 = refl
 
-least : (form : EncodingForm) → bmp_room form ≤ wide_room form
-least Utf8 = omega arith
-least Utf16 = omega arith
-
-reading_least : (form : EncodingForm) (rooms : Rooms) → bmp_room form ≤ reading_room (bmp_room form) (wide_room form) rooms
-reading_least form narrow_acts = omega arith
-reading_least form wide_reads = least form
-reading_least form wide_acts = least form
-
-writing_least : (form : EncodingForm) (rooms : Rooms) → bmp_room form ≤ writing_room (bmp_room form) (wide_room form) rooms
-writing_least form narrow_acts = omega arith
-writing_least form wide_reads = omega arith
-writing_least form wide_acts = least form
-
 -- after a malformed sequence U+FFFD has room
 fault_least : (form : EncodingForm) (g : Grammar) (b : Bool) → bmp_room form ≤ cond b (release_room_in form g) (full_room_in form g)
-fault_least form g true = writing_least form (profile g).rooms
-fault_least form g false = reading_least form (profile g).rooms
+fault_least form g b = by_rooms form (profile g).rooms b where
+  by_rooms : (form : EncodingForm) (rooms : Rooms) (b : Bool) →
+      bmp_room form ≤ cond b (writing_room (bmp_room form) (wide_room form) rooms) (reading_room (bmp_room form) (wide_room form) rooms)
+  by_rooms form rooms b = grind arith
 
 pub replacement_fits : {form : EncodingForm} {before : DecoderState} {source : List ℕ} {last : Bool} {free : ℕ} {after : DecoderState} {a b read : ℕ}
     {scalars : List ℕ} →
@@ -108,19 +96,18 @@ replacement_fits {form} {before} {read = read} c =
     let had = c.room_at_fault tt in
     let fits = c.fits in
     let count = replacement_count form in
-    let some : 1 ≤ bmp_room form = bmp_some form in
-    omega (arith, least, had) where
-      bmp_some : (form : EncodingForm) → 1 ≤ bmp_room form
-      bmp_some Utf8 = omega arith
-      bmp_some Utf16 = omega arith
+    omega (arith, least, had)
 
 -- ---- calls in progress
 
--- The bytes that were read, the code units that were written, and whether a malformed sequence was found.
-pub record IsReplacing (form : EncodingForm) (before : DecoderState) (source : List ℕ) (last : Bool) (free : ℕ) (now : DecoderState) (read : ℕ)
-    (written : List ℕ) (found : Bool) : Type 0 where
+-- Calls in progress: the bytes that were read, whether a malformed sequence was found, and the code units that were
+-- written. The destination held `old` with `free` code units free, and now holds `new` with `left` free.
+pub record Replaces (form : EncodingForm) (before : DecoderState) (source : List ℕ) (last : Bool) (free : ℕ) (now : DecoderState) (read : ℕ) (found : Bool)
+    (old new : List ℕ) (left : ℕ) : Type 0 where
+  pub written : List ℕ
+  pub contents : new ≡ old ++ written
+  pub fits : left + length written ≡ free
   pub within : read ≤ length source
-  pub fits : length written ≤ free
   pub passed : ℕ
   pub out : List DecodeEvent
   pub progress : Progress (may_replace_end last found (drop read source)) before source passed now (drop read source) out
@@ -131,11 +118,13 @@ pub record IsReplacing (form : EncodingForm) (before : DecoderState) (source : L
   pub lowers : (more : ℕ) → (IsTrue last → more ≡ 0) →
       room (replacing_query form) now (length (drop read source) + more) + length written ≤ room (replacing_query form) before (length source + more)
 
-pub replacing_start : (form : EncodingForm) (before : DecoderState) (source : List ℕ) (last : Bool) (free : ℕ) →
-    IsReplacing form before source last free before 0 [] false
-replacing_start form before source last free = record {
-  within = omega arith;
+pub replaces_start : (form : EncodingForm) (before : DecoderState) (source : List ℕ) (last : Bool) (free : ℕ) (old : List ℕ) →
+    Replaces form before source last free before 0 false old old free
+replaces_start form before source last free old = record {
+  written = [];
+  contents = sym (append-nil old);
   fits = omega arith;
+  within = omega arith;
   passed = 0;
   out = [];
   progress = stay false before source;
@@ -170,46 +159,35 @@ found_now last found InputEmpty left h = cc
 found_now last found OutputFull left h = cc
 found_now last found (Malformed a b) left h = h
 
-module _ {form : EncodingForm} {before : DecoderState} {source : List ℕ} {last : Bool} {free : ℕ} {now : DecoderState} {read : ℕ} {written : List ℕ}
-    {found : Bool} (u : IsReplacing form before source last free now read written found) where
-  -- the output and the events after a call that read `count` bytes
-  abbrev units : List ℕ → DecoderResult → List ℕ
-  units scalars answer = written ++ all_code_units form (scalars ++ reported_scalars answer)
-
+module _ {form : EncodingForm} {before : DecoderState} {source : List ℕ} {last : Bool} {free : ℕ} {now : DecoderState} {read : ℕ} {found : Bool}
+    {old mid : List ℕ} {left : ℕ} (r : Replaces form before source last free now read found old mid left) where
+  -- the events after a call that read `count` bytes
   abbrev out_after : ℕ → List ℕ → DecoderResult → List DecodeEvent
-  out_after count scalars answer = u.out ++ shift u.passed (out_events (length now.held + count) scalars answer)
+  out_after count scalars answer = r.out ++ shift r.passed (out_events (length now.held + count) scalars answer)
 
   replaced_after : (count : ℕ) (scalars : List ℕ) (answer : DecoderResult) →
-      replaced_scalars (out_after count scalars answer) ≡ replaced_scalars u.out ++ (scalars ++ reported_scalars answer)
+      replaced_scalars (out_after count scalars answer) ≡ replaced_scalars r.out ++ (scalars ++ reported_scalars answer)
   replaced_after count scalars answer =
       let out = out_events (length now.held + count) scalars answer in
-      replaced-append u.out (shift u.passed out) ∙ ap (λ l. replaced_scalars u.out ++ l) (replaced-call u.passed (length now.held + count) scalars answer)
+      replaced-append r.out (shift r.passed out) ∙ ap (λ l. replaced_scalars r.out ++ l) (replaced-call r.passed (length now.held + count) scalars answer)
 
   text_after : (count : ℕ) (scalars : List ℕ) (answer : DecoderResult) →
-      units scalars answer ≡ all_code_units form (replaced_scalars (out_after count scalars answer))
+      r.written ++ all_code_units form (scalars ++ reported_scalars answer) ≡ all_code_units form (replaced_scalars (out_after count scalars answer))
   text_after count scalars answer =
-      rw (replaced_after count scalars answer, all_code_units-append form (replaced_scalars u.out) (scalars ++ reported_scalars answer), ← u.text) refl
+      rw (replaced_after count scalars answer, all_code_units-append form (replaced_scalars r.out) (scalars ++ reported_scalars answer), ← r.text) refl
 
   -- a result that reports nothing adds no code units
   end_text : (count : ℕ) (scalars : List ℕ) (answer : DecoderResult) → reported_scalars answer ≡ [] →
-      written ++ all_code_units form scalars ≡ all_code_units form (replaced_scalars (out_after count scalars answer))
-  end_text count scalars answer e =
-      ap (λ l. written ++ all_code_units form l) (sym (ap (λ l. scalars ++ l) e ∙ append-nil scalars)) ∙ text_after count scalars answer
+      r.written ++ all_code_units form scalars ≡ all_code_units form (replaced_scalars (out_after count scalars answer))
+  end_text count scalars answer e = rw (e, append-nil scalars) at (text_after count scalars answer)
 
   found_is_after : (count : ℕ) (scalars : List ℕ) (answer : DecoderResult) → found_after found answer ≡ has_bad (out_after count scalars answer)
-  found_is_after count scalars answer = ap (λ b. found_after b answer) u.found_is ∙ found-call u.out u.passed (length now.held + count) scalars answer
-
-  -- the law of the room at the end of the source
-  lowers_here : room (replacing_query form) now (length (drop read source)) + length written ≤ room (replacing_query form) before (length source)
-  lowers_here = let h = u.lowers 0 (λ _. refl) in rw (add-zero (length (drop read source)), add-zero (length source)) at h
-
-  long : (scalars : List ℕ) → length (written ++ all_code_units form scalars) ≡ length written + total_unit_count form scalars
-  long scalars = length-append written (all_code_units form scalars)
+  found_is_after count scalars answer = ap (λ b. found_after b answer) r.found_is ∙ found-call r.out r.passed (length now.held + count) scalars answer
 
   -- a call with the room that is left
-  module _ {left : ℕ} {after : DecoderState} {count : ℕ} {scalars : List ℕ} {answer : DecoderResult}
+  module _ {after : DecoderState} {count : ℕ} {scalars : List ℕ} {answer : DecoderResult}
       (c : DecoderCall form now (drop read source) last left after answer count scalars) where
-    progress_after : Progress (may_replace_end last (found_after found answer) (drop (read + count) source)) before source (u.passed + c.passed) after
+    progress_after : Progress (may_replace_end last (found_after found answer) (drop (read + count) source)) before source (r.passed + c.passed) after
         (drop (read + count) source)
         (out_after count scalars answer)
     progress_after =
@@ -217,156 +195,39 @@ module _ {form : EncodingForm} {before : DecoderState} {source : List ℕ} {last
         let unread = drop count (drop read source) in
         let out = out_events (length now.held + count) scalars answer in
         let ended = may_replace_end last (found_after found answer) unread in
-        let first = at_less _ ended (still_found last found answer count (drop read source)) before source u.passed now (drop read source) u.out u.progress in
+        let first = at_less _ ended (still_found last found answer count (drop read source)) before source r.passed now (drop read source) r.out r.progress in
         let second = at_less _ ended (found_now last found answer unread) now (drop read source) c.passed after unread out c.progress in
-        rw (← d) (after_that ended before source u.passed now (drop read source) u.out c.passed after unread out first second)
+        rw (← d) (after_that ended before source r.passed now (drop read source) r.out c.passed after unread out first second)
 
     scalar_after : All IsScalar (replaced_scalars (out_after count scalars answer))
     scalar_after =
         let added = All-append IsScalar scalars (reported_scalars answer) c.scalar (reported answer) in
-        rw (replaced_after count scalars answer) (All-append IsScalar (replaced_scalars u.out) (scalars ++ reported_scalars answer) u.scalar added) where
+        rw (replaced_after count scalars answer) (All-append IsScalar (replaced_scalars r.out) (scalars ++ reported_scalars answer) r.scalar added) where
           reported : (answer : DecoderResult) → All IsScalar (reported_scalars answer)
           reported InputEmpty = All-nil IsScalar
           reported OutputFull = All-nil IsScalar
           reported (Malformed a b) = All-cons IsScalar 0xFFFD [] refl (All-nil IsScalar)
 
     within_after : read + count ≤ length source
-    within_after = let w = c.within in let v = u.within in omega (arith, length-drop read source)
+    within_after = let w = c.within in let v = r.within in omega (arith, length-drop read source)
 
     lowers_after : (more : ℕ) → (IsTrue last → more ≡ 0) → room (replacing_query form) after (length (drop (read + count) source) + more) +
-        (total_unit_count form scalars + answer_units (replacing_query form) answer) + length written
+        (total_unit_count form scalars + answer_units (replacing_query form) answer) + length r.written
         ≤ room (replacing_query form) before (length source + more)
     lowers_after more h =
-        let one = u.lowers more h in
+        let one = r.lowers more h in
         let two = rw (drop-drop count read source) at (c.lowers (replacing_query form) (query_form-is form) more h) in
         omega (arith, one, two)
 
     -- if the room was lacking as the calls began, this call returns OutputFull and nothing is done
-    full_so : left + length written ≡ free → LacksRoom form before source last free →
-        (answer ≡ OutputFull) × (read + count ≡ 0) × (written ++ all_code_units form scalars ≡ []) × (found ≡ false) × (after ≡ before)
-    full_so left_is h =
-        let n = u.untouched h in
-        let same : left ≡ free = omega (arith, left_is, ap length n.1) in
+    full_so : LacksRoom form before source last free →
+        (answer ≡ OutputFull) × (read + count ≡ 0) × (r.written ++ all_code_units form scalars ≡ []) × (found ≡ false) × (after ≡ before)
+    full_so h =
+        let n = r.untouched h in
+        let same : left ≡ free = omega (arith, r.fits, ap length n.1) in
         let full = c.full_at_once (rw (n.3, n.0, same) h) in
-        (full.0, nothing_read n.0 full.1, nothing_written n.1 full.2, n.2, full.3 ∙ n.3) where
-          nothing_read : read ≡ 0 → count ≡ 0 → read + count ≡ 0
-          nothing_read e f = omega arith
+        (full.0, omega (arith, n.0, full.1), rw (n.1, full.2) refl, n.2, full.3 ∙ n.3)
 
-          nothing_written : written ≡ [] → scalars ≡ [] → written ++ all_code_units form scalars ≡ []
-          nothing_written e f = rw (e, f) refl
-
-  module _ {left : ℕ} (left_is : left + length written ≡ free) {after : DecoderState} {count : ℕ} {scalars : List ℕ} where
-    -- ---- a malformed sequence
-
-    pub replacing_step : {a b : ℕ} → DecoderCall form now (drop read source) last left after (Malformed a b) count scalars →
-        IsReplacing form before source last free after (read + count) (written ++ (all_code_units form scalars ++ code_units form 0xFFFD)) true
-    replacing_step {a} {b} c =
-        let x = Malformed a b in
-        let fffd = code_units form 0xFFFD in
-        let fits = replacement_fits c in
-        let one : all_code_units form (0xFFFD ∷ []) ≡ fffd = append-nil fffd in
-        let same : written ++ (all_code_units form scalars ++ fffd) ≡ units scalars x = rw (all_code_units-append form scalars (0xFFFD ∷ []), one) refl in
-        let all =
-        length-append written (all_code_units form scalars ++ fffd) ∙ ap (λ n. length written + n) (length-append (all_code_units form scalars) fffd) in
-        let counted = counted_units form in
-        let count_is = replacement_count form in
-        record {
-          within = within_after c;
-          fits = omega (arith, left_is, fits, all);
-          passed = u.passed + c.passed;
-          out = out_after count scalars x;
-          progress = progress_after c;
-          scalar = scalar_after c;
-          text = same ∙ text_after count scalars x;
-          found_is = found_is_after count scalars x;
-          untouched = λ h. absurd (never (full_so c left_is h).0);
-          lowers = λ more h. let low = lowers_after c more h in omega (arith, low, all, counted, count_is);
-        } where
-          never : {a b : ℕ} → Malformed a b ≡ OutputFull → ⊥
-          never e = cc
-
-    -- ---- the ends
-
-    end_room : OutputFull ≡ OutputFull → DecoderCall form now (drop read source) last left after OutputFull count scalars →
-        room (replacing_query form) before (length source) ≤ free → ⊥
-    end_room e c h = c.suffices (replacing_query form) (query_form-is form) (let low = lowers_here in omega (arith, low, left_is)) e
-
-    pub replacing_full : DecoderCall form now (drop read source) last left after OutputFull count scalars →
-        ReplacingDecoderCall form before source last free after coder.OutputFull (read + count) (written ++ all_code_units form scalars) found
-    replacing_full c =
-        let fits = c.fits in
-        let all = long scalars in
-        let left_now : left - total_unit_count form scalars ≡ free - length (written ++ all_code_units form scalars) = omega (arith, left_is, all, fits) in
-        record {
-          within = within_after c;
-          fits = omega (arith, left_is, fits, all);
-          passed = u.passed + c.passed;
-          out = out_after count scalars OutputFull;
-          progress = progress_after c;
-          allowed = c.allowed;
-          scalar = scalar_after c;
-          text = end_text count scalars OutputFull refl;
-          found_is = found_is_after count scalars OutputFull;
-          input_empty = λ e. absurd (no_end e);
-          output_full = λ _. rw (drop-drop count read source, left_now) at (c.output_full refl);
-          full_at_once = λ h. let full = full_so c left_is h in (refl, full.1, full.2, full.3, full.4);
-          lowers = λ more h. let low = lowers_after c more h in omega (arith, low, all);
-          suffices = λ h. absurd (end_room refl c h);
-          enough = λ n k h e f. absurd (end_room refl c (let r = room-answer (replacing_query form) before (length source) n k h e in omega (arith, r)));
-        } where
-          no_end : coder.OutputFull ≡ coder.InputEmpty → ⊥
-          no_end e = cc
-
-    pub replacing_end : DecoderCall form now (drop read source) last left after InputEmpty count scalars →
-        ReplacingDecoderCall form before source last free after coder.InputEmpty (read + count) (written ++ all_code_units form scalars) found
-    replacing_end c =
-        let fits = c.fits in
-        let all = long scalars in
-        let done = c.input_empty refl in
-        record {
-          within = within_after c;
-          fits = omega (arith, left_is, fits, all);
-          passed = u.passed + c.passed;
-          out = out_after count scalars InputEmpty;
-          progress = progress_after c;
-          allowed = c.allowed;
-          scalar = scalar_after c;
-          text = end_text count scalars InputEmpty refl;
-          found_is = found_is_after count scalars InputEmpty;
-          input_empty = λ _. (let d = done.0 in let v = u.within in omega (arith, d, v, length-drop read source), done.1, done.2);
-          output_full = λ e. absurd (no_full e);
-          full_at_once = λ h. absurd (never (full_so c left_is h).0);
-          lowers = λ more h. let low = lowers_after c more h in omega (arith, low, all);
-          suffices = λ _. refl;
-          enough = λ n k h e f. refl;
-        } where
-          no_full : coder.InputEmpty ≡ coder.OutputFull → ⊥
-          no_full e = cc
-
-          never : InputEmpty ≡ OutputFull → ⊥
-          never e = cc
-
--- ---- the same, by the contents of the destination
-
--- Calls in progress: the destination held `old` with `free` code units free, and now holds `new` with `left` free.
-pub record Replaces (form : EncodingForm) (before : DecoderState) (source : List ℕ) (last : Bool) (free : ℕ) (now : DecoderState) (read : ℕ) (found : Bool)
-    (old new : List ℕ) (left : ℕ) : Type 0 where
-  pub written : List ℕ
-  pub state : IsReplacing form before source last free now read written found
-  pub contents : new ≡ old ++ written
-  pub room : left + length written ≡ free
-
-pub replaces_start : (form : EncodingForm) (before : DecoderState) (source : List ℕ) (last : Bool) (free : ℕ) (old : List ℕ) →
-    Replaces form before source last free before 0 false old old free
-replaces_start form before source last free old = record {
-  written = [];
-  state = replacing_start form before source last free;
-  contents = sym (append-nil old);
-  room = omega arith;
-}
-
-module _ {form : EncodingForm} {before : DecoderState} {source : List ℕ} {last : Bool} {free : ℕ} {now : DecoderState} {read : ℕ} {found : Bool}
-    {old mid : List ℕ} {left : ℕ} (r : Replaces form before source last free now read found old mid left) where
   -- the contents and the room after a call that wrote these scalars
   module _ (scalars : List ℕ) {stepped : List ℕ} (stepped_is : stepped ≡ mid ++ all_code_units form scalars) where
     contents_now : stepped ≡ old ++ (r.written ++ all_code_units form scalars)
@@ -376,31 +237,33 @@ module _ {form : EncodingForm} {before : DecoderState} {source : List ℕ} {last
     room_now left_now e = omega (arith, ap length stepped_is, length-append mid (all_code_units form scalars))
 
   module _ {after : DecoderState} {count : ℕ} {scalars stepped : List ℕ} (stepped_is : stepped ≡ mid ++ all_code_units form scalars) where
-    pub replaces_end : DecoderCall form now (drop read source) last left after InputEmpty count scalars →
-        (written : List ℕ) × ReplacingDecoderCall form before source last free after coder.InputEmpty (read + count) written found × (stepped ≡ old ++ written)
-    replaces_end c = (r.written ++ all_code_units form scalars, replacing_end r.state r.room c, contents_now scalars stepped_is)
-
-    pub replaces_full : DecoderCall form now (drop read source) last left after OutputFull count scalars →
-        (written : List ℕ) × ReplacingDecoderCall form before source last free after coder.OutputFull (read + count) written found × (stepped ≡ old ++ written)
-    replaces_full c = (r.written ++ all_code_units form scalars, replacing_full r.state r.room c, contents_now scalars stepped_is)
-
     -- a malformed sequence, and U+FFFD after it
     module _ {a b : ℕ} (c : DecoderCall form now (drop read source) last left after (Malformed a b) count scalars) where
       pub replaces_step : {left_now left_put : ℕ} → left_now + length stepped ≡ left + length mid → left_put + length (code_units form 0xFFFD) ≡ left_now →
           {put : List ℕ} → put ≡ stepped ++ code_units form 0xFFFD → Replaces form before source last free after (read + count) true old put left_put
       replaces_step {left_now} e f put_is =
-          let fffd = code_units form 0xFFFD in
+          let x = Malformed a b in
           let units = all_code_units form scalars in
-          let room = room_now scalars stepped_is left_now e in
-          let had = r.room in
-          let long = length-append r.written (units ++ fffd) ∙ ap (λ n. length r.written + n) (length-append units fffd) in
+          let fffd = code_units form 0xFFFD in
+          let one : all_code_units form (0xFFFD ∷ []) ≡ fffd = append-nil fffd in
+          let same : r.written ++ (units ++ fffd) ≡ r.written ++ all_code_units form (scalars ++ reported_scalars x) =
+          rw (all_code_units-append form scalars (0xFFFD ∷ []), one) refl in
+          let all = length-append r.written (units ++ fffd) ∙ ap (λ n. length r.written + n) (length-append units fffd) in
           record {
             written = r.written ++ (units ++ fffd);
-            state = replacing_step r.state r.room c;
             contents =
-                put_is ∙ ap (λ l. l ++ fffd) (contents_now scalars stepped_is) ∙ append_assoc old (r.written ++ units) fffd
-                ∙ ap (λ l. old ++ l) (append_assoc r.written units fffd);
-            room = omega arith;
+                rw (put_is, contents_now scalars stepped_is)
+                (append_assoc old (r.written ++ units) fffd ∙ ap (λ l. old ++ l) (append_assoc r.written units fffd));
+            fits = omega (arith, room_now scalars stepped_is left_now e, r.fits, all);
+            within = within_after c;
+            passed = r.passed + c.passed;
+            out = out_after count scalars x;
+            progress = progress_after c;
+            scalar = scalar_after c;
+            text = same ∙ text_after count scalars x;
+            found_is = found_is_after count scalars x;
+            untouched = λ h. let never : x ≡ OutputFull = (full_so c h).0 in cc;
+            lowers = λ more h. omega (arith, lowers_after c more h, all, counted_units form, replacement_count form);
           }
 
       pub replaces_fits : (left_now : ℕ) → left_now + length stepped ≡ left + length mid → length (code_units form 0xFFFD) ≤ left_now
@@ -409,3 +272,63 @@ module _ {form : EncodingForm} {before : DecoderState} {source : List ℕ} {last
       pub replaces_less : length (events_of after.grammar (after.held ++ drop (read + count) source)) < length
           (events_of now.grammar (now.held ++ drop read source))
       replaces_less = rw (← drop-drop count read source) (fault_less c)
+
+    -- ---- the ends
+
+    pub replaces_full : DecoderCall form now (drop read source) last left after OutputFull count scalars →
+        (written : List ℕ) × ReplacingDecoderCall form before source last free after coder.OutputFull (read + count) written found × (stepped ≡ old ++ written)
+    replaces_full c =
+        let units = all_code_units form scalars in
+        let long = length-append r.written units in
+        let query = replacing_query form in
+        let low = rw (add-zero (length (drop read source)), add-zero (length source)) at (r.lowers 0 (λ _. refl)) in
+        let short : room query before (length source) ≤ free → ⊥ = λ h. c.suffices query (query_form-is form) (omega (arith, low, r.fits)) refl in
+        let left_now : left - total_unit_count form scalars ≡ free - length (r.written ++ units) = omega (arith, r.fits, long, c.fits) in (
+          r.written ++ units,
+          record {
+            within = within_after c;
+            fits = omega (arith, r.fits, c.fits, long);
+            passed = r.passed + c.passed;
+            out = out_after count scalars OutputFull;
+            progress = progress_after c;
+            allowed = c.allowed;
+            scalar = scalar_after c;
+            text = end_text count scalars OutputFull refl;
+            found_is = found_is_after count scalars OutputFull;
+            input_empty = λ e. cc;
+            output_full = λ _. rw (drop-drop count read source, left_now) at (c.output_full refl);
+            full_at_once = λ h. let full = full_so c h in (refl, full.1, full.2, full.3, full.4);
+            lowers = λ more h. omega (arith, lowers_after c more h, long);
+            suffices = λ h. absurd (short h);
+            enough = λ n k h e f. absurd (short (omega (arith, room-answer query before (length source) n k h e)));
+          },
+          contents_now scalars stepped_is,
+        )
+
+    pub replaces_end : DecoderCall form now (drop read source) last left after InputEmpty count scalars →
+        (written : List ℕ) × ReplacingDecoderCall form before source last free after coder.InputEmpty (read + count) written found × (stepped ≡ old ++ written)
+    replaces_end c =
+        let units = all_code_units form scalars in
+        let long = length-append r.written units in
+        let done = c.input_empty refl in
+        let all : read + count ≡ length source = omega (arith, done.0, r.within, length-drop read source) in (
+          r.written ++ units,
+          record {
+            within = within_after c;
+            fits = omega (arith, r.fits, c.fits, long);
+            passed = r.passed + c.passed;
+            out = out_after count scalars InputEmpty;
+            progress = progress_after c;
+            allowed = c.allowed;
+            scalar = scalar_after c;
+            text = end_text count scalars InputEmpty refl;
+            found_is = found_is_after count scalars InputEmpty;
+            input_empty = λ _. (all, done.1, done.2);
+            output_full = λ e. cc;
+            full_at_once = λ h. let never : InputEmpty ≡ OutputFull = (full_so c h).0 in cc;
+            lowers = λ more h. omega (arith, lowers_after c more h, long);
+            suffices = λ _. refl;
+            enough = λ n k h e f. refl;
+          },
+          contents_now scalars stepped_is,
+        )

@@ -21,7 +21,8 @@ use Rattle.legacy_base.specs.Replacement.{replacement_events}
 use Rattle.legacy_base.specs.Utf16.{unit_of, utf16_events}
 use Rattle.legacy_base.specs.Grammar.{single_byte, user_defined, replacement, utf16, plain, big5, shift_jis, euc_jp, gb18030, iso_2022_jp, events_of}
 use Rattle.legacy_base.specs.Laws.{IsFrontOf, IsOfAcceptedTables, HasSoundEvents}
-use Rattle.legacy_base.proofs.FrontLaws.{front_of-malformed, single_byte_front-of, user_defined_front-of, lead_front-of, big5_front-of, shift_jis_front-of, euc_jp_front-of, gb18030_front-of}
+use Rattle.legacy_base.proofs.FrontLaws.{front_of-malformed, single_byte_front-of, user_defined_front-of, lead_front-of, big5_front-of}
+use Rattle.legacy_base.proofs.FrontLaws.{shift_jis_front-of, euc_jp_front-of, gb18030_front-of}
 use Rattle.legacy_base.proofs.EventLaws.{none_of, bad_of, cut_sound, iso_2022_jp_sound}
 use Rattle.legacy_miscellaneous.specs.Utf16Fronts.{lone_unit_front, unit_front, utf16_front}
 use Rattle.legacy_miscellaneous.proofs.Utf16Cut.{utf16_cut}
@@ -57,7 +58,9 @@ module _ {Q : Type 0} (be : Bool) where
   unit_front-of u (c ∷ d ∷ rest) size is below =
       let v = unit_of be c d in
       cond_both (is_high_surrogate u && is_low_surrogate v) (reads 4 (surrogate_pair_char u v ∷ [])) (lone_unit_front u) (IsFrontOf size Q)
-      (λ k. let both = and_parts (is_high_surrogate u) (is_low_surrogate v) k in gives_one size 4 (surrogate_pair_char u v) (omega arith) (omega arith) (omega arith) (λ q. paired_scalar u v both.0 both.1))
+      (λ k.
+      let both = and_parts (is_high_surrogate u) (is_low_surrogate v) k in
+      gives_one size 4 (surrogate_pair_char u v) (omega arith) (omega arith) (omega arith) (λ q. paired_scalar u v both.0 both.1))
       (λ _. lone_of size u (omega arith) below)
 
   utf16_front-of : (b : ℕ) (rest : List ℕ) → (Q → AreBytes (b ∷ rest)) → IsFrontOf (length (b ∷ rest)) Q (utf16_front be b rest)
@@ -79,7 +82,8 @@ sound_events user_defined bytes =
     cut_sound Q user_defined_front (λ b rest are. user_defined_front-of {P = Q} b (λ q. All-head IsByte b rest (are q)) rest) bytes (λ q. q.1)
 sound_events (replacement true) bytes = none_of (IsOfAcceptedTables (replacement true) × AreBytes bytes) (length bytes)
 sound_events (replacement false) [] = none_of (IsOfAcceptedTables (replacement false) × AreBytes []) 0
-sound_events (replacement false) (b ∷ bytes) = bad_of (IsOfAcceptedTables (replacement false) × AreBytes (b ∷ bytes)) (length (b ∷ bytes)) 1 (omega arith) (omega arith) (omega arith)
+sound_events (replacement false) (b ∷ bytes) =
+    bad_of (IsOfAcceptedTables (replacement false) × AreBytes (b ∷ bytes)) (length (b ∷ bytes)) 1 (omega arith) (omega arith) (omega arith)
 sound_events (utf16 be) bytes =
     let Q = IsOfAcceptedTables (utf16 be) × AreBytes bytes in
     rw (utf16_cut be 0 bytes) (cut_sound Q (utf16_front be) (λ b rest are. utf16_front-of {Q = Q} be b rest are) bytes (λ q. q.1))

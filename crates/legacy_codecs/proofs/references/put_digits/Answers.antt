@@ -3,11 +3,7 @@ use Rattle.legacy_codecs.proofs.ReferenceTexts.{length-decimal_seven, length-dec
 use Rattle.legacy_codecs.proofs.references.put_digits.Goals as goal
 
 pub digits-init : goal.digits-init
-digits-init c = record {
-  place = omega arith;
-  room = omega (arith, length-decimal_seven c.args.number c.requires.number);
-  digits = refl;
-}
+digits-init c = record { place = omega arith; room = omega (arith, length-decimal_seven c.args.number c.requires.number); digits = refl }
 
 pub digits-preserved : goal.digits-preserved
 digits-preserved c =
