@@ -1,8 +1,8 @@
 -- Facts about indexes and single-byte tables that passed their check.
 use Rattle.std.proofs.Common.{◌≡◌, ◌≢◌, ◌∙◌, ◌⊎◌, ℕ, zero, suc, ◌+◌, ◌-◌, ◌≤◌, ◌<◌, List, [], ◌∷◌, length}
 use Rattle.std.proofs.Common.{get_or, add-one, refl, inl, inr}
-use Rattle.std.proofs.Common.{sym, arith, Some, None, Option, true, false, Bool, ◌||◌, not, cond, eq-eqb, nat_le, nat_lt, subst, ◌==◌}
-use Rattle.std.proofs.lemmas.Bool.{and_parts, cases_eq, ne_eqb, eqb-false, false≢true, not-false}
+use Rattle.std.proofs.Common.{sym, arith, Some, None, Option, true, false, Bool, not, cond, eq-eqb, nat_le, nat_lt, subst, ◌==◌}
+use Rattle.std.proofs.lemmas.Bool.{and_parts, cases_eq, ne_eqb, eqb-false, not-false}
 use Rattle.std.proofs.lemmas.Option.{cond_some, same_Some}
 use Rattle.std.proofs.lemmas.Bool.Decides.{nat_tests}
 use Rattle.std.proofs.lemmas.List.Elements.{All-nil, All-cons}
@@ -23,7 +23,7 @@ use Rattle.legacy_tables.specs.Walks.{order_index}
 use Rattle.legacy_tables.specs.Unicode.{AreScalars}
 use Rattle.legacy_tables.proofs.FirstPlaces.{taken}
 use Rattle.legacy_tables.specs.Tables.{index_list, is_narrow_index}
-use Rattle.legacy_tables.specs.TableChecks.{is_narrow_entry, is_entry, must_be_empty, entry_fault, entries_fault, index_fault, katakana_fault}
+use Rattle.legacy_tables.specs.TableChecks.{is_entry, must_be_empty, entry_fault, entries_fault, index_fault, katakana_fault}
 use Rattle.legacy_tables.specs.TableChecks.{range_order_fault, AreAccepted}
 use Rattle.legacy_tables.specs.TableChecks.{next_pointer, has_range_scalars, range_value_fault, rows_fault, table_fault}
 
@@ -119,47 +119,63 @@ entry_at name place (x ∷ xs) e (suc k) =
     let same : (place + 1) + k ≡ place + suc k = omega arith in
     rw same at (entry_at name (place + 1) xs h.1 k)
 
-is_narrow-below : (e : ℕ) → is_narrow_entry e ≡ true → e < 0x1_0000
-is_narrow-below e h = grind (arith, nat_tests)
+allowed-scalar : (name : IndexName) (e : ℕ) → is_entry name e ≡ true → IsScalar e
+allowed-scalar name e h = grind (arith, nat_tests)
 
-is_narrow-scalar : (e : ℕ) → is_narrow_entry e ≡ true → IsScalar e
-is_narrow-scalar e h = grind (arith, nat_tests)
-
-is_wide-scalar : (e : ℕ) → (is_narrow_entry e || is_in_range 0x2_0000 0x2_FFFF e) ≡ true → IsScalar e
-is_wide-scalar e h = grind (arith, nat_tests)
+allowed-below : (name : IndexName) → is_narrow_index name ≡ true → (e : ℕ) → is_entry name e ≡ true → e < 0x1_0000
+allowed-below name narrow e h = grind (arith, nat_tests)
 
 -- ---- accepted indexes: their entries are scalars, of the Basic Multilingual Plane except in Big5
 
 module _ (flat : FlatIndexes) (accepted : AreAccepted flat) where
+  entries-fine : (name : IndexName) → entries_fault name 0 (index_list flat name) ≡ None
+  unfolding entries_fault
+  entries-fine name =
+      let p = parts flat accepted in
+      grind (arith, p.big5.1, p.euc_kr.1, p.jis0208.1, p.jis0212.1, p.gb18030.1, p.katakana)
+
+  pub index-scalars : (name : IndexName) → AreScalars (index_list flat name)
+  index-scalars name = all_entries IsScalar name refl (allowed-scalar name) 0 (index_list flat name) (entries-fine name)
+
+  narrow-short : (name : IndexName) → is_narrow_index name ≡ true → length (index_list flat name) ≤ 65535
+  narrow-short name narrow =
+      let p = parts flat accepted in
+      grind (arith, p.euc_kr.0, p.jis0208.0, p.jis0212.0, p.gb18030.0)
+
+  pub narrow_index : (name : IndexName) → is_narrow_index name ≡ true
+      → All (λ c. c < 0x1_0000) (index_list flat name) × (length (index_list flat name) ≤ 65535)
+  narrow_index name narrow =
+      (all_entries _ name (omega arith) (allowed-below name narrow) 0 (index_list flat name) (entries-fine name), narrow-short name narrow)
+
   pub big5-scalars : AreScalars flat.big5
-  big5-scalars = all_entries IsScalar names.Big5 refl is_wide-scalar 0 flat.big5 (parts flat accepted).big5.1
+  big5-scalars = index-scalars names.Big5
 
   pub euc_kr-scalars : AreScalars flat.euc_kr
-  euc_kr-scalars = all_entries IsScalar names.EucKr refl is_narrow-scalar 0 flat.euc_kr (parts flat accepted).euc_kr.1
+  euc_kr-scalars = index-scalars names.EucKr
 
   pub jis0208-scalars : AreScalars flat.jis0208
-  jis0208-scalars = all_entries IsScalar names.Jis0208 refl is_narrow-scalar 0 flat.jis0208 (parts flat accepted).jis0208.1
+  jis0208-scalars = index-scalars names.Jis0208
 
   pub jis0212-scalars : AreScalars flat.jis0212
-  jis0212-scalars = all_entries IsScalar names.Jis0212 refl is_narrow-scalar 0 flat.jis0212 (parts flat accepted).jis0212.1
+  jis0212-scalars = index-scalars names.Jis0212
 
   pub gb18030-scalars : AreScalars flat.gb18030
-  gb18030-scalars = all_entries IsScalar names.Gb18030 refl is_narrow-scalar 0 flat.gb18030 (parts flat accepted).gb18030.1
+  gb18030-scalars = index-scalars names.Gb18030
 
   pub katakana-scalars : AreScalars flat.katakana
-  katakana-scalars = all_entries IsScalar names.Katakana refl is_narrow-scalar 0 flat.katakana (parts flat accepted).katakana
+  katakana-scalars = index-scalars names.Katakana
 
   pub euc_kr-below : All (λ c. c < 0x1_0000) flat.euc_kr
-  euc_kr-below = all_entries _ names.EucKr (omega arith) is_narrow-below 0 flat.euc_kr (parts flat accepted).euc_kr.1
+  euc_kr-below = (narrow_index names.EucKr refl).0
 
   pub jis0208-below : All (λ c. c < 0x1_0000) flat.jis0208
-  jis0208-below = all_entries _ names.Jis0208 (omega arith) is_narrow-below 0 flat.jis0208 (parts flat accepted).jis0208.1
+  jis0208-below = (narrow_index names.Jis0208 refl).0
 
   pub jis0212-below : All (λ c. c < 0x1_0000) flat.jis0212
-  jis0212-below = all_entries _ names.Jis0212 (omega arith) is_narrow-below 0 flat.jis0212 (parts flat accepted).jis0212.1
+  jis0212-below = (narrow_index names.Jis0212 refl).0
 
   pub gb18030-below : All (λ c. c < 0x1_0000) flat.gb18030
-  gb18030-below = all_entries _ names.Gb18030 (omega arith) is_narrow-below 0 flat.gb18030 (parts flat accepted).gb18030.1
+  gb18030-below = (narrow_index names.Gb18030 refl).0
 
   -- a pointer of Big5 that is looked up has no other rule
   pub big5-used : (p c : ℕ) → Some c ≡ idx flat.big5 p → must_be_empty names.Big5 p ≡ false
@@ -184,27 +200,6 @@ module _ (flat : FlatIndexes) (accepted : AreAccepted flat) where
 
   pub length-gb18030 : length flat.gb18030 ≤ 23940
   length-gb18030 = (parts flat accepted).gb18030.0
-
-  -- ---- indexes by their names
-
-  pub index-scalars : (name : IndexName) → AreScalars (index_list flat name)
-  index-scalars names.Big5 = big5-scalars
-  index-scalars names.EucKr = euc_kr-scalars
-  index-scalars names.Jis0208 = jis0208-scalars
-  index-scalars names.Jis0212 = jis0212-scalars
-  index-scalars names.Gb18030 = gb18030-scalars
-  index-scalars names.Katakana = katakana-scalars
-  index-scalars names.Ranges = All-nil IsScalar
-
-  pub narrow_index : (name : IndexName) → is_narrow_index name ≡ true
-      → All (λ c. c < 0x1_0000) (index_list flat name) × (length (index_list flat name) ≤ 65535)
-  narrow_index names.EucKr e = (euc_kr-below, let most = length-euc_kr in omega arith)
-  narrow_index names.Jis0208 e = (jis0208-below, let most = length-jis0208 in omega arith)
-  narrow_index names.Jis0212 e = (jis0212-below, let most = (parts flat accepted).jis0212.0 in omega arith)
-  narrow_index names.Gb18030 e = (gb18030-below, let most = length-gb18030 in omega arith)
-  narrow_index names.Big5 e = absurd (false≢true e)
-  narrow_index names.Katakana e = absurd (false≢true e)
-  narrow_index names.Ranges e = absurd (false≢true e)
 
 -- ---- accepted ranges
 

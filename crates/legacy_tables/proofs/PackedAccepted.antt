@@ -160,13 +160,9 @@ module _ (flat : FlatIndexes) (packed : Packed) (accepted : AreAccepted flat) (n
   }
     where
       same : (name : IndexName) (p : ℕ) → idx (index_list (packed_lists flat packed) name) p ≡ idx (index_list flat name) p
-      same names.Big5 p = ap entry_scalar (all_agree.big5.same p)
-      same names.EucKr p = ap entry_scalar (all_agree.euc_kr.same p)
-      same names.Jis0208 p = ap entry_scalar (all_agree.jis0208.same p)
-      same names.Jis0212 p = ap entry_scalar (all_agree.jis0212.same p)
-      same names.Gb18030 p = ap entry_scalar (all_agree.gb18030.same p)
-      same names.Katakana p = refl
-      same names.Ranges p = refl
+      same name p =
+          let a = all_agree in
+          grind (arith, a.big5.same p, a.euc_kr.same p, a.jis0208.same p, a.jis0212.same p, a.gb18030.same p)
 
   -- the orders give the same pointers in the lists of runs as in the flat indexes
   pub orders-same : (orders : CheckedOrders) → AnswerPointersOf orders flat → AnswerPointersOf orders (packed_lists flat packed)
