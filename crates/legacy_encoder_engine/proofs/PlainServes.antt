@@ -145,10 +145,7 @@ module _ (codec : Codec) (past : ℕ) (p : IsPlainCodec codec past) where
   room_past_ascii c h = acts_plainly.room c ∙ rw (le-ltb c 128 h) refl
 
   pub widest_room : (c : ℕ) → scalar_room S c ≤ past
-  widest_room c = elim (cases_lt c 128) [
-    | inl a ↦ let e = ascii_room c a in let f = p.lengths.fits.0 in let g = p.lengths.fits.1 in omega arith
-    | inr a ↦ let e = room_past_ascii c a in omega arith
-  ]
+  widest_room c = let room = acts_plainly.room c in let fits = p.lengths.fits in grind arith
 
   fits : (c : ℕ) → code_length (code S c) ≤ scalar_room S c
   fits c = elim (cases_lt c 128) [

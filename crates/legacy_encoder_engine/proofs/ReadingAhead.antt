@@ -1,7 +1,7 @@
 -- Reading ahead of the moves.
-use Rattle.std.proofs.Common.{◌≡◌, ◌∙◌, ℕ, suc, ◌+◌, ◌-◌, ◌≤◌, ◌<◌, List, [], ◌∷◌, ◌++◌, length, get_or, slice_index, take, drop, refl, sym, ap, subst, arith}
-use Rattle.std.proofs.Common.{append_assoc, append-nil, length-append, false, IsAscii}
-use Rattle.std.proofs.lemmas.List.{get_or-take, length-take-le, take-append-drop}
+use Rattle.std.proofs.Common.{◌≡◌, ◌∙◌, ℕ, suc, ◌+◌, ◌-◌, ◌≤◌, ◌<◌, List, [], ◌∷◌, ◌++◌, length, get_or, take, drop, refl, sym, ap, subst, arith, append_assoc}
+use Rattle.std.proofs.Common.{append-nil, length-append, false, IsAscii}
+use Rattle.std.proofs.lemmas.{Grind.common_steps, List.get_or-take, List.length-take-le, List.take-append-drop}
 use Rattle.legacy_text.specs.EncodingForm.{EncodingForm, code_units, all_code_units, unit_count, total_unit_count}
 use Rattle.legacy_text.specs.{NextScalars.IsFirst, UnitCodes.WritesCodes}
 use Rattle.legacy_text.proofs.CodeUnits.{length-code_units-ascii, total_unit_count-append}
@@ -68,7 +68,7 @@ same_bytes left old n within ascii =
       bytes = take n left;
       new_is = refl;
       count = long;
-      each = λ k h. let same : slice_index (take n left) k ≡ slice_index left k = get_or-take n left k 0 h in (same, rw same at (ascii k));
+      each = λ k h. let below = ascii k in grind (arith, common_steps);
     }
 
 -- ASCII scalars have one code unit each

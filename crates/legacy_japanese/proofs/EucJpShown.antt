@@ -35,13 +35,11 @@ pair_small index lead b h = cond_both (is_in_range 0xA1 0xFE b) _ [] IsSmall
 
 one_cost : (len : ℕ → ℕ) (narrow lead b : ℕ) (scalars : List ℕ) → narrow ≤ 3 → units len scalars ≤ narrow
     → Cost len narrow narrow euc_jp_weight 3 (lead ∷ []) b (trail_step 1 scalars b)
-one_cost len narrow lead b (c ∷ scalars) m h = record { fits = h; pays = omega arith; pays_without = omega arith }
-one_cost len narrow lead b [] m h = record { fits = grind arith; pays = grind arith; pays_without = grind arith }
+one_cost len narrow lead b scalars m h = record { fits = grind arith; pays = grind arith; pays_without = grind arith }
 
 two_cost : (len : ℕ → ℕ) (narrow first lead b : ℕ) (scalars : List ℕ) → narrow ≤ 3 → units len scalars ≤ narrow
     → Cost len narrow narrow euc_jp_weight 3 (first ∷ lead ∷ []) b (trail_step 2 scalars b)
-two_cost len narrow first lead b (c ∷ scalars) m h = record { fits = h; pays = omega arith; pays_without = omega arith }
-two_cost len narrow first lead b [] m h = record { fits = grind arith; pays = grind arith; pays_without = grind arith }
+two_cost len narrow first lead b scalars m h = record { fits = grind arith; pays = grind arith; pays_without = grind arith }
 
 -- the room that a byte needs
 abbrev most : List ℕ → ℕ → ℕ → ℕ
@@ -54,13 +52,6 @@ module _ (jis0208 jis0212 : List ℕ) where
     fits : Fits (euc_jp_front jis0208 jis0212) euc_jp_may_hold held b s
     settles : Settles (euc_jp jis0208 jis0212) held b s
     costs : (len : ℕ → ℕ) (narrow wide : ℕ) → IsWidth len narrow wide → Cost len narrow (most held b narrow) euc_jp_weight 3 held b s
-
-  -- ---- the front after a lead
-
-  front_pair : (b : ℕ) (rest : List ℕ) → (b == 0x8E) ≡ false → (b == 0x8F) ≡ false → is_euc_jp_lead b ≡ true →
-      euc_jp_front jis0208 jis0212 b rest ≡ euc_jp_pair jis0208 b rest
-  unfolding euc_jp_front
-  front_pair b rest e f l = grind (arith, nat_tests)
 
   -- ---- each step
 
@@ -115,7 +106,7 @@ module _ (jis0208 jis0212 : List ℕ) where
       })
       (λ l. one_shows lead b [] none_small (λ more. rw (eqb-true lead 0x8F f, l))))
       (λ f. one_shows lead b (euc_jp_scalars jis0208 lead b) (pair_small jis0208 lead b narrow_index)
-      (λ more. front_pair lead (b ∷ more) e f (rw (e, f) at h))))
+      (λ more. let l = rw (e, f) at h in grind (arith, nat_tests))))
 
   -- a byte after two held-back bytes
   third_shows : IsNarrowIndex jis0212 → (first lead b : ℕ) → euc_jp_may_hold (first ∷ lead ∷ []) ≡ true →

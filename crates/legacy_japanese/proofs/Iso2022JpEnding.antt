@@ -73,8 +73,7 @@ module _ (jis0208 : List ℕ) where
 
   -- a valid escape is not a lone escape byte
   no_lone : (t : Bool) (items rest : List DecodeEvent) → cond t (Bad 0 3 ∷ []) [] ++ shift 3 items ≡ Bad 0 1 ∷ rest → ⊥
-  no_lone true items rest e = cc
-  no_lone false items rest e = no_sooner 3 0 1 items rest (omega arith) e
+  no_lone t items rest e = grind (arith, no_sooner 3 0 1 items rest)
 
   -- an escape byte that is reported alone begins no valid escape
   lone_escape : (mode : Mode) (rest : List ℕ) → BeginsWith (events_in jis0208 mode (esc ∷ rest)) (Bad 0 1 ∷ []) → part_mode (esc ∷ rest) ≡ None

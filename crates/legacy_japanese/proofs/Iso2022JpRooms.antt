@@ -70,9 +70,7 @@ module _ (query : LengthQuery) (jis0208 : List ℕ) (mode : Mode) where
   end_most : (held : Held) (events : List DecodeEvent) (last : Bool)
       → room_of_act (bmp_room (query_form query)) (wide_room (query_form query)) (state_in jis0208 mode held) (act_at_end events last) ≤ bmp_room
       (query_form query)
-  end_most held [] last = omega arith
-  end_most held (event ∷ events) true = omega arith
-  end_most held (event ∷ events) false = omega arith
+  end_most held events last = grind arith
 
   most : (held : Held) (unread : List ℕ) (last resting : Bool) → needed held unread last resting ≤ bmp_room (query_form query)
   unfolding needed

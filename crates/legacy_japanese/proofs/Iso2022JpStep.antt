@@ -121,8 +121,7 @@ module _ (jis0208 : List ℕ) where
 
   front-no_lead : (b : ℕ) (rest : List ℕ) → is_in_range 0x21 0x7E b ≡ false → front_in jis0208 TwoByte b rest ≡ malformed 1
   unfolding iso_2022_jp_front
-  front-no_lead b [] h = refl
-  front-no_lead b (t ∷ rest) h = rw h
+  front-no_lead b rest h = grind arith
 
   pub front-lone : (l : ℕ) → front_in jis0208 TwoByte l [] ≡ malformed 1
   unfolding iso_2022_jp_front

@@ -1,16 +1,26 @@
 -- A walk over the pointers of index jis0208 lists the codes of the scalars that have the code of their pointer. The other
 -- scalars are looked up one by one.
-use Rattle.std.proofs.Common.{◌≡◌, ℕ, ◌+◌, ◌/◌, ◌<◌, Bool, cond, nat_lt, List, length, slice_index, refl, arith, option_map}
+use Rattle.std.proofs.Common.{◌∙◌, ◌≡◌, ℕ, ◌+◌, ◌/◌, ◌<◌, Bool, cond, nat_lt, List, length, slice_index, refl, arith, option_map}
 use Rattle.std.proofs.lemmas.Bool.Decides.{nat_tests}
 use Rattle.legacy_tables.specs.{Indexes.FlatIndexes, TableChecks.AreAccepted, Walks.IsFilled, Pointers.euc_jp_pointer_of, Pointers.shift_jis_pointer_of}
 use Rattle.legacy_tables.specs.declared.tables.packed.PackedPart.TheVariants.{EucJpOrder, ShiftJisOrder}
 use Rattle.legacy_tables.proofs.{Accepted.jis0208-scalars, PointerBounds.euc-jp-bound, PointerBounds.shift-jis-bound}
 use Rattle.legacy_base.specs.{EucJp.euc_jp_code, EucJp.euc_jp_bytes, ShiftJis.shift_jis_code, ShiftJis.shift_jis_bytes}
-use Rattle.legacy_base.specs.{Iso2022Jp.iso_2022_jp_code, Iso2022Jp.iso_2022_jp_pair, Encoders.euc_jp, Encoders.shift_jis, Encoders.iso_2022_jp}
+use Rattle.legacy_base.specs.{Iso2022Jp.iso_2022_jp_code, Iso2022Jp.iso_2022_jp_pair, Encoders.Codec, Encoders.euc_jp, Encoders.shift_jis, Encoders.iso_2022_jp}
 use Rattle.legacy_encoder_engine.proofs.WalkedPairs.{GoesByPointers, by-pairs, halves, walked-right}
+use Rattle.legacy_encoder_engine.proofs.CachedPairs.{all-right}
+use Rattle.legacy_encoder_engine.specs.CachedPairs.{AreAllPairsOf, IsRightEntry}
+use Rattle.legacy_tables.specs.declared.tables.packed.PackedPart.{PackedPart}
 use Rattle.legacy_japanese.specs.Iso2022JpPairs.{IsListedEntry, iso_2022_jp_mark, iso_2022_jp_mark-some}
 use Rattle.legacy_japanese.specs.{ByPointer.GoesByPointer, EucJpCodes.euc_jp_mark, EucJpCodes.euc_jp_mark-some}
 use Rattle.legacy_japanese.specs.ShiftJisCodes.{shift_jis_mark, shift_jis_mark-some}
+
+-- a list that was filled by pointers has all pairs after the other scalars were looked up
+pub all-listed : {codec : Codec} {part : PackedPart} {mark : ℕ → ℕ} {index : List ℕ} → GoesByPointers codec part mark index GoesByPointer
+    → (filled new : List ℕ) → length filled ≡ 65536 → IsFilled part mark index filled → length new ≡ length filled
+    → (((c : ℕ) → c < 65536 → GoesByPointer c → IsRightEntry codec c (slice_index filled c))
+    → (c : ℕ) → c < 65536 → IsRightEntry codec c (slice_index new c)) → AreAllPairsOf codec new
+all-listed by filled new long walk same ask = all-right _ new (same ∙ long) (ask (walked-right _ _ _ _ _ by filled long walk))
 
 module _ (flat : FlatIndexes) (accepted : AreAccepted flat) where
   euc-jp-code : (c : ℕ) → GoesByPointer c → euc_jp_code flat.jis0208 c ≡ option_map euc_jp_bytes (euc_jp_pointer_of flat.jis0208 c)

@@ -1,13 +1,9 @@
 use Rattle.std.proofs.Common.{◌∙◌}
-use Rattle.legacy_base.specs.Encoders.{euc_jp}
-use Rattle.legacy_encoder_engine.proofs.{CachedPairs.all-right, WalkedPairs.walked-right}
-use Rattle.legacy_japanese.proofs.PointerWalks.{euc-jp-by-pointers}
+use Rattle.legacy_japanese.proofs.PointerWalks.{all-listed, euc-jp-by-pointers}
 use Rattle.legacy_japanese.proofs.euc_jp.encoder.EucJpFillsPairs.fill.Goals as goal
 
 pub returns : goal.returns
 returns g c =
     let tables = g.V.DecoderTables.indexes c.args.tables.now in
-    let long = c.fill.auto.entries ∙ c.requires in
-    let walked = walked-right _ _ _ _ _ (euc-jp-by-pointers tables.flat tables.accepted) c.fill.new.entries long c.fill.ensures in
-    let ask = rw c.new.ensures at c.ask_others.ensures in
-    all-right (euc_jp tables.flat.jis0208 tables.flat.jis0212) c.ask_others.new.pairs (c.ask_others.auto.pairs ∙ long) (ask walked)
+    all-listed (euc-jp-by-pointers tables.flat tables.accepted) c.fill.new.entries _ (c.fill.auto.entries ∙ c.requires) c.fill.ensures c.ask_others.auto.pairs
+    (rw c.new.ensures at c.ask_others.ensures)
