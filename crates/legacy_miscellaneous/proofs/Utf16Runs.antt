@@ -129,10 +129,10 @@ eight_more T be source units {old} {mid} {new} group bytes within long less befo
     )
 
 -- eight units of a source that is below U+0800 are below it
-pub short_eight : (be : Bool) (source units : List ℕ) (group : ℕ) → AreUnitsBelow be source 64 0x800 → group < 8
+pub short_eight : (be : Bool) (source units : List ℕ) (group eights : ℕ) → AreUnitsBelow be source (8 * eights) 0x800 → group < eights
     → ((k : ℕ) → k < 8 → get_or units k 0 ≡ unit_at be (take (length source - 16 * group) (drop (16 * group) source)) k) → (k : ℕ) → k < 8 →
     get_or units k 0 < 0x800
-short_eight be source units group below h are k l = rw (are k l ∙ rest_unit be source group k) (below (8 * group + k) (omega arith))
+short_eight be source units group eights below h are k l = rw (are k l ∙ rest_unit be source group k) (below (8 * group + k) (omega arith))
 
 -- one more unit is written
 pub writes_unit : {D : Type 0} (T : Ghosts D) (be : Bool) (source : List ℕ) {old mid new : D} (at c : ℕ) → ((k : ℕ) → IsByte (get_or source k 0)) →

@@ -134,15 +134,16 @@ impl Units {
         block
     }
 
-    /// Checks whether the first 64 units are below the bound.
+    /// Checks whether the units of the first groups of eight are below the bound.
     #[inline(always)]
-    fn are_below(&self, src: &[u8], bound: u16) -> bool
-        requires { 128 ≤ length src.now }
-        ensures { result ≡ true → AreUnitsBelow self.now.big_endian src.now 64 bound }
+    fn are_below(&self, src: &[u8], eights: usize, bound: u16) -> bool
+        requires some { 0 < eights }
+        requires source { 16 * eights ≤ length src.now }
+        ensures { result ≡ true → AreUnitsBelow self.now.big_endian src.now (8 * eights) bound }
     {
         let mut greatest = eight_units(self.big_endian, src);
         let mut group = 1;
-        while group < 8 {
+        while group < eights {
             let units = eight_units(self.big_endian, &src[16 * group..]);
             greatest = greater_units(greatest, units);
             group += 1;
@@ -150,23 +151,26 @@ impl Units {
         are_all_below(greatest, bound)
     }
 
-    /// Decodes up to 64 units, up to the first eight with a surrogate. Returns the bytes read.
-    // The length of the scalars in UTF-8 is tested once for all 64 units. In text with letters past ASCII that is
-    // predicted better than a test for each eight.
+    /// Decodes groups of eight units by the longest scalar in UTF-8, up to the first group with a surrogate.
+    ///
+    /// Returns the number of bytes read.
+    // The length of the scalars is tested once for all groups. In text with letters past ASCII that is predicted
+    // better than a test for each eight.
     #[inline(always)]
-    fn read_sixty_four<T: Destination>(&self, src: &[u8], dst: &mut T) -> usize
-        requires source { 128 ≤ length src.now }
-        requires room { 203 ≤ T.room dst.old }
+    fn read_groups<T: Destination>(&self, src: &[u8], dst: &mut T, eights: usize) -> usize
+        requires some { 0 < eights }
+        requires source { 16 * eights ≤ length src.now }
+        requires room { 24 * eights + 11 ≤ T.room dst.old }
         ensures { ReadsAhead T.Destination (new_state (utf16 self.now.big_endian)) src.now result
             dst.old dst.new }
     {
-        if self.are_below(src, 0x80) {
+        if self.are_below(src, eights, 0x80) {
             return read_blocks(&AsciiUnits { units: self }, src, dst);
         }
-        if self.are_below(src, 0x800) {
-            return self.read_short_units(src, dst);
+        if self.are_below(src, eights, 0x800) {
+            return self.read_short_units(src, dst, eights);
         }
-        self.read_eights(src, dst, 8)
+        self.read_eights(src, dst, eights)
     }
 
     /// Decodes groups of eight units, up to the first group with a surrogate.
@@ -191,25 +195,26 @@ impl Units {
         16 * eights
     }
 
-    /// Decodes 64 units below U+0800. Returns the number of bytes read.
+    /// Decodes groups of eight units below U+0800. Returns the number of bytes read.
     #[inline(always)]
-    fn read_short_units<T: Destination>(&self, src: &[u8], dst: &mut T) -> usize
-        requires source { 128 ≤ length src.now }
-        requires short { AreUnitsBelow self.now.big_endian src.now 64 0x800 }
-        requires room { 203 ≤ T.room dst.old }
+    fn read_short_units<T: Destination>(&self, src: &[u8], dst: &mut T, eights: usize) -> usize
+        requires source { 16 * eights ≤ length src.now }
+        requires short { AreUnitsBelow self.now.big_endian src.now (8 * eights) 0x800 }
+        requires room { 0 < eights → 24 * eights + 11 ≤ T.room dst.old }
         ensures { ReadsAhead T.Destination (new_state (utf16 self.now.big_endian)) src.now result
             dst.old dst.new }
     {
         let mut group = 0;
-        while group < 8 {
+        while group < eights {
             let units = eight_units(self.big_endian, &src[16 * group..]);
             dst.put_eight_short(units);
             group += 1;
         }
-        128
+        16 * eights
     }
 
     /// Decodes up to 64 units by vectors. Returns the number of bytes read.
+    // The numbers of groups are constants, so that the compiler unrolls the loops over them.
     #[inline(always)]
     fn read_vectors<T: Destination>(&self, src: &[u8], dst: &mut T) -> usize
         ensures { ReadsAhead T.Destination (new_state (utf16 self.now.big_endian)) src.now result
@@ -220,7 +225,9 @@ impl Units {
         }
         let eights = (src.len() / 16).min(dst.free().saturating_sub(11) / 24);
         if eights >= 8 {
-            self.read_sixty_four(src, dst)
+            self.read_groups(src, dst, 8)
+        } else if eights >= 4 {
+            self.read_groups(src, dst, 4)
         } else {
             self.read_eights(src, dst, eights)
         }

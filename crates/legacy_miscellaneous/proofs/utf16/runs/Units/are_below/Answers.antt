@@ -7,7 +7,7 @@ use Rattle.legacy_miscellaneous.proofs.utf16.runs.Units.are_below.Goals as goal
 
 pub loop-group-init : goal.loop-group-init
 loop-group-init c = record {
-  within = omega arith;
+  within = omega (arith, c.requires.some);
   below = λ n below k h. subst (λ u. u < n) (c.eight_units-greatest.ensures k h) (below k (omega (arith, h, c.eight_units-greatest.type_inv)));
 }
 

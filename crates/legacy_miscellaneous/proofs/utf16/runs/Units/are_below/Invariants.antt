@@ -5,9 +5,9 @@ use Rattle.legacy_miscellaneous.proofs.utf16.runs.Units.are_below.Given as goal
 -- no unit of the groups that were read is greater than that of its lane
 abbrev pub invariant-loop-group : goal.invariant-loop-group
 invariant-loop-group l = record {
-  within : l.group ≤ 8;
+  within : l.group ≤ l.eights;
   below : (n : ℕ) → AreBelow n l.greatest → AreUnitsBelow l.self.big_endian l.src (8 * l.group) n;
 }
 
 abbrev pub decreases-loop-group : goal.decreases-loop-group
-decreases-loop-group l = 8 - l.group
+decreases-loop-group l = l.eights - l.group
