@@ -196,15 +196,19 @@ impl Parts for Mixed<'_> {
     }
 }
 
-/// Returns at most 64 bytes, with zeros after them.
+/// Copies at most 64 bytes to the beginning of a text.
+// The compiler copies 64 bytes by vectors, and any other number by a call.
 #[inline(always)]
-fn padded(src: &[u8]) -> [u8; 128]
-    requires { length src.now ≤ 64 }
-    ensures { take (length src.now) result ≡ src.now }
+fn copy_last(src: &[u8], text: &mut [u8])
+    requires most { length src.now ≤ 64 }
+    requires room { 64 ≤ length text.old }
+    ensures { take (length src.now) text.new ≡ src.now }
 {
-    let mut padded = [0u8; 128];
-    padded[..src.len()].copy_from_slice(src);
-    padded
+    if src.len() == 64 {
+        text[..64].copy_from_slice(src);
+    } else {
+        text[..src.len()].copy_from_slice(src);
+    }
 }
 
 /// Checks whether one of the first two bytes has no scalar. Such bytes are often followed by more.
@@ -236,7 +240,9 @@ fn read_last<T: Destination>(scalars: &ByteScalars, src: &[u8], dst: &mut T) -> 
     if src.len() > 64 {
         return 0;
     }
-    read_parts(&Mixed { scalars }, &padded(src), src.len(), dst)
+    let mut text = [0u8; 128];
+    copy_last(src, &mut text);
+    read_parts(&Mixed { scalars }, &text, src.len(), dst)
 }
 
 /// Decodes text from the front, and returns the number of bytes read.
@@ -252,5 +258,8 @@ pub fn read_text<T: Destination>(scalars: &ByteScalars, src: &[u8], dst: &mut T)
     }
     let at = read_parts(&Mixed { scalars }, src, src.len(), dst);
     let end = at + read_last(scalars, &src[at..], dst);
+    if end == src.len() {
+        return end;
+    }
     end + read_few(scalars, &src[end..], dst)
 }

@@ -1,5 +1,13 @@
+use Rattle.std.proofs.Common.{arith}
+use Rattle.std.proofs.lemmas.List.{length-take-le}
 use Rattle.std.proofs.Math.Seq.{take-append_seam}
-use Rattle.legacy_single_byte.proofs.single_byte.blocks.padded.Goals as goal
+use Rattle.legacy_single_byte.proofs.single_byte.blocks.copy_last.Goals as goal
 
-pub returns : goal.returns
-returns c = rw c.copy_from_slice.ensures.after (take-append_seam c.args.src.now _)
+pub copy_from_slice-requires : goal.copy_from_slice-requires
+copy_from_slice-requires c = omega (arith, c.if-src-eq64.true, length-take-le 64 c.args.text.now c.requires.room)
+
+pub returns-then-src-eq64 : goal.returns-then-src-eq64
+returns-then-src-eq64 c = rw c.copy_from_slice.ensures.after (take-append_seam c.args.src.now _)
+
+pub returns-else-src-eq64 : goal.returns-else-src-eq64
+returns-else-src-eq64 c = rw c.copy_from_slice-else-src-eq64.ensures.after (take-append_seam c.args.src.now _)

@@ -8,4 +8,4 @@ pub returns-then-src-gt64 : goal.returns-then-src-gt64
 returns-then-src-gt64 g c = reads_none g.T.Destination (new_state (single_byte c.args.scalars.now.table.now.entries)) c.args.src.now c.args.dst.now
 
 pub returns : goal.returns
-returns g c = reads_padded c.read_parts.ensures.most c.padded.ensures c.read_parts.ensures.ahead
+returns g c = reads_padded c.read_parts.ensures.most c.copy_last.ensures c.read_parts.ensures.ahead

@@ -9,3 +9,6 @@ returns-then-begins_rare g c = reads_none g.T.Destination (new_state (single_byt
 
 pub returns : goal.returns
 returns g c = reads_more (reads_more c.read_parts-at.ensures.ahead c.read_last.ensures) c.read_few.ensures
+
+pub returns-then-end-src : goal.returns-then-end-src
+returns-then-end-src g c = reads_more c.read_parts-at.ensures.ahead c.read_last.ensures
