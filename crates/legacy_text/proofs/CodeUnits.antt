@@ -25,19 +25,13 @@ encode_4 c a = let b : 128 ≤ c = omega arith in let d : 2048 ≤ c = omega ari
 
 -- a scalar of two or three bytes in UTF-8 is below a power of two
 pub two_below : (c : ℕ) → unit_count Utf8 c ≡ 2 → c < 2048
-two_below c e = elim (cases_lt c 2048) [
-  | inl a ↦ a
-  | inr a ↦ elim (cases_lt c 65536) [ inl b ↦ absurd (omega (arith, ap length (encode_3 c a b))) | inr b ↦ absurd (omega (arith, ap length (encode_4 c b))) ]
-]
+two_below c e = grind (arith, nat_tests, encode_3, encode_4)
 
 pub two_above : (c : ℕ) → unit_count Utf8 c ≡ 2 → 128 ≤ c
 two_above c e = elim (cases_lt c 128) [ inl a ↦ absurd (omega (arith, ap length (encode_1 c a))) | inr a ↦ a ]
 
 pub three_above : (c : ℕ) → unit_count Utf8 c ≡ 3 → 2048 ≤ c
-three_above c e = elim (cases_lt c 128) [
-  | inl a ↦ absurd (omega (arith, ap length (encode_1 c a)))
-  | inr a ↦ elim (cases_lt c 2048) [ inl b ↦ absurd (omega (arith, ap length (encode_2 c a b))) | inr b ↦ b ]
-]
+three_above c e = grind (arith, nat_tests, encode_1, encode_2)
 
 pub three_below : (c : ℕ) → unit_count Utf8 c ≡ 3 → c < 65536
 three_below c e = elim (cases_lt c 65536) [ inl a ↦ a | inr a ↦ absurd (omega (arith, ap length (encode_4 c a))) ]

@@ -1,8 +1,8 @@
 -- Bits that say where scalars begin, and the scalars of one and three bytes of UTF-8 between them.
-use Rattle.std.proofs.Common.{◌≡◌, ◌↔◌, ◌∙◌, ℕ, zero, suc, ◌+◌, ◌-◌, ◌*◌, ◌/◌, ◌%◌, ◌^◌, ◌≤◌, ◌<◌, List, [], ◌∷◌, ◌++◌, length, get_or, true, false}
-use Rattle.std.proofs.Common.{cond, leb, map, max}
-use Rattle.std.proofs.Common.{take, drop, replicate, refl, sym, ap, subst, arith, append_assoc, append-nil, length-append, add-zero, slice_set, inl, inr, w8}
-use Rattle.std.proofs.Common.{w32, Fits, bit_and, bit_or}
+use Rattle.std.proofs.lemmas.Bool.Decides.{nat_tests}
+use Rattle.std.proofs.Common.{◌≡◌, ◌↔◌, ◌∙◌, ℕ, zero, suc, ◌+◌, ◌-◌, ◌*◌, ◌/◌, ◌%◌, ◌^◌, ◌≤◌, ◌<◌, List, [], ◌∷◌, ◌++◌, length, get_or, true, false, cond}
+use Rattle.std.proofs.Common.{leb, map, max, take, drop, replicate, refl, sym, ap, subst, arith, append_assoc, append-nil, length-append, add-zero, slice_set}
+use Rattle.std.proofs.Common.{inl, inr, w8, w32, Fits, bit_and, bit_or}
 use Rattle.std.specs.Int.{bit_at, bit_not, trailing_zeros}
 use Rattle.std.specs.Simd.Lanes.{zip2, mask_l, number_l, digits_l, put_chunk, Each1}
 use Rattle.std.specs.Str.{chars, is_utf8}
@@ -46,13 +46,7 @@ module _ (n : ℕ) (some : 0 < n) (fits : n < 2 ^ 32) where
   twice = let e : T + 1 ≡ suc T = omega arith in omega (arith, ap (λ m. 2 ^ m) e, pow-suc 2 T)
 
   low_bits : (i : ℕ) → i < trailing_zeros w32 n + 1 → bit_at (n % 2 ^ (trailing_zeros w32 n + 1)) i ≡ bit_at (2 ^ trailing_zeros w32 n) i
-  low_bits i h =
-      let here : bit_at (n % 2 ^ (T + 1)) i ≡ bit_at n i =
-      sym (bit_at_cat_low (n / 2 ^ (T + 1)) (T + 1) (n % 2 ^ (T + 1)) i h) ∙ ap (λ m. bit_at m i) (sym cut) in
-      elim (cases_lt i T) [
-        | inl l ↦ here ∙ at_lowest.2 i l ∙ sym (bit_at-pow_other T i (omega arith))
-        | inr l ↦ let e : i ≡ T = omega arith in here ∙ rw e (at_lowest.1 ∙ sym (bit_at-pow_same T))
-      ]
+  low_bits i h = grind (arith, nat_tests, bit_at_cat_low, cut, at_lowest, bit_at-pow_other, bit_at-pow_same)
 
   low_is : n % 2 ^ (trailing_zeros w32 n + 1) ≡ 2 ^ trailing_zeros w32 n
   low_is = same_from_bits_below (T + 1) (n % 2 ^ (T + 1)) (2 ^ T) (mod-lt n (pow_pos (T + 1))) (omega (arith, twice, pow_pos T)) low_bits
@@ -62,24 +56,11 @@ module _ (n : ℕ) (some : 0 < n) (fits : n < 2 ^ 32) where
 
   -- without the lowest bit, no bit up to it is set
   pub lowest_gone : (k : ℕ) → k ≤ trailing_zeros w32 n → bit_at (bit_and n (n - 1)) k ≡ 0
-  lowest_gone k le = elim (cases_lt k T) [
-    | inl l ↦ omega (arith, bit_at_and n (n - 1) k, at_lowest.2 k l)
-    | inr l ↦
-        let e : k ≡ T = omega arith in
-        let gone : bit_at (n - 1) k ≡ 0 =
-        ap (λ m. bit_at m k) less_is ∙ bit_at_cat_low (n / 2 ^ (T + 1)) (T + 1) (2 ^ T - 1) k (omega arith) ∙ bit_at_ones_above T k (omega arith) in
-        omega (arith, bit_at_and n (n - 1) k, gone)
-  ]
+  lowest_gone k le = grind (arith, nat_tests, bit_at_and, at_lowest, less_is, bit_at_cat_low, bit_at_ones_above)
 
   -- all bits above it are unchanged
   pub others_stay : (k : ℕ) → trailing_zeros w32 n < k → bit_at (bit_and n (n - 1)) k ≡ bit_at n k
-  others_stay k l =
-      let below : 2 ^ T - 1 < 2 ^ (T + 1) = omega (arith, twice, pow_pos T) in
-      let less : bit_at (n - 1) k ≡ bit_at (n / 2 ^ (T + 1)) (k - (T + 1)) =
-      ap (λ m. bit_at m k) less_is ∙ bit_at_cat_high (n / 2 ^ (T + 1)) (T + 1) (2 ^ T - 1) k below (omega arith) in
-      let all : bit_at n k ≡ bit_at (n / 2 ^ (T + 1)) (k - (T + 1)) =
-      ap (λ m. bit_at m k) cut ∙ bit_at_cat_high (n / 2 ^ (T + 1)) (T + 1) (n % 2 ^ (T + 1)) k (mod-lt n (pow_pos (T + 1))) (omega arith) in
-      omega (arith, bit_at_and n (n - 1) k, less, all)
+  others_stay k l = grind (arith, nat_tests, twice, pow_pos, less_is, bit_at_cat_high, cut, mod-lt, bit_at_and)
 
 -- ---- the bits of starts
 
@@ -99,13 +80,7 @@ mask_bit x some v long k =
     (λ s. t.0 (sym e ∙ s), λ s. e ∙ t.1 s)
 
 starts_from : (byte p l r : ℕ) → ((p ≡ 1) ↔ (128 ≤ byte)) → ((l ≡ 1) ↔ (192 ≤ byte)) → p < 2 → l < 2 → r ≡ max (1 - p) l → (r ≡ 1) ↔ IsStart byte
-starts_from byte p l r past leads few few_leads is = (
-  (λ set high. let e : p ≡ 1 = past.1 high in let one : l ≡ 1 = omega arith in leads.0 one),
-  (λ start. elim (cases_lt p 1) as (λ _. r ≡ 1) [
-    | inl none ↦ omega arith
-    | inr some ↦ let e : p ≡ 1 = omega arith in let one : l ≡ 1 = leads.1 (start (past.0 e)) in omega arith
-  ]),
-)
+starts_from byte p l r past leads few few_leads is = grind arith
 
 -- a bit that is not set for a byte of at least 128, or set for one of at least 192
 pub starts_bit : (v : List ℕ) → length v ≡ 32 → (k : ℕ) → k < 32
@@ -122,9 +97,7 @@ starts_bit v long k h =
 
 -- two bytes as a number, the lower first
 pair : (bytes : List ℕ) → 2 ≤ length bytes → number_l 256 (take 2 bytes) ≡ get_or bytes 0 0 + 256 * get_or bytes 1 0
-pair [] h = absurd (omega arith)
-pair (a ∷ []) h = absurd (omega arith)
-pair (a ∷ b ∷ bytes) h = omega arith
+pair bytes h = grind arith
 
 -- a lane of two bytes
 pub lane : (n : ℕ) (bytes : List ℕ) (k : ℕ) → ((i : ℕ) → i < 2 * n → get_or bytes i 0 < 256) → length bytes ≡ 2 * n → k < n
@@ -141,10 +114,7 @@ lane n bytes k are long h =
 pub filled : (P : ℕ → ℕ → Type 0) (lows highs : List ℕ) (k low high : ℕ) → k < length lows → k < length highs →
     ((j : ℕ) → j < k → P j (get_or lows j 0 + 256 * get_or highs j 0))
     → P k (low + 256 * high) → (j : ℕ) → j < k + 1 → P j (get_or (slice_set lows k low) j 0 + 256 * get_or (slice_set highs k high) j 0)
-filled P lows highs k low high a b before here j h = elim (cases_lt j k) [
-  | inl l ↦ rw (get_or-set_other lows k j low 0 (omega arith), get_or-set_other highs k j high 0 (omega arith)) (before j l)
-  | inr l ↦ let e : j ≡ k = omega arith in rw e (rw (get_or-set_same lows k low 0 a, get_or-set_same highs k high 0 b) here)
-]
+filled P lows highs k low high a b before here j h = grind (arith, nat_tests, get_or-set_other, get_or-set_same)
 
 -- a byte of sixteen
 pub sixteenth : (bytes : List ℕ) (place k : ℕ) → k < 16 → get_or (take 16 (drop place bytes)) k 0 ≡ get_or bytes (place + k) 0
@@ -166,10 +136,7 @@ tails_is v long k h =
 
 -- a code unit depends only on these bits
 pub of_tails : (first second third unit : ℕ) → IsUnitOf first (second % 64) (third % 64) unit → IsUnitOf first second third unit
-of_tails first second third unit made lone = elim (made lone) [
-  | inl one ↦ inl one
-  | inr three ↦ inr (three.0, three.1, omega (arith, three.2))
-]
+of_tails first second third unit h = grind arith
 
 -- the lanes of a vector of bytes
 pub below_256 : (v : List ℕ) → Each1 (Fits w8) v → (i : ℕ) → get_or v i 0 < 256
@@ -239,22 +206,7 @@ stored_before all front back at k h =
 pub stored_at : (P : ℕ → ℕ → Type 0) (all front back : List ℕ) (at : ℕ) → length front ≡ 8 → length back ≡ 8 → at + 16 ≤ length all
     → ((k : ℕ) → k < 8 → P k (get_or front k 0)) → ((k : ℕ) → k < 8 → P (8 + k) (get_or back k 0))
     → (k : ℕ) → k < 16 → P k (get_or (put_chunk (at + 8) (put_chunk at all front) back) (at + k) 0)
-stored_at P all front back at long long_back room first others k h = elim (cases_lt k 8) [
-  | inl l ↦
-      rw (
-        get_or-put_chunk_below (at + 8) (put_chunk at all front) back (at + k) 0 (omega arith),
-        get_or-put_chunk_at at all front k 0 (omega (arith, long)) (omega (arith, long)),
-      ) (first k l)
-  | inr l ↦
-      let place : at + k ≡ at + 8 + (k - 8) = omega arith in
-      let same : 8 + (k - 8) ≡ k = omega arith in
-      rw (
-        place,
-        get_or-put_chunk_at (at + 8) (put_chunk at all front) back (k - 8) 0 (omega (arith, long_back))
-            (omega (arith, long_back, length-put_chunk at all front)),
-      )
-      (subst (λ n. P n (get_or back (k - 8) 0)) same (others (k - 8) (omega arith)))
-]
+stored_at P all front back at long long_back room first others k h = grind (arith, nat_tests, get_or-put_chunk_below, get_or-put_chunk_at, length-put_chunk)
 
 -- sixteen entries, and sixteen after them
 pub both_halves : (P : ℕ → ℕ → Type 0) (front all : List ℕ) → ((k : ℕ) → k < 16 → get_or all k 0 ≡ get_or front k 0) →
@@ -277,16 +229,7 @@ tail_at (x ∷ xs) t zero h = (t.0, t.1)
 tail_at (x ∷ xs) t (suc k) h = tail_at xs t.2 k (omega arith)
 
 encode_tails : (c : ℕ) → AreTails (drop 1 (encode c))
-encode_tails c = elim (cases_lt c 128) [
-  | inl a ↦ rw (encode_1 c a) tt
-  | inr a ↦ elim (cases_lt c 2048) [
-    | inl b ↦ rw (encode_2 c a b) (omega arith, omega arith, tt)
-    | inr b ↦ elim (cases_lt c 65536) [
-      | inl d ↦ rw (encode_3 c b d) (omega arith, omega arith, (omega arith, omega arith, tt))
-      | inr d ↦ rw (encode_4 c d) (omega arith, omega arith, (omega arith, omega arith, (omega arith, omega arith, tt)))
-    ]
-  ]
-]
+encode_tails c = grind (arith, nat_tests, encode_1, encode_2, encode_3, encode_4)
 
 module _ (text : List ℕ) (place : ℕ) (inside : place < length text) (u : is_utf8 (drop place text) ≡ true) where
   abbrev C : ℕ
@@ -319,16 +262,7 @@ module _ (text : List ℕ) (place : ℕ) (inside : place < length text) (u : is_
 
   -- a scalar begins with such a byte
   pub start_here : IsStart (get_or text place 0)
-  start_here past = elim (cases_lt C 128) [
-    | inl a ↦ omega (arith, first_byte ∙ ap (λ l. get_or (l ++ stands.rest) 0 0) (encode_1 C a))
-    | inr a ↦ elim (cases_lt C 2048) [
-      | inl b ↦ omega (arith, first_byte ∙ ap (λ l. get_or (l ++ stands.rest) 0 0) (encode_2 C a b))
-      | inr b ↦ elim (cases_lt C 65536) [
-        | inl d ↦ omega (arith, first_byte ∙ ap (λ l. get_or (l ++ stands.rest) 0 0) (encode_3 C b d))
-        | inr d ↦ omega (arith, first_byte ∙ ap (λ l. get_or (l ++ stands.rest) 0 0) (encode_4 C d))
-      ]
-    ]
-  ]
+  start_here = grind (arith, nat_tests, first_byte, stands, encode_1, encode_2, encode_3, encode_4)
 
   -- no other byte of the scalar is such a byte
   pub no_start : (k : ℕ) → 0 < k → k < unit_count Utf8 (get_or (chars (drop place text)) 0 0) → IsStart (get_or text (place + k) 0) → ⊥

@@ -1,6 +1,8 @@
 -- Runs of scalars that were written as one byte each, and the scalars of one and two bytes of UTF-8.
-use Rattle.std.proofs.Common.{◌≡◌, ◌∙◌, ℕ, ◌+◌, ◌-◌, ◌*◌, ◌/◌, ◌%◌, ◌≤◌, ◌<◌, List, [], ◌∷◌, ◌++◌, length, get_or, Bool, true, false, ◌&&◌}
-use Rattle.std.proofs.Common.{take, drop, refl, sym, ap, subst, arith, append_assoc, append-nil, length-append, length-drop, add-zero, inl, inr}
+use Rattle.std.proofs.lemmas.Bool.Decides.{nat_tests}
+use Rattle.std.proofs.lemmas.Grind.{common_steps}
+use Rattle.std.proofs.Common.{◌≡◌, ◌∙◌, ℕ, ◌+◌, ◌-◌, ◌*◌, ◌/◌, ◌%◌, ◌≤◌, ◌<◌, List, [], ◌∷◌, ◌++◌, length, get_or, Bool, true, ◌&&◌}
+use Rattle.std.proofs.Common.{take, drop, refl, sym, ap, arith, append_assoc, append-nil, length-append, length-drop, add-zero, inl, inr}
 use Rattle.std.proofs.lemmas.Bool.{cases_lt}
 use Rattle.std.proofs.lemmas.List.{get_or_append_left, get_or-append-add, get_or-drop, drop-drop}
 use Rattle.std.proofs.lemmas.Str.{encodes-chars, IsUtf8-from_is_utf8}
@@ -10,8 +12,7 @@ use lib.Utf8.{encode, encodes}
 use Rattle.legacy_text.specs.EncodingForm.{Utf8, code_units, unit_count, total_unit_count}
 use Rattle.legacy_text.specs.ShortScalars.{ReadsScalar, WritesScalars}
 use Rattle.legacy_text.specs.UnitCodes.{WritesCodes}
-use Rattle.legacy_text.proofs.CodeUnits.{encode_1, encode_2, encode_3, encode_4}
-use Rattle.legacy_text.proofs.CodeUnits.{total_unit_count-append}
+use Rattle.legacy_text.proofs.CodeUnits.{encode_1, encode_2, encode_3, encode_4, total_unit_count-append}
 use Rattle.legacy_text.proofs.Texts.{TellsCount, first_some, first_cons, utf8_pass, utf8_bytes, utf8_tells}
 use Rattle.legacy_text.proofs.UnitCopies.{writes_none}
 
@@ -20,33 +21,13 @@ use Rattle.legacy_text.proofs.UnitCopies.{writes_none}
 -- bytes for scalars, and then bytes for the next ones
 codes_append : (gives : ℕ → ℕ → Type 0) (scalars old mid new : List ℕ) (n m : ℕ) → n ≤ length scalars
     → WritesCodes gives scalars n old mid → WritesCodes gives (drop n scalars) m mid new → WritesCodes gives scalars (n + m) old new
-codes_append gives scalars old mid new n m few a b = record {
-  bytes = a.bytes ++ b.bytes;
-  new_is = b.new_is ∙ ap (λ l. l ++ b.bytes) a.new_is ∙ append_assoc old a.bytes b.bytes;
-  count = omega (arith, length-append a.bytes b.bytes, a.count, b.count);
-  each = λ k h. elim (cases_lt k n) [
-    | inl l ↦ subst (gives (get_or scalars k 0)) (sym (get_or_append_left a.bytes b.bytes 0 k (omega (arith, a.count)))) (a.each k l)
-    | inr l ↦
-        let index : k ≡ length a.bytes + (k - n) = omega (arith, a.count) in
-        let place : n + (k - n) ≡ k = omega arith in
-        let byte : get_or (a.bytes ++ b.bytes) k 0 ≡ get_or b.bytes (k - n) 0 =
-        ap (λ i. get_or (a.bytes ++ b.bytes) i 0) index ∙ get_or-append-add a.bytes b.bytes (k - n) 0 in
-        let scalar : get_or (drop n scalars) (k - n) 0 ≡ get_or scalars k 0 = get_or-drop n scalars (k - n) 0 ∙ ap (λ i. get_or scalars i 0) place in
-        subst (gives (get_or scalars k 0)) (sym byte) (subst (λ c. gives c (get_or b.bytes (k - n) 0)) scalar (b.each (k - n) (omega arith)))
-  ];
-}
+codes_append gives scalars old mid new n m few a b =
+    grind (arith, common_steps, append_assoc, length-append, get_or_append_left, get_or-append-add, get_or-drop)
 
 -- nothing was written yet
 pub scalars_none : (gives : ℕ → ℕ → Type 0) (text : List ℕ) (place : ℕ) (old new : List ℕ) → place ≤ length text → is_utf8 (drop place text) ≡ true → new ≡ old
     → WritesScalars gives text place 0 place old new
-scalars_none gives text place old new p u e = record {
-  few = omega arith;
-  left = refl;
-  is_text = u;
-  within = p;
-  passed = sym (add-zero place);
-  writes = writes_none gives (chars (drop place text)) old new e;
-}
+scalars_none gives text place old new p u e = grind (arith, nat_tests, add-zero, writes_none)
 
 one_count : (c : ℕ) (rest : List ℕ) → total_unit_count Utf8 (take 1 (c ∷ rest)) ≡ unit_count Utf8 c
 one_count c rest = ap length (append-nil (code_units Utf8 c))
@@ -54,35 +35,13 @@ one_count c rest = ap length (append-nil (code_units Utf8 c))
 -- one scalar
 pub scalars_one : (gives : ℕ → ℕ → Type 0) (text : List ℕ) (place scalar behind byte : ℕ) (old new : List ℕ) → ReadsScalar text place scalar behind
     → gives scalar byte → new ≡ old ++ byte ∷ [] → WritesScalars gives text place 1 behind old new
-scalars_one gives text place scalar behind byte old new r g e = record {
-  few = rw r.left (omega arith);
-  left = rw r.left refl;
-  is_text = r.is_text;
-  within = r.within;
-  passed = rw r.left (r.passed ∙ ap (λ n. place + n) (sym (one_count scalar (chars (drop behind text)))));
-  writes = rw r.left (record {
-    bytes = byte ∷ [];
-    new_is = e;
-    count = refl;
-    each = λ k h. let z : k ≡ 0 = omega arith in rw z g;
-  });
-}
+scalars_one gives text place scalar behind byte old new r g e = grind (arith, common_steps, one_count)
 
 -- scalars, and then the next ones
 pub scalars_append : (gives : ℕ → ℕ → Type 0) (text : List ℕ) (start n place m behind : ℕ) (old mid new : List ℕ) →
     WritesScalars gives text start n place old mid → WritesScalars gives text place m behind mid new → WritesScalars gives text start (n + m) behind old new
 scalars_append gives text start n place m behind old mid new a b =
-    let all = chars (drop start text) in
-    let few : m ≤ length (drop n all) = rw (← a.left) b.few in
-    let passed : behind ≡ place + total_unit_count Utf8 (take m (drop n all)) = rw (← a.left) b.passed in
-    record {
-      few = omega (arith, few, a.few, length-drop n all);
-      left = b.left ∙ ap (drop m) a.left ∙ drop-drop m n all;
-      is_text = b.is_text;
-      within = b.within;
-      passed = rw (take-add n m all) (omega (arith, passed, a.passed, total_unit_count-append Utf8 (take n all) (take m (drop n all))));
-      writes = codes_append gives all old mid new n m a.few a.writes (rw (← a.left) b.writes);
-    }
+    grind (arith, nat_tests, length-drop, drop-drop, take-add, total_unit_count-append, codes_append)
 
 -- ---- one scalar
 
@@ -171,7 +130,4 @@ module _ (text : List ℕ) (place : ℕ) (within : place + 2 ≤ length text) (u
 
 -- each of three flags is set
 pub all_set : (a b c : Bool) → (a && b && c) ≡ true → (a ≡ true) × (b ≡ true) × (c ≡ true)
-all_set true true true e = (refl, refl, refl)
-all_set true true false e = cc
-all_set true false c e = cc
-all_set false b c e = cc
+all_set a b c h = grind arith

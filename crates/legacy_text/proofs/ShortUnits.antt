@@ -1,9 +1,10 @@
 -- Code units below 0x800.
 use Rattle.std.proofs.Common.{◌≡◌, ℕ, zero, suc, ◌+◌, ◌-◌, ◌*◌, ◌/◌, ◌%◌, ◌^◌, ◌<◌, ◌≤◌, Bool, true, false, cond, ltb, leb, eqb, List, [], ◌∷◌, ◌++◌, length}
-use Rattle.std.proofs.Common.{get_or, map, take, replicate, bit_and, refl, sym, ap, ap₂, ◌∙◌, arith, w8, w16, Fits, All}
-use Rattle.std.proofs.lemmas.Bool.{ltb-true, ltb-false, lt-ltb, leb-true, eqb-true, agree_below_at}
+use Rattle.std.proofs.Common.{get_or, map, take, replicate, bit_and, refl, ap, ap₂, ◌∙◌, arith, w8, w16, Fits, All}
+use Rattle.std.proofs.lemmas.Bool.{ltb-true, lt-ltb, leb-true, eqb-true, agree_below_at}
+use Rattle.std.proofs.lemmas.Bool.Decides.{nat_tests}
+use Rattle.std.proofs.lemmas.Grind.{common_steps}
 use Rattle.std.proofs.lemmas.List.{map-append, length-map, take-take, take-map}
-use Rattle.std.proofs.lemmas.List.Elements.{All-from_get_or}
 use Rattle.std.proofs.Math.Seq.{take-append_seam}
 use Rattle.std.proofs.lemmas.Nat.{and_mask}
 use Rattle.std.proofs.lemmas.Simd.{bitmask_splat, mask_l-lt, swz_l}
@@ -13,27 +14,17 @@ use Rattle.std.specs.List.{range_with_len}
 use lib.Lanes.{Each1, zip2, sel_l, mask_l, top, number_l, digits_l, all_below}
 use Rattle.legacy_text.specs.declared.unit_rows.TheConstants.{SHORT_WRITTEN}
 use Rattle.legacy_text.specs.UnitBytes.{short_bytes, short_lanes, short_pattern, short_places, short_row, AreShort, utf8_bytes}
-use Rattle.legacy_text.proofs.UnitLanes.{of_eight, le_bytes, shuffled, each_below}
+use Rattle.legacy_text.proofs.UnitLanes.{of_eight, le_bytes_map, shuffled, each_below}
 
 -- ---- two bytes of each code unit
 
 short_is : (u : ℕ) → u < 65536
     → cond (top 15 (cond (ltb u 128) (2 ^ 16 - 1) 0)) u (((bit_and (u / 2 ^ 6) 31 + 192) % 2 ^ 16 + (bit_and u 63 + 128) % 2 ^ 16 * 2 ^ 8 % 2 ^ 16) % 2 ^ 16)
     ≡ short_bytes u
-short_is u small = go (ltb u 128)
-  where
-    go : (t : Bool) →
-        cond (top 15 (cond t (2 ^ 16 - 1) 0)) u (((bit_and (u / 2 ^ 6) 31 + 192) % 2 ^ 16 + (bit_and u 63 + 128) % 2 ^ 16 * 2 ^ 8 % 2 ^ 16) % 2 ^ 16)
-        ≡ cond t u (192 + u / 64 % 32 + 256 * (128 + u % 64))
-    go true = refl
-    go false = omega (arith, and_mask u 6, and_mask (u / 2 ^ 6) 5)
+short_is u small = grind (arith, common_steps, and_mask)
 
 short_small : (u : ℕ) → u < 65536 → short_bytes u < 65536
-short_small u small = go (ltb u 128)
-  where
-    go : (t : Bool) → cond t u (192 + u / 64 % 32 + 256 * (128 + u % 64)) < 65536
-    go true = small
-    go false = omega arith
+short_small u small = grind arith
 
 abbrev vector_short : List ℕ → List ℕ
 vector_short v =
@@ -43,23 +34,10 @@ vector_short v =
     (zip2 (λ a b. a * 2 ^ b % 2 ^ 16) (zip2 (λ a b. (a + b) % 2 ^ 16) (zip2 bit_and v (replicate 8 63)) (replicate 8 128)) (replicate 8 8)))
 
 pub vector_short_lanes : (v : List ℕ) → length v ≡ 8 → Each1 (Fits w16) v → digits_l 256 16 (number_l 65536 (vector_short v)) ≡ short_lanes v
-vector_short_lanes =
-    of_eight (λ v. digits_l 256 16 (number_l 65536 (vector_short v)) ≡ short_lanes v) (λ a b c d e f g h sa sb sc sd se sf sg sh.
+vector_short_lanes = of_eight _ (λ a b c d e f g h sa sb sc sd se sf sg sh.
     (λ t. digits_l 256 16 (number_l 65536 (short_is a sa t ∷ short_is b sb t ∷ short_is c sc t ∷ short_is d sd t
     ∷ short_is e se t ∷ short_is f sf t ∷ short_is g sg t ∷ short_is h sh t ∷ [])))
-    ∙ le_bytes (short_bytes a ∷ short_bytes b ∷ short_bytes c ∷ short_bytes d ∷ short_bytes e ∷ short_bytes f ∷ short_bytes g ∷ short_bytes h ∷ []) (
-      short_small a sa,
-      (
-        short_small b sb,
-        (
-          short_small c sc,
-          (
-            short_small d sd,
-            (short_small e se, (short_small f sf, (short_small g sg, (short_small h sh, tt)))),
-          ),
-        ),
-      ),
-    ))
+    ∙ le_bytes_map short_bytes short_small (a ∷ b ∷ c ∷ d ∷ e ∷ f ∷ g ∷ h ∷ []) (sa, (sb, (sc, (sd, (se, (sf, (sg, (sh, tt)))))))))
 
 -- ---- the code units of one byte
 
@@ -70,48 +48,32 @@ short_bits_are v long = bitmask_splat w16 ltb v 8 128 long (omega arith)
 
 pub short_pattern_lt : (v : List ℕ) → length v ≡ 8 → short_pattern v < 256
 unfolding short_pattern
-short_pattern_lt v long =
-    let n : length (map (λ u. ltb u 128) v) ≡ 8 = length-map v (λ u. ltb u 128) ∙ long in
-    let e : 2 ^ length (map (λ u. ltb u 128) v) ≡ 2 ^ 8 = ap (λ k. 2 ^ k) n in
-    omega (arith, mask_l-lt (map (λ u. ltb u 128) v), e)
+short_pattern_lt v long = grind (arith, nat_tests, length-map, mask_l-lt)
 
 -- ---- the table
-
-short_within : (r : ℕ) → r < 256 → all_below 16 (short_row r) ≡ true
-unfolding short_row short_places
-short_within r h = agree_below_at (λ n. all_below 16 (short_row n)) (λ _. true) 256 r refl h
-
-short_long : (r : ℕ) → r < 256 → eqb (length (short_row r)) 16 ≡ true
-unfolding short_row short_places
-short_long r h = agree_below_at (λ n. eqb (length (short_row n)) 16) (λ _. true) 256 r refl h
-
-short_count : (r : ℕ) → r < 256 → eqb (16 - count_ones r) (length (short_places 0 8 r)) ≡ true
-unfolding short_places count_ones
-short_count r h = agree_below_at (λ n. eqb (16 - count_ones n) (length (short_places 0 8 n))) (λ _. true) 256 r refl h
-
-short_most : (r : ℕ) → r < 256 → leb (length (short_places 0 8 r)) 16 ≡ true
-unfolding short_places
-short_most r h = agree_below_at (λ n. leb (length (short_places 0 8 n)) 16) (λ _. true) 256 r refl h
-
-short_ones : (r : ℕ) → r < 256 → leb (count_ones r) 8 ≡ true
-unfolding count_ones
-short_ones r h = agree_below_at (λ n. leb (count_ones n) 8) (λ _. true) 256 r refl h
 
 pub short_rows_are : SHORT_WRITTEN ≡ map short_row (range_with_len 0 256)
 unfolding short_row short_places
 short_rows_are = refl
 
 pub short_row_within : (r : ℕ) → r < 256 → Each1 (λ j. j < 16) (short_row r)
-short_row_within r h = each_below 16 (short_row r) (short_within r h)
+unfolding short_row short_places
+short_row_within r h = each_below 16 (short_row r) (agree_below_at (λ n. all_below 16 (short_row n)) (λ _. true) 256 r refl h)
 
 pub short_row_long : (r : ℕ) → r < 256 → length (short_row r) ≡ 16
-short_row_long r h = eqb-true _ _ (short_long r h)
+unfolding short_row short_places
+short_row_long r h = eqb-true _ _ (agree_below_at (λ n. eqb (length (short_row n)) 16) (λ _. true) 256 r refl h)
 
 pub short_counted : (at r : ℕ) → r < 256 → at + 16 - count_ones r ≡ at + length (short_places 0 8 r)
-short_counted at r h = omega (arith, eqb-true _ _ (short_count r h), leb-true _ _ (short_ones r h))
+unfolding short_places count_ones
+short_counted at r h =
+    let count = agree_below_at (λ n. eqb (16 - count_ones n) (length (short_places 0 8 n))) (λ _. true) 256 r refl h in
+    let ones = agree_below_at (λ n. leb (count_ones n) 8) (λ _. true) 256 r refl h in
+    omega (arith, eqb-true _ _ count, leb-true _ _ ones)
 
 pub short_places_most : (r : ℕ) → r < 256 → length (short_places 0 8 r) ≤ 16
-short_places_most r h = leb-true _ _ (short_most r h)
+unfolding short_places
+short_places_most r h = leb-true _ _ (agree_below_at (λ n. leb (length (short_places 0 8 n)) 16) (λ _. true) 256 r refl h)
 
 pub short_written : (xs : List ℕ) (r : ℕ) → r < 256 →
     take (length (short_places 0 8 r)) (swz_l w8 16 xs 0 (short_row r)) ≡ map (λ j. get_or xs j 0) (short_places 0 8 r)
@@ -129,30 +91,11 @@ ReadsShort f base [] = Unit {0}
 ReadsShort f base (u ∷ us) = (f base ≡ short_bytes u % 256) × (f (base + 1) ≡ short_bytes u / 256) × ReadsShort f (base + 2) us
 
 digit : (s : Bool) (m : ℕ) → (eqb ((cond s 1 0 + 2 * m) % 2) 1 ≡ s) × ((cond s 1 0 + 2 * m) / 2 ≡ m)
-digit true m =
-    let e : (1 + 2 * m) % 2 ≡ 1 = omega arith in
-    (ap (λ n. eqb n 1) e, omega arith)
-digit false m =
-    let e : (0 + 2 * m) % 2 ≡ 0 = omega arith in
-    (ap (λ n. eqb n 1) e, omega arith)
+digit s m = grind arith
 
 short_unit : (u a b : ℕ) → u < 2048 → a ≡ short_bytes u % 256 → b ≡ short_bytes u / 256 → cond (ltb u 128) (a ∷ []) (a ∷ b ∷ []) ≡ encode_utf8 u
 unfolding encode_utf8
-short_unit u a b small p q = go (ltb u 128) (ltb u 2048) refl refl p q
-  where
-    go : (s t : Bool) → ltb u 128 ≡ s → ltb u 2048 ≡ t → a ≡ cond s u (192 + u / 64 % 32 + 256 * (128 + u % 64)) % 256 →
-        b ≡ cond s u (192 + u / 64 % 32 + 256 * (128 + u % 64)) / 256 → cond s (a ∷ []) (a ∷ b ∷ [])
-        ≡ cond s (u ∷ []) (cond t ((192 + u / 64) ∷ (128 + u % 64) ∷ []) (cond (ltb u 65536) ((224 + u / 4096) ∷ (128 + u / 64 % 64) ∷ (128 + u % 64) ∷ [])
-        ((240 + u / 262144) ∷ (128 + u / 4096 % 64) ∷ (128 + u / 64 % 64) ∷ (128 + u % 64) ∷ [])))
-    go true t e f p q =
-        let low : u < 128 = ltb-true _ _ e in
-        let x : a ≡ u = omega arith in
-        rw x refl
-    go false true e f p q =
-        let x : a ≡ 192 + u / 64 = omega arith in
-        let y : b ≡ 128 + u % 64 = omega arith in
-        rw (x, y) refl
-    go false false e f p q = absurd (omega (arith, ltb-false _ _ f))
+short_unit u a b small p q = grind arith
 
 short_text : (f : ℕ → ℕ) (base : ℕ) (us : List ℕ) → All (λ u. u < 2048) us → ReadsShort f base us →
     map f (short_places base (length us) (short_pattern us)) ≡ utf8_bytes us
@@ -175,9 +118,7 @@ short_text f base (u ∷ us) small reads =
 
 pub short_text_of_eight : (v : List ℕ) → length v ≡ 8 → Each1 (Fits w16) v → AreShort v →
     map (λ k. get_or (short_lanes v) k 0) (short_places 0 8 (short_pattern v)) ≡ utf8_bytes v
-short_text_of_eight =
-    of_eight (λ v. AreShort v → map (λ k. get_or (short_lanes v) k 0) (short_places 0 8 (short_pattern v)) ≡ utf8_bytes v)
-    (λ a b c d e f g h sa sb sc sd se sf sg sh short.
+short_text_of_eight = of_eight _ (λ a b c d e f g h sa sb sc sd se sf sg sh short.
     short_text (λ k. get_or (short_lanes (a ∷ b ∷ c ∷ d ∷ e ∷ f ∷ g ∷ h ∷ [])) k 0) 0 (a ∷ b ∷ c ∷ d ∷ e ∷ f ∷ g ∷ h ∷ []) short
     (refl, refl, (refl, refl, (refl, refl, (refl, refl, (refl, refl, (refl, refl, (refl, refl, (refl, refl, tt)))))))))
 
@@ -194,19 +135,7 @@ all_set (false ∷ bits) whole k h = absurd (omega (arith, double bits))
 
 pub units_below : (n : ℕ) (xs : List ℕ) → length xs ≡ 8
     → eqb (mask_l (map (top 15) (zip2 (λ a b. cond (ltb a b) (2 ^ 16 - 1) 0) xs (replicate 8 n))) % 2 ^ 64) 255 ≡ true → All (λ x. x < n) xs
-units_below n xs long whole = All-from_get_or (λ x. x < n) xs 0 (λ k h.
-    let bits : List Bool = map (λ x. ltb x n) xs in
-    let same : mask_l (map (top 15) (zip2 (λ a b. cond (ltb a b) (2 ^ 16 - 1) 0) xs (replicate 8 n))) % 2 ^ 64 ≡ mask_l bits =
-    bitmask_splat w16 ltb xs 8 n long (omega arith) in
-    let many : length bits ≡ 8 = length-map xs (λ x. ltb x n) ∙ long in
-    let power : 2 ^ length bits ≡ 2 ^ 8 = ap (λ m. 2 ^ m) many in
-    let set = all_set bits (omega (arith, eqb-true _ _ whole, same, power)) k (omega arith) in
-    ltb-true _ _ (sym (bit_of xs k h) ∙ set))
-  where
-    bit_of : (ys : List ℕ) (j : ℕ) → j < length ys → get_or (map (λ x. ltb x n) ys) j false ≡ ltb (get_or ys j 0) n
-    bit_of [] j l = absurd (omega arith)
-    bit_of (y ∷ ys) zero l = refl
-    bit_of (y ∷ ys) (suc j) l = bit_of ys j (omega arith)
+units_below n xs long whole = grind (arith, common_steps, bitmask_splat, length-map, all_set, eqb-true, ltb-true)
 
 pub units_all_below : (n : ℕ) (xs : List ℕ) → length xs ≡ 8 → All (λ x. x < n) xs
     → eqb (mask_l (map (top 15) (zip2 (λ a b. cond (ltb a b) (2 ^ 16 - 1) 0) xs (replicate 8 n))) % 2 ^ 64) 255 ≡ true

@@ -1,8 +1,8 @@
 -- The scalars of texts, one by one from the front, and the places between them.
-use Rattle.std.proofs.Common.{◌≡◌, ◌∙◌, ℕ, zero, suc, ◌+◌, ◌-◌, ◌≤◌, ◌<◌, List, [], ◌∷◌, ◌++◌, length, take, drop, get_or, refl, sym, ◌*◌, ◌/◌, ◌%◌, add-zero}
-use Rattle.std.proofs.Common.{ap, subst, arith, length-append, length-drop, Some, None, Option, true, false, Bool, ◌⊎◌, inl, inr, ◌&&◌, map, slice_get, lit<}
-use Rattle.std.proofs.Common.{IsAscii}
-use Rattle.std.proofs.lemmas.Bool.{cases_lt, lt-ltb, le-ltb, le-leb, lt-leb}
+use Rattle.std.proofs.lemmas.Bool.Decides.{nat_tests}
+use Rattle.std.proofs.Common.{◌≡◌, ◌∙◌, ℕ, suc, ◌+◌, ◌-◌, ◌≤◌, ◌<◌, List, [], ◌∷◌, ◌++◌, length, take, drop, get_or, refl, sym, ◌*◌, ◌/◌, ◌%◌, add-zero, ap}
+use Rattle.std.proofs.Common.{subst, arith, length-append, length-drop, Some, None, Option, true, false, Bool, ◌⊎◌, inl, inr, ◌&&◌, map, slice_get, IsAscii}
+use Rattle.std.proofs.lemmas.Bool.{cases_lt, le-ltb, le-leb}
 use Rattle.std.proofs.lemmas.List.{drop-drop, take-append-drop, length-take-le, take_all, get_or-drop}
 use Rattle.std.proofs.Math.Seq.{take-append_seam}
 use Rattle.std.specs.Str.{chars, is_utf8, IsUtf8, IsCharBoundary}
@@ -11,16 +11,14 @@ use Rattle.std.specs.Char.Utf16.{lone_unit_char, surrogate_pair_char, is_high_su
 use Rattle.std.specs.Option.{unwrap_or}
 use lib.ListN.{get_or-eq_default}
 use Rattle.std.proofs.lemmas.Str.{IsUtf8-from_is_utf8, is_utf8-from_IsUtf8, encodes-chars, chars_past_char, IsUtf8-past_char, drop_past_char, length-encode}
-use Rattle.std.proofs.lemmas.Str.{utf16_chars-nil, len_utf8_bounds}
-use Rattle.std.proofs.lemmas.Str.{utf16_chars_lone, utf16_chars_pair, encodes-append, scalars-chars, chars-encodes, IsCharBoundary-at_seam, chars-append}
-use Rattle.std.proofs.lemmas.Str.{chars-IsAscii, IsUtf8-from_ascii}
+use Rattle.std.proofs.lemmas.Str.{utf16_chars-nil, len_utf8_bounds, utf16_chars_lone, utf16_chars_pair, encodes-append, scalars-chars, chars-encodes}
+use Rattle.std.proofs.lemmas.Str.{IsCharBoundary-at_seam, chars-append, chars-IsAscii, IsUtf8-from_ascii}
 use Rattle.std.proofs.str.Utf16.{IsPair, lone_unit_char_low, lone_unit_char_high, lone_unit_char_surrogate, utf16_chars-drop_lone, utf16_chars-drop_pair}
 use Rattle.std.proofs.str.Utf16.{utf16_chars-drop_all}
 use lib.Utf8.{encode, encodes, scalar, scalars}
 use Rattle.std.proofs.lemmas.List.Concat.{flat_map-append}
 use Rattle.legacy_text.specs.EncodingForm.{EncodingForm, Utf8, Utf16, code_units, unit_count, all_code_units}
 use Rattle.legacy_text.specs.declared.text_cursor.Next.{Next}
-use Rattle.legacy_text.specs.declared.text_cursor.Next.TheVariants.{End, One, Two, Three, Four}
 use Rattle.legacy_text.specs.NextScalars.{StandsAt, IsSized, IsNext}
 use Rattle.legacy_text.specs.Texts.{unit_scalars, IsUnitBoundary}
 use Rattle.legacy_text.proofs.CodeUnits.{encode_1, encode_2, encode_3, encode_4, two_above, two_below, three_above, three_below, utf16_1, utf16_2}
@@ -74,28 +72,7 @@ pub record TellsCount (c first : ℕ) : Type 0 where
   pub four : 0xF0 ≤ first → unit_count Utf8 c ≡ 4
 
 first_tells : (c first : ℕ) (rest : List ℕ) → get_or (encode c ++ rest) 0 0 ≡ first → TellsCount c first
-first_tells c first rest h = elim (cases_lt c 128) [
-  | inl a ↦
-      let e : c ≡ first = sym (ap (λ l. get_or (l ++ rest) 0 0) (encode_1 c a)) ∙ h in
-      let n = ap length (encode_1 c a) in
-      record { one = λ x. n; two = λ x y. omega (arith, n); three = λ x y. omega (arith, n); four = λ x. omega (arith, n) }
-  | inr a ↦ elim (cases_lt c 2048) [
-    | inl b ↦
-        let e : 192 + c / 64 ≡ first = sym (ap (λ l. get_or (l ++ rest) 0 0) (encode_2 c a b)) ∙ h in
-        let n = ap length (encode_2 c a b) in
-        record { one = λ x. omega (arith, n); two = λ x y. n; three = λ x y. omega (arith, n); four = λ x. omega (arith, n) }
-    | inr b ↦ elim (cases_lt c 65536) [
-      | inl d ↦
-          let e : 224 + c / 4096 ≡ first = sym (ap (λ l. get_or (l ++ rest) 0 0) (encode_3 c b d)) ∙ h in
-          let n = ap length (encode_3 c b d) in
-          record { one = λ x. omega (arith, n); two = λ x y. omega (arith, n); three = λ x y. n; four = λ x. omega (arith, n) }
-      | inr d ↦
-          let e : 240 + c / 262144 ≡ first = sym (ap (λ l. get_or (l ++ rest) 0 0) (encode_4 c d)) ∙ h in
-          let n = ap length (encode_4 c d) in
-          record { one = λ x. omega (arith, n); two = λ x y. omega (arith, n); three = λ x y. omega (arith, n); four = λ x. n }
-    ]
-  ]
-]
+first_tells c first rest h = grind (arith, nat_tests, encode_1, encode_2, encode_3, encode_4)
 
 pub utf8_tells : (text : List ℕ) (place c : ℕ) → is_utf8 (drop place text) ≡ true → Some c ≡ slice_get (chars (drop place text)) 0 →
     TellsCount c (get_or text place 0)
@@ -204,25 +181,10 @@ pub record Utf16Step (list : List ℕ) (place c n : ℕ) : Type 0 where
   pub first : get_or (unit_scalars (drop place list)) 0 0 ≡ c
 
 pair_or_not : (u v : ℕ) → IsPair u v ⊎ (IsPair u v → ⊥)
-pair_or_not u v = elim (cases_lt u 0xD800) [
-  | inl a ↦ inr (λ p. omega (arith, p.0))
-  | inr a ↦ elim (cases_lt u 0xDC00) [
-    | inr b ↦ inr (λ p. omega (arith, p.1))
-    | inl b ↦ elim (cases_lt v 0xDC00) [
-      | inl d ↦ inr (λ p. omega (arith, p.2))
-      | inr d ↦ elim (cases_lt v 0xE000) [ inl e ↦ inl (a, b, d, e) | inr e ↦ inr (λ p. omega (arith, p.3)) ]
-    ]
-  ]
-]
+pair_or_not u v = grind arith
 
 lone_bound : (u : ℕ) → u < 65536 → replaced (lone_unit_char u) < 65536
-lone_bound u h = elim (cases_lt u 0xD800) [
-  | inl a ↦ rw (lone_unit_char_low u a) h
-  | inr a ↦ elim (cases_lt u 0xE000) [
-    | inl b ↦ rw (lone_unit_char_surrogate u a b) (lit< tt)
-    | inr b ↦ rw (lone_unit_char_high u b) h
-  ]
-]
+lone_bound u h = grind arith
 
 pub utf16_step : (list : List ℕ) (place c n : ℕ) → ((i : ℕ) → get_or list i 0 < 65536) → place < length list →
     Some c ≡ slice_get (unit_scalars (drop place list)) 0 → (c < 65536 → n ≡ 1) → (65536 ≤ c → n ≡ 2) → Utf16Step list place c n
@@ -261,10 +223,7 @@ utf16_step list place c n bound h e short long =
 
 -- there is a scalar only before the end
 pub some_within : (units : List ℕ) (place c : ℕ) → Some c ≡ slice_get (unit_scalars (drop place units)) 0 → place < length units
-some_within units place c e = elim (cases_lt place (length units)) [
-  | inl a ↦ a
-  | inr a ↦ let n = first_none units place a in let f : Some c ≡ None = e ∙ n in cc
-]
+some_within units place c e = grind (arith, nat_tests, first_none)
 
 -- ---- what was taken off the front of a text
 
@@ -315,19 +274,7 @@ high_test u v h = let a : 0xD800 ≤ u = omega arith in rw (le-leb 0xD800 u a, l
 
 -- two units that are no pair
 apart_test : (u v : ℕ) → (IsPair u v → ⊥) → (is_high_surrogate u && is_low_surrogate v) ≡ false
-apart_test u v n = elim (cases_lt u 0xD800) [
-  | inl a ↦ rw (lt-leb 0xD800 u a) refl
-  | inr a ↦ elim (cases_lt u 0xDC00) [
-    | inr b ↦ high_test u v b
-    | inl b ↦ elim (cases_lt v 0xDC00) [
-      | inl d ↦ rw (le-leb 0xD800 u a, lt-ltb u 0xDC00 b, lt-leb 0xDC00 v d) refl
-      | inr d ↦ elim (cases_lt v 0xE000) [
-        | inl e ↦ absurd (n (a, b, d, e))
-        | inr e ↦ rw (le-leb 0xD800 u a, lt-ltb u 0xDC00 b, le-leb 0xDC00 v d, le-ltb v 0xE000 e) refl
-      ]
-    ]
-  ]
-]
+apart_test u v n = grind arith
 
 -- the scalars taken off units end at a place between two of them
 pub record CutUnits (list left : List ℕ) (place : ℕ) : Type 0 where
@@ -340,27 +287,10 @@ Bounded list = (i : ℕ) → get_or list i 0 < 65536
 
 -- one more unit at the front, or two
 cut_lone : (u : ℕ) (list left : List ℕ) (place n : ℕ) → (IsPair u (get_or list 0 0) → ⊥) → n ≡ suc place → CutUnits list left place → CutUnits (u ∷ list) left n
-cut_lone u list left place n p e h = record {
-  left_is = rw e h.left_is;
-  within = let w = h.within in omega arith;
-  apart = λ k f. at k f;
-}
-  where
-    at : (k : ℕ) → n ≡ k + 1 → (is_high_surrogate (get_or (u ∷ list) k 0) && is_low_surrogate (get_or (u ∷ list) (k + 1) 0)) ≡ false
-    at zero f = apart_test u (get_or list 0 0) p
-    at (suc k) f = let one : suc k + 1 ≡ suc (k + 1) = omega arith in rw one (h.apart k (omega arith))
+cut_lone u list left place n p e h = grind arith
 
 cut_pair : (u v : ℕ) (list left : List ℕ) (place n : ℕ) → IsPair u v → n ≡ suc (suc place) → CutUnits list left place → CutUnits (u ∷ v ∷ list) left n
-cut_pair u v list left place n p e h = record {
-  left_is = rw e h.left_is;
-  within = let w = h.within in omega arith;
-  apart = λ k f. at k f;
-}
-  where
-    at : (k : ℕ) → n ≡ k + 1 → (is_high_surrogate (get_or (u ∷ v ∷ list) k 0) && is_low_surrogate (get_or (u ∷ v ∷ list) (k + 1) 0)) ≡ false
-    at zero f = absurd (omega arith)
-    at (suc zero) f = high_test v (get_or list 0 0) p.2
-    at (suc (suc k)) f = let one : suc (suc k) + 1 ≡ suc (suc (k + 1)) = omega arith in rw one (h.apart k (omega arith))
+cut_pair u v list left place n p e h = grind arith
 
 pub utf16_cut : (list taken left : List ℕ) → Bounded list → unit_scalars list ≡ taken ++ left → CutUnits list left (length (all_code_units Utf16 taken))
 utf16_cut list [] left b e = record { left_is = e; within = omega arith; apart = λ k f. absurd (omega arith) }
@@ -401,12 +331,7 @@ utf16_read list taken left read b e p =
     subst (CutUnits list left) (sym (passed_is Utf16 (unit_scalars list) taken left read e p)) (utf16_cut list taken left b e)
 
 pub unit_boundary : (list left : List ℕ) (place : ℕ) → CutUnits list left place → IsUnitBoundary list place
-unit_boundary list left place h = (
-  h.within,
-  λ p.
-      let e : place ≡ (place - 1) + 1 = omega arith in
-      ap (λ n. is_high_surrogate (get_or list (place - 1) 0) && is_low_surrogate (get_or list n 0)) e ∙ h.apart (place - 1) e,
-)
+unit_boundary list left place h = grind arith
 
 -- ---- a front that is ASCII
 
@@ -432,11 +357,7 @@ pub record IsFront (all front others : List ℕ) (n : ℕ) : Type 0 where
   pub front_is : front ≡ take n all
 
 pub front_of : (all front others : List ℕ) (n : ℕ) → length front ≡ n → all ≡ front ++ others → IsFront all front others n
-front_of all front others n long e = record {
-  within = omega (arith, ap length e, length-append front others);
-  others_is = sym (ap (drop n) e ∙ ap (λ k. drop k (front ++ others)) (sym long) ∙ drop_of_append front others);
-  front_is = sym (ap (take n) e ∙ ap (λ k. take k (front ++ others)) (sym long) ∙ take-append_seam front others);
-}
+front_of all front others n long e = grind (arith, nat_tests, length-append, drop_of_append, take-append_seam)
 
 -- n numbers at the front of what a list has from a place on are ASCII
 pub record AsciiAt (list : List ℕ) (place n : ℕ) : Type 0 where
@@ -448,16 +369,7 @@ pub record AsciiAt (list : List ℕ) (place n : ℕ) : Type 0 where
 -- so it is where they were found in the slice from the place on
 pub ascii_at : (list : List ℕ) (place n : ℕ) → place ≤ length list → n ≤ length (take (length list - place) (drop place list))
     → IsAscii (take n (take (length list - place) (drop place list))) → AsciiAt list place n
-ascii_at list place n h within ascii =
-    let whole : take (length list - place) (drop place list) ≡ drop place list =
-    take_all (length list - place) (drop place list) (omega (arith, length-drop place list)) in
-    let few : n ≤ length (drop place list) = rw whole at within in
-    record {
-      within = few;
-      fits = omega (arith, few, length-drop place list);
-      ascii = subst (λ l. IsAscii (take n l)) whole ascii;
-      same = ap (take n) whole;
-    }
+ascii_at list place n h within ascii = grind (arith, nat_tests, take_all, length-drop)
 
 module _ (list : List ℕ) (place n : ℕ) (within : n ≤ length (drop place list)) (ascii : IsAscii (take n (drop place list))) where
   abbrev Rest : List ℕ
@@ -488,11 +400,7 @@ first_some [] h = absurd (omega arith)
 first_some (x ∷ xs) h = refl
 
 pub is_next : (form : EncodingForm) (left : List ℕ) (c : ℕ) (next : Next) → left ≡ c ∷ drop 1 left → IsSized form c next → IsNext form left next
-is_next form left c End e s = absurd s
-is_next form left c (One d) e s = (e ∙ ap (λ x. x ∷ drop 1 left) (sym s.0), ap (unit_count form) s.0 ∙ s.1)
-is_next form left c (Two d) e s = (e ∙ ap (λ x. x ∷ drop 1 left) (sym s.0), ap (unit_count form) s.0 ∙ s.1)
-is_next form left c (Three d) e s = (e ∙ ap (λ x. x ∷ drop 1 left) (sym s.0), ap (unit_count form) s.0 ∙ s.1)
-is_next form left c (Four d) e s = (e ∙ ap (λ x. x ∷ drop 1 left) (sym s.0), ap (unit_count form) s.0 ∙ s.1)
+is_next form left c next h k = grind arith
 
 pub none_left : (xs : List ℕ) → None ≡ slice_get xs 0 → xs ≡ []
 none_left [] e = refl

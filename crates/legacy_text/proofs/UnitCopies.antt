@@ -1,4 +1,5 @@
 -- The bytes written for blocks of code units.
+use Rattle.std.proofs.lemmas.Bool.Decides.{nat_tests}
 use Rattle.std.proofs.Common.{◌≡◌, ◌∙◌, ℕ, suc, ◌+◌, ◌-◌, ◌≤◌, ◌<◌, List, [], ◌∷◌, ◌++◌, length, get_or}
 use Rattle.std.proofs.Common.{take, drop, map, refl, sym, ap, subst, arith, append_assoc, append-nil, length-append, length-drop, IsAscii, inl, inr}
 use Rattle.std.proofs.lemmas.Bool.{cases_lt}
@@ -122,20 +123,7 @@ module _ (gives : ℕ → ℕ → Type 0) (list : List ℕ) (place n : ℕ) (sta
       subst IsNoSurrogate (ap (λ l. get_or l k 0) whole ∙ sym (at_front k below)) (lone k below)))
 
   pub lone_count : total_unit_count Utf16 (take n (unit_scalars Rest)) ≡ n
-  lone_count =
-      ap (total_unit_count Utf16) (sym lone_front.front_is)
-      ∙ narrow_units (take n Rest) (λ k h.
-      let below : k < n = omega (arith, h, front_long) in
-      let e = at_front k below in let d = get_or-drop place list k 0 in let b = bound (place + k) in omega arith)
-      ∙ front_long
+  lone_count = grind (arith, nat_tests, lone_front, narrow_units, front_long, at_front, get_or-drop)
 
   pub lone_writes : (old new : List ℕ) → WritesCodes gives (take (length list - place) Rest) n old new → WritesCodes gives (unit_scalars Rest) n old new
-  lone_writes old new w = record {
-    bytes = w.bytes;
-    new_is = w.new_is;
-    count = w.count;
-    each = λ k h.
-        let scalar : get_or (unit_scalars Rest) k 0 ≡ get_or (take (length list - place) Rest) k 0 =
-        sym (get_or-take n (unit_scalars Rest) k 0 h) ∙ ap (λ l. get_or l k 0) (sym lone_front.front_is) ∙ at_front k h ∙ ap (λ l. get_or l k 0) (sym whole) in
-        subst (λ c. gives c (get_or w.bytes k 0)) (sym scalar) (w.each k h);
-  }
+  lone_writes old new w = grind (arith, nat_tests, get_or-take, lone_front, at_front, whole)

@@ -1,13 +1,16 @@
 -- Vectors lane by lane: a vector is written out as the list of its lanes.
 use Rattle.std.proofs.Common.{◌≡◌, ℕ, zero, suc, ◌+◌, ◌-◌, ◌*◌, ◌/◌, ◌%◌, ◌^◌, ◌<◌, ◌≤◌, Bool, true, false, cond, ltb, leb, eqb, List, [], ◌∷◌, ◌++◌, length}
-use Rattle.std.proofs.Common.{get_or, map, take, drop, replicate, bit_and, refl, sym, ap, ap₂, ◌∙◌, arith, w8, w16, Fits, ◌&&◌, mod-lt, zero-lt-suc, mul_assoc, length-append}
-use Rattle.std.proofs.lemmas.Bool.{ltb-true, ltb-false, leb-true, eqb-true, lt-leb, and_parts, agree_below_at}
-use Rattle.std.proofs.lemmas.List.{map-append, append_assoc, length-replicate, length-take-le, length-drop, take-take, take-append-drop, take-append-le, take-map}
+use Rattle.std.proofs.Common.{get_or, map, take, drop, replicate, bit_and, refl, sym, ap, ap₂, ◌∙◌, arith, w8, w16, Fits, ◌&&◌, mod-lt, zero-lt-suc}
+use Rattle.std.proofs.Common.{mul_assoc, length-append}
+use Rattle.std.proofs.lemmas.Bool.{ltb-true, leb-true, eqb-true, lt-leb, and_parts, agree_below_at}
+use Rattle.std.proofs.lemmas.List.{map-append, append_assoc, length-replicate, length-take-le, length-drop, take-take, take-append-drop, take-append-le}
+use Rattle.std.proofs.lemmas.List.{take-map}
 use Rattle.std.proofs.Math.Seq.{take-append_seam, take-append-add}
 use Rattle.std.proofs.lemmas.Nat.{and_mask}
 use Rattle.std.proofs.lemmas.Nat.Bits.{and_high}
 use Rattle.std.proofs.lemmas.Simd.{mask_l-lt, mask_l-mod, swz_l, put_chunk_is}
-use Rattle.std.proofs.lemmas.Grind.{flat_map-append}
+use Rattle.std.proofs.lemmas.Grind.{flat_map-append, common_steps}
+use Rattle.std.proofs.lemmas.Bool.Decides.{nat_tests}
 use Rattle.std.specs.Char.{encode_utf8}
 use Rattle.std.specs.List.{range_with_len}
 use lib.Lanes.{Each1, zip2, sel_l, mask_l, top, number_l, digits_l, pick_l, all_below, put_chunk}
@@ -34,11 +37,7 @@ of_eight P p (a ∷ b ∷ c ∷ d ∷ e ∷ f ∷ g ∷ h ∷ i ∷ v) n s = abs
 -- ---- the bytes of one code unit
 
 pub last_is : (u : ℕ) → u < 65536 → cond (top 15 (cond (ltb u 128) (2 ^ 16 - 1) 0)) u ((bit_and u 63 + 128) % 2 ^ 16) ≡ last_byte u
-last_is u small = go (ltb u 128)
-  where
-    go : (t : Bool) → cond (top 15 (cond t (2 ^ 16 - 1) 0)) u ((bit_and u 63 + 128) % 2 ^ 16) ≡ cond t u (128 + u % 64)
-    go true = refl
-    go false = omega (arith, and_mask u 6)
+last_is u small = grind (arith, common_steps, and_mask)
 
 pub front_is : (u : ℕ) → u < 65536
     → (((u / 2 ^ 12 + 224) % 2 ^ 16 + bit_and (u * 2 ^ 2 % 2 ^ 16) 16128) % 2 ^ 16 + cond (top 15 (cond (ltb u 2048) (2 ^ 16 - 1) 0)) 49152 32768) % 2 ^ 16
@@ -62,28 +61,7 @@ chosen one two last first middle = cond one (last ∷ []) (cond two (middle ∷ 
 
 pub unit_is : (u : ℕ) → u < 65536 → chosen (ltb u 128) (ltb u 2048) (last_byte u % 256) (front_bytes u % 256) (front_bytes u / 256) ≡ encode_utf8 u
 unfolding encode_utf8
-unit_is u small = go (ltb u 128) (ltb u 2048) (ltb u 65536) refl refl refl
-  where
-    go : (s t r : Bool) → ltb u 128 ≡ s → ltb u 2048 ≡ t → ltb u 65536 ≡ r
-        → chosen s t (cond s u (128 + u % 64) % 256) ((224 + u / 4096 + 256 * (u / 64 % 64) + cond t 49152 32768) % 256)
-        ((224 + u / 4096 + 256 * (u / 64 % 64) + cond t 49152 32768) / 256)
-        ≡ cond s (u ∷ []) (cond t ((192 + u / 64) ∷ (128 + u % 64) ∷ []) (cond r ((224 + u / 4096) ∷ (128 + u / 64 % 64) ∷ (128 + u % 64) ∷ [])
-        ((240 + u / 262144) ∷ (128 + u / 4096 % 64) ∷ (128 + u / 64 % 64) ∷ (128 + u % 64) ∷ [])))
-    go true t r e f g =
-        let low : u < 128 = ltb-true _ _ e in
-        let a : u % 256 ≡ u = omega arith in
-        rw a refl
-    go false true r e f g =
-        let low : u < 2048 = ltb-true _ _ f in
-        let a : (224 + u / 4096 + 256 * (u / 64 % 64) + 49152) / 256 ≡ 192 + u / 64 = omega arith in
-        let b : (128 + u % 64) % 256 ≡ 128 + u % 64 = omega arith in
-        rw (a, b) refl
-    go false false true e f g =
-        let a : (224 + u / 4096 + 256 * (u / 64 % 64) + 32768) % 256 ≡ 224 + u / 4096 = omega arith in
-        let b : (224 + u / 4096 + 256 * (u / 64 % 64) + 32768) / 256 ≡ 128 + u / 64 % 64 = omega arith in
-        let d : (128 + u % 64) % 256 ≡ 128 + u % 64 = omega arith in
-        rw (a, b, d) refl
-    go false false false e f g = absurd (omega (arith, ltb-false _ _ g))
+unit_is u small = grind arith
 
 -- ---- lanes of two bytes as bytes
 
@@ -105,91 +83,55 @@ le_bytes (x ∷ xs) s =
     let r : (x + 65536 * n) / 256 / 256 ≡ n = omega arith in
     (λ t. a t ∷ b t ∷ digits_l 256 (doubled xs) (r t)) ∙ ap (λ (l : List ℕ). x % 256 ∷ x / 256 ∷ l) (le_bytes xs s.1)
 
-pub last_small : (u : ℕ) → u < 65536 → last_byte u < 65536
-last_small u small = go (ltb u 128)
+pub le_bytes_map : (f : ℕ → ℕ) → ((u : ℕ) → u < 65536 → f u < 65536) → (us : List ℕ) → Each1 (λ u. u < 65536) us →
+    digits_l 256 (doubled (map f us)) (number_l 65536 (map f us)) ≡ halves (map f us)
+le_bytes_map f below us small = le_bytes (map f us) (all us small)
   where
-    go : (t : Bool) → cond t u (128 + u % 64) < 65536
-    go true = small
-    go false = omega arith
+    all : (us : List ℕ) → Each1 (λ u. u < 65536) us → Each1 (λ x. x < 65536) (map f us)
+    all [] small = tt
+    all (u ∷ us) small = (below u small.0, all us small.1)
+
+pub last_small : (u : ℕ) → u < 65536 → last_byte u < 65536
+last_small u small = grind arith
 
 pub front_small : (u : ℕ) → u < 65536 → front_bytes u < 65536
-front_small u small = go (ltb u 2048) refl
-  where
-    go : (t : Bool) → ltb u 2048 ≡ t → 224 + u / 4096 + 256 * (u / 64 % 64) + cond t 49152 32768 < 65536
-    go true e = omega (arith, ltb-true _ _ e)
-    go false e = omega arith
+front_small u small = grind arith
 
 -- ---- vectors of eight code units
 
 pub vector_last : (v : List ℕ) → length v ≡ 8 → Each1 (Fits w16) v → sel_l (map (top 15) (zip2 (λ a b. cond (ltb a b) (2 ^ 16 - 1) 0) v (replicate 8 128))) v
     (zip2 (λ a b. (a + b) % 2 ^ 16) (zip2 bit_and v (replicate 8 63)) (replicate 8 128)) ≡ map last_byte v
-vector_last =
-    of_eight (λ v. sel_l (map (top 15) (zip2 (λ a b. cond (ltb a b) (2 ^ 16 - 1) 0) v (replicate 8 128))) v
-    (zip2 (λ a b. (a + b) % 2 ^ 16) (zip2 bit_and v (replicate 8 63)) (replicate 8 128)) ≡ map last_byte v)
-    (λ a b c d e f g h sa sb sc sd se sf sg sh t.
+vector_last = of_eight _ (λ a b c d e f g h sa sb sc sd se sf sg sh t.
     last_is a sa t ∷ last_is b sb t ∷ last_is c sc t ∷ last_is d sd t ∷ last_is e se t ∷ last_is f sf t ∷ last_is g sg t ∷ last_is h sh t ∷ [])
 
 pub vector_front : (v : List ℕ) → length v ≡ 8 → Each1 (Fits w16) v → zip2 (λ a b. (a + b) % 2 ^ 16)
     (zip2 (λ a b. (a + b) % 2 ^ 16) (zip2 (λ a b. (a + b) % 2 ^ 16) (zip2 (λ a b. a / 2 ^ b) v (replicate 8 12)) (replicate 8 224))
     (zip2 bit_and (zip2 (λ a b. a * 2 ^ b % 2 ^ 16) v (replicate 8 2)) (replicate 8 16128)))
     (sel_l (map (top 15) (zip2 (λ a b. cond (ltb a b) (2 ^ 16 - 1) 0) v (replicate 8 2048))) (replicate 8 49152) (replicate 8 32768)) ≡ map front_bytes v
-vector_front =
-    of_eight (λ v. zip2 (λ a b. (a + b) % 2 ^ 16)
-    (zip2 (λ a b. (a + b) % 2 ^ 16) (zip2 (λ a b. (a + b) % 2 ^ 16) (zip2 (λ a b. a / 2 ^ b) v (replicate 8 12)) (replicate 8 224))
-    (zip2 bit_and (zip2 (λ a b. a * 2 ^ b % 2 ^ 16) v (replicate 8 2)) (replicate 8 16128)))
-    (sel_l (map (top 15) (zip2 (λ a b. cond (ltb a b) (2 ^ 16 - 1) 0) v (replicate 8 2048))) (replicate 8 49152) (replicate 8 32768)) ≡ map front_bytes v)
-    (λ a b c d e f g h sa sb sc sd se sf sg sh t.
+vector_front = of_eight _ (λ a b c d e f g h sa sb sc sd se sf sg sh t.
     front_is a sa t ∷ front_is b sb t ∷ front_is c sc t ∷ front_is d sd t ∷ front_is e se t ∷ front_is f sf t ∷ front_is g sg t ∷ front_is h sh t ∷ [])
 
 -- ---- the four bytes of each code unit
 
+-- the last byte and the front bytes of each code unit, by turns
+abbrev by_turns : List ℕ → List ℕ
+by_turns [] = []
+by_turns (u ∷ us) = last_byte u ∷ front_bytes u ∷ by_turns us
+
+both_bytes : (us : List ℕ) → Each1 (λ u. u < 65536) us → digits_l 256 (doubled (by_turns us)) (number_l 65536 (by_turns us)) ≡ halves (by_turns us)
+both_bytes us small = le_bytes (by_turns us) (all us small)
+  where
+    all : (us : List ℕ) → Each1 (λ u. u < 65536) us → Each1 (λ x. x < 65536) (by_turns us)
+    all [] small = tt
+    all (u ∷ us) small = (last_small u small.0, (front_small u small.0, all us small.1))
+
 pub vector_lanes : (v : List ℕ) → length v ≡ 8 → Each1 (Fits w16) v
     → (digits_l 256 16 (number_l 65536 (pick_l 0 (map last_byte v ++ map front_bytes v) (0 ∷ 8 ∷ 1 ∷ 9 ∷ 2 ∷ 10 ∷ 3 ∷ 11 ∷ []))) ≡ lanes (take 4 v))
     × (digits_l 256 16 (number_l 65536 (pick_l 0 (map last_byte v ++ map front_bytes v) (4 ∷ 12 ∷ 5 ∷ 13 ∷ 6 ∷ 14 ∷ 7 ∷ 15 ∷ []))) ≡ lanes (drop 4 v))
-vector_lanes =
-    of_eight (λ v. (digits_l 256 16 (number_l 65536 (pick_l 0 (map last_byte v ++ map front_bytes v) (0 ∷ 8 ∷ 1 ∷ 9 ∷ 2 ∷ 10 ∷ 3 ∷ 11 ∷ []))) ≡ lanes
-    (take 4 v))
-    × (digits_l 256 16 (number_l 65536 (pick_l 0 (map last_byte v ++ map front_bytes v) (4 ∷ 12 ∷ 5 ∷ 13 ∷ 6 ∷ 14 ∷ 7 ∷ 15 ∷ []))) ≡ lanes (drop 4 v)))
-    (λ a b c d e f g h sa sb sc sd se sf sg sh. (
-      le_bytes (last_byte a ∷ front_bytes a ∷ last_byte b ∷ front_bytes b ∷ last_byte c ∷ front_bytes c ∷ last_byte d ∷ front_bytes d ∷ []) (
-        last_small a sa,
-        (
-          front_small a sa,
-          (
-            last_small b sb,
-            (
-              front_small b sb,
-              (
-                last_small c sc,
-                (
-                  front_small c sc,
-                  (last_small d sd, (front_small d sd, tt)),
-                ),
-              ),
-            ),
-          ),
-        ),
-      ),
-      le_bytes (last_byte e ∷ front_bytes e ∷ last_byte f ∷ front_bytes f ∷ last_byte g ∷ front_bytes g ∷ last_byte h ∷ front_bytes h ∷ []) (
-        last_small e se,
-        (
-          front_small e se,
-          (
-            last_small f sf,
-            (
-              front_small f sf,
-              (
-                last_small g sg,
-                (
-                  front_small g sg,
-                  (last_small h sh, (front_small h sh, tt)),
-                ),
-              ),
-            ),
-          ),
-        ),
-      ),
-    ))
+vector_lanes = of_eight _ (λ a b c d e f g h sa sb sc sd se sf sg sh. (
+  both_bytes (a ∷ b ∷ c ∷ d ∷ []) (sa, (sb, (sc, (sd, tt)))),
+  both_bytes (e ∷ f ∷ g ∷ h ∷ []) (se, (sf, (sg, (sh, tt)))),
+))
 
 -- ---- the bytes that are written, as bits
 
@@ -201,25 +143,10 @@ abbrev marked : ℕ → Bool
 marked b = top 7 (cond (leb 128 b) (2 ^ 8 - 1) 0)
 
 low_mark : (u : ℕ) → marked (marks u % 256) ≡ ltb u 128
-low_mark u = go (ltb u 128) (ltb u 2048)
-  where
-    go : (s t : Bool) → marked ((cond (top 15 (cond s (2 ^ 16 - 1) 0)) 255 0 + cond (top 15 (cond t (2 ^ 16 - 1) 0)) 65280 0) % 2 ^ 16 % 256) ≡ s
-    go true true = refl
-    go true false = refl
-    go false true = refl
-    go false false = refl
+low_mark u = grind arith
 
 high_mark : (u : ℕ) → marked (marks u / 256) ≡ ltb u 2048
-high_mark u = go (ltb u 128) (ltb u 2048)
-  where
-    go : (s t : Bool) → marked ((cond (top 15 (cond s (2 ^ 16 - 1) 0)) 255 0 + cond (top 15 (cond t (2 ^ 16 - 1) 0)) 65280 0) % 2 ^ 16 / 256) ≡ t
-    go true true = refl
-    go true false = refl
-    go false true = refl
-    go false false = refl
-
-marks_small : (u : ℕ) → marks u < 65536
-marks_small u = mod-lt _ (zero-lt-suc 65535)
+high_mark u = grind arith
 
 abbrev pub vector_bits : List ℕ → ℕ
 vector_bits v =
@@ -232,10 +159,9 @@ abbrev all_marked : List ℕ → ℕ
 all_marked bytes = mask_l (map (top 7) (zip2 (λ a b. cond (leb a b) (2 ^ 8 - 1) 0) (replicate 16 128) bytes)) % 2 ^ 64
 
 bits_are : (v : List ℕ) → length v ≡ 8 → Each1 (Fits w16) v → vector_bits v ≡ mask_l (flags v) % 2 ^ 64
-bits_are =
-    of_eight (λ v. vector_bits v ≡ mask_l (flags v) % 2 ^ 64) (λ a b c d e f g h sa sb sc sd se sf sg sh.
-    ap all_marked (le_bytes (marks a ∷ marks b ∷ marks c ∷ marks d ∷ marks e ∷ marks f ∷ marks g ∷ marks h ∷ [])
-    (marks_small a, (marks_small b, (marks_small c, (marks_small d, (marks_small e, (marks_small f, (marks_small g, (marks_small h, tt)))))))))
+bits_are = of_eight _ (λ a b c d e f g h sa sb sc sd se sf sg sh.
+    ap all_marked (le_bytes_map marks (λ u _. mod-lt _ (zero-lt-suc 65535)) (a ∷ b ∷ c ∷ d ∷ e ∷ f ∷ g ∷ h ∷ [])
+    (sa, (sb, (sc, (sd, (se, (sf, (sg, (sh, tt)))))))))
     ∙ (λ t. mask_l (low_mark a t ∷ high_mark a t ∷ low_mark b t ∷ high_mark b t ∷ low_mark c t ∷ high_mark c t ∷ low_mark d t ∷ high_mark d t
     ∷ low_mark e t ∷ high_mark e t ∷ low_mark f t ∷ high_mark f t ∷ low_mark g t ∷ high_mark g t ∷ low_mark h t ∷ high_mark h t ∷ []) % 2 ^ 64))
 
@@ -262,17 +188,11 @@ module _ (v : List ℕ) (long : length v ≡ 8) (fits : Each1 (Fits w16) v) wher
 
   first_lt : pattern (take 4 v) < 256
   unfolding pattern
-  first_lt =
-      let n : length (flags (take 4 v)) ≡ 8 = omega (arith, flags_long (take 4 v), four_long) in
-      let e : 2 ^ length (flags (take 4 v)) ≡ 2 ^ 8 = ap (λ k. 2 ^ k) n in
-      omega (arith, mask_l-lt (flags (take 4 v)), e)
+  first_lt = grind (arith, nat_tests, flags_long, four_long, mask_l-lt)
 
   others_lt : pattern (drop 4 v) < 256
   unfolding pattern
-  others_lt =
-      let n : length (flags (drop 4 v)) ≡ 8 = omega (arith, flags_long (drop 4 v), length-drop 4 v, long) in
-      let e : 2 ^ length (flags (drop 4 v)) ≡ 2 ^ 8 = ap (λ k. 2 ^ k) n in
-      omega (arith, mask_l-lt (flags (drop 4 v)), e)
+  others_lt = grind (arith, nat_tests, flags_long, length-drop, mask_l-lt)
 
   bits_split : vector_bits v ≡ pattern (take 4 v) + 256 * pattern (drop 4 v)
   unfolding pattern
@@ -333,20 +253,12 @@ unfolding row
 row_begins r h = take-take (length (places 0 4 r)) 16 _ (omega (arith, count_most r h)) ∙ take-append_seam (places 0 4 r) (replicate 16 0)
 
 pub written_places : (xs : List ℕ) (r : ℕ) → r < 256 → take (length (places 0 4 r)) (swz_l w8 16 xs 0 (row r)) ≡ map (λ j. get_or xs j 0) (places 0 4 r)
-written_places xs r h =
-    ap (take (length (places 0 4 r))) (shuffled xs 0 (row r) (omega (arith, row_long r h)) (row_within r h))
-    ∙ take-map (λ j. get_or xs j 0) (length (places 0 4 r)) (row r) ∙ ap (map (λ j. get_or xs j 0)) (row_begins r h)
+written_places xs r h = grind (arith, nat_tests, shuffled, row_long, row_within, take-map, row_begins)
 
 -- a vector that is stored at a place: the contents up to a place within it
 pub stored : (at k : ℕ) (xs block : List ℕ) → length block ≡ 16 → k ≤ 16 → at + 16 ≤ length xs →
     take (at + k) (put_chunk at xs block) ≡ take at xs ++ take k block
-stored at k xs block long h room =
-    let front : length (take at xs) ≡ at = length-take-le at xs (omega arith) in
-    let place : at + k ≡ length (take at xs) + k = omega arith in
-    ap (take (at + k)) (put_chunk_is at xs block (omega arith))
-    ∙ ap (λ n. take n (take at xs ++ (block ++ drop (length block) (drop at xs)))) place
-    ∙ take-append-add (take at xs) (block ++ drop (length block) (drop at xs)) k
-    ∙ ap (λ (l : List ℕ). take at xs ++ l) (take-append-le k block (drop (length block) (drop at xs)) (omega arith))
+stored at k xs block long h room = grind (arith, nat_tests, length-take-le, put_chunk_is, take-append-add, take-append-le)
 
 -- ---- the bytes that are written are the text
 
@@ -356,16 +268,10 @@ Reads f base [] = Unit {0}
 Reads f base (u ∷ us) = (f base ≡ last_byte u % 256) × (f (base + 2) ≡ front_bytes u % 256) × (f (base + 3) ≡ front_bytes u / 256) × Reads f (base + 4) us
 
 digit : (s t : Bool) (m : ℕ) → ((cond s 1 0 + 2 * (cond t 1 0 + 2 * m)) % 4 ≡ cond s 1 0 + 2 * cond t 1 0) × ((cond s 1 0 + 2 * (cond t 1 0 + 2 * m)) / 4 ≡ m)
-digit true true m = (omega arith, omega arith)
-digit true false m = (omega arith, omega arith)
-digit false true m = (omega arith, omega arith)
-digit false false m = (omega arith, omega arith)
+digit s t m = (grind arith, grind arith)
 
 lane_chosen : (f : ℕ → ℕ) (base : ℕ) (s t : Bool) → map f (lane_places base (cond s 1 0 + 2 * cond t 1 0)) ≡ chosen s t (f base) (f (base + 2)) (f (base + 3))
-lane_chosen f base true true = refl
-lane_chosen f base true false = refl
-lane_chosen f base false true = refl
-lane_chosen f base false false = refl
+lane_chosen f base s t = grind arith
 
 pub text_written : (f : ℕ → ℕ) (base : ℕ) (us : List ℕ) → Each1 (λ u. u < 65536) us → Reads f base us →
     map f (places base (length us) (pattern us)) ≡ utf8_bytes us
@@ -388,13 +294,10 @@ reads_lanes a b c d = (refl, refl, refl, (refl, refl, refl, (refl, refl, refl, (
 pub text_of_eight : (v : List ℕ) → length v ≡ 8 → Each1 (Fits w16) v
     → (map (λ k. get_or (lanes (take 4 v)) k 0) (places 0 4 (pattern (take 4 v))) ≡ utf8_bytes (take 4 v))
     × (map (λ k. get_or (lanes (drop 4 v)) k 0) (places 0 4 (pattern (drop 4 v))) ≡ utf8_bytes (drop 4 v))
-text_of_eight =
-    of_eight (λ v. (map (λ k. get_or (lanes (take 4 v)) k 0) (places 0 4 (pattern (take 4 v))) ≡ utf8_bytes (take 4 v))
-    × (map (λ k. get_or (lanes (drop 4 v)) k 0) (places 0 4 (pattern (drop 4 v))) ≡ utf8_bytes (drop 4 v)))
-    (λ a b c d e f g h sa sb sc sd se sf sg sh. (
-      text_written (λ k. get_or (lanes (a ∷ b ∷ c ∷ d ∷ [])) k 0) 0 (a ∷ b ∷ c ∷ d ∷ []) (sa, (sb, (sc, (sd, tt)))) (reads_lanes a b c d),
-      text_written (λ k. get_or (lanes (e ∷ f ∷ g ∷ h ∷ [])) k 0) 0 (e ∷ f ∷ g ∷ h ∷ []) (se, (sf, (sg, (sh, tt)))) (reads_lanes e f g h),
-    ))
+text_of_eight = of_eight _ (λ a b c d e f g h sa sb sc sd se sf sg sh. (
+  text_written (λ k. get_or (lanes (a ∷ b ∷ c ∷ d ∷ [])) k 0) 0 (a ∷ b ∷ c ∷ d ∷ []) (sa, (sb, (sc, (sd, tt)))) (reads_lanes a b c d),
+  text_written (λ k. get_or (lanes (e ∷ f ∷ g ∷ h ∷ [])) k 0) 0 (e ∷ f ∷ g ∷ h ∷ []) (se, (sf, (sg, (sh, tt)))) (reads_lanes e f g h),
+))
 
 pub joined_text : (us : List ℕ) → utf8_bytes (take 4 us) ++ utf8_bytes (drop 4 us) ≡ utf8_bytes us
 joined_text us = sym (flat_map-append encode_utf8 (take 4 us) (drop 4 us)) ∙ ap utf8_bytes (take-append-drop 4 us)

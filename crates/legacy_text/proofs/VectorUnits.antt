@@ -1,8 +1,8 @@
 -- Eight code units that a destination writes at once, none of them a surrogate.
-use Rattle.std.proofs.Common.{◌≡◌, ◌∙◌, ℕ, zero, suc, ◌+◌, ◌-◌, ◌≤◌, ◌<◌, List, [], ◌∷◌, ◌++◌, length, take, get_or, refl, sym, ap, ap₂, arith, append-nil}
+use Rattle.std.proofs.lemmas.Bool.Decides.{nat_tests}
+use Rattle.std.proofs.Common.{◌≡◌, ◌∙◌, ℕ, zero, suc, ◌+◌, ◌-◌, ◌≤◌, ◌<◌, List, [], ◌∷◌, ◌++◌, length, take, get_or, refl, ap, ap₂, arith, append-nil}
 use Rattle.std.proofs.Common.{length-append, w16, Fits}
-use Rattle.std.proofs.lemmas.List.{length-take-le}
-use Rattle.std.proofs.lemmas.List.{flat_map_more}
+use Rattle.std.proofs.lemmas.List.{length-take-le, flat_map_more}
 use Rattle.std.proofs.Math.Seq.{take-suc}
 use lib.Lanes.{Each1}
 use Rattle.legacy_text.specs.EncodingForm.{EncodingForm, Utf8, Utf16, code_units, all_code_units, unit_count, total_unit_count}
@@ -29,17 +29,11 @@ taken-more units k within = let n : k + 1 ≡ suc k = omega arith in ap (λ m. t
 
 pub one-more : (form : EncodingForm) (old before after units : List ℕ) (k : ℕ) → k < length units → before ≡ old ++ all_code_units form (take k units)
     → after ≡ before ++ code_units form (get_or units k 0) → after ≡ old ++ all_code_units form (take (k + 1) units)
-one-more form old before after units k within first second =
-    second ∙ ap (λ (l : List ℕ). l ++ code_units form (get_or units k 0)) first
-    ∙ flat_map_more (code_units form) old (take k units) (get_or units k 0)
-    ∙ ap (λ (l : List ℕ). old ++ all_code_units form l) (sym (taken-more units k within))
+one-more form old before after units k within first second = grind (arith, nat_tests, flat_map_more, taken-more)
 
 pub more-units : (form : EncodingForm) (units : List ℕ) (k : ℕ) → k < length units
     → total_unit_count form (take (k + 1) units) ≡ total_unit_count form (take k units) + unit_count form (get_or units k 0)
-more-units form units k within =
-    let u = get_or units k 0 in
-    ap (total_unit_count form) (taken-more units k within) ∙ total_unit_count-append form (take k units) (u ∷ [])
-    ∙ ap (λ (l : List ℕ). total_unit_count form (take k units) + length l) (append-nil (code_units form u))
+more-units form units k within = grind (arith, nat_tests, taken-more, total_unit_count-append, append-nil)
 
 -- a scalar of 16 bits has at most three code units
 pub few-units : (form : EncodingForm) (u : ℕ) → u < 65536 → unit_count form u ≤ 3

@@ -1,4 +1,4 @@
-use Rattle.std.proofs.Common.{◌≡◌, ◌-◌, ◌++◌, ◌∙◌, ℕ, List, take, length, ap, arith}
+use Rattle.std.proofs.Common.{◌-◌, ◌++◌, ◌∙◌, ℕ, List, take, ap, arith}
 use Rattle.legacy_text.specs.UnitBytes.{utf8_bytes}
 use Rattle.legacy_text.proofs.UnitLanes.{first_stored}
 use Rattle.legacy_text.proofs.eight_units.put_first_units.Goals as goal
