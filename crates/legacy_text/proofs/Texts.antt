@@ -1,10 +1,10 @@
 -- The scalars of texts, one by one from the front, and the places between them.
 use Rattle.std.proofs.lemmas.Bool.Decides.{nat_tests}
 use Rattle.std.proofs.Common.{◌≡◌, ◌∙◌, ℕ, suc, ◌+◌, ◌-◌, ◌≤◌, ◌<◌, List, [], ◌∷◌, ◌++◌, length, take, drop, get_or, refl, sym, ◌*◌, ◌/◌, ◌%◌, add-zero, ap}
-use Rattle.std.proofs.Common.{subst, arith, length-append, length-drop, Some, None, Option, true, false, Bool, ◌⊎◌, inl, inr, ◌&&◌, map, slice_get, IsAscii}
-use Rattle.std.proofs.lemmas.Bool.{cases_lt, le-ltb, le-leb}
+use Rattle.std.proofs.Common.{subst, arith, length-append, length-drop, Some, None, Option, true, false, ◌⊎◌, inl, inr, ◌&&◌, map, slice_get, IsAscii}
+use Rattle.std.proofs.lemmas.Bool.{and_parts, cases_lt}
 use Rattle.std.proofs.lemmas.List.{drop-drop, take-append-drop, length-take-le, take_all, get_or-drop}
-use Rattle.std.proofs.Math.Seq.{take-append_seam}
+use Rattle.std.proofs.Math.Seq.{drop-append_seam, take-append_seam}
 use Rattle.std.specs.Str.{chars, is_utf8, IsUtf8, IsCharBoundary}
 use Rattle.std.specs.Char.{len_utf8}
 use Rattle.std.specs.Char.Utf16.{lone_unit_char, surrogate_pair_char, is_high_surrogate, is_low_surrogate}
@@ -16,12 +16,12 @@ use Rattle.std.proofs.lemmas.Str.{IsCharBoundary-at_seam, chars-append, chars-Is
 use Rattle.std.proofs.str.Utf16.{IsPair, lone_unit_char_low, lone_unit_char_high, lone_unit_char_surrogate, utf16_chars-drop_lone, utf16_chars-drop_pair}
 use Rattle.std.proofs.str.Utf16.{utf16_chars-drop_all}
 use lib.Utf8.{encode, encodes, scalar, scalars}
-use Rattle.std.proofs.lemmas.List.Concat.{flat_map-append}
-use Rattle.legacy_text.specs.EncodingForm.{EncodingForm, Utf8, Utf16, code_units, unit_count, all_code_units}
+use Rattle.legacy_text.specs.EncodingForm.{EncodingForm, Utf8, Utf16, unit_count, all_code_units}
 use Rattle.legacy_text.specs.declared.text_cursor.Next.{Next}
 use Rattle.legacy_text.specs.NextScalars.{StandsAt, IsSized, IsNext}
 use Rattle.legacy_text.specs.Texts.{unit_scalars, IsUnitBoundary}
 use Rattle.legacy_text.proofs.CodeUnits.{encode_1, encode_2, encode_3, encode_4, two_above, two_below, three_above, three_below, utf16_1, utf16_2}
+use Rattle.legacy_text.proofs.CodeUnits.{total_unit_count-append}
 
 pub first_cons : {A : Type 0} (xs : List A) (x : A) → Some x ≡ slice_get xs 0 → xs ≡ x ∷ drop 1 xs
 first_cons [] x e = cc
@@ -227,25 +227,13 @@ some_within units place c e = grind (arith, nat_tests, first_none)
 
 -- ---- what was taken off the front of a text
 
-total_unit_count-split : (form : EncodingForm) (xs ys : List ℕ) →
-    length (all_code_units form (xs ++ ys)) ≡ length (all_code_units form xs) + length (all_code_units form ys)
-total_unit_count-split form xs ys = ap length (flat_map-append (code_units form) xs ys) ∙ length-append (all_code_units form xs) (all_code_units form ys)
-
 encodes-code_units : (cs : List ℕ) → encodes cs ≡ all_code_units Utf8 cs
 encodes-code_units [] = refl
 encodes-code_units (c ∷ cs) = ap (λ l. encode c ++ l) (encodes-code_units cs)
 
-and-right : (a b : Bool) → (a && b) ≡ true → b ≡ true
-and-right true b e = e
-and-right false b e = cc
-
 scalars-right : (xs ys : List ℕ) → scalars (xs ++ ys) ≡ true → scalars ys ≡ true
 scalars-right [] ys e = e
-scalars-right (x ∷ xs) ys e = scalars-right xs ys (and-right (scalar x) (scalars (xs ++ ys)) e)
-
-drop_of_append : (xs ys : List ℕ) → drop (length xs) (xs ++ ys) ≡ ys
-drop_of_append [] ys = refl
-drop_of_append (x ∷ xs) ys = drop_of_append xs ys
+scalars-right (x ∷ xs) ys e = scalars-right xs ys (and_parts (scalar x) (scalars (xs ++ ys)) e).1
 
 -- the scalars taken off a text end at a place between two of them, and those left are those from the place on
 pub record CutAt (text taken left : List ℕ) (place : ℕ) : Type 0 where
@@ -258,7 +246,7 @@ utf8_cut text taken left place u e p =
     let all : text ≡ encodes taken ++ encodes left = sym (encodes-chars text u) ∙ ap encodes e ∙ encodes-append taken left in
     let good : scalars left ≡ true = scalars-right taken left (ap scalars (sym e) ∙ scalars-chars text u) in
     let here : place ≡ length (encodes taken) = p ∙ sym (ap length (encodes-code_units taken)) in
-    let rest : drop place text ≡ encodes left = rw (here, all) (drop_of_append (encodes taken) (encodes left)) in
+    let rest : drop place text ≡ encodes left = rw (here, all) (drop-append_seam (encodes taken) (encodes left)) in
     record {
       left_is = ap chars rest ∙ chars-encodes left good;
       boundary = rw here (IsCharBoundary-at_seam text (encodes taken) (encodes left) all (left, (good, refl)));
@@ -267,14 +255,7 @@ utf8_cut text taken left place u e p =
 -- how many units were passed
 pub passed_is : (form : EncodingForm) (all taken left : List ℕ) (place : ℕ) → all ≡ taken ++ left →
     place + length (all_code_units form left) ≡ 0 + length (all_code_units form all) → place ≡ length (all_code_units form taken)
-passed_is form all taken left place e p = omega (arith, total_unit_count-split form taken left, ap (λ l. length (all_code_units form l)) e)
-
-high_test : (u v : ℕ) → 0xDC00 ≤ u → (is_high_surrogate u && is_low_surrogate v) ≡ false
-high_test u v h = let a : 0xD800 ≤ u = omega arith in rw (le-leb 0xD800 u a, le-ltb u 0xDC00 h) refl
-
--- two units that are no pair
-apart_test : (u v : ℕ) → (IsPair u v → ⊥) → (is_high_surrogate u && is_low_surrogate v) ≡ false
-apart_test u v n = grind arith
+passed_is form all taken left place e p = omega (arith, total_unit_count-append form taken left, ap (λ l. length (all_code_units form l)) e)
 
 -- the scalars taken off units end at a place between two of them
 pub record CutUnits (list left : List ℕ) (place : ℕ) : Type 0 where
@@ -357,7 +338,7 @@ pub record IsFront (all front others : List ℕ) (n : ℕ) : Type 0 where
   pub front_is : front ≡ take n all
 
 pub front_of : (all front others : List ℕ) (n : ℕ) → length front ≡ n → all ≡ front ++ others → IsFront all front others n
-front_of all front others n long e = grind (arith, nat_tests, length-append, drop_of_append, take-append_seam)
+front_of all front others n long e = grind (arith, nat_tests, length-append, drop-append_seam, take-append_seam)
 
 -- n numbers at the front of what a list has from a place on are ASCII
 pub record AsciiAt (list : List ℕ) (place n : ℕ) : Type 0 where

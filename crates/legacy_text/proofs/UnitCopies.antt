@@ -105,9 +105,6 @@ module _ (gives : ℕ → ℕ → Type 0) (list : List ℕ) (place n : ℕ) (sta
   few : n ≤ length Rest
   few = rw whole at within
 
-  pub lone_fits : place + n ≤ length list
-  lone_fits = omega (arith, few, length-drop place list)
-
   front_long : length (take n Rest) ≡ n
   front_long = length-take-le n Rest few
 
