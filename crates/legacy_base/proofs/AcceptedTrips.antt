@@ -5,8 +5,7 @@ use Rattle.std.proofs.Common.{find, option_map, eqb-true}
 use Rattle.legacy_tables.specs.declared.tables.IndexName.{IndexName}
 use Rattle.legacy_tables.specs.declared.tables.IndexName.TheVariants as names
 use Rattle.legacy_tables.specs.Indexes.{FlatIndexes, gb18030_pua_of}
-use Rattle.legacy_tables.specs.TableChecks.{AreAccepted, must_be_empty, entry_fault, entries_fault, is_row_scalar, are_row_bytes}
-use Rattle.legacy_tables.specs.TableChecks.{row_fault, rows_fault}
+use Rattle.legacy_tables.specs.TableChecks.{AreAccepted, must_be_empty, entry_fault, entries_fault, is_row_scalar, are_row_bytes, row_fault, rows_fault}
 use Rattle.legacy_tables.proofs.Accepted.{or_none, parts}
 use Rattle.legacy_base.proofs.TwoByteTrips.{PrivateUseIsEmpty}
 use Rattle.legacy_base.proofs.Gb18030Trip.{AreGoodRows}

@@ -15,14 +15,7 @@ pub begins_later : {Item : Type 0} (front more items : List Item) → BeginsWith
 begins_later front more items b = (b.0, append_cancel_left front items (more ++ b.0) (b.1 ∙ append_assoc front more b.0))
 
 event_back : (k : ℕ) (x y : DecodeEvent) → shift_event k x ≡ shift_event k y → x ≡ y
-event_back k (Scalar c) (Scalar d) e = cc
-event_back k (Scalar c) (Bad p n) e = cc
-event_back k (Bad p n) (Scalar d) e = cc
-event_back k (Bad p n) (Bad q m) e =
-    let place : k + p ≡ k + q = cc in
-    let same : p ≡ q = omega arith in
-    let long : n ≡ m = cc in
-    cc
+event_back k x y h = grind arith
 
 -- if shifted events begin with shifted events, so do the events themselves
 pub begins_back : (k : ℕ) (front items : List DecodeEvent) → BeginsWith (shift k items) (shift k front) → BeginsWith items front

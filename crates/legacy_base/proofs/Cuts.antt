@@ -1,6 +1,6 @@
 -- How `cut` unfolds, front by front.
-use Rattle.std.proofs.Common.{◌≡◌, ℕ, zero, suc, pred, ◌+◌, ◌<◌, List, [], ◌∷◌, ◌++◌, drop, refl, sym, ap, ap₂, add_assoc, add-zero, zero-add, arith}
-use Rattle.legacy_base.specs.declared.results.DecodeEvent.{DecodeEvent}
+use Rattle.std.proofs.lemmas.Bool.Decides.{nat_tests}
+use Rattle.std.proofs.Common.{◌≡◌, ℕ, zero, suc, pred, ◌+◌, ◌<◌, List, [], ◌∷◌, ◌++◌, drop, refl, sym, ap₂, add_assoc, add-zero, zero-add, arith}
 use Rattle.legacy_base.specs.Events.{shift}
 use Rattle.legacy_base.specs.Fronts.{Front, reads, malformed, front_length, front_events, cut}
 use Rattle.legacy_base.proofs.Shifts.{shift-append, shift-scalars}
@@ -39,13 +39,7 @@ cut-nil front = refl
 pub cut_at : (front : ℕ → List ℕ → Front) (p b : ℕ) (rest : List ℕ) (f : Front) → front b rest ≡ f → 0 < front_length f →
     cut front 0 p (b ∷ rest) ≡ front_events p f ++ cut front 0 (p + front_length f) (drop (front_length f) (b ∷ rest))
 unfolding cut
-cut_at front p b rest f e pos = rw e (ap (λ (es : List DecodeEvent). front_events p f ++ es) (behind (front_length f) pos))
-  where
-    behind : (n : ℕ) → 0 < n → cut front (pred n) (p + 1) rest ≡ cut front 0 (p + n) (drop n (b ∷ rest))
-    behind zero h = absurd (omega arith)
-    behind (suc n) h =
-        let q : (p + 1) + n ≡ p + suc n = omega arith in
-        rw (← q) (cut-skip front n (p + 1) rest)
+cut_at front p b rest f e pos = grind (arith, nat_tests, cut-skip)
 
 -- the events of the first front, and then those of the bytes after it
 pub cut-front : (front : ℕ → List ℕ → Front) (b : ℕ) (rest : List ℕ) → 0 < front_length (front b rest) → cut front 0 0 (b ∷ rest)

@@ -1,14 +1,12 @@
 -- Laws of each encoder's profile: the end of a text, the room that acts need, and monotonic length formulas.
-use Rattle.std.proofs.Common.{◌≡◌, ℕ, ◌-◌, ◌≤◌, List, [], ◌∷◌, length, map, refl, arith, Option, Bool, true, false, IsTrue, Some, ltb}
-use Rattle.std.proofs.lemmas.Bool.{cond_both}
+use Rattle.std.proofs.Common.{◌≡◌, ℕ, ◌-◌, ◌≤◌, List, [], length, map, arith, Option, Bool, true, IsTrue, Some}
 use Rattle.legacy_base.specs.declared.results.EncodeEvent.TheVariants.{Byte}
-use Rattle.legacy_text.specs.EncodingForm.{EncodingForm, Utf8, Utf16}
+use Rattle.legacy_text.specs.EncodingForm.{EncodingForm}
 use Rattle.legacy_base.specs.EncodeEvents.{plain_events}
-use Rattle.legacy_base.specs.EncoderProfile.{EncoderProfile, EncoderMode, in_ascii, in_roman, in_two_byte, plain_encoder}
+use Rattle.legacy_base.specs.EncoderProfile.{EncoderProfile, EncoderMode, plain_encoder}
 use Rattle.legacy_base.specs.Encoders.{Codec, single_byte, user_defined, big5, euc_kr, shift_jis, euc_jp, gb18030, gbk, iso_2022_jp, encoder_profile}
 use Rattle.legacy_base.specs.Encoders.{EncoderState, encoded, end_bytes, encoder_need, encoder_formula, encoder_answer, encoder_room}
 use Rattle.legacy_base.specs.declared.results.EncoderResult.{EncoderResult}
-use Rattle.legacy_base.specs.declared.results.EncoderResult.TheVariants.{InputEmpty, OutputFull, Unmappable}
 use Rattle.legacy_base.specs.EncoderCalls.{tells_end}
 use Rattle.legacy_base.specs.Iso2022Jp.{iso_2022_jp_encoder, iso_2022_jp_text_events, mode_behind}
 use Rattle.legacy_base.specs.Lengths.{Formula, number, ◌⊕◌, ◌⊗◌, value}
@@ -34,18 +32,7 @@ Rises f = (m n : ℕ) → m ≤ n → value (f (number m)) ≤ value (f (number 
 pub plain_laws : (code : ℕ → Option (List ℕ)) (past : ℕ) (from_utf8 from_utf16 : Formula → Formula) → past ≤ 4 → Rises from_utf8 → Rises from_utf16 →
     HasLaws (plain_encoder code past from_utf8 from_utf16)
 unfolding plain_events
-plain_laws code past from_utf8 from_utf16 few rises8 rises16 = record {
-  ended = λ mode. refl;
-  scalar_fits = λ c. cond_both (ltb c 0x80) 1 past (λ n. n ≤ 4) (λ _. omega arith) (λ _. few);
-  end_fits = λ mode. omega arith;
-  rises = λ form mode. by_form form;
-} where
-  room : EncodingForm → ℕ → ℕ
-  room form n = value ((plain_encoder code past from_utf8 from_utf16).formula form (number n)) - 0
-
-  by_form : (form : EncodingForm) (m n : ℕ) → m ≤ n → room form m ≤ room form n
-  by_form Utf8 m n h = let r = rises8 m n h in omega arith
-  by_form Utf16 m n h = let r = rises16 m n h in omega arith
+plain_laws code past from_utf8 from_utf16 few rises8 rises16 = grind arith
 
 -- ---- the codecs
 
@@ -60,15 +47,7 @@ pair_laws code = plain_laws code 2 _ _ (omega arith) (λ m n h. omega arith) (λ
 -- ISO-2022-JP, with escapes between the modes
 iso_2022_jp_laws : (jis0208 katakana : List ℕ) → HasLaws (iso_2022_jp_encoder jis0208 katakana)
 unfolding iso_2022_jp_text_events mode_behind
-iso_2022_jp_laws jis0208 katakana = record {
-  ended = λ mode. refl;
-  scalar_fits = λ c. omega arith;
-  end_fits = elim [ in_ascii ↦ omega arith | in_roman ↦ omega arith | in_two_byte ↦ omega arith ];
-  rises = elim [
-    | Utf8 ↦ elim [ in_ascii ↦ λ m n h. omega arith | in_roman ↦ λ m n h. omega arith | in_two_byte ↦ λ m n h. omega arith ]
-    | Utf16 ↦ elim [ in_ascii ↦ λ m n h. omega arith | in_roman ↦ λ m n h. omega arith | in_two_byte ↦ λ m n h. omega arith ]
-  ];
-}
+iso_2022_jp_laws jis0208 katakana = grind arith
 
 pub encoder_laws : (codec : Codec) → HasLaws (encoder_profile codec)
 encoder_laws (single_byte table) = byte_laws _
@@ -89,9 +68,7 @@ end-encoded s = (encoder_laws s.codec).ended s.mode
 
 -- four free bytes are enough for any act
 pub encoder_need-small : (s : EncoderState) (unread : List ℕ) (last : Bool) → encoder_need s unread last ≤ 4
-encoder_need-small s (c ∷ unread) last = (encoder_laws s.codec).scalar_fits c
-encoder_need-small s [] true = (encoder_laws s.codec).end_fits s.mode
-encoder_need-small s [] false = omega arith
+encoder_need-small s unread last = grind arith
 
 -- more code units need at least as much room
 pub encoder_room-rises : (form : EncodingForm) (s : EncoderState) (m n : ℕ) → m ≤ n → encoder_room form s m ≤ encoder_room form s n
@@ -103,6 +80,4 @@ encoder_room-answer form s n k e = let v = answer-value (encoder_formula form s 
 
 -- a result says that the end was written only on a last call
 pub told_end-last : (last : Bool) (answer : EncoderResult) → IsTrue (tells_end last answer) → IsTrue last
-told_end-last last InputEmpty h = h
-told_end-last last OutputFull h = cc
-told_end-last last (Unmappable c) h = cc
+told_end-last last answer h = grind arith

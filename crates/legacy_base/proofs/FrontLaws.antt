@@ -19,7 +19,7 @@ use Rattle.legacy_base.specs.Big5.{big5_pointer, big5_scalars, big5_pair, big5_f
 use Rattle.legacy_base.specs.LeadForms.{lead_pair, lead_front}
 use Rattle.legacy_base.specs.ShiftJis.{is_shift_jis_lead, shift_jis_pointer, shift_jis_scalars, shift_jis_pair, shift_jis_front}
 use Rattle.legacy_base.specs.EucJp.{is_euc_jp_lead, euc_jp_scalars, euc_jp_katakana, euc_jp_third, euc_jp_second, euc_jp_pair, euc_jp_front}
-use Rattle.legacy_base.specs.Gb18030.{gb18030_scalars, gb18030_range_pointer, gb18030_fourth, gb18030_third, gb18030_second, gb18030_front}
+use Rattle.legacy_base.specs.Gb18030.{gb18030_scalars, gb18030_fourth, gb18030_third, gb18030_second, gb18030_front}
 use Rattle.legacy_base.specs.Iso2022Jp.{Mode, ascii, roman, katakana, two_byte, iso_2022_jp_front}
 use Rattle.legacy_tables.proofs.Accepted.{idx-all}
 
@@ -80,21 +80,14 @@ module _ {P : Type 0} where
 
   pub front_of-reads_or : (size n : ℕ) (scalars : List ℕ) (other : Front) → 0 < n → n ≤ size → n ≤ 4 → MayGive P scalars → IsFrontOf size P other →
       IsFrontOf size P (reads_or n scalars other)
-  front_of-reads_or size n [] other some within short given h = h
-  front_of-reads_or size n (c ∷ scalars) other some within short given h =
-      record { some = some; within = within; short = short; few = (omega arith, given.0); scalars = given.1 }
+  front_of-reads_or size n scalars other h k m e f = grind arith
 
   front_of-trail_rule : (size n t : ℕ) → 0 < n → n < size → n < 4 → IsFrontOf size P (trail_rule n t)
-  front_of-trail_rule size n t some within short =
-      front_of-cond size (is_ascii t) (malformed n) (malformed (n + 1)) (λ _. front_of-malformed size n some (omega arith) (omega arith))
-      (front_of-malformed size (n + 1) (omega arith) (omega arith) (omega arith))
+  front_of-trail_rule size n t some within short = grind arith
 
   front_of-trail_front : (size n : ℕ) (scalars : ℕ → List ℕ) (rest : List ℕ) → 0 < n → n < 4 → n + length rest ≡ size → ((t : ℕ) → MayGive P (scalars t)) →
       IsFrontOf size P (trail_front n scalars rest)
-  front_of-trail_front size n scalars [] some short all given = front_of-malformed size n some (omega arith) (omega arith)
-  front_of-trail_front size n scalars (t ∷ rest) some short all given =
-      front_of-reads_or size (n + 1) (scalars t) (trail_rule n t) (omega arith) (omega arith) (omega arith) (given t)
-      (front_of-trail_rule size n t some (omega arith) short)
+  front_of-trail_front size n scalars rest h k m e = grind arith
 
   pub bad : (rest : List ℕ) → IsFrontOf (suc (length rest)) P (malformed 1)
   bad rest = front_of-malformed (suc (length rest)) 1 (omega arith) (omega arith) (omega arith)
@@ -157,20 +150,12 @@ module _ {P : Type 0} (index : List ℕ) (checked : P → AreScalars index) wher
 
   euc_jp_second-of : (rest : List ℕ) → IsFrontOf (suc (length rest)) P (euc_jp_second index rest)
   unfolding euc_jp_second euc_jp_third
-  euc_jp_second-of [] = bad []
-  euc_jp_second-of (t ∷ rest) =
-      front_of-cond _ (is_euc_jp_lead t) _ _ (λ _. front_of-trail_front _ 2 _ rest (omega arith) (omega arith) (omega arith) (euc_jp-gives t))
-      (front_of-trail_rule _ 1 t (omega arith) (omega arith) (omega arith))
+  euc_jp_second-of rest = grind (arith, nat_tests, bad, front_of-cond, front_of-trail_front, euc_jp-gives, front_of-trail_rule)
 
 module _ {P : Type 0} (jis0208 jis0212 : List ℕ) (checked : P → AreScalars jis0208) (checked_too : P → AreScalars jis0212) where
   euc_jp_katakana-of : (rest : List ℕ) → IsFrontOf (suc (length rest)) P (euc_jp_katakana rest)
   unfolding euc_jp_katakana
-  euc_jp_katakana-of [] = bad []
-  euc_jp_katakana-of (t ∷ rest) =
-      let other : IsFrontOf (suc (suc (length rest))) P (trail_rule 1 t) =
-      front_of-trail_rule (suc (suc (length rest))) 1 t (omega arith) (omega arith) (omega arith) in
-      front_of-cond _ (is_katakana_byte t) _ _
-      (λ e. front_of-reads_or _ 2 (katakana_of t ∷ []) _ (omega arith) (omega arith) (omega arith) (give-one _ (λ _. katakana-scalar t e)) other) other
+  euc_jp_katakana-of rest = grind arith
 
   pub euc_jp_front-of : (b : ℕ) (rest : List ℕ) → IsFrontOf (suc (length rest)) P (euc_jp_front jis0208 jis0212 b rest)
   unfolding euc_jp_front euc_jp_pair
@@ -184,16 +169,7 @@ module _ {P : Type 0} (index : List ℕ) (ranges : List (ℕ × ℕ)) (checked :
     (ranged : (p c : ℕ) → range ranges p ≡ Some c → P → IsScalar c) where
   gb18030_third-of : (first second : ℕ) (rest : List ℕ) → IsFrontOf (suc (suc (length rest))) P (gb18030_third ranges first second rest)
   unfolding gb18030_third gb18030_fourth
-  gb18030_third-of first second [] = front_of-malformed _ 2 (omega arith) (omega arith) (omega arith)
-  gb18030_third-of first second (third ∷ []) =
-      front_of-cond _ (is_lead third) _ _ (λ _. front_of-malformed _ 3 (omega arith) (omega arith) (omega arith))
-      (front_of-malformed _ 1 (omega arith) (omega arith) (omega arith))
-  gb18030_third-of first second (third ∷ fourth ∷ rest) =
-      let p = gb18030_range_pointer first second third fourth in
-      let other : IsFrontOf (suc (suc (suc (suc (length rest))))) P (malformed 1) = front_of-malformed _ 1 (omega arith) (omega arith) (omega arith) in
-      front_of-cond _ (is_lead third) _ _ (λ _. front_of-cond _ (is_ascii_digit fourth) _ _
-      (λ _. front_of-reads_or _ 4 _ _ (omega arith) (omega arith) (omega arith) (give-option (range ranges p) (ranged p))
-      (front_of-malformed _ 4 (omega arith) (omega arith) (omega arith))) other) other
+  gb18030_third-of first second rest = grind arith
 
   gb18030-gives : (first second : ℕ) → MayGive P (gb18030_scalars index first second)
   gb18030-gives first second =
@@ -244,6 +220,4 @@ module _ {P : Type 0} (jis0208 : List ℕ) (checked : P → AreScalars jis0208) 
 
 pub iso_2022_jp_front-short : (jis0208 : List ℕ) (mode : Mode) (b : ℕ) (rest : List ℕ) → front_length (iso_2022_jp_front jis0208 mode b rest) ≤ 2
 unfolding iso_2022_jp_front
-iso_2022_jp_front-short jis0208 two_byte b [] = omega arith
-iso_2022_jp_front-short jis0208 two_byte b (t ∷ rest) = grind arith
-iso_2022_jp_front-short jis0208 _ b rest = grind arith
+iso_2022_jp_front-short jis0208 mode b rest = grind arith

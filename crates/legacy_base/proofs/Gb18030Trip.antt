@@ -1,22 +1,17 @@
 -- The codes of GB18030 and GBK decode to their scalars. The codes of private-use rows decode to the scalars of the
 -- rows' bytes.
-use Rattle.std.proofs.Common.{◌≡◌, ℕ, ◌+◌, ◌-◌, ◌*◌, ◌/◌, ◌%◌, ◌<◌, ◌≤◌, List, [], ◌∷◌, length, get_or, Bool, true}
-use Rattle.std.proofs.Common.{false, cond, not, ◌||◌, ◌==◌, nat_lt, Option, Some, None, option_map, refl, sym, ◌∙◌, arith, if◌then◌else◌}
-use Rattle.std.proofs.Common.{eqb-true}
+use Rattle.std.proofs.Common.{◌≡◌, ℕ, ◌+◌, ◌*◌, ◌/◌, ◌%◌, ◌<◌, ◌≤◌, List, [], ◌∷◌, length, get_or, Bool, true, false, cond, ◌==◌, nat_lt, Option, Some, None}
+use Rattle.std.proofs.Common.{option_map, refl, sym, ◌∙◌, arith, if◌then◌else◌, eqb-true}
 use Rattle.std.proofs.lemmas.Bool.{false≢true}
 use Rattle.std.proofs.lemmas.Bool.Decides.{nat_tests}
-use Rattle.std.proofs.Math.Nat.{div-add-mod}
-use Rattle.std.proofs.lemmas.Nat.{mod_below}
 use Rattle.std.specs.Option.{option_or, option_map_or}
-use Rattle.std.specs.List.{list_any}
-use Rattle.std.specs.Int.{is_in_range}
 use Rattle.std.specs.Char.{is_ascii, is_ascii_digit}
 use Rattle.legacy_base.specs.Fronts.{reads}
 use Rattle.legacy_tables.specs.Indexes.{idx, range, gb18030_pua_of}
-use Rattle.legacy_base.specs.Profile.{is_lead, is_empty}
+use Rattle.legacy_base.specs.Profile.{is_empty}
 use Rattle.legacy_tables.specs.Pointers.{every_pointer, gb18030_pointer_of, range_pointer_of}
 use Rattle.legacy_tables.specs.TableChecks.{is_row_scalar, are_row_bytes}
-use Rattle.legacy_base.specs.Gb18030.{gb18030_scalars, gb18030_range_pointer, gb18030_fourth, gb18030_third, gb18030_second, gb18030_front}
+use Rattle.legacy_base.specs.Gb18030.{gb18030_scalars, gb18030_fourth, gb18030_third, gb18030_second, gb18030_front}
 use Rattle.legacy_base.specs.Gb18030.{gb18030_pair_bytes, gb18030_range_bytes, gb18030_pair_code, gb18030_code, gbk_code}
 use Rattle.legacy_base.specs.RoundTrips.{is_private_use_fold, private_use_scalar, has_lost_row}
 use Rattle.legacy_tables.proofs.Pointers.{first-taken, range-taken}
@@ -28,29 +23,12 @@ use Rattle.legacy_base.proofs.TwoByteTrips.{mapped, one_byte, two_bytes}
 
 pair_scalars : (index : List ℕ) (q r p c : ℕ) → 190 * q + r ≡ p → r < 190 → idx index p ≡ Some c → (t : Bool) → nat_lt r 0x3F ≡ t
     → (is_ascii_digit (r + cond t 0x40 0x41) ≡ false) × (gb18030_scalars index (q + 0x81) (r + cond t 0x40 0x41) ≡ c ∷ [])
-pair_scalars index q r p c is h has true e =
-    let low : is_in_range 0x40 0x7E (r + 0x40) ≡ true = grind (arith, nat_tests) in
-    let pointer : (q + 0x81 - 0x81) * 190 + (r + 0x40 - 0x40) ≡ p = omega arith in
-    (grind (arith, nat_tests), rw (low, pointer, has) refl)
-pair_scalars index q r p c is h has false e =
-    let low : is_in_range 0x40 0x7E (r + 0x41) ≡ false = grind (arith, nat_tests) in
-    let high : is_in_range 0x80 0xFE (r + 0x41) ≡ true = grind (arith, nat_tests) in
-    let pointer : (q + 0x81 - 0x81) * 190 + (r + 0x41 - 0x41) ≡ p = omega arith in
-    (grind (arith, nat_tests), rw (low, high, pointer, has) refl)
+pair_scalars index q r p c h k m t e = grind arith
 
 pair_back : (index : List ℕ) (ranges : List (ℕ × ℕ)) (p c : ℕ) (more : List ℕ) → length index ≤ 23940 → LeadsBack every_pointer index c p
     → gb18030_front index ranges (p / 190 + 0x81) ((p % 190 + (if nat_lt (p % 190) 0x3F then 0x40 else 0x41)) ∷ more) ≡ reads 2 (c ∷ [])
 unfolding gb18030_front gb18030_second
-pair_back index ranges p c more short back =
-    let p_is : 190 * (p / 190) + p % 190 ≡ p = div-add-mod p 190 in
-    let column : p % 190 < 190 = mod_below p 190 (omega arith) in
-    let below = back.below in
-    let row : p / 190 < 126 = omega arith in
-    let lead_ascii : is_ascii (p / 190 + 0x81) ≡ false = grind (arith, nat_tests) in
-    let not_80 : ((p / 190 + 0x81) == 0x80) ≡ false = grind (arith, nat_tests) in
-    let lead : is_lead (p / 190 + 0x81) ≡ true = grind (arith, nat_tests) in
-    let trail = pair_scalars index (p / 190) (p % 190) p c p_is column back.has (nat_lt (p % 190) 0x3F) refl in
-    rw (lead_ascii, not_80, lead, trail.0, trail.1) refl
+pair_back index ranges p c more short back = grind arith
 
 pair_decodes : (index : List ℕ) (ranges : List (ℕ × ℕ)) (c : ℕ) (bytes : List ℕ) → length index ≤ 23940
     → option_map gb18030_pair_bytes (gb18030_pointer_of index c) ≡ Some bytes → Decodes (gb18030_front index ranges) bytes c
@@ -68,20 +46,7 @@ parts_of_pointer p = omega arith
 four_back : (index : List ℕ) (ranges : List (ℕ × ℕ)) (p c : ℕ) (more : List ℕ) → range ranges p ≡ Some c → p < 1237576
     → gb18030_front index ranges (p / 12600 + 0x81) ((p % 12600 / 1260 + 0x30) ∷ (p % 1260 / 10 + 0x81) ∷ (p % 10 + 0x30) ∷ more) ≡ reads 4 (c ∷ [])
 unfolding gb18030_front gb18030_second gb18030_third gb18030_fourth
-four_back index ranges p c more has below =
-    let parts = parts_of_pointer p in
-    let first : p / 12600 < 126 = omega arith in
-    let second : p % 12600 / 1260 < 10 = omega arith in
-    let third : p % 1260 / 10 < 126 = omega arith in
-    let fourth : p % 10 < 10 = mod_below p 10 (omega arith) in
-    let lead_ascii : is_ascii (p / 12600 + 0x81) ≡ false = grind (arith, nat_tests) in
-    let not_80 : ((p / 12600 + 0x81) == 0x80) ≡ false = grind (arith, nat_tests) in
-    let lead : is_lead (p / 12600 + 0x81) ≡ true = grind (arith, nat_tests) in
-    let digit : is_ascii_digit (p % 12600 / 1260 + 0x30) ≡ true = grind (arith, nat_tests) in
-    let third_lead : is_lead (p % 1260 / 10 + 0x81) ≡ true = grind (arith, nat_tests) in
-    let last_digit : is_ascii_digit (p % 10 + 0x30) ≡ true = grind (arith, nat_tests) in
-    let pointer : gb18030_range_pointer (p / 12600 + 0x81) (p % 12600 / 1260 + 0x30) (p % 1260 / 10 + 0x81) (p % 10 + 0x30) ≡ p = omega arith in
-    rw (lead_ascii, not_80, lead, digit, third_lead, last_digit, pointer, has) refl
+four_back index ranges p c more has below = grind arith
 
 four_decodes : (index : List ℕ) (ranges : List (ℕ × ℕ)) (c : ℕ) (bytes : List ℕ)
     → option_map gb18030_range_bytes (range_pointer_of ranges c) ≡ Some bytes → Decodes (gb18030_front index ranges) bytes c
@@ -105,36 +70,12 @@ pair_has index lead trail c h = grind arith
 row_back : (index : List ℕ) (ranges : List (ℕ × ℕ)) (lead trail c : ℕ) (more : List ℕ) → are_row_bytes lead trail ≡ true →
     gb18030_scalars index lead trail ≡ c ∷ [] → gb18030_front index ranges lead (trail ∷ more) ≡ reads 2 (c ∷ [])
 unfolding gb18030_front gb18030_second
-row_back index ranges lead trail c more bytes gives =
-    let lead_ascii : is_ascii lead ≡ false = grind (arith, nat_tests) in
-    let not_80 : (lead == 0x80) ≡ false = grind (arith, nat_tests) in
-    let is_one : is_lead lead ≡ true = grind (arith, nat_tests) in
-    let no_digit : is_ascii_digit trail ≡ false = grind (arith, nat_tests) in
-    rw (lead_ascii, not_80, is_one, no_digit, gives) refl
+row_back index ranges lead trail c more bytes gives = grind arith
 
 -- a scalar that is no fold has no row, or a row that decodes to it
 pub no_private_use_fold : (index : List ℕ) (pua : List (ℕ × ℕ × ℕ)) (c : ℕ) → is_private_use_fold index pua c ≡ false
     → (private_use_scalar index pua c ≡ c) × (has_lost_row index pua c ≡ false)
-no_private_use_fold index pua c h = by_row (gb18030_pua_of pua c) h
-  where
-    first_is : (l : List ℕ) → not (list_any (λ s. s == c) l) ≡ false → is_empty l ≡ false
-    first_is [] h = cc
-    first_is (s ∷ l) h = refl
-
-    same : (lead trail : ℕ) → not (list_any (λ s. s == c) (gb18030_scalars index lead trail)) ≡ false → get_or (gb18030_scalars index lead trail) 0 c ≡ c
-    same lead trail h =
-        let one = pair_has index lead trail c (first_is (gb18030_scalars index lead trail) h) in
-        only (get_or (gb18030_scalars index lead trail) 0 c) _ refl (rw one at h)
-      where
-        only : (s : ℕ) (t : Bool) → (s == c) ≡ t → not (t || false) ≡ false → s ≡ c
-        only s true e h = eqb-true s c e
-        only s false e h = cc
-
-    by_row : (o : Option (ℕ × ℕ)) → option_map_or (λ row. not (list_any (λ s. s == c) (gb18030_scalars index row.0 row.1))) o false ≡ false
-        → (option_map_or (λ row. get_or (gb18030_scalars index row.0 row.1) 0 c) o c ≡ c)
-        × (option_map_or (λ row. is_empty (gb18030_scalars index row.0 row.1)) o false ≡ false)
-    by_row None h = (refl, refl)
-    by_row (Some row) h = (same row.0 row.1 h, first_is (gb18030_scalars index row.0 row.1) h)
+no_private_use_fold index pua c h = grind arith
 
 -- ---- the codes
 
@@ -150,9 +91,7 @@ module _ (index : List ℕ) (ranges : List (ℕ × ℕ)) (pua : List (ℕ × ℕ
   ascii_decodes : (c : ℕ) (bytes : List ℕ) → is_ascii c ≡ true → Some (c ∷ []) ≡ Some bytes →
       Decodes (gb18030_front index ranges) bytes (private_use_scalar index pua c)
   unfolding gb18030_front
-  ascii_decodes c bytes e h =
-      let plain : is_row_scalar c ≡ false = grind (arith, nat_tests) in
-      rw (no_row c plain) (one_byte (gb18030_front index ranges) c c bytes (cc) (λ more. rw e refl))
+  ascii_decodes c bytes e h = grind (arith, nat_tests, no_row, one_byte)
 
   row_decodes : (c lead trail : ℕ) (bytes : List ℕ) → gb18030_pua_of pua c ≡ Some (lead, trail)
       → is_empty (gb18030_scalars index lead trail) ≡ false → Some (lead ∷ trail ∷ []) ≡ Some bytes

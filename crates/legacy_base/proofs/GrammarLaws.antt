@@ -1,7 +1,7 @@
 -- Laws of the events of whole lists.
-use Rattle.std.proofs.Common.{◌≡◌, ◌∙◌, ℕ, List, [], ◌∷◌, ◌++◌, length, drop, refl, sym, ap, true}
-use Rattle.legacy_base.specs.Events.{shift}
-use Rattle.legacy_base.specs.Fronts.{Front, front_length, front_events, cut}
+use Rattle.std.proofs.lemmas.Bool.Decides.{nat_tests}
+use Rattle.std.proofs.Common.{arith, ◌≡◌, ℕ, List, [], ◌∷◌, length, refl, true}
+use Rattle.legacy_base.specs.Fronts.{Front, cut}
 use Rattle.legacy_base.specs.Iso2022Jp.{parts_of, part_mode, escape_length, escape_events, part_events, parts_events, iso_2022_jp_events}
 use Rattle.legacy_base.specs.Utf16.{units_of, has_odd_byte, units_events, utf16_events}
 use Rattle.legacy_base.specs.Replacement.{replacement_events}
@@ -18,11 +18,7 @@ use Rattle.legacy_base.proofs.FrontLaws.{gb18030_front-of}
 
 read_by : (grammar : Grammar) (accepted : Type 0) (front : ℕ → List ℕ → Front) → ((bytes : List ℕ) → events_of grammar bytes ≡ cut front 0 0 bytes) →
     ((b : ℕ) (rest : List ℕ) → IsFrontOf (length (b ∷ rest)) (accepted × IsByte b) (front b rest)) → IsReadByFronts grammar accepted front
-read_by grammar accepted front is has b rest =
-    let n = front_length (front b rest) in (
-      has b rest,
-      is (b ∷ rest) ∙ cut-front front b rest ((has b rest).some) ∙ ap (λ es. front_events 0 (front b rest) ++ shift n es) (sym (is (drop n (b ∷ rest)))),
-    )
+read_by grammar accepted front h k = grind (arith, nat_tests, cut-front)
 
 pub read_by_fronts : AreReadByFronts
 unfolding events_of

@@ -1,9 +1,10 @@
 -- The events of a text in ISO-2022-JP, scalar by scalar: the escape to the scalar's mode, its own bytes, and then the
 -- rest of the text from that mode.
-use Rattle.std.proofs.Common.{◌≡◌, ◌∙◌, ℕ, ◌/◌, ◌%◌, ◌+◌, ◌≤◌, List, [], ◌∷◌, ◌++◌, map, refl, sym, ap}
+use Rattle.std.proofs.lemmas.Bool.Decides.{nat_tests}
+use Rattle.std.proofs.Common.{◌≡◌, ◌∙◌, ℕ, ◌/◌, ◌%◌, ◌+◌, ◌≤◌, List, [], ◌∷◌, ◌++◌, map, refl, ap}
 use Rattle.std.proofs.Common.{arith, append_assoc, Bool, true, false, ◌||◌, Some, None, Option, cond, eqb, option_map}
 use Rattle.std.specs.Char.{is_ascii}
-use Rattle.std.proofs.lemmas.Bool.{cond_both, ne_eqb}
+use Rattle.std.proofs.lemmas.Bool.{ne_eqb}
 use borrow.Author.Tests.{ltb-true}
 use Rattle.legacy_base.specs.declared.results.EncodeEvent.{EncodeEvent}
 use Rattle.legacy_base.specs.declared.results.EncodeEvent.TheVariants.{Byte}
@@ -24,10 +25,7 @@ escape_between-same in_ascii = refl
 escape_between-same _ = refl
 
 pub escape_between-other : (mode new : EncoderMode) → (mode ≡ new → ⊥) → escape_between mode new ≡ escape_to new
-escape_between-other in_ascii in_ascii n = absurd (n refl)
-escape_between-other in_roman in_roman n = absurd (n refl)
-escape_between-other in_two_byte in_two_byte n = absurd (n refl)
-escape_between-other _ _ n = refl
+escape_between-other mode new h = grind arith
 
 -- the mode after one scalar, by three tests of the scalar
 abbrev pub mode_by : (pair keeps romans : Bool) → EncoderMode → EncoderMode
@@ -51,11 +49,7 @@ module _ (jis0208 katakana_index : List ℕ) where
   settled_mode-behind : (mode : EncoderMode) (before : List ℕ)
       → settled_mode jis0208 katakana_index mode before ≡ roman_or_ascii (mode_behind jis0208 katakana_index mode before)
   unfolding mode_behind settled_mode
-  settled_mode-behind mode [] = refl
-  settled_mode-behind mode (c ∷ before) =
-      let settled : EncoderMode = settled_mode jis0208 katakana_index mode (c ∷ before) in
-      cond_both (is_two_byte_scalar jis0208 katakana_index c) in_two_byte settled (λ m. settled ≡ roman_or_ascii m)
-      (λ h. let settles = pair_settles c h in rw (settles.0, settles.1) refl) (λ h. sym (settled_mode-settled mode (c ∷ before)))
+  settled_mode-behind mode before = grind (arith, nat_tests, pair_settles, settled_mode-settled)
 
   -- the mode after two parts is the mode after the second, begun in the mode after the first
   settled_mode-append : (mode : EncoderMode) (second first : List ℕ) → settled_mode jis0208 katakana_index mode (second ++ first)
@@ -101,10 +95,7 @@ module _ (jis0208 katakana_index : List ℕ) where
 
   -- writing a scalar twice leaves the same mode as writing it once
   pub mode_for-twice : (mode : EncoderMode) (c : ℕ) → mode_for (mode_for mode c) c ≡ mode_for mode c
-  mode_for-twice mode c =
-      let pair = is_two_byte_scalar jis0208 katakana_index c in
-      let keeps = keeps_mode jis0208 katakana_index c in
-      rw (mode_for-by mode c, mode_for-by (mode_by pair keeps (is_roman_scalar c) mode) c) (mode_by-twice pair keeps (is_roman_scalar c) mode)
+  mode_for-twice mode c = grind (arith, nat_tests, mode_for-by, mode_by-twice)
 
   mode_behind-nothing : (mode : EncoderMode) → mode_behind jis0208 katakana_index mode [] ≡ mode
   unfolding mode_behind
@@ -123,20 +114,12 @@ module _ (jis0208 katakana_index : List ℕ) where
   -- a scalar that is written in the current mode needs no escape
   pub text_events-here : (mode : EncoderMode) (c : ℕ) → mode_for mode c ≡ mode → (more : List ℕ) (ended : Bool)
       → text_events mode (c ∷ more) ended ≡ own_events c ++ text_events mode more ended
-  text_events-here mode c e more ended =
-      text_events-scalar mode c more ended
-      ∙ ap (λ m. map Byte (escape_between mode m) ++ (own_events c ++ text_events m more ended)) e
-      ∙ ap (λ l. map Byte l ++ (own_events c ++ text_events mode more ended)) (escape_between-same mode)
+  text_events-here mode c e more ended = grind (arith, nat_tests, text_events-scalar, escape_between-same)
 
   -- a scalar that is written in another mode: the escape to it, and then the same text begun in that mode
   pub text_events-escape : (mode new : EncoderMode) (c : ℕ) → mode_for mode c ≡ new → (mode ≡ new → ⊥) → (more : List ℕ) (ended : Bool)
       → text_events mode (c ∷ more) ended ≡ map Byte (escape_to new) ++ text_events new (c ∷ more) ended
-  text_events-escape mode new c e n more ended =
-      let stays : mode_for new c ≡ new = ap (λ m. mode_for m c) (sym e) ∙ mode_for-twice mode c ∙ e in
-      text_events-scalar mode c more ended
-      ∙ ap (λ m. map Byte (escape_between mode m) ++ (own_events c ++ text_events m more ended)) e
-      ∙ ap (λ l. map Byte l ++ (own_events c ++ text_events new more ended)) (escape_between-other mode new n)
-      ∙ ap (λ l. map Byte (escape_to new) ++ l) (sym (text_events-here new c stays more ended))
+  text_events-escape mode new c e n more ended = grind (arith, nat_tests, mode_for-twice, text_events-scalar, escape_between-other, text_events-here)
 
   -- ---- the end
 

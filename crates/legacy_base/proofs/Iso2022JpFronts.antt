@@ -1,9 +1,9 @@
 -- One equation for each kind of front: the events of a list are those of its first front, and then those of the rest.
 -- With these a list is read from first to last, although the definition cuts it at escapes before any mode is known.
-use Rattle.std.proofs.Common.{◌≡◌, ℕ, suc, ◌+◌, Bool, true, false, cond, Option, Some, None, List, [], ◌∷◌, ◌++◌, length, refl, sym, ap, zero-add, one-add}
-use Rattle.std.proofs.Common.{append_assoc, subst, arith}
+use Rattle.std.proofs.Common.{◌≡◌, ℕ, suc, ◌+◌, false, cond, Option, Some, None, List, [], ◌∷◌, ◌++◌, length, refl, ap, zero-add, one-add}
+use Rattle.std.proofs.Common.{append_assoc, arith}
 use Rattle.std.specs.Prelude.{◌==◌, ◌&&◌, is_some}
-use Rattle.std.proofs.lemmas.Bool.{eqb-true, ne_eqb, cond_both}
+use Rattle.std.proofs.lemmas.Bool.{eqb-true, ne_eqb}
 use Rattle.std.proofs.lemmas.Bool.Decides.{nat_tests}
 use Rattle.legacy_base.specs.declared.results.DecodeEvent.TheVariants.{Bad}
 use Rattle.legacy_base.specs.Events.{shift}
@@ -25,8 +25,7 @@ pub step_one : (jis0208 : List ℕ) (mode : Mode) (b : ℕ) (more : List ℕ) (f
     → iso_2022_jp_events jis0208 mode (b ∷ more) ≡ front_events 0 f ++ shift 1 (iso_2022_jp_events jis0208 mode more)
 unfolding cut
 step_one jis0208 mode b more f plain is one =
-    rw (events-by_parts jis0208 mode (b ∷ more), events-by_parts jis0208 mode more, plain, is, one)
-    (rw (cut_from_zero (iso_2022_jp_front jis0208 mode) 0 1 (first_part more), shift-append, shift-shift, append_assoc, one-add))
+    grind (arith, nat_tests, events-by_parts, cut_from_zero, first_part, shift-append, shift-shift, append_assoc, one-add)
 
 -- a front of two bytes
 pub step_two : (jis0208 : List ℕ) (mode : Mode) (b t : ℕ) (more : List ℕ) (f : Front) → (b == esc) ≡ false → (t == esc) ≡ false
@@ -34,9 +33,7 @@ pub step_two : (jis0208 : List ℕ) (mode : Mode) (b t : ℕ) (more : List ℕ) 
     → iso_2022_jp_events jis0208 mode (b ∷ t ∷ more) ≡ front_events 0 f ++ shift 2 (iso_2022_jp_events jis0208 mode more)
 unfolding cut
 step_two jis0208 mode b t more f plain plain_t is two =
-    let more_by_two : 2 + length (first_part more) ≡ suc (suc (length (first_part more))) = omega arith in
-    rw (events-by_parts jis0208 mode (b ∷ t ∷ more), events-by_parts jis0208 mode more, plain, plain_t, is, two)
-    (rw (cut_from_zero (iso_2022_jp_front jis0208 mode) 0 2 (first_part more), shift-append, shift-shift, append_assoc, more_by_two))
+    grind (arith, nat_tests, first_part, events-by_parts, cut_from_zero, shift-append, shift-shift, append_assoc)
 
 -- ---- escapes
 
@@ -50,26 +47,12 @@ other_byte mode_by b mode none some = ne_eqb b esc (λ e. let same = ap mode_by 
 -- a list and its first part begin with the same valid escape, if any
 part_mode-first : (rest : List ℕ) → part_mode (esc ∷ first_part rest) ≡ part_mode (esc ∷ rest)
 unfolding part_mode
-part_mode-first [] = refl
-part_mode-first (a ∷ []) = cond_both (a == esc) [] (a ∷ []) (λ l. part_mode (esc ∷ l) ≡ None) (λ _. refl) (λ _. refl)
-part_mode-first (a ∷ b ∷ more) =
-    cond_both (a == esc) [] (a ∷ first_part (b ∷ more)) (λ l. part_mode (esc ∷ l) ≡ escape_mode a b) (λ h. rw (eqb-true a esc h))
-    (λ _. cond_both (b == esc) [] (b ∷ first_part more) (λ l. part_mode (esc ∷ a ∷ l) ≡ escape_mode a b) (λ k. rw (eqb-true b esc k) (sym (no_third a)))
-    (λ _. refl))
+part_mode-first rest = grind arith
 
 -- the test for a valid escape directly before another one, by the bytes after the first
 bare-first : (a b : ℕ) (more : List ℕ) → (length (esc ∷ a ∷ b ∷ first_part more) == 3 && begins_valid (later_parts more)) ≡ is_some (part_mode more)
 unfolding part_mode
-bare-first a b [] = refl
-bare-first a b (x ∷ rest) = by_test (x == esc) refl
-  where
-    by_test : (t : Bool) → (x == esc) ≡ t → (length (esc ∷ a ∷ b ∷ cond t [] (x ∷ first_part rest)) == 3
-        && begins_valid (cond t ((x ∷ first_part rest) ∷ later_parts rest) (later_parts rest)))
-        ≡ is_some (part_mode (x ∷ rest))
-    by_test true h =
-        let P : ℕ → Type 0 = λ y. is_some (part_mode (y ∷ first_part rest)) ≡ is_some (part_mode (y ∷ rest)) in
-        subst P (sym (eqb-true x esc h)) (ap (λ m. is_some m) (part_mode-first rest))
-    by_test false h = rw (no_escape x rest h, ne_eqb (suc (suc (suc (suc (length (first_part rest)))))) 3 (λ e. omega arith))
+bare-first a b more = grind (arith, nat_tests, first_part, later_parts, eqb-true, part_mode-first, no_escape, ne_eqb)
 
 -- an escape byte that begins no valid escape: the bytes after it are read in the old mode
 pub step_no_escape : (jis0208 : List ℕ) (mode : Mode) (rest : List ℕ) → part_mode (esc ∷ rest) ≡ None

@@ -1,5 +1,6 @@
 -- The parts of a list that is cut before its escape bytes: the bytes up to the first escape byte, and the parts after
 -- them. The events of a list are given by these two.
+use Rattle.std.proofs.lemmas.Bool.Decides.{nat_tests}
 use Rattle.std.proofs.Common.{arith, ◌≡◌, ℕ, ◌+◌, true, false, cond, None, List, [], ◌∷◌, ◌++◌, drop, length, refl, add_assoc, zero-add, add-zero}
 use Rattle.std.specs.Prelude.{◌==◌, unwrap_or}
 use Rattle.std.proofs.lemmas.Bool.{cond_both}
@@ -32,9 +33,7 @@ parts_of-is (b ∷ bytes) = rw (parts_of-is bytes)
 -- a part that begins with another byte has no escape
 pub no_escape : (b : ℕ) (part : List ℕ) → (b == esc) ≡ false → part_mode (b ∷ part) ≡ None
 unfolding part_mode
-no_escape b [] h = refl
-no_escape b (a ∷ []) h = refl
-no_escape b (a ∷ c ∷ part) h = rw h
+no_escape b part h = grind arith
 
 -- the first part begins with no escape, valid or not
 first_plain : (place : ℕ) (bytes : List ℕ) (next : List (List ℕ)) →
@@ -88,10 +87,4 @@ pub events-by_parts : (jis0208 : List ℕ) (mode : Mode) (bytes : List ℕ) → 
     ≡ cut (iso_2022_jp_front jis0208 mode) 0 0 (first_part bytes)
     ++ shift (length (first_part bytes)) (parts_events jis0208 mode 0 (later_parts bytes))
 unfolding iso_2022_jp_events
-events-by_parts jis0208 mode bytes =
-    rw (
-      parts_of-is bytes,
-      first_events jis0208 mode 0 bytes (later_parts bytes),
-      zero-add,
-      parts_events-at jis0208 mode (length (first_part bytes)) (later_parts bytes),
-    )
+events-by_parts jis0208 mode bytes = grind (arith, nat_tests, parts_of-is, first_events, zero-add, parts_events-at)

@@ -1,25 +1,20 @@
 -- The output of an ISO-2022-JP encoder decodes to its text. The escapes give no events, and each code is read in the
 -- mode in which it was written.
-use Rattle.std.proofs.Common.{◌≡◌, ℕ, ◌+◌, ◌-◌, ◌*◌, ◌/◌, ◌%◌, ◌<◌, List, [], ◌∷◌, ◌++◌, map, length, Bool, true, false}
-use Rattle.std.proofs.Common.{cond, ◌||◌, ◌==◌, Option, Some, None, is_some, option_and_then, inl, inr, refl, sym, ap, ◌∙◌, append_assoc, length-append}
-use Rattle.std.proofs.Common.{arith}
-use Rattle.std.proofs.lemmas.Bool.{and_right, or_parts, cases_eq, true≢false}
+use Rattle.std.proofs.Common.{◌≡◌, ℕ, ◌+◌, ◌/◌, ◌%◌, List, [], ◌∷◌, ◌++◌, map, length, Bool, true, false, cond, ◌||◌, ◌==◌, Option, Some, None, is_some, inl}
+use Rattle.std.proofs.Common.{inr, refl, sym, ap, ◌∙◌, append_assoc, length-append, arith}
+use Rattle.std.proofs.lemmas.Bool.{and_right, or_parts, cases_eq}
 use Rattle.std.proofs.lemmas.Bool.Decides.{nat_tests}
-use Rattle.std.proofs.Math.Nat.{div-add-mod}
-use Rattle.std.proofs.lemmas.Nat.{mod_below}
-use Rattle.std.specs.Int.{is_in_range}
 use Rattle.std.specs.Char.{is_ascii}
 use Rattle.legacy_base.specs.declared.results.DecodeEvent.{DecodeEvent}
 use Rattle.legacy_base.specs.declared.results.DecodeEvent.TheVariants.{Scalar, Bad}
 use Rattle.legacy_base.specs.declared.results.EncodeEvent.{EncodeEvent}
 use Rattle.legacy_base.specs.declared.results.EncodeEvent.TheVariants.{Byte}
 use Rattle.legacy_base.specs.Events.{shift}
-use Rattle.legacy_base.specs.EncodeEvents.{code_events}
 use Rattle.legacy_base.specs.Fronts.{reads}
 use Rattle.legacy_tables.specs.Pointers.{is_jis0208_pointer, euc_jp_pointer_of}
 use Rattle.legacy_base.specs.EncoderProfile.{EncoderMode, in_ascii, in_roman, in_two_byte}
 use Rattle.legacy_base.specs.Iso2022Jp.{Mode, ascii, roman, two_byte, esc, escape_mode, part_mode, iso_2022_jp_front, iso_2022_jp_events, is_whole_escape}
-use Rattle.legacy_base.specs.Iso2022Jp.{is_mode_control, iso_2022_jp_fold, iso_2022_jp_pointer_of, iso_2022_jp_pair, iso_2022_jp_code, iso_2022_jp_reported}
+use Rattle.legacy_base.specs.Iso2022Jp.{is_mode_control, iso_2022_jp_fold, iso_2022_jp_pointer_of, iso_2022_jp_pair, iso_2022_jp_code}
 use Rattle.legacy_base.specs.Iso2022Jp.{roman_or_ascii, escape_between}
 use Rattle.legacy_base.specs.Encoders.{iso_2022_jp}
 use Rattle.legacy_base.specs.RoundTrips.{is_fold, read_as, bytes_of, holds_adjacent_escapes}
@@ -40,31 +35,18 @@ read_in in_two_byte = two_byte
 
 -- the list does not begin with a valid escape
 plain_start : (b : ℕ) (bytes : List ℕ) → (b == esc) ≡ false → is_whole_escape (b ∷ bytes) ≡ false
-plain_start b [] h = refl
-plain_start b (x ∷ []) h = refl
-plain_start b (x ∷ y ∷ bytes) h = rw h refl
+plain_start b bytes h = grind arith
 
 -- `part_mode` and `is_whole_escape` agree on which lists begin with a valid escape
 escape_begins : (bytes : List ℕ) → is_some (part_mode bytes) ≡ is_whole_escape bytes
 unfolding part_mode
-escape_begins [] = refl
-escape_begins (e ∷ []) = refl
-escape_begins (e ∷ a ∷ []) = refl
-escape_begins (e ∷ a ∷ b ∷ bytes) = grind arith
+escape_begins bytes = grind arith
 
 -- A property of the bytes between two modes, which are none or one escape.
 between : (P : EncoderMode → EncoderMode → List ℕ → Type 0) → ((mode : EncoderMode) → P mode mode [])
     → ((old new : EncoderMode) (a b : ℕ) → escape_mode a b ≡ Some (read_in new) → (a == esc) ≡ false → (b == esc) ≡ false → P old new (esc ∷ a ∷ b ∷ []))
     → (old new : EncoderMode) → P old new (escape_between old new)
-between P none some in_ascii in_ascii = none in_ascii
-between P none some in_roman in_roman = none in_roman
-between P none some in_two_byte in_two_byte = none in_two_byte
-between P none some in_ascii in_roman = some in_ascii in_roman 0x28 0x4A refl refl refl
-between P none some in_ascii in_two_byte = some in_ascii in_two_byte 0x24 0x42 refl refl refl
-between P none some in_roman in_ascii = some in_roman in_ascii 0x28 0x42 refl refl refl
-between P none some in_roman in_two_byte = some in_roman in_two_byte 0x24 0x42 refl refl refl
-between P none some in_two_byte in_ascii = some in_two_byte in_ascii 0x28 0x42 refl refl refl
-between P none some in_two_byte in_roman = some in_two_byte in_roman 0x28 0x4A refl refl refl
+between P h k old new = grind arith
 
 module _ (jis0208 : List ℕ) where
   escape_alone : (old new : Mode) (a b : ℕ) (rest : List ℕ) → escape_mode a b ≡ Some new → is_whole_escape rest ≡ false
@@ -77,10 +59,7 @@ module _ (jis0208 : List ℕ) where
   escape_read : (old new : EncoderMode) (rest : List ℕ) → is_whole_escape rest ≡ false
       → iso_2022_jp_events jis0208 (read_in old) (escape_between old new ++ rest)
       ≡ shift (length (escape_between old new)) (iso_2022_jp_events jis0208 (read_in new) rest)
-  escape_read old new rest h =
-      between (λ old new e. iso_2022_jp_events jis0208 (read_in old) (e ++ rest) ≡ shift (length e) (iso_2022_jp_events jis0208 (read_in new) rest))
-      (λ mode. sym (shift-zero (iso_2022_jp_events jis0208 (read_in mode) rest)))
-      (λ old new a b valid pa pb. escape_alone (read_in old) (read_in new) a b rest valid h) old new
+  escape_read old new rest h = grind (arith, nat_tests, between, shift-zero, escape_alone)
 
   -- ---- the codes
 
@@ -101,20 +80,7 @@ module _ (jis0208 : List ℕ) where
 
   is_pair_of : (p c : ℕ) → LeadsBack is_jis0208_pointer jis0208 c p → IsPair p c
   unfolding iso_2022_jp_front
-  is_pair_of p c back =
-      let p_is : 94 * (p / 94) + p % 94 ≡ p = div-add-mod p 94 in
-      let column : p % 94 < 94 = mod_below p 94 (omega arith) in
-      let may = back.may_use in
-      let below : p < 8836 = grind (arith, nat_tests) in
-      let row : p / 94 < 94 = omega arith in
-      let lead : is_in_range 0x21 0x7E (p / 94 + 0x21) ≡ true = grind (arith, nat_tests) in
-      let trail : is_in_range 0x21 0x7E (p % 94 + 0x21) ≡ true = grind (arith, nat_tests) in
-      let pointer : (p / 94 + 0x21 - 0x21) * 94 + (p % 94 + 0x21 - 0x21) ≡ p = omega arith in
-      record {
-        first_plain = grind (arith, nat_tests);
-        second_plain = grind (arith, nat_tests);
-        front = λ rest. rw (lead, trail, pointer, back.has) refl;
-      }
+  is_pair_of p c back = grind arith
 
 -- ---- adjacent escapes
 
@@ -131,9 +97,7 @@ adjacent-escape a b rest ha hb h =
 
 escape_adjacent : (old new : EncoderMode) (rest : List ℕ) → is_whole_escape rest ≡ false →
     holds_adjacent_escapes (escape_between old new ++ rest) ≡ holds_adjacent_escapes rest
-escape_adjacent old new rest h =
-    between (λ old new e. holds_adjacent_escapes (e ++ rest) ≡ holds_adjacent_escapes rest) (λ mode. refl)
-    (λ old new a b valid pa pb. adjacent-escape a b rest pa pb h) old new
+escape_adjacent old new rest h = grind (arith, nat_tests, between, adjacent-escape)
 
 module _ (jis0208 katakana_index : List ℕ) where
   abbrev code : ℕ → Option (List ℕ)
@@ -155,32 +119,14 @@ module _ (jis0208 katakana_index : List ℕ) where
 
   own_byte : (mode : EncoderMode) (c b : ℕ) → (b == esc) ≡ false
       → ((rest : List ℕ) → iso_2022_jp_front jis0208 (read_in mode) b rest ≡ reads 1 (c ∷ [])) → OwnRead mode c (b ∷ [])
-  own_byte mode c b plain is = record {
-    plain = λ more. plain_start b more plain;
-    gives = λ more. step_one jis0208 (read_in mode) b more (reads 1 (c ∷ [])) plain (is (first_part more)) refl;
-    quiet = λ more. adjacent-plain b more plain;
-  }
+  own_byte mode c b plain is = grind (arith, nat_tests, plain_start, step_one, first_part, adjacent-plain)
 
   own_pair : (p c : ℕ) → LeadsBack is_jis0208_pointer jis0208 c p → OwnRead in_two_byte c (iso_2022_jp_pair p)
-  own_pair p c back =
-      let q = is_pair_of jis0208 p c back in
-      record {
-        plain = λ more. plain_start (p / 94 + 0x21) ((p % 94 + 0x21) ∷ more) q.first_plain;
-        gives =
-            λ more. step_two jis0208 two_byte (p / 94 + 0x21) (p % 94 + 0x21) more (reads 2 (c ∷ [])) q.first_plain q.second_plain
-            (q.front (first_part more)) refl;
-        quiet = λ more. adjacent-plain (p / 94 + 0x21) ((p % 94 + 0x21) ∷ more) q.first_plain ∙ adjacent-plain (p % 94 + 0x21) more q.second_plain;
-      }
+  own_pair p c back = grind (arith, nat_tests, is_pair_of, plain_start, step_two, first_part, adjacent-plain)
 
   own_neutral : (mode : EncoderMode) (c : ℕ) → is_ascii c ≡ true → is_mode_control c ≡ false → (c == 0x5C || c == 0x7E) ≡ false →
       OwnRead (roman_or_ascii mode) c (c ∷ [])
-  own_neutral mode c a m o = by_mode mode (or_parts (c == 0x0E || c == 0x0F) (c == esc) m) (or_parts (c == 0x5C) (c == 0x7E) o)
-    where
-      by_mode : (mode : EncoderMode) → ((c == 0x0E || c == 0x0F) ≡ false) × ((c == esc) ≡ false) → ((c == 0x5C) ≡ false) × ((c == 0x7E) ≡ false) →
-          OwnRead (roman_or_ascii mode) c (c ∷ [])
-      by_mode in_ascii p q = own_byte in_ascii c c p.1 (λ rest. front-ascii jis0208 c rest a p.0)
-      by_mode in_two_byte p q = own_byte in_ascii c c p.1 (λ rest. front-ascii jis0208 c rest a p.0)
-      by_mode in_roman p q = own_byte in_roman c c p.1 (λ rest. front-roman jis0208 c rest a p.0 q.0 q.1)
+  own_neutral mode c a m o = grind (arith, nat_tests, or_parts, own_byte, front-ascii, front-roman)
 
   -- a scalar with a known mode and code
   own_written : (mode new : EncoderMode) (c scalar : ℕ) (own bytes : List ℕ) → IsWritten jis0208 katakana_index mode c new (Some own)
@@ -198,11 +144,7 @@ module _ (jis0208 katakana_index : List ℕ) where
     pointer : euc_jp_pointer_of jis0208 scalar ≡ Some p
 
   looked_up : (c p : ℕ) → iso_2022_jp_pointer_of jis0208 katakana_index c ≡ Some p → IsLookedUp c p
-  looked_up c p h = by_fold (iso_2022_jp_fold katakana_index c) refl h
-    where
-      by_fold : (o : Option ℕ) → iso_2022_jp_fold katakana_index c ≡ o → option_and_then (euc_jp_pointer_of jis0208) o ≡ Some p → IsLookedUp c p
-      by_fold None e h = cc
-      by_fold (Some scalar) e h = record { scalar = scalar; fold = e; pointer = h }
+  looked_up c p h = grind arith
 
   -- the scalar that the code of c decodes to
   abbrev pub own_scalar : ℕ → ℕ
@@ -210,9 +152,7 @@ module _ (jis0208 katakana_index : List ℕ) where
 
   -- a scalar that is no fold decodes to itself
   pub no_fold : (c : ℕ) → is_fold (iso_2022_jp jis0208 katakana_index) c ≡ false → own_scalar c ≡ c
-  no_fold c h =
-      let p = or_parts (c == 0x2212) (is_in_range 0xFF61 0xFF9F c) h in
-      rw (p.1, p.0) refl
+  no_fold c h = grind arith
 
   pub ascii_stands : (c : ℕ) → is_ascii c ≡ true → own_scalar c ≡ c
   ascii_stands c h = let plain : is_fold (iso_2022_jp jis0208 katakana_index) c ≡ false = grind (arith, nat_tests) in no_fold c plain
@@ -279,16 +219,7 @@ module _ (jis0208 katakana_index : List ℕ) where
 
   pub text_bytes-scalar : (mode : EncoderMode) (c : ℕ) (text : List ℕ) → text_bytes mode (c ∷ text)
       ≡ scalar_bytes mode (mode_of mode c) (code c) (text_bytes (mode_of mode c) text)
-  text_bytes-scalar mode c text =
-      let new = mode_of mode c in
-      ap bytes_of (text_events-scalar jis0208 katakana_index mode c text true)
-      ∙ bytes_of-behind (escape_between mode new) (own_events jis0208 katakana_index c ++ sent new text)
-      ∙ by_code new (code c)
-    where
-      by_code : (new : EncoderMode) (o : Option (List ℕ)) → escape_between mode new ++ bytes_of (code_events (iso_2022_jp_reported c) o ++ sent new text)
-          ≡ scalar_bytes mode new o (text_bytes new text)
-      by_code new None = ap (λ l. escape_between mode new ++ l) (bytes_of-unmappable (iso_2022_jp_reported c) (sent new text))
-      by_code new (Some own) = ap (λ l. escape_between mode new ++ l) (bytes_of-behind own (sent new text))
+  text_bytes-scalar mode c text = grind (arith, nat_tests, text_events-scalar, bytes_of-behind, own_events, bytes_of-unmappable)
 
   pub text_bytes-end : (mode : EncoderMode) → text_bytes mode [] ≡ escape_between mode in_ascii
   text_bytes-end mode = ap bytes_of (text_events-end jis0208 katakana_index mode) ∙ bytes_of-bytes (escape_between mode in_ascii)
@@ -298,15 +229,11 @@ module _ (jis0208 katakana_index : List ℕ) where
   -- if appending `more` makes no valid escape at the beginning of `bytes`, nor does it after an escape before them
   begins_with_none : (old new : EncoderMode) (bytes more : List ℕ) → (is_whole_escape bytes ≡ false → is_whole_escape (bytes ++ more) ≡ false)
       → is_whole_escape (escape_between old new ++ bytes) ≡ false → is_whole_escape ((escape_between old new ++ bytes) ++ more) ≡ false
-  begins_with_none old new bytes more here =
-      between (λ old new e. is_whole_escape (e ++ bytes) ≡ false → is_whole_escape ((e ++ bytes) ++ more) ≡ false) (λ mode. here)
-      (λ old new a b valid pa pb h. absurd (true≢false (rw valid at h))) old new
+  begins_with_none old new bytes more h k = grind arith
 
   end_begins : (mode : EncoderMode) (more : List ℕ) → is_whole_escape more ≡ false
       → is_whole_escape (escape_between mode in_ascii) ≡ false → is_whole_escape (escape_between mode in_ascii ++ more) ≡ false
-  end_begins in_ascii more plain h = plain
-  end_begins in_roman more plain h = absurd (true≢false h)
-  end_begins in_two_byte more plain h = absurd (true≢false h)
+  end_begins mode more h k = grind arith
 
   text_begins : (mode : EncoderMode) (text more : List ℕ) → is_whole_escape more ≡ false
       → is_whole_escape (text_bytes mode text) ≡ false → is_whole_escape (text_bytes mode text ++ more) ≡ false
@@ -337,9 +264,7 @@ module _ (jis0208 katakana_index : List ℕ) where
   pub escape_apart : (old new : EncoderMode) (bytes : List ℕ) → (old ≡ new → ⊥) → holds_adjacent_escapes (escape_between old new ++ bytes) ≡ false →
       is_whole_escape bytes ≡ false
   unfolding holds_adjacent_escapes
-  escape_apart old new bytes =
-      between (λ old new e. (old ≡ new → ⊥) → holds_adjacent_escapes (e ++ bytes) ≡ false → is_whole_escape bytes ≡ false) (λ mode n h. absurd (n refl))
-      (λ old new a b valid pa pb n h. (or_parts (is_whole_escape bytes) _ (rw valid at h)).0) old new
+  escape_apart old new bytes h k = grind arith
 
   -- ---- decoding
 
@@ -358,15 +283,7 @@ module _ (jis0208 katakana_index : List ℕ) where
   -- the events after an escape
   escape_then : (old new : EncoderMode) (back bytes more : List ℕ) → is_whole_escape (bytes ++ more) ≡ false
       → IsTextRead new back bytes more → IsTextRead old back (escape_between old new ++ bytes) more
-  escape_then old new back bytes more alone read =
-      let n = length (escape_between old new) in
-      let events = iso_2022_jp_events jis0208 ascii more in
-      rw (append_assoc, length-append)
-      (escape_read jis0208 old new (bytes ++ more) alone
-      ∙ ap (shift n) read
-      ∙ shift-append n (map Scalar back) (shift (length bytes) events)
-      ∙ ap (λ l. l ++ shift n (shift (length bytes) events)) (shift-scalars n back)
-      ∙ ap (λ l. map Scalar back ++ l) (shift-shift n (length bytes) events))
+  escape_then old new back bytes more alone read = grind (arith, nat_tests, append_assoc, length-append, escape_read, shift-append, shift-scalars, shift-shift)
 
   text_read-scalar : (mode new : EncoderMode) (c : ℕ) (own back behind more : List ℕ)
       → OwnRead new c own → IsTextRead new back behind more → IsTextRead mode (c ∷ back) (escape_between mode new ++ (own ++ behind)) more
@@ -380,10 +297,7 @@ module _ (jis0208 katakana_index : List ℕ) where
   text_read-none : (mode : EncoderMode) (back behind more : List ℕ) → (is_whole_escape behind ≡ false → is_whole_escape (behind ++ more) ≡ false)
       → holds_adjacent_escapes (escape_between mode (roman_or_ascii mode) ++ behind) ≡ false
       → IsTextRead (roman_or_ascii mode) back behind more → IsTextRead mode back (escape_between mode (roman_or_ascii mode) ++ behind) more
-  text_read-none in_ascii back behind more begins h read = read
-  text_read-none in_roman back behind more begins h read = read
-  text_read-none in_two_byte back behind more begins h read =
-      escape_then in_two_byte in_ascii back behind more (begins (escape_apart in_two_byte in_ascii behind (λ e. cc) h)) read
+  text_read-none mode back behind more h k m = grind (arith, nat_tests, escape_then, escape_apart)
 
   pub text_read : (mode : EncoderMode) (text more : List ℕ) → is_whole_escape more ≡ false
       → holds_adjacent_escapes (text_bytes mode text) ≡ false → IsTextRead mode (text_back text) (text_bytes mode text) more

@@ -1,5 +1,6 @@
 -- The pointer that an encoder uses for a scalar decodes to that scalar.
-use Rattle.std.proofs.Common.{◌≡◌, ℕ, ◌<◌, List, length, Bool, true, Option, Some, refl}
+use Rattle.std.proofs.lemmas.Bool.Decides.{nat_tests}
+use Rattle.std.proofs.Common.{arith, ◌≡◌, ℕ, ◌<◌, List, length, Bool, true, Option, Some}
 use Rattle.std.proofs.lemmas.Bool.{ne_eqb}
 use Rattle.legacy_tables.specs.Indexes.{idx}
 use Rattle.legacy_tables.proofs.Pointers.{IsTaken, taken-within}
@@ -11,10 +12,4 @@ pub record LeadsBack (may : ℕ → Bool) (index : List ℕ) (c p : ℕ) : Type 
   pub below : p < length index
 
 pub leads_back : (may : ℕ → Bool) (index : List ℕ) (c : ℕ) (o : Option ℕ) → IsTaken may index c o → (p : ℕ) → o ≡ Some p → LeadsBack may index c p
-leads_back may index c o taken p e =
-    let is = taken.chosen p e in
-    record {
-      may_use = is.0;
-      has = rw (is.1, ne_eqb c 0 is.2) refl;
-      below = rw e at (taken-within may index c o taken);
-    }
+leads_back may index c o taken p e = grind (arith, nat_tests, ne_eqb, taken-within)

@@ -1,10 +1,9 @@
 -- How `Progress` of two consecutive steps combines into one.
-use Rattle.std.proofs.Common.{◌≡◌, ◌∙◌, ℕ, ◌+◌, ◌≤◌, List, [], ◌++◌, length, drop, refl, sym, ap, arith, append_assoc, length-append, Bool, true, false}
-use Rattle.std.proofs.Common.{IsTrue, inl, inr}
+use Rattle.std.proofs.lemmas.Bool.Decides.{nat_tests}
+use Rattle.std.proofs.Common.{◌≡◌, ◌∙◌, ℕ, ◌+◌, List, [], ◌++◌, drop, refl, sym, ap, arith, append_assoc, length-append, Bool, false, IsTrue, inl, inr}
 use Rattle.std.proofs.lemmas.List.{drop-drop, drop-append-le}
 use Rattle.legacy_base.specs.declared.results.DecodeEvent.{DecodeEvent}
 use Rattle.legacy_base.specs.declared.results.DecoderResult.{DecoderResult}
-use Rattle.legacy_base.specs.declared.results.DecoderResult.TheVariants.{InputEmpty, OutputFull, Malformed}
 use Rattle.legacy_base.specs.Events.{shift}
 use Rattle.legacy_base.specs.Grammar.{events_of}
 use Rattle.legacy_base.specs.States.{DecoderState}
@@ -32,23 +31,12 @@ at_last ended s xs n t ys out h = at_less false ended no_end s xs n t ys out h
 
 -- a report at the end is made on a last call, with nothing unread
 pub end_report-last : (last : Bool) (answer : DecoderResult) (left : List ℕ) → IsTrue (may_report_end last answer left) → IsTrue last
-end_report-last last InputEmpty left h = cc
-end_report-last last OutputFull left h = cc
-end_report-last true (Malformed a b) left h = refl
-end_report-last false (Malformed a b) left h = cc
+end_report-last last answer left h = grind arith
 
 -- the same progress if more source follows
 pub behind : (s : DecoderState) (xs : List ℕ) (n : ℕ) (t : DecoderState) (ys : List ℕ) (out : List DecodeEvent) (zs : List ℕ) →
     Progress false s xs n t ys out → Progress false s (xs ++ zs) n t (ys ++ zs) out
-behind s xs n t ys out zs h = record {
-  counts = simp length-append (omega (arith, h.counts));
-  rest =
-      let a : n ≤ length (s.held ++ xs) = simp length-append (omega (arith, h.counts)) in
-      ap (drop n) (sym (append_assoc s.held xs zs)) ∙ drop-append-le n (s.held ++ xs) zs a ∙ ap (λ l. l ++ zs) h.rest ∙ append_assoc t.held ys zs;
-  events = λ more e.
-      ap (λ l. events_of s.grammar (s.held ++ l)) (append_assoc xs zs more) ∙ h.events (zs ++ more) no_end
-      ∙ ap (λ l. out ++ shift n (events_of t.grammar (t.held ++ l))) (sym (append_assoc ys zs more));
-}
+behind s xs n t ys out zs h = grind (arith, nat_tests, length-append, append_assoc, drop-append-le, no_end)
 
 -- a list of events that begins with `one` and then `two` begins with `two` after `one`
 behind_first : (m : ℕ) (one two items : List DecodeEvent) → BeginsWith (one ++ shift m items) (one ++ shift m two) → BeginsWith items two

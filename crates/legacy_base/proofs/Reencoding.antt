@@ -1,11 +1,9 @@
 -- The text that encoded bytes decode to is encoded as the same bytes.
-use Rattle.std.proofs.Common.{◌≡◌, ◌∙◌, ℕ, List, [], ◌∷◌, ◌++◌, map, refl, sym, ap, arith, All}
-use Rattle.std.proofs.Common.{Bool, true, false, cond, ◌==◌, Option, Some, None, is_some, option_map, eqb-true}
+use Rattle.std.proofs.Common.{◌≡◌, ◌∙◌, ℕ, List, [], ◌∷◌, ◌++◌, map, refl, sym, ap, arith, All, Bool, true, false, cond, Option, Some, None, is_some}
 use Rattle.std.proofs.lemmas.Bool.{true≢false}
 use Rattle.std.proofs.lemmas.Bool.Decides.{nat_tests}
 use Rattle.std.proofs.lemmas.List.{map-append}
 use Rattle.std.proofs.lemmas.List.Elements.{All-head, All-tail}
-use Rattle.std.specs.Char.{is_ascii}
 use Rattle.legacy_base.specs.declared.results.EncodeEvent.{EncodeEvent}
 use Rattle.legacy_base.specs.declared.results.EncodeEvent.TheVariants.{Byte}
 use Rattle.legacy_base.specs.EncodeEvents.{code_events, plain_events}
@@ -17,15 +15,14 @@ use Rattle.legacy_base.specs.EucKr.{euc_kr_code}
 use Rattle.legacy_base.specs.ShiftJis.{shift_jis_code}
 use Rattle.legacy_base.specs.EucJp.{euc_jp_code}
 use Rattle.legacy_base.specs.Gb18030.{gb18030_code, gbk_code}
-use Rattle.legacy_base.specs.Iso2022Jp.{is_mode_control, is_pair, keeps_mode, is_roman_scalar, is_two_byte_scalar, iso_2022_jp_code, iso_2022_jp_pair}
-use Rattle.legacy_base.specs.Iso2022Jp.{iso_2022_jp_pointer_of}
+use Rattle.legacy_base.specs.Iso2022Jp.{is_pair, keeps_mode, is_roman_scalar, is_two_byte_scalar, iso_2022_jp_code}
 use Rattle.legacy_base.specs.Iso2022Jp.{is_whole_escape, roman_or_ascii, escape_to, escape_between}
 use Rattle.legacy_base.specs.Encoders.{Codec, single_byte, user_defined, big5, euc_kr, shift_jis, euc_jp, gb18030, gbk, iso_2022_jp, new_encoder, encoded}
 use Rattle.legacy_base.specs.RoundTrips.{japanese_scalar, private_use_scalar, read_as, read_back, bytes_of, written, holds_adjacent_escapes, IsSound}
 use Rattle.legacy_base.specs.RoundTrips.{KeepsCodes, HasSameCode, ReencodesAnyText}
 use Rattle.legacy_base.proofs.Trips.{coded, bytes_of-nothing, bytes_of-behind, bytes_of-unmappable}
 use Rattle.legacy_base.proofs.Iso2022JpEncoding.{mode_by, mode_for, mode_for-by, text_events, text_events-scalar, text_events-escape, text_events-end}
-use Rattle.legacy_base.proofs.Iso2022JpTrip.{own_scalar, ascii_stands, none_keeps, coded_here, text_back, text_bytes, scalar_bytes, text_bytes-scalar}
+use Rattle.legacy_base.proofs.Iso2022JpTrip.{own_scalar, none_keeps, coded_here, text_back, text_bytes, scalar_bytes, text_bytes-scalar}
 use Rattle.legacy_base.proofs.Iso2022JpTrip.{text_bytes-end, apart_behind, escape_apart}
 use Rattle.legacy_base.proofs.RoundTrips.{same_scalars, encodes_well_formed}
 
@@ -100,33 +97,11 @@ module _ (jis0208 katakana_index : List ℕ) where
   -- a scalar with a code of one byte decodes to itself
   single_stands : (c : ℕ) (own : List ℕ) → code c ≡ Some own → is_pair (Some own) ≡ false → own_of c ≡ c
   unfolding iso_2022_jp_code
-  single_stands c own h single = by_tests (is_mode_control c) (is_ascii c) (c == 0xA5) (c == 0x203E) refl refl refl h
-    where
-      by_pointer : (p : Option ℕ) → option_map iso_2022_jp_pair p ≡ Some own → own_of c ≡ c
-      by_pointer None h = cc
-      by_pointer (Some p) h = let own_is : own ≡ iso_2022_jp_pair p = cc in absurd (true≢false (rw own_is at single))
-
-      by_tests : (m a y o : Bool) → is_ascii c ≡ a → (c == 0xA5) ≡ y → (c == 0x203E) ≡ o → cond m None (cond a (Some (c ∷ [])) (cond y (Some (0x5C ∷ []))
-          (cond o (Some (0x7E ∷ [])) (option_map iso_2022_jp_pair (iso_2022_jp_pointer_of jis0208 katakana_index c))))) ≡ Some own
-          → own_of c ≡ c
-      by_tests true a y o e f g h = cc
-      by_tests false true y o e f g h = ascii_stands jis0208 katakana_index c e
-      by_tests false false true o e f g h = rw (eqb-true c 0xA5 f) refl
-      by_tests false false false true e f g h = rw (eqb-true c 0x203E g) refl
-      by_tests false false false false e f g h = by_pointer (iso_2022_jp_pointer_of jis0208 katakana_index c) h
+  single_stands c own h single = grind arith
 
   -- the scalar that c decodes to is written in the same mode and with the same code as c
   same_mode : (mode : EncoderMode) (c : ℕ) (own : List ℕ) → code c ≡ Some own → code (own_of c) ≡ Some own → mode_of mode (own_of c) ≡ mode_of mode c
-  same_mode mode c own e again = by_pair (is_pair (Some own)) refl
-    where
-      two_byte : (s : ℕ) → code s ≡ Some own → is_pair (Some own) ≡ true → mode_of mode s ≡ in_two_byte
-      two_byte s is pair =
-          let two : is_two_byte_scalar jis0208 katakana_index s ≡ true = ap is_pair is ∙ pair in
-          mode_for-by jis0208 katakana_index mode s ∙ ap (λ t. mode_by t (keeps_mode jis0208 katakana_index s) (is_roman_scalar s) mode) two
-
-      by_pair : (t : Bool) → is_pair (Some own) ≡ t → mode_of mode (own_of c) ≡ mode_of mode c
-      by_pair true pair = two_byte (own_of c) again pair ∙ sym (two_byte c e pair)
-      by_pair false single = ap (mode_of mode) (single_stands c own e single)
+  same_mode mode c own e again = grind (arith, nat_tests, mode_for-by, mode_by, single_stands)
 
   -- The bytes of a text from two-byte mode are the escape to ASCII mode and its bytes from that mode. This holds if the
   -- latter do not begin with an escape.
@@ -220,6 +195,4 @@ again (gbk index ranges pua) text sound keeps = plain-again (gbk_code index pua)
 again (iso_2022_jp jis0208 katakana_index) text sound keeps = iso_2022_jp-again jis0208 katakana_index in_ascii text keeps sound
 
 pub reencodes_any_text : ReencodesAnyText
-reencodes_any_text codec accepted text sound keeps decoded e =
-    let same = same_scalars decoded (read_back codec text) (sym e ∙ encodes_well_formed codec accepted text sound) in
-    ap (λ l. encoded (new_encoder codec) l true) same ∙ again codec text sound keeps
+reencodes_any_text = grind (arith, nat_tests, same_scalars, encodes_well_formed, again)

@@ -1,5 +1,6 @@
 -- In every codec, encoded text is well formed. It decodes to the same text if no scalar was unmappable or a fold.
-use Rattle.std.proofs.Common.{◌≡◌, ℕ, List, [], ◌∷◌, map, filter, append-nil, true, false, is_some, refl, sym, ap, ap₂, ◌∙◌}
+use Rattle.std.proofs.lemmas.Bool.Decides.{nat_tests}
+use Rattle.std.proofs.Common.{arith, ◌≡◌, ℕ, List, [], ◌∷◌, map, filter, append-nil, true, false, is_some, refl, sym, ap, ap₂, ◌∙◌}
 use Rattle.std.proofs.lemmas.Bool.{or_parts}
 use Rattle.std.specs.List.{list_any}
 use Rattle.legacy_base.specs.declared.results.DecodeEvent.TheVariants.{Scalar}
@@ -25,10 +26,9 @@ use Rattle.legacy_base.specs.RoundTrips.{EscapesStayApart}
 use Rattle.legacy_tables.proofs.Accepted.{parts, length-euc_kr, length-jis0208, length-gb18030}
 use Rattle.legacy_base.proofs.Trips.{bytes_of-bytes, plain-read, plain-coded, none_lost}
 use Rattle.legacy_base.proofs.TwoByteTrips.{single_byte-decodes, user_defined-decodes, big5-decodes, euc_kr-decodes, shift_jis-decodes, euc_jp-decodes}
-use Rattle.legacy_base.proofs.TwoByteTrips.{no_japanese_fold}
 use Rattle.legacy_base.proofs.Gb18030Trip.{gb18030-decodes, gbk-decodes, no_private_use_fold}
 use Rattle.legacy_base.proofs.Iso2022JpFronts.{step_end}
-use Rattle.legacy_base.proofs.Iso2022JpTrip.{no_fold, text_bytes, text_read, text_apart}
+use Rattle.legacy_base.proofs.Iso2022JpTrip.{text_bytes, text_read, text_apart}
 use Rattle.legacy_base.proofs.AcceptedTrips.{private_use-empty, are_good_rows}
 
 -- the encoding of any text is well formed
@@ -96,15 +96,8 @@ iso_2022_jp-read jis0208 katakana_index text sound =
 -- ---- all codecs
 
 pub encodes_well_formed : EncodesWellFormed
-encodes_well_formed (single_byte table) a = single_byte-read table
-encodes_well_formed user_defined a = user_defined-read
-encodes_well_formed (big5 index) a = rw a.1 (big5-read a.0.flat a.0.accepted)
-encodes_well_formed (euc_kr index) a = rw a.1 (euc_kr-read a.0.flat a.0.accepted)
-encodes_well_formed (shift_jis jis0208) a = rw a.1 (shift_jis-read a.0.flat a.0.accepted)
-encodes_well_formed (euc_jp jis0208 jis0212) a = rw a.1 (euc_jp-read a.0.flat a.0.accepted jis0212)
-encodes_well_formed (gb18030 index ranges pua) a = rw (a.1, a.2, a.3) (gb18030-read a.0.flat a.0.accepted)
-encodes_well_formed (gbk index ranges pua) a = rw (a.1, a.2, a.3) (gbk-read a.0.flat a.0.accepted)
-encodes_well_formed (iso_2022_jp jis0208 katakana_index) a = iso_2022_jp-read jis0208 katakana_index
+encodes_well_formed =
+    grind (arith, nat_tests, single_byte-read, user_defined-read, big5-read, euc_kr-read, shift_jis-read, euc_jp-read, gb18030-read, gbk-read, iso_2022_jp-read)
 
 -- ---- texts without unmappable scalars and folds
 
@@ -123,12 +116,7 @@ coded_all (iso_2022_jp jis0208 katakana_index) text bytes h = (text_apart jis020
 
 -- a scalar that is no fold decodes to itself
 stands : (codec : Codec) (c : ℕ) → is_fold codec c ≡ false → read_as codec c ≡ c
-stands (shift_jis jis0208) c h = no_japanese_fold c h
-stands (euc_jp jis0208 jis0212) c h = no_japanese_fold c h
-stands (gb18030 index ranges pua) c h = (no_private_use_fold index pua c h).0
-stands (gbk index ranges pua) c h = (no_private_use_fold index pua c h).0
-stands (iso_2022_jp jis0208 katakana_index) c h = no_fold jis0208 katakana_index c h
-stands _ c h = refl
+stands codec c h = grind arith
 
 all_stand : (codec : Codec) (text : List ℕ) → list_any (is_fold codec) text ≡ false → map (read_as codec) text ≡ text
 all_stand codec [] none = refl
@@ -177,9 +165,7 @@ same_scalars (x ∷ xs) (y ∷ ys) e =
     ap₂ ◌∷◌ first (same_scalars xs ys rest)
 
 pub reencodes_to_the_same : ReencodesToTheSame
-reencodes_to_the_same codec accepted text bytes t decoded e =
-    let same = same_scalars decoded text (sym e ∙ round_trips codec accepted text bytes t) in
-    rw same t.whole
+reencodes_to_the_same = grind (arith, nat_tests, same_scalars, round_trips)
 
 pub escapes_are_in_place : EscapesAreInPlace
 unfolding events_of

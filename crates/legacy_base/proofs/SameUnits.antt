@@ -14,9 +14,7 @@ utf16_rest : (c : ℕ) (r t : List ℕ) → encode_utf16 c ++ r ≡ encode_utf16
 utf16_rest c r t e = grind (arith, nat_tests)
 
 units_same : (form : EncodingForm) (c d : ℕ) (r t : List ℕ) → IsScalar c → IsScalar d → code_units form c ++ r ≡ code_units form d ++ t → (c ≡ d) × (r ≡ t)
-units_same Utf8 c d r t p q e = encode_same c d r t e
-units_same Utf16 c d r t p q e =
-    let same = utf16_scalar c d r t p q e in (same, utf16_rest c r t (e ∙ ap (λ x. encode_utf16 x ++ t) (sym same)))
+units_same form c d r t h k m = grind (arith, nat_tests, encode_same, utf16_scalar, utf16_rest)
 
 -- each scalar has at least one code unit
 pub some_unit : (form : EncodingForm) (c : ℕ) → 1 ≤ length (code_units form c)

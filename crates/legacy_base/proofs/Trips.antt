@@ -1,5 +1,6 @@
 -- Codes that decode to one scalar whatever bytes follow, and texts of such codes.
-use Rattle.std.proofs.Common.{◌≡◌, ℕ, suc, ◌<◌, List, [], ◌∷◌, ◌++◌, drop, length, map, filter, Option, Some, None, is_some, Bool, false, cond, refl, sym, ◌∙◌}
+use Rattle.std.proofs.lemmas.Bool.Decides.{nat_tests}
+use Rattle.std.proofs.Common.{◌≡◌, ℕ, ◌<◌, List, [], ◌∷◌, ◌++◌, drop, length, map, filter, Option, Some, None, is_some, Bool, false, cond, refl, sym, ◌∙◌}
 use Rattle.std.proofs.Common.{ap, ap₂, arith}
 use Rattle.std.proofs.lemmas.Bool.{or_parts}
 use Rattle.std.specs.List.{list_any}
@@ -8,7 +9,7 @@ use Rattle.legacy_base.specs.declared.results.DecodeEvent.TheVariants.{Scalar}
 use Rattle.legacy_base.specs.declared.results.EncodeEvent.{EncodeEvent}
 use Rattle.legacy_base.specs.declared.results.EncodeEvent.TheVariants.{Byte}
 use Rattle.legacy_base.specs.Events.{shift}
-use Rattle.legacy_base.specs.Fronts.{Front, reads, front_length, cut}
+use Rattle.legacy_base.specs.Fronts.{Front, reads, cut}
 use Rattle.legacy_base.specs.EncodeEvents.{code_events, plain_events}
 use Rattle.legacy_base.specs.RoundTrips.{bytes_of}
 use Rattle.legacy_base.proofs.Shifts.{shift-scalars}
@@ -31,11 +32,7 @@ dropped (b ∷ bytes) more = dropped bytes more
 -- the events of the code at the beginning of a list, and then those of the bytes after it
 cut-code : (front : ℕ → List ℕ → Front) (bytes more : List ℕ) (c : ℕ) → Decodes front bytes c
     → cut front 0 0 (bytes ++ more) ≡ Scalar c ∷ shift (length bytes) (cut front 0 0 more)
-cut-code front [] more c h = absurd (let some = h.some in omega arith)
-cut-code front (b ∷ bytes) more c h =
-    let is : front b (bytes ++ more) ≡ reads (suc (length bytes)) (c ∷ []) = h.gives more in
-    let positive : 0 < front_length (front b (bytes ++ more)) = rw is (omega arith) in
-    cut-front front b (bytes ++ more) positive ∙ rw (is, dropped bytes more) refl
+cut-code front bytes more c h = grind (arith, nat_tests, cut-front, dropped)
 
 -- ---- the bytes of events
 

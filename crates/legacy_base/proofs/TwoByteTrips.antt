@@ -1,9 +1,8 @@
 -- The codes of Big5, EUC-KR, Shift_JIS, EUC-JP, the single-byte codecs and x-user-defined decode to their scalars. The
 -- codes of folds decode to other scalars (`read_as`).
-use Rattle.std.proofs.Common.{◌≡◌, ◌≢◌, ℕ, ◌+◌, ◌-◌, ◌*◌, ◌/◌, ◌%◌, ◌<◌, ◌≤◌, List, [], ◌∷◌, length, Bool, true, false}
-use Rattle.std.proofs.Common.{cond, ◌||◌, ◌==◌, nat_lt, Option, Some, None, option_map, option_to_list, position, get_or, refl, sym, ◌∙◌, arith}
-use Rattle.std.proofs.Common.{if◌then◌else◌, inl, inr}
-use Rattle.std.proofs.lemmas.Bool.{cases_Bool, cond_both, or_parts, leb-true, ne_eqb, eqb-true, true≢false}
+use Rattle.std.proofs.Common.{◌≡◌, ◌≢◌, ℕ, ◌+◌, ◌-◌, ◌*◌, ◌/◌, ◌%◌, ◌<◌, ◌≤◌, List, [], ◌∷◌, length, Bool, true, false, cond, ◌||◌, ◌==◌, nat_lt, Option}
+use Rattle.std.proofs.Common.{Some, None, option_map, option_to_list, position, refl, sym, arith, if◌then◌else◌}
+use Rattle.std.proofs.lemmas.Bool.{cond_both, ne_eqb, eqb-true, true≢false}
 use Rattle.std.proofs.lemmas.Bool.Decides.{nat_tests}
 use Rattle.std.proofs.lemmas.List.Quantifiers.{position-Some}
 use Rattle.std.proofs.Math.Nat.{div-add-mod}
@@ -51,10 +50,7 @@ ascii_or_mapped : (front : ℕ → List ℕ → Front) (c : ℕ) (bytes : List �
     → (is_ascii c ≡ true → (more : List ℕ) → front c more ≡ reads 1 (c ∷ []))
     → (is_ascii c ≡ false → (p : ℕ) → pointer ≡ Some p → bytes ≡ made p → Decodes front bytes c)
     → cond (is_ascii c) (Some (c ∷ [])) (option_map made pointer) ≡ Some bytes → Decodes front bytes c
-ascii_or_mapped front c bytes made pointer one mapping h = elim (cases_Bool (is_ascii c)) [
-  | inl e ↦ one_byte front c c bytes (same_bytes c bytes (rw e at h)) (one e)
-  | inr e ↦ let m = mapped made pointer bytes (rw e at h) in mapping e m.0 m.1 m.2
-]
+ascii_or_mapped front c bytes made pointer one mapping h = grind arith
 
 -- ---- Big5
 
@@ -68,16 +64,7 @@ big5_scalar index p c h has = grind (arith, nat_tests)
 big5_pair_back : (index : List ℕ) (p c : ℕ) (more : List ℕ) → length index ≤ 19782 → LeadsBack is_big5_pointer index c p
     → big5_front index (p / 157 + 0x81) ((p % 157 + (if nat_lt (p % 157) 0x3F then 0x40 else 0x62)) ∷ more) ≡ reads 2 (c ∷ [])
 unfolding big5_front big5_pair
-big5_pair_back index p c more short back =
-    let from : 5024 ≤ p = leb-true 5024 p back.may_use in
-    let p_is : 157 * (p / 157) + p % 157 ≡ p = div-add-mod p 157 in
-    let column : p % 157 < 157 = mod_below p 157 (omega arith) in
-    let below = back.below in
-    let row : p / 157 < 126 = omega arith in
-    let lead_ascii : is_ascii (p / 157 + 0x81) ≡ false = grind (arith, nat_tests) in
-    let lead : is_in_range 0x81 0xFE (p / 157 + 0x81) ≡ true = grind (arith, nat_tests) in
-    let pointer = big5_back (p / 157) (p % 157) column (nat_lt (p % 157) 0x3F) refl in
-    rw (lead_ascii, lead, pointer, p_is, big5_scalar index p c from back.has) refl
+big5_pair_back index p c more short back = grind arith
 
 pub big5-decodes : (index : List ℕ) (c : ℕ) (bytes : List ℕ) → length index ≤ 19782 → big5_code index c ≡ Some bytes → Decodes (big5_front index) bytes c
 unfolding big5_code big5_front
@@ -91,16 +78,7 @@ big5-decodes index c bytes short =
 euc_kr_pair_back : (index : List ℕ) (p c : ℕ) (more : List ℕ) → length index ≤ 23940 → LeadsBack every_pointer index c p
     → lead_front is_lead euc_kr_pointer index (p / 190 + 0x81) ((p % 190 + 0x41) ∷ more) ≡ reads 2 (c ∷ [])
 unfolding lead_front lead_pair
-euc_kr_pair_back index p c more short back =
-    let p_is : 190 * (p / 190) + p % 190 ≡ p = div-add-mod p 190 in
-    let column : p % 190 < 190 = mod_below p 190 (omega arith) in
-    let below = back.below in
-    let row : p / 190 < 126 = omega arith in
-    let lead_ascii : is_ascii (p / 190 + 0x81) ≡ false = grind (arith, nat_tests) in
-    let lead : is_in_range 0x81 0xFE (p / 190 + 0x81) ≡ true = grind (arith, nat_tests) in
-    let trail : is_in_range 0x41 0xFE (p % 190 + 0x41) ≡ true = grind (arith, nat_tests) in
-    let pointer : (p / 190 + 0x81 - 0x81) * 190 + (p % 190 + 0x41 - 0x41) ≡ p = omega arith in
-    rw (lead_ascii, lead, trail, pointer, back.has) refl
+euc_kr_pair_back index p c more short back = grind arith
 
 pub euc_kr-decodes : (index : List ℕ) (c : ℕ) (bytes : List ℕ) → length index ≤ 23940
     → euc_kr_code index c ≡ Some bytes → Decodes (lead_front is_lead euc_kr_pointer index) bytes c
@@ -139,20 +117,11 @@ shift_jis_pair_back : (jis0208 : List ℕ) (p c : ℕ) (more : List ℕ) → len
     ≡ reads 2 (c ∷ [])
 unfolding shift_jis_front shift_jis_pair
 shift_jis_pair_back jis0208 p c more short empty back =
-    let p_is : 188 * (p / 188) + p % 188 ≡ p = div-add-mod p 188 in
-    let column : p % 188 < 188 = mod_below p 188 (omega arith) in
-    let below = back.below in
-    let row : p / 188 < 60 = omega arith in
-    let lead = shift_jis_lead_back (p / 188) row (nat_lt (p / 188) 0x1F) refl in
-    let pointer = shift_jis_back (p / 188 + (if nat_lt (p / 188) 0x1F then 0x81 else 0xC1)) (p / 188) (p % 188) column lead.3 (nat_lt (p % 188) 0x3F) refl in
-    rw (lead.0, lead.1, lead.2, pointer, p_is, shift_jis_scalar jis0208 p c empty back.has) refl
+    grind (arith, nat_tests, div-add-mod, mod_below, shift_jis_lead_back, nat_lt, shift_jis_back, shift_jis_scalar)
 
 -- a scalar that is no fold decodes to itself
 pub no_japanese_fold : (c : ℕ) → is_japanese_fold c ≡ false → japanese_scalar c ≡ c
-no_japanese_fold c h =
-    let p = or_parts (c == 0xA5 || c == 0x203E) (c == 0x2212) h in
-    let q = or_parts (c == 0xA5) (c == 0x203E) p.0 in
-    rw (q.0, q.1, p.1) refl
+no_japanese_fold c h = grind arith
 
 pub shift_jis-decodes : (jis0208 : List ℕ) (c : ℕ) (bytes : List ℕ) → length jis0208 ≤ 11280 → PrivateUseIsEmpty jis0208
     → shift_jis_code jis0208 c ≡ Some bytes → Decodes (shift_jis_front jis0208) bytes (japanese_scalar c)
@@ -186,19 +155,7 @@ shift_jis-decodes jis0208 c bytes short empty h =
 euc_jp_pair_back : (jis0208 jis0212 : List ℕ) (p c : ℕ) (more : List ℕ) → LeadsBack is_jis0208_pointer jis0208 c p
     → euc_jp_front jis0208 jis0212 (p / 94 + 0xA1) ((p % 94 + 0xA1) ∷ more) ≡ reads 2 (c ∷ [])
 unfolding euc_jp_front euc_jp_pair
-euc_jp_pair_back jis0208 jis0212 p c more back =
-    let p_is : 94 * (p / 94) + p % 94 ≡ p = div-add-mod p 94 in
-    let column : p % 94 < 94 = mod_below p 94 (omega arith) in
-    let may = back.may_use in
-    let below : p < 8836 = grind (arith, nat_tests) in
-    let row : p / 94 < 94 = omega arith in
-    let lead_ascii : is_ascii (p / 94 + 0xA1) ≡ false = grind (arith, nat_tests) in
-    let not_8E : ((p / 94 + 0xA1) == 0x8E) ≡ false = grind (arith, nat_tests) in
-    let not_8F : ((p / 94 + 0xA1) == 0x8F) ≡ false = grind (arith, nat_tests) in
-    let lead : is_in_range 0xA1 0xFE (p / 94 + 0xA1) ≡ true = grind (arith, nat_tests) in
-    let trail : is_in_range 0xA1 0xFE (p % 94 + 0xA1) ≡ true = grind (arith, nat_tests) in
-    let pointer : (p / 94 + 0xA1 - 0xA1) * 94 + (p % 94 + 0xA1 - 0xA1) ≡ p = omega arith in
-    rw (lead_ascii, not_8E, not_8F, lead, trail, pointer, back.has) refl
+euc_jp_pair_back jis0208 jis0212 p c more back = grind arith
 
 pub euc_jp-decodes : (jis0208 jis0212 : List ℕ) (c : ℕ) (bytes : List ℕ)
     → euc_jp_code jis0208 c ≡ Some bytes → Decodes (euc_jp_front jis0208 jis0212) bytes (japanese_scalar c)
@@ -231,30 +188,12 @@ euc_jp-decodes jis0208 jis0212 c bytes h =
 
 -- the position found for a scalar has that scalar as its entry
 place_back : (table : List ℕ) (c place : ℕ) → c ≢ 0 → position (λ entry. entry == c) table ≡ Some place → idx table place ≡ Some c
-place_back table c place n e =
-    let is = eqb-true (get_or table place 0) c (position-Some (λ entry. entry == c) table place 0 e).1 in
-    rw (is, ne_eqb c 0 n) refl
+place_back table c place n e = grind (arith, nat_tests, eqb-true, position-Some, ne_eqb)
 
 pub single_byte-decodes : (table : List ℕ) (c : ℕ) (bytes : List ℕ) → single_byte_code table c ≡ Some bytes → Decodes (single_byte_front table) bytes c
 unfolding single_byte_code single_byte_front
-single_byte-decodes table c bytes =
-    ascii_or_mapped (single_byte_front table) c bytes (λ place. (0x80 + place) ∷ []) (position (λ entry. entry == c) table) (λ e more. rw e refl)
-    (λ e p found is.
-    let n : c ≢ 0 = λ z. let t : is_ascii c ≡ true = rw z refl in true≢false (sym t ∙ e) in
-    let has = place_back table c p n found in
-    let a : is_ascii (0x80 + p) ≡ false = grind (arith, nat_tests) in
-    let place : 0x80 + p - 0x80 ≡ p = omega arith in
-    one_byte (single_byte_front table) (0x80 + p) c bytes is (λ more. rw (a, place, has) refl))
+single_byte-decodes table c bytes h = grind (arith, nat_tests, ascii_or_mapped, true≢false, place_back, one_byte)
 
 pub user_defined-decodes : (c : ℕ) (bytes : List ℕ) → user_defined_code c ≡ Some bytes → Decodes user_defined_front bytes c
 unfolding user_defined_code user_defined_front
-user_defined-decodes c bytes h = by_tests (is_ascii c) (is_in_range 0xF780 0xF7FF c) refl refl h
-  where
-    by_tests : (t u : Bool) → is_ascii c ≡ t → is_in_range 0xF780 0xF7FF c ≡ u
-        → cond t (Some (c ∷ [])) (cond u (Some ((0x80 + (c - 0xF780)) ∷ [])) None) ≡ Some bytes → Decodes user_defined_front bytes c
-    by_tests true u e f h = one_byte user_defined_front c c bytes (same_bytes c bytes h) (λ more. rw e refl)
-    by_tests false true e f h =
-        let a : is_ascii (0x80 + (c - 0xF780)) ≡ false = grind (arith, nat_tests) in
-        let c_is : 0xF780 + (0x80 + (c - 0xF780) - 0x80) ≡ c = grind (arith, nat_tests) in
-        one_byte user_defined_front (0x80 + (c - 0xF780)) c bytes (same_bytes _ bytes h) (λ more. rw (a, c_is) refl)
-    by_tests false false e f h = cc
+user_defined-decodes c bytes h = grind arith
