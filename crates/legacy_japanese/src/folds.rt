@@ -1,5 +1,5 @@
 //! Scalars that are replaced before the search in index jis0208.
-ghost use Rattle.std.specs.Prelude.{◌≡◌, ◌<◌, ◌≤◌, true};
+ghost use Rattle.std.specs.Prelude.{◌≡◌, ◌<◌, ◌≤◌, ◌⊎◌, false, true};
 ghost use Rattle.legacy_tables.specs.Pointers.{minus_as_hyphen};
 
 /// Returns U+FF0D for the minus sign U+2212, and any other scalar unchanged.
@@ -15,7 +15,8 @@ pub fn minus_as_hyphen(c: char) -> char
 /// Each encoding looks up these scalars unchanged in index jis0208.
 #[inline(always)]
 pub fn is_by_index(c: char) -> bool
-    ensures { result ≡ true → (0x2213 ≤ c) × (c < 0xFF61) }
+    ensures inside { result ≡ true → (0x2213 ≤ c) × (c < 0xFF61) }
+    ensures outside { result ≡ false → (c < 0x2213) ⊎ (0xFF61 ≤ c) }
 {
     matches!(c, '\u{2213}'..='\u{FF60}')
 }
