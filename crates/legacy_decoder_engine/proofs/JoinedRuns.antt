@@ -1,11 +1,11 @@
 -- Runs that are read one after another.
-use Rattle.std.proofs.Common.{◌≡◌, ◌∙◌, ℕ, ◌+◌, ◌-◌, ◌<◌, ◌≤◌, List, ◌++◌, length, take, drop, refl, sym, ap, subst, arith, inl, inr}
-use Rattle.std.proofs.{lemmas.Bool.cases_lt, lemmas.List.take-take, lemmas.List.length-take, lemmas.List.length-drop, Math.Seq.take-add}
+use Rattle.std.proofs.Common.{◌≡◌, ◌∙◌, ℕ, ◌+◌, ◌-◌, ◌<◌, ◌≤◌, List, ◌++◌, length, take, drop, refl, sym, ap, subst, arith, inl, inr, IsAscii}
+use Rattle.std.proofs.{lemmas.Bool.cases_lt, lemmas.List.take-take, lemmas.List.length-take, lemmas.List.length-take-le, lemmas.List.length-drop, Math.Seq.take-add}
 use Rattle.legacy_text.specs.{declared.destination.Destination.Ghosts, EncodingForm.total_unit_count}
 use Rattle.legacy_base.specs.{Grammar.Grammar, States.DecoderState, States.new_state}
-use Rattle.legacy_decoder_engine.specs.Ahead.{IsIdle, Writes, WritesTo, ReadsTo, ReadsAhead}
+use Rattle.legacy_decoder_engine.specs.Ahead.{HasAscii, IsIdle, Writes, WritesTo, ReadsTo, ReadsAhead}
 use Rattle.legacy_decoder_engine.proofs.{AheadRuns.reads_nothing, AheadRuns.with_empty, CallUnderWay.same_rooms, CallUnderWay.both_rooms}
-use Rattle.legacy_decoder_engine.proofs.WrittenRuns.{writes_then}
+use Rattle.legacy_decoder_engine.proofs.WrittenRuns.{writes_then, writes_ascii}
 
 module _ {D : Type 0} {T : Ghosts D} {source : List ℕ} {old mid new : D} {r s : ℕ} where
   -- a run, and then a run after it
@@ -78,3 +78,14 @@ pub reads_written : {D : Type 0} {T : Ghosts D} {g : Grammar} {source : List ℕ
     → 3 ≤ T.room new → 4 ≤ T.room old
     → ReadsAhead T (new_state g) source r old new
 reads_written within writes slack had = reads_front within writes (λ h. slack) (λ h. had)
+
+-- ASCII bytes that are written as they are
+pub reads_ascii : {D : Type 0} {T : Ghosts D} {g : Grammar} {source : List ℕ} {old new : D} {r : ℕ} → HasAscii g → r ≤ length source → IsAscii (take r source)
+    → T.contents new ≡ T.contents old ++ take r source
+    → T.room new + r ≡ T.room old
+    → T.loan new ≡ T.loan old
+    → (0 < r → 3 ≤ T.room new)
+    → ReadsAhead T (new_state g) source r old new
+reads_ascii {D} {T} {g} {source} {old} {new} {r} law within ascii written room loan slack =
+    let l = length-take-le r source within in
+    reads_front within (writes_ascii T g old new (take r source) law ascii written (omega (arith, l, room)) loan) slack (λ h. omega (arith, slack h, room))

@@ -1,13 +1,13 @@
 //! Blocks with many bytes past ASCII: their forms are picked out, and looked up eight at a time.
 // The functions that run for each block are always inlined: a call would pass vectors through memory, and would store
 // the destination's place there for each block.
-ghost use Rattle.std.specs.Prelude.{◌≡◌, ◌≢◌, ℕ, ◌+◌, ◌*◌, ◌<◌, ◌≤◌, List, All, true, length, map, take, get_or, count_by, ltb};
+ghost use Rattle.std.specs.Prelude.{◌≡◌, ◌≢◌, ℕ, ◌+◌, ◌*◌, ◌<◌, ◌≤◌, List, [], ◌∷◌, All, IfSome, true, length, map, take, get_or, count_by, ltb};
 ghost use Rattle.std.specs.Char.{IsScalar};
 ghost use Rattle.legacy_tables.specs.AcceptedTables.{AcceptedIndexes};
 ghost use Rattle.legacy_tables.specs.Indexes.{FlatIndexes};
 ghost use Rattle.legacy_base.specs.Grammar.{Grammar};
 ghost use Rattle.legacy_base.specs.States.{new_state};
-ghost use Rattle.legacy_decoder_engine.specs.Ahead.{HasAscii, IsCommonForm, ReadsAhead, Writes};
+ghost use Rattle.legacy_decoder_engine.specs.Ahead.{HasAscii, IsCommonForm, ReadsAhead, Runs, Writes};
 ghost use Rattle.legacy_decoder_engine.specs.LaneCodes.{kept_of, place_of, unit_at, ArePairs, IsLane, IsForm};
 ghost use Rattle.legacy_decoder_engine.specs.PickedForms.{forms_of};
 
@@ -271,12 +271,18 @@ fn put_codes<C: LaneCodec, T: Destination>(
     (8 * group, bytes)
 }
 
-/// Returns the number of codes of a block to read: all if the input ends soon, and otherwise whole groups of eight.
+/// Returns the number of codes of a block to read, given the bits of its bytes past ASCII.
+/// It is all codes if the input ends soon. Otherwise it is whole groups of eight, without those of ASCII at the end.
 #[inline(always)]
-fn codes_read(count: usize, limit: usize) -> usize
+fn codes_read(count: usize, limit: usize, past: u64) -> usize
     ensures { result ≤ count }
 {
-    if limit < 72 { count } else { count / 8 * 8 }
+    if limit < 72 {
+        return count;
+    }
+    let ascii = past.leading_zeros() as usize;
+    let groups = count.saturating_sub(ascii) / 8 + 1;
+    8 * groups.min(count / 8)
 }
 
 /// Reads the forms at the front of a block with many bytes past ASCII.
@@ -309,7 +315,7 @@ fn read_block<C: LaneCodec, T: Destination>(
         return (0, false);
     }
     let count = pick_forms(block, past, codes);
-    let most = codes_read(count, limit);
+    let most = codes_read(count, limit, past);
     let (done, read) = put_codes::<C, T>(tables, codes, lanes, most, limit, dst);
     (read, done == most)
 }
@@ -348,14 +354,15 @@ fn read_front<C: LaneCodec, T: Destination>(
 
 /// Returns whether many of the first 64 bytes are past ASCII, or of the first 16 if there are fewer than 64.
 /// Returns false if there are fewer than 16 bytes, or if the 64 have forms of one byte past ASCII.
+// Four bytes tell most pieces of ASCII apart, before many are counted.
 #[inline(always)]
 fn begins_many<C: LaneCodec>(src: &[u8]) -> bool {
+    if src.len() < 16 || (src[0] | src[1] | src[14] | src[15]) < 0x80 {
+        return false;
+    }
     if src.len() >= 64 {
         let block = u8x64::from_slice(src);
         return past_ascii(block).count_ones() > 24 && !C::has_singles(block);
-    }
-    if src.len() < 16 {
-        return false;
     }
     let past = u8x16::from_slice(src).simd_ge(u8x16::splat(0x80));
     past.to_bitmask().count_ones() > 6
@@ -442,7 +449,105 @@ impl<C: LaneCodec> CommonForms for LaneForms<'_, '_, C> {
     }
 }
 
-/// ASCII, then blocks with many bytes past ASCII, and then forms of at most 256 bytes one by one.
+/// Returns the scalar at the front of the input, and the number of its bytes, or `None` if the front is rare.
+#[inline(always)]
+fn form_at<C: LaneCodec>(tables: &FlatTables<'_>, src: &[u8]) -> Option<(char, usize)>
+    requires ascii { HasAscii (C.grammar tables.now.flat) }
+    requires some { 0 < length src.now }
+    ensures { IfSome result (λ form. (0 < form.1) × (form.1 ≤ length src.now)
+        × Runs (C.grammar tables.now.flat) (take form.1 src.now) (form.0 ∷ [])) }
+{
+    let byte = src[0];
+    if byte < 0x80 {
+        return Some((char::from(byte), 1));
+    }
+    if src.len() < 2 {
+        return None;
+    }
+    match C::front(tables, byte, src[1]) {
+        CommonForm::Pair(c) => Some((c, 2)),
+        CommonForm::Single(c) => Some((c, 1)),
+        CommonForm::Other => None,
+    }
+}
+
+/// Reads the last bytes of the input, up to a rare form. Returns the number of bytes read, which may be 0.
+// Any block is longer, so one loop reads every form.
+#[inline(always)]
+fn read_last<C: LaneCodec, T: Destination>(
+    tables: &FlatTables<'_>,
+    src: &[u8],
+    dst: &mut T,
+) -> usize
+    requires { HasAscii (C.grammar tables.now.flat) }
+    ensures { ReadsAhead T.Destination (new_state (C.grammar tables.now.flat)) src.now result dst.old dst.new }
+{
+    let mut at = 0;
+    while at < src.len() && dst.free() >= 7 {
+        match form_at::<C>(tables, &src[at..]) {
+            Some((scalar, length)) => {
+                dst.put(scalar);
+                at += length;
+            }
+            None => return at,
+        }
+    }
+    at
+}
+
+/// Reads ASCII by blocks and other forms one by one from the front, up to a rare form or to several pairs in a row.
+/// Returns the number of bytes read, and whether a block with many bytes past ASCII may follow.
+// Most runs of pairs between tags are short. So no block of lanes is tried before five or six forms were read.
+#[inline(always)]
+fn read_few<C: LaneCodec, T: Destination>(
+    forms: &LaneForms<'_, '_, C>,
+    src: &[u8],
+    dst: &mut T,
+) -> (usize, bool)
+    requires { HasAscii (C.grammar forms.now.tables.now.flat) }
+    ensures ahead { ReadsAhead T.Destination (new_state (C.grammar forms.now.tables.now.flat)) src.now
+        result.0 dst.old dst.new }
+    ensures goes_on { result.1 ≡ true → 0 < result.0 }
+{
+    let mut at = 0;
+    loop {
+        at += read_ascii(&src[at..], dst);
+        if src.len() - at < 16 {
+            return (at + read_last::<C, T>(forms.tables, &src[at..], dst), false);
+        }
+        let few = read_forms(forms, &src[at..], 12, dst);
+        at += few;
+        if few == 0 {
+            return (at, false);
+        }
+        if few >= 10 {
+            return (at, true);
+        }
+    }
+}
+
+/// Reads blocks with many bytes past ASCII from the front, and then forms of at most 256 bytes one by one.
+/// Returns the number of bytes read, and whether another block may follow.
+// Malformed sequences often follow one another. No block is begun at a rare byte.
+#[inline(always)]
+pub fn read_many<C: LaneCodec, T: Destination>(
+    forms: &LaneForms<'_, '_, C>,
+    src: &[u8],
+    dst: &mut T,
+) -> (usize, bool)
+    ensures ahead { ReadsAhead T.Destination (new_state (C.grammar forms.now.tables.now.flat)) src.now
+        result.0 dst.old dst.new }
+    ensures goes_on { result.1 ≡ true → 0 < result.0 }
+{
+    if begins_rare::<C>(src) {
+        return (0, false);
+    }
+    let at = read_lanes::<C, T>(forms.tables, src, dst);
+    let few = read_forms(forms, &src[at..], 256, dst);
+    (at + few, few > 0)
+}
+
+/// Blocks with many bytes past ASCII, and then ASCII and other forms up to several pairs in a row.
 impl<C: LaneCodec> Blocks for LaneForms<'_, '_, C> {
     ghost grammar = { λ forms. C.grammar forms.tables.now.flat };
 
@@ -452,13 +557,9 @@ impl<C: LaneCodec> Blocks for LaneForms<'_, '_, C> {
         if begins_rare::<C>(src) {
             return (0, false);
         }
-        let front = read_ascii(src, dst);
-        if front == src.len() {
-            return (front, false);
-        }
-        let at = front + read_lanes::<C, T>(self.tables, &src[front..], dst);
-        let few = read_forms(self, &src[at..], 256, dst);
-        (at + few, few > 0)
+        let at = read_lanes::<C, T>(self.tables, src, dst);
+        let (few, goes_on) = read_few(self, &src[at..], dst);
+        (at + few, goes_on)
     }
 }
 

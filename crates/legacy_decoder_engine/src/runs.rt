@@ -115,6 +115,46 @@ pub fn read_blocks<B: Blocks, T: Destination>(blocks: &B, src: &[u8], dst: &mut 
     }
 }
 
+/// Returns whether the run of ASCII at the front seems to be long, and the input too.
+// In text without tags most runs are short. Two bytes in a row tell, as one of them is past ASCII in most other text.
+#[inline(always)]
+fn begins_long(src: &[u8]) -> bool {
+    src.len() >= 128 && (src[14] | src[15]) < 0x80
+}
+
+/// Reads ASCII from the front by blocks of 64 bytes, but no block that ends fewer than 64 bytes before the end.
+/// Returns the number of bytes read, which may be 0, and whether all of them were whole blocks.
+#[inline(always)]
+fn read_wide_blocks<T: Destination>(src: &[u8], dst: &mut T) -> (usize, bool)
+    ensures read { result.0 ≤ length src.now }
+    ensures ahead { (grammar : Grammar) → HasAscii grammar
+        → ReadsAhead T.Destination (new_state grammar) src.now result.0 dst.old dst.new }
+{
+    if !begins_long(src) {
+        return (0, true);
+    }
+    let mut at = 0;
+    while src.len() - at >= 128 && dst.free() >= 67 {
+        let count = dst.put_front(&src[at..], 64);
+        at += count;
+        if count < 64 {
+            return (at, false);
+        }
+    }
+    (at, true)
+}
+
+/// Reads ASCII from the front by short blocks, and returns the number of bytes read, which may be 0.
+#[inline(always)]
+fn read_short_blocks<T: Destination>(src: &[u8], dst: &mut T) -> usize
+    ensures read { result ≤ length src.now }
+    ensures ahead { (grammar : Grammar) → HasAscii grammar
+        → ReadsAhead T.Destination (new_state grammar) src.now result dst.old dst.new }
+{
+    let most = dst.free().saturating_sub(3).min(src.len());
+    dst.copy_ascii(&src[..most])
+}
+
 /// Reads ASCII from the front by blocks, and returns the number of bytes read, which may be 0.
 /// If it reads any, three code units stay free.
 // The byte after a malformed sequence is often past ASCII. No block is begun there.
@@ -127,6 +167,9 @@ pub fn read_ascii<T: Destination>(src: &[u8], dst: &mut T) -> usize
     if !src.is_empty() && src[0] >= 0x80 {
         return 0;
     }
-    let most = dst.free().saturating_sub(3).min(src.len());
-    dst.copy_ascii(&src[..most])
+    let (front, goes_on) = read_wide_blocks(src, dst);
+    if !goes_on {
+        return front;
+    }
+    front + read_short_blocks(&src[front..], dst)
 }

@@ -13,7 +13,7 @@ use super::pair_places::TRAILS;
 use legacy_base::{Destination, IndexName};
 use legacy_decoder_engine::common_forms::CommonForm;
 use legacy_decoder_engine::held::Lead;
-use legacy_decoder_engine::lanes::{LaneCodec, LaneForms, narrow_entries, read_common};
+use legacy_decoder_engine::lanes::{LaneCodec, LaneForms, narrow_entries, read_common, read_many};
 use legacy_decoder_engine::places::{ROWS_OF_190, pair_pointer};
 use legacy_decoder_engine::runs::{Blocks, read_ascii};
 use legacy_decoder_engine::split_rows::{lead_places, place_sums, trail_places};
@@ -218,7 +218,7 @@ impl Gb18030Blocks<'_, '_> {
             let read = self.read_fours(src, dst);
             return (read, read > 0);
         }
-        let (read, goes_on) = LaneForms::<Gb18030>::new(self.tables).read_block(src, dst);
+        let (read, goes_on) = read_many(&LaneForms::<Gb18030>::new(self.tables), src, dst);
         (read, goes_on || read > 0 && begins_four(&src[read..]))
     }
 }

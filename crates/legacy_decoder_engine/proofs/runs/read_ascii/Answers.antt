@@ -1,7 +1,5 @@
-use Rattle.std.proofs.{Common.take, Common.arith, Common.subst, lemmas.List.length-take, lemmas.List.length-take-le, lemmas.List.take-take}
-use Rattle.legacy_decoder_engine.specs.Ahead.{Writes}
-use Rattle.legacy_decoder_engine.proofs.{JoinedRuns.reads_front, WrittenRuns.writes_ascii, WrittenRuns.reads_none}
 use Rattle.legacy_base.specs.States.{new_state}
+use Rattle.legacy_decoder_engine.proofs.{JoinedRuns.reads_more, WrittenRuns.reads_none}
 use Rattle.legacy_decoder_engine.proofs.runs.read_ascii.Goals as goal
 
 pub returns-then-src-ge128-clause-ahead : goal.returns-then-src-ge128-clause-ahead
@@ -9,15 +7,4 @@ returns-then-src-ge128-clause-ahead g c grammar law = reads_none g.T.Destination
 
 pub returns-clause-ahead : goal.returns-clause-ahead
 returns-clause-ahead g c grammar law =
-    let T = g.T.Destination in
-    let src = c.args.src.now in
-    let e = c.copy_ascii.ensures in
-    let l = length-take c.min-most.result src in
-    let long = length-take-le c.copy_ascii.result (take c.min-most.result src) e.read in
-    reads_front (omega (arith, e.read, l))
-    (subst (λ bytes. Writes T grammar bytes c.args.dst.now c.copy_ascii.new.self)
-    (take-take c.copy_ascii.result c.min-most.result src (omega (arith, e.read, l)))
-    (writes_ascii T grammar c.args.dst.now c.copy_ascii.new.self (take c.copy_ascii.result (take c.min-most.result src)) law e.ascii e.contents
-    (omega (arith, long, e.room)) e.loan))
-    (λ h. omega (arith, e.read, l, e.room, c.min-most.ensures, c.saturating_sub.ensures, c.free.ensures))
-    (λ h. omega (arith, e.read, l, e.room, c.min-most.ensures, c.saturating_sub.ensures, c.free.ensures))
+    reads_more (c.read_wide_blocks-front.ensures.ahead grammar law) (c.read_short_blocks.ensures.ahead grammar law)
