@@ -20,9 +20,7 @@ of_lead : (lead : EucJpLead) → (is_euc_jp_lead lead.byte ≡ true) × ((lead.b
 of_lead lead = grind (arith, nat_tests)
 
 may : (held : Held) → euc_jp_may_hold (held_bytes held) ≡ true
-may (Lead lead) = rw ((of_lead lead).0, (of_lead lead).1, (of_lead lead).2) refl
-may (Jis0212Lead lead) = rw (of_lead lead).0 refl
-may _ = refl
+may held = grind (arith, nat_tests)
 
 first_byte : (b : ℕ) → b < 2 ^ 8 → AreBytes (b ∷ [])
 first_byte b byte = All-cons IsByte b [] byte (All-nil IsByte)

@@ -1,18 +1,19 @@
--- The moves of the ISO-2022-JP encoder.
+-- The moves of the ISO-2022-JP encoder, by its tables and by a list of pairs.
 use Rattle.std.proofs.Common.{◌≡◌, ◌∙◌, ℕ, ◌+◌, List, [], ◌∷◌, ◌++◌, refl, sym, ap, arith, Bool, true, false, IsTrue, ◌||◌, Option, Some, eqb, map, ◌⊎◌, inl}
-use Rattle.std.proofs.Common.{inr}
+use Rattle.std.proofs.Common.{inr, ◌/◌, ◌%◌}
 use Rattle.std.proofs.lemmas.{Bool.lt-ltb, Bool.cases_Bool, Bool.false≢true, Bool.Decides.nat_tests}
 use Rattle.legacy_base.specs.declared.results.EncodeEvent.{EncodeEvent}
-use Rattle.legacy_base.specs.Iso2022Jp.{iso_2022_jp_code, iso_2022_jp_reported, escape_to, escape_between}
+use Rattle.legacy_base.specs.Iso2022Jp.{iso_2022_jp_code, iso_2022_jp_reported, escape_to, escape_between, mode_behind}
 use Rattle.legacy_base.specs.EncoderProfile.{EncoderMode, in_ascii, in_roman, in_two_byte}
 use Rattle.legacy_base.specs.{Beginnings.BeginsWith, EncodeEvents.code_events, Encoders.encoder_profile, Encoders.iso_2022_jp, Encoders.is_pending}
 use Rattle.legacy_base.proofs.Iso2022JpEncoding.{text_events, text_events-here, text_events-escape, text_events-end, text_events-open, mode_for, mode_for-twice}
 use Rattle.legacy_base.proofs.Iso2022JpEncoding.{code-short, at_special, at_neutral, IsWritten}
 use Rattle.legacy_encoder_engine.specs.Moves.{Moves, Finishes, IsCode, differs}
-use Rattle.legacy_encoder_engine.specs.{Serves.Serves, UnderWay.ReadsByte}
-use Rattle.legacy_encoder_engine.specs.declared.moves.{EncoderMove.EncoderMove, EncoderMove.TheVariants.One}
+use Rattle.legacy_encoder_engine.specs.{Serves.Serves, UnderWay.ReadsByte, UnitTurns.ReadsUnit}
+use Rattle.legacy_encoder_engine.specs.declared.moves.{EncoderMove.EncoderMove, EncoderMove.TheVariants.One, EncoderMove.TheVariants.Two}
 use Rattle.legacy_encoder_engine.proofs.PlainServes.{differs-same, here_moves}
 use Rattle.legacy_japanese.specs.declared.iso_2022_jp.encoder.Mode.{Mode}
+use Rattle.legacy_japanese.specs.Iso2022JpPairs.{IsPairOf}
 use Rattle.legacy_japanese.specs.Iso2022JpEncoder.{mode_of, state_in, is_same_mode, escape_move, Asks, IsOwnByte}
 use Rattle.legacy_japanese.proofs.Iso2022JpEncoderRooms.{scalar_low, scalar_enough, escape_low, escape_enough, end_enough, formula_rises}
 use Rattle.legacy_base.specs.declared.results.EncodeEvent.TheVariants as events
@@ -131,3 +132,19 @@ module _ (jis0208 katakana_index : List ℕ) where
         | inr e ↦ at_neutral jis0208 katakana_index in_ascii c is.2 low e
       ] in
       record { fits = omega arith; moves = rw is.0 (reads modes.Ascii c there.mode_is (One c) there.code_is) }
+
+  -- ---- a pair that is in the list
+
+  module _ (c both : ℕ) (is : IsPairOf jis0208 katakana_index c both) where
+    pair_mode : (mode : EncoderMode) → mode_for jis0208 katakana_index mode c ≡ in_two_byte
+    unfolding mode_behind
+    pair_mode mode = rw is.pair refl
+
+    pub asks_listed : (mode : Mode) → Asks jis0208 katakana_index mode c modes.TwoByte (Two (both % 256) (both / 256))
+    asks_listed mode = record { mode_is = pair_mode _; code_is = is.pair }
+
+    pub moves_listed : Moves (state_in jis0208 katakana_index modes.TwoByte) c (state_in jis0208 katakana_index modes.TwoByte) (Two (both % 256) (both / 256))
+    moves_listed = reads modes.TwoByte c (pair_mode in_two_byte) (Two (both % 256) (both / 256)) is.pair
+
+    pub reads_listed : ReadsUnit (state_in jis0208 katakana_index modes.TwoByte) c both 2
+    reads_listed = record { lone = is.lone; move = Two (both % 256) (both / 256); moves = moves_listed; reads = refl; silent = refl; bytes = refl }

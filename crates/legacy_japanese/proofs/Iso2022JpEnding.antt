@@ -68,8 +68,7 @@ module _ (jis0208 : List ℕ) where
 
   no_escape_yet : (s : Start) → part_mode (start_bytes s) ≡ None
   unfolding part_mode
-  no_escape_yet Nothing = refl
-  no_escape_yet _ = refl
+  no_escape_yet s = grind arith
 
   -- a valid escape is not a lone escape byte
   no_lone : (t : Bool) (items rest : List DecodeEvent) → cond t (Bad 0 3 ∷ []) [] ++ shift 3 items ≡ Bad 0 1 ∷ rest → ⊥

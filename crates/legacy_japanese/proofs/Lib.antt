@@ -12,10 +12,8 @@ pub mod Iso2022JpHolding
 pub mod Iso2022JpRuns
 pub mod Iso2022JpEncoderRooms
 pub mod Iso2022JpEncoderMoves
-pub mod Iso2022JpListed
 pub mod Iso2022JpPieces
 pub mod ShiftJisRuns
 pub mod ShiftJisPlaces
 pub mod ShiftJisLanes
-pub mod Jis0208Places
 pub mod PointerWalks

@@ -126,7 +126,7 @@ impl AheadCodes for ListedPairs<'_, '_> {
     }
 
     #[inline(always)]
-    #[tactic(auto, using(crate::proofs::Iso2022JpListed::reads_listed))]
+    #[tactic(auto, using(crate::proofs::Iso2022JpEncoderMoves::reads_listed))]
     fn unit_bytes(&self, unit: u16) -> (u16, usize, bool) {
         let both = self.pairs[usize::from(unit)];
         (both, 2, both != 0)

@@ -1,4 +1,4 @@
-use Rattle.legacy_japanese.proofs.Iso2022JpListed.{asks_listed}
+use Rattle.legacy_japanese.proofs.Iso2022JpEncoderMoves.{asks_listed}
 use Rattle.legacy_japanese.proofs.iso_2022_jp.cached.ListedPairs.asked.Goals as goal
 
 pub returns : goal.returns

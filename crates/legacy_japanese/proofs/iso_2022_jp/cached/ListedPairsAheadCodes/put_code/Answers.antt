@@ -1,6 +1,6 @@
 use Rattle.std.proofs.Common.{◌/◌, ◌%◌, refl}
 use Rattle.legacy_encoder_engine.specs.declared.moves.EncoderMove.TheVariants.{Two}
-use Rattle.legacy_japanese.proofs.Iso2022JpListed.{moves_listed}
+use Rattle.legacy_japanese.proofs.Iso2022JpEncoderMoves.{moves_listed}
 use Rattle.legacy_japanese.proofs.iso_2022_jp.cached.ListedPairsAheadCodes.put_code.Goals as goal
 
 pub returns-clause-puts : goal.returns-clause-puts
