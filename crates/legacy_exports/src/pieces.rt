@@ -1,5 +1,5 @@
 //! Whole sources, piece by piece.
-ghost use Rattle.std.specs.Prelude.{◌≡◌, ◌≤◌, length};
+ghost use Rattle.std.specs.Prelude.{◌≡◌, ◌<◌, ◌≤◌, ◌+◌, length};
 
 use crate::calls::{CallEnd, Calls};
 use crate::unit::CodeUnit;
@@ -23,6 +23,8 @@ pub fn piece_end(read: usize, len: usize, piece: usize) -> usize
     requires { read ≤ len }
     ensures most { result ≤ len }
     ensures least { read ≤ result }
+    ensures goes_on { read < len → read < result }
+    ensures piece { 0 < piece → result ≤ read + piece }
 {
     if piece == 0 {
         len
