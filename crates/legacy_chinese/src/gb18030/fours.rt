@@ -24,6 +24,8 @@ use std::simd::prelude::*;
 /// Returns the scalar of a pointer that is not in the range at the guess, by a search.
 ///
 /// The place of the pointer's range becomes the guess.
+// Cold, so that the loop that calls it keeps its values in registers.
+#[cold]
 #[inline(never)]
 fn far_scalar(ranges: Ranges<'_>, guess: &Cell<usize>, pointer: usize) -> Option<char>
     requires { pointer < 0x1_0000_0000 }
