@@ -23,6 +23,9 @@ pub encode_4 : (c : ℕ) → 65536 ≤ c → encode c ≡ (240 + c / 262144) ∷
 unfolding encode
 encode_4 c a = let b : 128 ≤ c = omega arith in let d : 2048 ≤ c = omega arith in rw (le-ltb c 128 b, le-ltb c 2048 d, le-ltb c 65536 a) refl
 
+pub one_below : (c : ℕ) → unit_count Utf8 c ≡ 1 → c < 128
+one_below c e = grind (arith, nat_tests, encode_2, encode_3, encode_4)
+
 -- a scalar of two or three bytes in UTF-8 is below a power of two
 pub two_below : (c : ℕ) → unit_count Utf8 c ≡ 2 → c < 2048
 two_below c e = grind (arith, nat_tests, encode_3, encode_4)

@@ -2,8 +2,7 @@
 use Rattle.std.proofs.lemmas.Bool.Decides.{nat_tests}
 use Rattle.std.proofs.lemmas.Grind.{common_steps}
 use Rattle.std.proofs.Common.{◌≡◌, ◌∙◌, ℕ, ◌+◌, ◌-◌, ◌*◌, ◌/◌, ◌%◌, ◌≤◌, ◌<◌, List, [], ◌∷◌, ◌++◌, length, get_or, Bool, true, ◌&&◌}
-use Rattle.std.proofs.Common.{take, drop, refl, sym, ap, arith, append_assoc, append-nil, length-append, length-drop, add-zero, inl, inr}
-use Rattle.std.proofs.lemmas.Bool.{cases_lt}
+use Rattle.std.proofs.Common.{take, drop, sym, ap, arith, append_assoc, append-nil, length-append, length-drop, add-zero}
 use Rattle.std.proofs.lemmas.List.{get_or_append_left, get_or-append-add, get_or-drop, drop-drop}
 use Rattle.std.proofs.lemmas.Str.{encodes-chars, IsUtf8-from_is_utf8}
 use Rattle.std.proofs.Math.Seq.{take-add}
@@ -12,7 +11,7 @@ use lib.Utf8.{encode, encodes}
 use Rattle.legacy_text.specs.EncodingForm.{Utf8, code_units, unit_count, total_unit_count}
 use Rattle.legacy_text.specs.ShortScalars.{ReadsScalar, WritesScalars}
 use Rattle.legacy_text.specs.UnitCodes.{WritesCodes}
-use Rattle.legacy_text.proofs.CodeUnits.{encode_1, encode_2, encode_3, encode_4, total_unit_count-append}
+use Rattle.legacy_text.proofs.CodeUnits.{encode_1, encode_2, total_unit_count-append, one_below, two_above, two_below}
 use Rattle.legacy_text.proofs.Texts.{TellsCount, first_some, first_cons, utf8_pass, utf8_bytes, utf8_tells}
 use Rattle.legacy_text.proofs.UnitCopies.{writes_none}
 
@@ -47,20 +46,11 @@ scalars_append gives text start n place m behind old mid new a b =
 
 -- a text that is not at its end has a scalar
 pub some_left : (text : List ℕ) (place : ℕ) → place < length text → is_utf8 (drop place text) ≡ true → 0 < length (chars (drop place text))
-some_left text place h u =
-    let bs = drop place text in
-    let same = encodes-chars bs (IsUtf8-from_is_utf8 bs u) in
-    elim (cases_lt 0 (length (chars bs))) as (λ _. 0 < length (chars bs)) [
-      | inl a ↦ a
-      | inr a ↦
-          let none : chars bs ≡ [] = nothing (chars bs) a in
-          let empty : bs ≡ [] = sym same ∙ ap encodes none in
-          absurd (omega (arith, ap length empty, length-drop place text))
-    ]
+some_left text place h u = some (chars (drop place text)) (sym (encodes-chars (drop place text) (IsUtf8-from_is_utf8 (drop place text) u)))
   where
-    nothing : (l : List ℕ) → length l ≤ 0 → l ≡ []
-    nothing [] h = refl
-    nothing (x ∷ l) h = absurd (omega arith)
+    some : (l : List ℕ) → drop place text ≡ encodes l → 0 < length l
+    some [] e = absurd (omega (arith, ap length e, length-drop place text))
+    some (x ∷ l) e = omega arith
 
 module _ (text : List ℕ) (place : ℕ) (within : place + 2 ≤ length text) (u : is_utf8 (drop place text) ≡ true) (short : get_or text place 0 < 224) where
   abbrev Left : List ℕ
@@ -90,19 +80,9 @@ module _ (text : List ℕ) (place : ℕ) (within : place + 2 ≤ length text) (u
   pub reads_ascii : get_or text place 0 < 128 → ReadsScalar text place (get_or text place 0) (place + 1)
   reads_ascii h =
       let one = tells.one h in
-      elim (cases_lt C 128) as (λ _. ReadsScalar text place (get_or text place 0) (place + 1)) [
-        | inl a ↦
-            let same : get_or text place 0 ≡ C =
-            ap (λ n. get_or text n 0) (sym (add-zero place)) ∙ byte_at 0 ∙ ap (λ l. get_or (l ++ encodes (drop 1 Left)) 0 0) (encode_1 C a) in
-            rw same (reads 1 (sym one))
-        | inr a ↦ elim (cases_lt C 2048) [
-          | inl b ↦ absurd (omega (arith, one, ap length (encode_2 C a b)))
-          | inr b ↦ elim (cases_lt C 65536) [
-            | inl d ↦ absurd (omega (arith, one, ap length (encode_3 C b d)))
-            | inr d ↦ absurd (omega (arith, one, ap length (encode_4 C d)))
-          ]
-        ]
-      ]
+      let same : get_or text place 0 ≡ C =
+      ap (λ n. get_or text n 0) (sym (add-zero place)) ∙ byte_at 0 ∙ ap (λ l. get_or (l ++ encodes (drop 1 Left)) 0 0) (encode_1 C (one_below C one)) in
+      rw same (reads 1 (sym one))
 
   -- two bytes contain the eleven bits of a scalar
   pub reads_pair : 128 ≤ get_or text place 0
@@ -110,21 +90,13 @@ module _ (text : List ℕ) (place : ℕ) (within : place + 2 ≤ length text) (u
       (place + 2)
   reads_pair h =
       let two = tells.two h short in
-      elim (cases_lt C 128) [
-        | inl a ↦ absurd (omega (arith, two, ap length (encode_1 C a)))
-        | inr a ↦ elim (cases_lt C 2048) [
-          | inl b ↦
-              let first : get_or text place 0 ≡ 192 + C / 64 =
-              ap (λ n. get_or text n 0) (sym (add-zero place)) ∙ byte_at 0 ∙ ap (λ l. get_or (l ++ encodes (drop 1 Left)) 0 0) (encode_2 C a b) in
-              let second : get_or text (place + 1) 0 ≡ 128 + C % 64 = byte_at 1 ∙ ap (λ l. get_or (l ++ encodes (drop 1 Left)) 1 0) (encode_2 C a b) in
-              let same : get_or text place 0 * 64 + get_or text (place + 1) 0 - 0x3080 ≡ C = rw (first, second) (omega arith) in
-              (rw (first, second) (omega arith), rw same (reads 2 (sym two)))
-          | inr b ↦ elim (cases_lt C 65536) [
-            | inl d ↦ absurd (omega (arith, two, ap length (encode_3 C b d)))
-            | inr d ↦ absurd (omega (arith, two, ap length (encode_4 C d)))
-          ]
-        ]
-      ]
+      let above = two_above C two in
+      let below = two_below C two in
+      let first : get_or text place 0 ≡ 192 + C / 64 =
+      ap (λ n. get_or text n 0) (sym (add-zero place)) ∙ byte_at 0 ∙ ap (λ l. get_or (l ++ encodes (drop 1 Left)) 0 0) (encode_2 C above below) in
+      let second : get_or text (place + 1) 0 ≡ 128 + C % 64 = byte_at 1 ∙ ap (λ l. get_or (l ++ encodes (drop 1 Left)) 1 0) (encode_2 C above below) in
+      let same : get_or text place 0 * 64 + get_or text (place + 1) 0 - 0x3080 ≡ C = rw (first, second) (omega arith) in
+      (rw (first, second) (omega arith), rw same (reads 2 (sym two)))
 
 -- ---- turns
 

@@ -2,7 +2,7 @@
 use Rattle.std.proofs.lemmas.Bool.Decides.{nat_tests}
 use Rattle.std.proofs.Common.{◌≡◌, ◌∙◌, ℕ, suc, ◌+◌, ◌-◌, ◌≤◌, ◌<◌, List, [], ◌∷◌, ◌++◌, length, take, drop, get_or, refl, sym, ◌*◌, ◌/◌, ◌%◌, add-zero, ap}
 use Rattle.std.proofs.Common.{subst, arith, length-append, length-drop, Some, None, Option, true, false, ◌⊎◌, inl, inr, ◌&&◌, map, slice_get, IsAscii}
-use Rattle.std.proofs.lemmas.Bool.{and_parts, cases_lt}
+use Rattle.std.proofs.lemmas.Bool.{and_parts}
 use Rattle.std.proofs.lemmas.List.{drop-drop, take-append-drop, length-take-le, take_all, get_or-drop}
 use Rattle.std.proofs.Math.Seq.{drop-append_seam, take-append_seam}
 use Rattle.std.specs.Str.{chars, is_utf8, IsUtf8, IsCharBoundary}
@@ -186,6 +186,14 @@ pair_or_not u v = grind arith
 lone_bound : (u : ℕ) → u < 65536 → replaced (lone_unit_char u) < 65536
 lone_bound u h = grind arith
 
+-- by the scalar at the place and its number of units
+step_of : (list : List ℕ) (place c n s k : ℕ) → unit_scalars (drop place list) ≡ s ∷ unit_scalars (drop (place + k) list) →
+    Some c ≡ slice_get (unit_scalars (drop place list)) 0 → n ≡ k → k ≡ unit_count Utf16 s → place + k ≤ length list → Utf16Step list place c n
+step_of list place c n s k all e same width within =
+    let f : Some c ≡ Some s = e ∙ ap (λ l. slice_get l 0) all in
+    let is : c ≡ s = cc in
+    record { width = rw (same, is) width; within = omega arith; behind = rw same (sym (ap (drop 1) all)); first = ap (λ l. get_or l 0 0) all ∙ sym is }
+
 pub utf16_step : (list : List ℕ) (place c n : ℕ) → ((i : ℕ) → get_or list i 0 < 65536) → place < length list →
     Some c ≡ slice_get (unit_scalars (drop place list)) 0 → (c < 65536 → n ≡ 1) → (65536 ≤ c → n ≡ 2) → Utf16Step list place c n
 utf16_step list place c n bound h e short long =
@@ -193,32 +201,17 @@ utf16_step list place c n bound h e short long =
     let v = get_or list (place + 1) 0 in
     elim (pair_or_not u v) [
       | inl p ↦
-          let within : place + 1 < length list =
-          elim (cases_lt (place + 1) (length list)) as (λ _. place + 1 < length list) [
-            | inl a ↦ a
-            | inr a ↦ let z = get_or-eq_default list 0 {n = place + 1} a in omega (arith, p.2)
-          ] in
+          let within : place + 1 < length list = grind (arith, p.2, get_or-eq_default list 0 {n = place + 1}) in
           let all = scalars_pair list place within p in
-          let is : c ≡ surrogate_pair_char u v = let f : Some c ≡ Some (surrogate_pair_char u v) = e ∙ ap (λ l. slice_get l 0) all in cc in
-          let two : n ≡ 2 = long (omega (arith, p.2)) in
-          let wide : 65536 ≤ c = omega (arith, p.2) in
-          record {
-            width = two ∙ sym (ap length (utf16_2 c wide));
-            within = omega arith;
-            behind = rw two (sym (ap (drop 1) all));
-            first = ap (λ l. get_or l 0 0) all ∙ sym is;
-          }
+          let f : Some c ≡ Some (surrogate_pair_char u v) = e ∙ ap (λ l. slice_get l 0) all in
+          let is : c ≡ surrogate_pair_char u v = cc in
+          step_of list place c n _ 2 all e (long (omega (arith, p.2, is))) (sym (ap length (utf16_2 _ (omega (arith, p.2))))) (omega arith)
       | inr p ↦
           let all = scalars_lone list place h p in
-          let is : c ≡ replaced (lone_unit_char u) = let f : Some c ≡ Some (replaced (lone_unit_char u)) = e ∙ ap (λ l. slice_get l 0) all in cc in
-          let narrow : c < 65536 = rw is (lone_bound u (bound place)) in
-          let one : n ≡ 1 = short narrow in
-          record {
-            width = one ∙ sym (ap length (utf16_1 c narrow));
-            within = omega arith;
-            behind = rw one (sym (ap (drop 1) all));
-            first = ap (λ l. get_or l 0 0) all ∙ sym is;
-          }
+          let narrow = lone_bound u (bound place) in
+          let f : Some c ≡ Some (replaced (lone_unit_char u)) = e ∙ ap (λ l. slice_get l 0) all in
+          let is : c ≡ replaced (lone_unit_char u) = cc in
+          step_of list place c n _ 1 all e (short (omega (arith, narrow, is))) (sym (ap length (utf16_1 _ narrow))) (omega arith)
     ]
 
 -- there is a scalar only before the end
