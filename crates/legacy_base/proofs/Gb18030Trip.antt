@@ -39,10 +39,6 @@ pair_decodes index ranges c bytes short h =
 
 -- ---- four-byte codes
 
--- the four parts of a pointer add up to the pointer
-parts_of_pointer : (p : ℕ) → 12600 * (p / 12600) + 1260 * (p % 12600 / 1260) + 10 * (p % 1260 / 10) + p % 10 ≡ p
-parts_of_pointer p = omega arith
-
 four_back : (index : List ℕ) (ranges : List (ℕ × ℕ)) (p c : ℕ) (more : List ℕ) → range ranges p ≡ Some c → p < 1237576
     → gb18030_front index ranges (p / 12600 + 0x81) ((p % 12600 / 1260 + 0x30) ∷ (p % 1260 / 10 + 0x81) ∷ (p % 10 + 0x30) ∷ more) ≡ reads 4 (c ∷ [])
 unfolding gb18030_front gb18030_second gb18030_third gb18030_fourth

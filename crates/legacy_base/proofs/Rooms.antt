@@ -7,7 +7,7 @@ use Rattle.std.proofs.Math.Nat.{sub-zero}
 use Rattle.legacy_text.specs.EncodingForm.{EncodingForm, code_units, unit_count, all_code_units, total_unit_count, bmp_room, wide_room}
 use Rattle.legacy_base.specs.Grammar.{Grammar, events_of}
 use Rattle.legacy_base.specs.States.{DecoderState, rests}
-use Rattle.legacy_base.specs.Acts.{Act, takes, act_room, has_short_ascii, has_marks, is_mark_behind, room_needed, LacksRoom, full_room_in, release_room_in}
+use Rattle.legacy_base.specs.Acts.{takes, act_room, has_short_ascii, has_marks, is_mark_behind, room_needed, LacksRoom, full_room_in, release_room_in}
 use Rattle.legacy_base.specs.Acts.{HadRoom, HadRoomReleased, HadRooms}
 
 -- ---- the room before each scalar
@@ -79,10 +79,6 @@ full_most form g = grind arith
 -- a report needs at most the room of a byte past ASCII
 pub release-full : (form : EncodingForm) (g : Grammar) → release_room_in form g ≤ full_room_in form g
 release-full form g = grind arith
-
--- each act needs at most the room of the longest scalar
-act_most : (form : EncodingForm) (s : DecoderState) (act : Act) → act_room (bmp_room form) (wide_room form) s act ≤ wide_room form
-act_most form s act = grind arith
 
 pub lacks_small : (form : EncodingForm) (s : DecoderState) (source : List ℕ) (last : Bool) (free : ℕ) → LacksRoom form s source last free →
     free < wide_room form

@@ -16,7 +16,7 @@ use Rattle.legacy_tables.specs.Pointers.{every_pointer, is_big5_pointer, big5_po
 use Rattle.legacy_tables.specs.Pointers.{minus_as_hyphen, is_shift_jis_pointer, shift_jis_pointer_of, is_jis0208_pointer, euc_jp_pointer_of}
 use Rattle.legacy_base.specs.SingleByte.{single_byte_front, single_byte_code}
 use Rattle.legacy_base.specs.UserDefined.{user_defined_front, user_defined_code}
-use Rattle.legacy_base.specs.Big5.{big5_pointer, big5_scalars, big5_pair, big5_front, big5_bytes, big5_code}
+use Rattle.legacy_base.specs.Big5.{big5_pair, big5_front, big5_bytes, big5_code}
 use Rattle.legacy_base.specs.LeadForms.{lead_front, lead_pair}
 use Rattle.legacy_base.specs.EucKr.{euc_kr_pointer, euc_kr_bytes, euc_kr_code}
 use Rattle.legacy_base.specs.ShiftJis.{is_shift_jis_lead, shift_jis_lead_part, shift_jis_pointer, shift_jis_scalars, shift_jis_pair, shift_jis_front}
@@ -53,13 +53,6 @@ ascii_or_mapped : (front : ℕ → List ℕ → Front) (c : ℕ) (bytes : List �
 ascii_or_mapped front c bytes made pointer one mapping h = grind arith
 
 -- ---- Big5
-
-big5_back : (q r : ℕ) → r < 157 → (t : Bool) → nat_lt r 0x3F ≡ t → big5_pointer (q + 0x81) (r + cond t 0x40 0x62) ≡ Some (157 * q + r)
-big5_back q r h true e = grind (arith, nat_tests)
-big5_back q r h false e = grind (arith, nat_tests)
-
-big5_scalar : (index : List ℕ) (p c : ℕ) → 5024 ≤ p → idx index p ≡ Some c → big5_scalars index p ≡ c ∷ []
-big5_scalar index p c h has = grind (arith, nat_tests)
 
 big5_pair_back : (index : List ℕ) (p c : ℕ) (more : List ℕ) → length index ≤ 19782 → LeadsBack is_big5_pointer index c p
     → big5_front index (p / 157 + 0x81) ((p % 157 + (if nat_lt (p % 157) 0x3F then 0x40 else 0x62)) ∷ more) ≡ reads 2 (c ∷ [])
