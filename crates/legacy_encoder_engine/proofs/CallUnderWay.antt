@@ -248,7 +248,8 @@ module _ (before : EncoderState) (source : List ℕ) (last : Bool) (free : ℕ) 
               ap (λ l. encoded before l ended) (append_assoc under.taken (c ∷ []) (take 1 rest ++ more))
               ∙ moved (take 1 rest ++ more) ended
               ∙ ap (λ l. map Byte (bytes ++ move_bytes move) ++ (l ++ encoded next (unread_scalar move c ++ (take 1 rest ++ more)) ended)) r
-              ∙ ap (λ l. map Byte (bytes ++ move_bytes move) ++ encoded next (l ++ (take 1 rest ++ more)) ended) (let read : unread_scalar move c ≡ [] = grind arith in read);
+              ∙ ap (λ l. map Byte (bytes ++ move_bytes move) ++ encoded next (l ++ (take 1 rest ++ more)) ended)
+              (let read : unread_scalar move c ≡ [] = grind arith in read);
           same = next_same ∙ under.same;
           had_room = read_room e;
           fits = let n = f.fits in let g = under.fits in omega (arith, length-append bytes (move_bytes move));

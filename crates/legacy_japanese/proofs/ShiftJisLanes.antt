@@ -80,7 +80,8 @@ module _ (tables : AcceptedIndexes) where
       let place : min (changed_place lead + shift_jis_trail_place trail) 65535 ≡ p = rw (← lead_of code, ← trail_of code) refl in
       let is = placed _ _ (shift_jis_lead_place lead) p (lead_tests lead (omega arith)) (trail_tests trail (omega arith)) place below in
       let scalar : IsScalar c = jis0208-scalars tables.flat tables.accepted p 0 within in
-      let scalars : shift_jis_scalars index p ≡ c ∷ [] = let low : is_in_range 8836 10715 p ≡ false = grind (arith, nat_tests, is.1) in rw low (entry_is c some) in
+      let low : is_in_range 8836 10715 p ≡ false = grind (arith, nat_tests, is.1) in
+      let scalars : shift_jis_scalars index p ≡ c ∷ [] = rw low (entry_is c some) in
       let found : c ∷ [] ≡ cond (is_shift_jis_lead lead) (shift_jis_pair_scalars index lead trail) [] =
       sym scalars ∙ ap (shift_jis_scalars index) is.0 ∙ shift_jis_entry index (omega (arith, short)) lead trail in
       (scalar, pair_form tables lead trail c (omega arith) (omega arith) scalar found)

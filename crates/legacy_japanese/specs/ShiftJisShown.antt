@@ -82,4 +82,5 @@ lead_byte_below b h = grind (arith, nat_tests)
 pub shift_jis_codec : IsLeadCodec (λ flat. shift_jis flat.jis0208) is_shift_jis_lead shift_jis_first (λ flat. shift_jis_pair_scalars flat.jis0208)
 shift_jis_codec =
     lead_codec (λ flat. shift_jis flat.jis0208) (λ flat. shift_jis_front flat.jis0208) is_shift_jis_lead shift_jis_first
-    (λ flat. shift_jis_pair_scalars flat.jis0208) (λ flat. is flat.jis0208) 6 first_is (λ flat accepted. rooms flat.jis0208 (jis0208-below flat accepted)) lead_byte_below
+    (λ flat. shift_jis_pair_scalars flat.jis0208) (λ flat. is flat.jis0208) 6 first_is (λ flat accepted. rooms flat.jis0208 (jis0208-below flat accepted))
+    lead_byte_below
