@@ -1,5 +1,5 @@
 -- The EUC-JP decoder's handler gives the events of its grammar.
-use Rattle.std.proofs.Common.{◌≡◌, ℕ, zero, suc, ◌+◌, ◌-◌, ◌*◌, cond, List, [], ◌∷◌, Some, None, refl, true, false, arith}
+use Rattle.std.proofs.Common.{◌≡◌, ℕ, ◌+◌, ◌-◌, ◌*◌, cond, List, [], ◌∷◌, None, refl, true, false, arith}
 use Rattle.std.specs.Prelude.{◌==◌, ◌&&◌}
 use Rattle.std.specs.Int.{is_in_range}
 use Rattle.std.specs.Char.{is_ascii}
@@ -42,12 +42,7 @@ module _ (jis0208 jis0212 : List ℕ) where
   flag_at_end : (place : ℕ) (es : List DecodeEvent) → Runs (euc_jp_handler jis0208 jis0212) euc_jp_initial place 0 [] es →
       Runs (euc_jp_handler jis0208 jis0212) (euc_jp_state true 0) place 0 [] es
   unfolding process euc_jp_handler
-  flag_at_end place es h = record { turns = h.turns; run = same h.turns h.run }
-    where
-      same : (n : ℕ) → process (euc_jp_handler jis0208 jis0212) n euc_jp_initial place 0 [] ≡ Some es →
-          process (euc_jp_handler jis0208 jis0212) n (euc_jp_state true 0) place 0 [] ≡ Some es
-      same zero e = e
-      same (suc n) e = e
+  flag_at_end place es h = grind arith
 
   katakana-reads : (rest : List ℕ) → Has (0x8E ∷ rest) (euc_jp_katakana rest)
   unfolding euc_jp_katakana euc_jp_handler

@@ -1,5 +1,5 @@
 -- The gb18030 decoder's handler gives the events of its grammar.
-use Rattle.std.proofs.Common.{◌≡◌, ℕ, ◌+◌, ◌-◌, ◌*◌, List, [], ◌∷◌, Option, Some, None, refl, true, false, arith}
+use Rattle.std.proofs.Common.{◌≡◌, ℕ, List, [], ◌∷◌, Option, Some, None, refl, true, false, arith}
 use Rattle.std.specs.Prelude.{option_to_list, ◌==◌}
 use Rattle.std.specs.Char.{is_ascii, is_ascii_digit}
 use Rattle.std.proofs.lemmas.Bool.Decides.{nat_tests}
@@ -52,9 +52,7 @@ module _ (index : List ℕ) (ranges : List (ℕ × ℕ)) where
   fourths : (b s t u : ℕ) → is_lead t ≡ true → is_ascii_digit u ≡ true →
       handler (gb18030_state b s t) (byte u) ≡ returns (code_point_or_error (range ranges (gb18030_range_pointer b s t u))) gb18030_initial
   unfolding gb18030_handler
-  fourths b s t u l d =
-      let pointer : (b - 0x81) * 12600 + (s - 0x30) * 1260 + (t - 0x81) * 10 + (u - 0x30) ≡ gb18030_range_pointer b s t u = omega arith in
-      rw (lead-some t l, d, pointer) refl
+  fourths b s t u l d = grind arith
 
   -- the end of the queue after one, two or three bytes
   end_one : (b : ℕ) → is_lead b ≡ true → handler (gb18030_state b 0 0) end_of_queue ≡ returns error gb18030_initial

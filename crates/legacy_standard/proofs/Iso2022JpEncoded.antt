@@ -30,10 +30,7 @@ same_mode in_two_byte in_two_byte = true
 same_mode _ _ = false
 
 same-mode : (a b : EncoderMode) → same_mode a b ≡ true → a ≡ b
-same-mode in_ascii in_ascii e = refl
-same-mode in_roman in_roman e = refl
-same-mode in_two_byte in_two_byte e = refl
-same-mode _ _ e = cc
+same-mode a b h = grind arith
 
 other-mode : (a b : EncoderMode) → same_mode a b ≡ false → a ≡ b → ⊥
 other-mode in_ascii b e is = let f = rw (← is) at e in cc

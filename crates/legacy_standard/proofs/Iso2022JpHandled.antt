@@ -320,12 +320,7 @@ module _ (jis0208 : List ℕ) (late : ℕ → ℕ → ℕ) (third_late : (p : �
   one-outs : (m : Mode) (flag : Bool) (pos b : ℕ) (more : List ℕ) (o : Option ℕ) → (b == esc) ≡ false →
       iso_2022_jp_front jis0208 m b (first_part more) ≡ single o →
       again flag pos (b ∷ more) ++ events m pos (b ∷ more) ≡ event pos 1 o ∷ events m (pos + 1) more
-  one-outs m flag pos b more None plain is =
-      let step = step_one jis0208 m b more (malformed 1) plain is refl in
-      rw (again-none flag pos b more plain, step, shift-shift pos 1 (iso_2022_jp_events jis0208 m more), add-zero pos) refl
-  one-outs m flag pos b more (Some c) plain is =
-      let step = step_one jis0208 m b more (reads 1 (c ∷ [])) plain is refl in
-      rw (again-none flag pos b more plain, step, shift-shift pos 1 (iso_2022_jp_events jis0208 m more)) refl
+  one-outs m flag pos b more o h k = grind (arith, nat_tests, step_one, again-none, shift-shift, add-zero)
 
   abbrev double : Option ℕ → Front
   double None = malformed 2
@@ -334,12 +329,7 @@ module _ (jis0208 : List ℕ) (late : ℕ → ℕ → ℕ) (third_late : (p : �
   two-outs : (m : Mode) (flag : Bool) (pos b t : ℕ) (more : List ℕ) (o : Option ℕ) → (b == esc) ≡ false → (t == esc) ≡ false →
       iso_2022_jp_front jis0208 m b (t ∷ first_part more) ≡ double o →
       again flag pos (b ∷ t ∷ more) ++ events m pos (b ∷ t ∷ more) ≡ event pos 2 o ∷ events m (pos + 2) more
-  two-outs m flag pos b t more None plain plain_t is =
-      let step = step_two jis0208 m b t more (malformed 2) plain plain_t is refl in
-      rw (again-none flag pos b (t ∷ more) plain, step, shift-shift pos 2 (iso_2022_jp_events jis0208 m more), add-zero pos) refl
-  two-outs m flag pos b t more (Some c) plain plain_t is =
-      let step = step_two jis0208 m b t more (reads 2 (c ∷ [])) plain plain_t is refl in
-      rw (again-none flag pos b (t ∷ more) plain, step, shift-shift pos 2 (iso_2022_jp_events jis0208 m more)) refl
+  two-outs m flag pos b t more o h k e = grind (arith, nat_tests, step_two, again-none, shift-shift, add-zero)
 
   -- the handler returns the scalar, or error
   returned : {d : Iso2022Jp} {few pos next b : ℕ} {more : List ℕ} (m : Mode) (l begin n : ℕ) (o : Option ℕ) →
@@ -453,10 +443,7 @@ module _ (jis0208 : List ℕ) (late : ℕ → ℕ → ℕ) (third_late : (p : �
   -- ---- whole lists
 
   any_byte : (m : Mode) → Reads m
-  any_byte iso.ascii = ascii_byte
-  any_byte iso.roman = roman_byte
-  any_byte iso.katakana = katakana_byte
-  any_byte iso.two_byte = two_byte_byte
+  any_byte m = grind (arith, nat_tests, ascii_byte, roman_byte, katakana_byte, two_byte_byte)
 
   -- the escape byte in any mode
   escape_byte : (m : Mode) (l : ℕ) (flag : Bool) → iso_2022_jp_handler jis0208 (at_rest m l flag) (byte esc) ≡ returns continue (started m l flag)

@@ -1,9 +1,8 @@
 -- More turns do not change the result of a run that has finished.
-use Rattle.std.proofs.Common.{◌≡◌, ℕ, zero, suc, ◌+◌, ◌-◌, ◌≤◌, List, [], ◌∷◌, ◌++◌, length, map, Option, Some, None, refl, arith}
+use Rattle.std.proofs.Common.{◌≡◌, ℕ, zero, suc, ◌+◌, ◌-◌, ◌≤◌, List, [], ◌∷◌, ◌++◌, length, Option, Some, None, refl, arith}
 use Rattle.std.specs.Prelude.{option_map}
 use Rattle.legacy_base.specs.declared.results.DecodeEvent.{DecodeEvent}
-use Rattle.legacy_base.specs.declared.results.DecodeEvent.TheVariants.{Scalar, Bad}
-use Rattle.legacy_standard.specs.Queue.{Item, byte, end_of_queue, Handled, Outcome, continue, finished, error, code_points}
+use Rattle.legacy_standard.specs.Queue.{Item, byte, end_of_queue, Handled, Outcome}
 use Rattle.legacy_standard.specs.Processing.{act_on, process, Processes}
 use Rattle.legacy_base.specs.Grammar.{Grammar, events_of}
 use Rattle.legacy_tables.specs.Unicode.{AreBytes}
@@ -21,12 +20,7 @@ module _ {S : Type 0} (handler : S → Item → Handled S) where
   agrees-act : (go more : S → ℕ → ℕ → List ℕ → Option (List DecodeEvent)) →
       ((s : S) (place size : ℕ) (queue : List ℕ) → Agrees (go s place size queue) (more s place size queue)) →
       (o : Outcome) (s : S) (place size : ℕ) (queue : List ℕ) → Agrees (act_on go o s place size queue) (act_on more o s place size queue)
-  agrees-act go more h continue s place size queue = h s place size queue
-  agrees-act go more h finished s place size queue = refl
-  agrees-act go more h error s place size queue =
-      agrees-map (λ events. Bad place size ∷ events) (go s (place + size) 0 queue) (more s (place + size) 0 queue) (h s (place + size) 0 queue)
-  agrees-act go more h (code_points cs) s place size queue =
-      agrees-map (λ events. map Scalar cs ++ events) (go s (place + size) 0 queue) (more s (place + size) 0 queue) (h s (place + size) 0 queue)
+  agrees-act go more h o s place size queue = grind arith
 
   agrees : (m n : ℕ) → m ≤ n → (s : S) (place size : ℕ) (queue : List ℕ) → Agrees (process handler m s place size queue) (process handler n s place size queue)
   unfolding process

@@ -1,8 +1,8 @@
 -- The handlers of the encoders without a state give the events of their definitions.
-use Rattle.std.proofs.Common.{◌≡◌, ◌≢◌, ◌∙◌, ◌≤◌, ◌<◌, length, inl, inr, sym, ℕ, List, [], ◌∷◌, ◌++◌, Option, Some, None, refl}
-use Rattle.std.proofs.Common.{true, false, arith}
-use Rattle.std.specs.Prelude.{is_some, ◌==◌, position}
-use Rattle.std.specs.Char.{is_ascii, IsScalar}
+use Rattle.std.proofs.lemmas.Bool.Decides.{nat_tests}
+use Rattle.std.proofs.Common.{◌≡◌, ◌≢◌, ◌∙◌, ◌≤◌, ◌<◌, length, inl, inr, sym, ℕ, List, [], ◌∷◌, ◌++◌, Option, Some, None, refl, true, false, arith}
+use Rattle.std.specs.Prelude.{is_some, ◌==◌, position, slice_index}
+use Rattle.std.specs.Char.{IsScalar}
 use Rattle.std.proofs.lemmas.List.Elements.{All-head, All-tail}
 use Rattle.legacy_base.specs.EncodeEvents.{code_events, plain_events}
 use Rattle.legacy_base.specs.SingleByte.{single_byte_code}
@@ -13,9 +13,7 @@ use Rattle.legacy_base.specs.ShiftJis.{shift_jis_code}
 use Rattle.legacy_base.specs.EucJp.{euc_jp_code}
 use Rattle.legacy_base.specs.Gb18030.{gb18030_code, gbk_code}
 use Rattle.legacy_base.specs.Encoders as codecs
-use Rattle.legacy_tables.specs.Indexes.{gb18030_pua_of}
 use Rattle.legacy_tables.specs.Unicode.{AreScalars}
-use Rattle.std.specs.Prelude.{slice_index}
 use Rattle.std.specs.List.{position_or_len}
 use Rattle.std.proofs.lemmas.List.{get_or_past}
 use Rattle.std.proofs.lemmas.List.Sums.{position_or_len_is}
@@ -148,10 +146,7 @@ module _ (index : List ℕ) (ranges : List (ℕ × ℕ)) (pua : List (ℕ × ℕ
   gb18030-is : AreAcceptedRanges ranges → HasRangePointers index ranges pua → (c : ℕ) → IsScalar c →
       gb18030_encodes false index ranges pua c ≡ by_code c (gb18030_code index ranges pua c)
   unfolding gb18030_encodes gb18030_code
-  gb18030-is accepted ranged c s =
-      let same = λ (h : is_ascii c ≡ false) (k : (c == 0xE5E5) ≡ false) (r : gb18030_pua_of pua c ≡ None) (p : index_pointer index c ≡ None).
-      ranged_pointer ranges accepted c s (ranged c s h k r p) in
-      grind (arith, same)
+  gb18030-is accepted ranged c s = grind (arith, nat_tests, ranged_pointer)
 
   gbk-is : (c : ℕ) → gb18030_encodes true index ranges pua c ≡ by_code c (gbk_code index pua c)
   unfolding gb18030_encodes gbk_code

@@ -1,11 +1,12 @@
 -- In accepted ranges the last range at or before a scalar gives the pointer that the encoder takes.
+use Rattle.std.proofs.lemmas.Bool.Decides.{nat_tests}
 use Rattle.std.proofs.Common.{◌≡◌, ◌≢◌, ◌∙◌, ℕ, zero, suc, ◌+◌, ◌-◌, ◌≤◌, ◌<◌, Bool, true, false, cond, List, [], ◌∷◌, length, get_or, drop, Option, Some}
-use Rattle.std.proofs.Common.{None, nat_le, inl, inr, refl, sym, ap, arith}
+use Rattle.std.proofs.Common.{None, nat_le, inl, inr, refl, ap, arith}
 use Rattle.std.specs.Prelude.{is_some}
 use Rattle.std.specs.Option.{option_or}
 use Rattle.std.specs.Char.{IsScalar}
 use Rattle.std.proofs.lemmas.Bool.{cases_eq, cases_lt, eq-eqb, ne_eqb, false≢true}
-use borrow.Author.Tests.{leb-true, leb-false, le-leb, lt-leb}
+use borrow.Author.Tests.{leb-true, leb-false}
 use Rattle.legacy_tables.specs.Pointers.{range_pointer_of}
 use Rattle.legacy_tables.specs.TableChecks.{next_pointer}
 use Rattle.legacy_tables.proofs.Pointers.{range-fixed}
@@ -64,13 +65,4 @@ module _ (ranges : List (ℕ × ℕ)) (accepted : AreAcceptedRanges ranges) (c :
 
   pub ranged_pointer : IsScalar c → is_some (range_pointer_of ranges c) ≡ true → ranges_pointer ranges c ≡ range_pointer_of ranges c
   unfolding ranges_pointer
-  ranged_pointer scalar some = elim (cases_eq c 0xE7C7) [
-    | inl is ↦ rw (eq-eqb c 0xE7C7 is) (sym (range-fixed ranges c is))
-    | inr free ↦ elim (cases_lt c 0x1_0000) [
-      | inl low ↦ rw (ne_eqb c 0xE7C7 free, lt-leb 0x1_0000 c low) (narrow low free some)
-      | inr high ↦ rw (ne_eqb c 0xE7C7 free, le-leb 0x1_0000 c high) (wide-pointer ranges accepted.valued c high (below scalar))
-    ]
-  ]
-    where
-      below : IsScalar c → c < 0x11_0000
-      below s = grind arith
+  ranged_pointer scalar some = grind (arith, nat_tests, eq-eqb, range-fixed, ne_eqb, narrow, wide-pointer)

@@ -6,14 +6,12 @@ use Rattle.legacy_standard.specs.TextQueue.{TextItem, scalar, end_of_queue, Text
 use Rattle.legacy_standard.specs.TextQueue.{act_on, process, Encodes}
 use Rattle.legacy_base.specs.Encoders.{Codec, new_encoder, encoded}
 use Rattle.legacy_tables.specs.Unicode.{AreScalars}
-use Rattle.legacy_standard.proofs.OneResult.{Agrees, agrees-map}
+use Rattle.legacy_standard.proofs.OneResult.{Agrees}
 
 module _ {S : Type 0} (handler : S → TextItem → TextHandled S) where
   agrees-act : (go more : S → List ℕ → Option (List EncodeEvent)) → ((s : S) (queue : List ℕ) → Agrees (go s queue) (more s queue)) →
       (o : TextOutcome) (s : S) (queue : List ℕ) → Agrees (act_on go o s queue) (act_on more o s queue)
-  agrees-act go more h finished s queue = refl
-  agrees-act go more h (bytes bs) s queue = agrees-map (λ events. map Byte bs ++ events) (go s queue) (more s queue) (h s queue)
-  agrees-act go more h (error_with c) s queue = agrees-map (λ events. Unmappable c ∷ events) (go s queue) (more s queue) (h s queue)
+  agrees-act go more h o s queue = grind arith
 
   agrees : (m n : ℕ) → m ≤ n → (s : S) (queue : List ℕ) → Agrees (process handler m s queue) (process handler n s queue)
   unfolding process

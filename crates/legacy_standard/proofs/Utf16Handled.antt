@@ -2,7 +2,7 @@
 use Rattle.std.proofs.Common.{◌≡◌, ℕ, zero, suc, ◌+◌, ◌*◌, ◌≤◌, Bool, List, [], ◌∷◌, ◌++◌, length, Some, None, inl, inr, refl, true, false, arith}
 use Rattle.std.specs.Prelude.{◌&&◌}
 use Rattle.std.specs.Char.Utf16.{is_high_surrogate, is_low_surrogate, surrogate_pair_char}
-use Rattle.std.proofs.lemmas.Bool.{cases_Bool, cond_both, and_from, and_left, and_right}
+use Rattle.std.proofs.lemmas.Bool.{cases_Bool, cond_both, and_left, and_right}
 use Rattle.std.proofs.lemmas.List.Elements.{All-head, All-tail}
 use Rattle.legacy_base.specs.declared.results.DecodeEvent.{DecodeEvent}
 use Rattle.legacy_base.specs.declared.results.DecodeEvent.TheVariants.{Scalar, Bad}
@@ -42,9 +42,7 @@ module _ (is_utf16be : Bool) where
   pair-events : (i u v : ℕ) (units : List ℕ) (odd : Bool) → is_high_surrogate u ≡ true → is_low_surrogate v ≡ true →
       units_events i (u ∷ v ∷ units) odd ≡ Scalar (surrogate_pair_char u v) ∷ units_events (i + 2) units odd
   unfolding units_events
-  pair-events i u v units odd h l =
-      let e : (is_high_surrogate u && is_low_surrogate v) ≡ true = and_from (is_high_surrogate u) (is_low_surrogate v) h l in
-      rw (e, units_events)
+  pair-events i u v units odd h l = grind arith
 
   -- two code units that are no surrogate pair
   unpaired-events : (i u v : ℕ) (units : List ℕ) (odd : Bool) → (is_high_surrogate u && is_low_surrogate v) ≡ false →

@@ -1,5 +1,5 @@
 use Rattle.std.proofs.Common.{◌≡◌, ◌∙◌, ℕ, ◌+◌, ◌-◌, ◌/◌, ◌%◌, ◌≤◌, ◌<◌, true, false, List, [], ◌∷◌, ◌++◌, length, Some, None, nat_lt, inl, inr, refl}
-use Rattle.std.proofs.Common.{sym, ap, subst, arith}
+use Rattle.std.proofs.Common.{sym, ap, subst, arith, rules}
 use Rattle.std.specs.Prelude.{replicate, slice_index, option_map}
 use Rattle.std.specs.Int.{is_in_range}
 use Rattle.std.proofs.lemmas.List.{get_or-replicate, get_or-append_right, length-replicate, length-append}
@@ -111,39 +111,12 @@ fold c h =
 pub returns-clause-bytes : goal.returns-clause-bytes
 unfolding process single_byte_handler user_defined_handler replacement_handler euc_kr_handler big5_handler shift_jis_handler euc_jp_handler gb18030_handler
     utf16_handler iso_2022_jp_handler range mode_after part_mode
-returns-clause-bytes c = record {
-  single_byte = refl;
-  user_defined = refl;
-  replacement = refl;
-  utf16le = refl;
-  utf16be = refl;
-  euc_kr = refl;
-  big5 = refl;
-  shift_jis = refl;
-  euc_jp = refl;
-  gb18030 = refl;
-  iso_2022_jp = refl;
-  escape_meets = refl;
-  lead_before_escape = refl;
-  escape_byte = refl;
-  last_lead = refl;
-  katakana_byte = refl;
-}
+returns-clause-bytes c = search rules
 
 pub returns-clause-texts : goal.returns-clause-texts
 unfolding text_queue.process single_byte_encodes user_defined_encodes euc_kr_encodes big5_encodes shift_jis_encodes euc_jp_encodes gb18030_encodes
     iso_2022_jp_encodes ranges_pointer first_pointer last_pointer
-returns-clause-texts c = record {
-  single_byte = refl;
-  user_defined = refl;
-  euc_kr = refl;
-  big5 = refl;
-  shift_jis = refl;
-  euc_jp = refl;
-  gb18030 = refl;
-  gbk = refl;
-  iso_2022_jp = refl;
-}
+returns-clause-texts c = search rules
 
 pub returns-clause-without_pointers : goal.returns-clause-without_pointers
 unfolding text_queue.process shift_jis_encodes euc_jp_encodes gb18030_encodes ranges_pointer iso_2022_jp_encodes first_pointer plain_events
