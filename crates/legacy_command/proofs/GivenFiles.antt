@@ -48,3 +48,14 @@ one_more_well_formed (w ∷ []) name text later files h n f e k = absurd (omega 
 one_more_well_formed (v ∷ w ∷ words) name text later files h n f e k =
     let P : Option FileIndex → Type 0 = λ o. IsWellFormed o text.now in
     rw f (subst P (sym n) e, k)
+
+-- if no file has a malformed line, the first has none, and the later ones have none
+pub first_and_later_well_formed : (words : List (Bor (List ℕ))) (name : FileIndex) (text : Bor (List ℕ)) (later files : List (Option (Bor (List ℕ)))) →
+    2 ≤ length words → first_index_named (texts_of words) ≡ Some name → files ≡ Some text ∷ later → AreWellFormed (texts_of words) (contents_of files)
+    → (first_malformed name 1 (lines text.now) ≡ None) × AreWellFormed (texts_of (drop 2 words)) (contents_of later)
+first_and_later_well_formed [] name text later files h n f k = absurd (omega arith)
+first_and_later_well_formed (w ∷ []) name text later files h n f k = absurd (omega arith)
+first_and_later_well_formed (v ∷ w ∷ words) name text later files h n f k =
+    let P : Option FileIndex → Type 0 = λ o. IsWellFormed o text.now in
+    let both = rw f at k in
+    (subst P n both.0, both.1)

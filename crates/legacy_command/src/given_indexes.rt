@@ -1,5 +1,5 @@
 //! The indexes that the program reads from files.
-ghost use Rattle.std.specs.Prelude.{◌≡◌, [], IfOk, OnOk, IsTrue, length};
+ghost use Rattle.std.specs.Prelude.{◌≡◌, [], IfErr, IfOk, OnOk, IsTrue, length};
 ghost use Rattle.legacy_index_files.specs.OwnedIndexes.{HoldsTexts};
 ghost use Rattle.legacy_command.specs.Words.{texts_of, are_indexes};
 ghost use Rattle.legacy_command.specs.IndexTexts.{text_given, contents_of, AreWellFormed};
@@ -24,6 +24,8 @@ pub fn read_files<'a>(
     ensures texts { IfOk result (HoldsTexts (text_given (texts_of words.now) (contents_of files.now))) }
     ensures well_formed { OnOk result
         (AreWellFormed (texts_of words.now) (contents_of files.now)) }
+    ensures fault { AreWellFormed (texts_of words.now) (contents_of files.now)
+        → IfErr result (λ fault. fault ≡ Fault.Memory) }
     ensures katakana { IfOk result (λ indexes. indexes.katakana.items ≡ []) }
 {
     let [_index, file, later_words @ ..] = words else {
