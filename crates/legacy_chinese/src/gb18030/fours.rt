@@ -1,8 +1,9 @@
 //! Decodes blocks of GB18030: sequences of four bytes with ASCII bytes between them, and common sequences.
 // Functions that run for each sequence or block are always inlined. A call would pass vectors through memory, and keep
 // the destination's place there.
-ghost use Rattle.std.specs.Prelude.{◌≡◌, ◌<◌, ◌≤◌, [], ◌∷◌, length, take, true, IfSome};
+ghost use Rattle.std.specs.Prelude.{◌≡◌, ◌<◌, ◌≤◌, [], ◌∷◌, length, take, true, Some, IfSome};
 ghost use Rattle.legacy_tables.specs.Indexes.{range};
+ghost use Rattle.legacy_tables.specs.RangeParts.{IsRangePart};
 ghost use Rattle.legacy_base.specs.Grammar.{gb18030};
 ghost use Rattle.legacy_base.specs.States.{new_state};
 ghost use Rattle.legacy_decoder_engine.specs.Ahead.{ReadsAhead, Runs};
@@ -17,7 +18,7 @@ use legacy_decoder_engine::lanes::{LaneCodec, LaneForms, narrow_entries, read_co
 use legacy_decoder_engine::places::{ROWS_OF_190, pair_pointer};
 use legacy_decoder_engine::runs::{Blocks, read_ascii};
 use legacy_decoder_engine::split_rows::{lead_places, place_sums, trail_places};
-use legacy_tables::{DecoderTables, FlatTables, Ranges};
+use legacy_tables::{DecoderTables, FlatTables, RangePart, Ranges};
 use std::cell::Cell;
 use std::simd::prelude::*;
 
@@ -58,6 +59,26 @@ pub(super) fn guessed_scalar(
         Some(scalar) => Some(scalar),
         None => far_scalar(ranges, guess, pointer),
     }
+}
+
+/// Returns the scalar of a pointer and the pointers of its range, or `None` if it has none. It tries a part first.
+#[inline(always)]
+fn scalar_and_part(
+    ranges: Ranges<'_>,
+    guess: &Cell<usize>,
+    part: RangePart,
+    pointer: usize,
+) -> Option<(char, RangePart)>
+    requires part { IsRangePart ranges.list.now part }
+    requires small { pointer < 0x1_0000_0000 }
+    ensures { IfSome result (λ found. (range ranges.entry.list.now pointer ≡ Some found.0)
+        × IsRangePart ranges.entry.list.now found.1) }
+{
+    if let Some(scalar) = ranges.scalar_in(part, pointer) {
+        return Some((scalar, part));
+    }
+    let scalar = far_scalar(ranges, guess, pointer)?;
+    Some((scalar, ranges.part_at(guess.get())))
 }
 
 /// The blocks of GB18030 over flat tables, if nothing is held back.
@@ -141,15 +162,12 @@ impl Gb18030Blocks<'_, '_> {
                 }
             } else {
                 let pointer = four_pointer(byte, src[at + 1], src[at + 2], src[at + 3]);
-                if let Some(scalar) = ranges.scalar_in(part, pointer) {
-                    dst.put(scalar);
-                } else {
-                    let Some(scalar) = far_scalar(ranges, self.guess, pointer) else {
-                        return at;
-                    };
-                    dst.put(scalar);
-                    part = ranges.part_at(self.guess.get());
-                }
+                let Some((scalar, found)) = scalar_and_part(ranges, self.guess, part, pointer)
+                else {
+                    return at;
+                };
+                part = found;
+                dst.put(scalar);
                 at += 4;
             }
         }

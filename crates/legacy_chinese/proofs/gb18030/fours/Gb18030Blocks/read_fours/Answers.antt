@@ -1,11 +1,10 @@
-use Rattle.std.proofs.Common.{ℕ, ◌+◌, ◌<◌, length, get_or, ap, sym, arith}
+use Rattle.std.proofs.Common.{◌+◌, ◌<◌, length, get_or, ap, arith}
 use Rattle.legacy_base.specs.Grammar.{gb18030}
 use Rattle.legacy_decoder_engine.proofs.JoinedRuns.{reads_front}
 use Rattle.legacy_decoder_engine.proofs.WrittenRuns.{runs_byte, code_units_ascii, writes_none, writes_one, writes_four, four_fit}
 use Rattle.legacy_chinese.proofs.Gb18030Held.{ascii}
 use Rattle.legacy_chinese.proofs.FourPlaces.{four_at}
 use Rattle.legacy_chinese.proofs.gb18030.fours.Gb18030Blocks.read_fours.Goals as goal
-use Rattle.legacy_chinese.proofs.gb18030.fours.Gb18030Blocks.read_fours.Goals.{in-Some, in_default+in-Some-far_scalar}
 
 pub loop-at-init : goal.loop-at-init
 loop-at-init g c =
@@ -51,15 +50,10 @@ loop-at-preserved-else-src-at-lt128 g c =
       i.6,
     )
 
-pub put-requires-in-Some : goal.put-requires-in-Some
-put-requires-in-Some g c =
+pub put-requires-else-byte-lt128 : goal.put-requires-else-byte-lt128
+put-requires-else-byte-lt128 g c =
     let i = c.loop-at.invariant in
     four_fit g.T.Destination.form c.in-Some.scalar _ (omega (arith, i.2, i.3, c.loop-at-test.true))
-
-pub put-requires-in_default : goal.put-requires-in_default
-put-requires-in_default g c =
-    let i = c.loop-at.invariant in
-    four_fit g.T.Destination.form c.in-Some-far_scalar.scalar _ (omega (arith, i.2, i.3, c.loop-at-test.true))
 
 pub loop-at-preserved : goal.loop-at-preserved
 loop-at-preserved g c =
@@ -68,30 +62,16 @@ loop-at-preserved g c =
     let src = c.args.src.now in
     let at = c.loop-at.at in
     let i = c.loop-at.invariant in
-    let run = λ (x : ℕ). four_at tables c.ranges-ranges.result.list.now c.four_pointer-pointer.result (get_or src at 0) (get_or src (at + 1) 0) (get_or src (at + 2) 0)
-    (get_or src (at + 3) 0) x c.ranges-ranges.ensures c.four_pointer-pointer.ensures.place in
-    elim c.match-scalar_in.branch [
-      | in-Some w ↦
-          let e = w.put-in-Some.ensures in
-          rw (w.dst-is, w.part-is) (
-            omega (arith, i.0, c.loop-at-test.true),
-            i.1,
-            i.2,
-            omega (arith, i.3, four_fit T.form w.in-Some.scalar 4 (omega arith), e.room),
-            writes_four T src at w.in-Some.scalar (omega (arith, i.0, i.1, c.loop-at-test.true)) i.4 (run w.in-Some.scalar w.in-Some.ensures) e.contents e.room e.loan,
-            i.5,
-            i.6,
-          )
-      | in_default+in-Some-far_scalar w ↦
-          let x = w.in-Some-far_scalar.scalar in
-          let e = w.put-in_default.ensures in
-          rw (w.dst-is, w.part-is) (
-            omega (arith, i.0, c.loop-at-test.true),
-            i.1,
-            i.2,
-            omega (arith, i.3, four_fit T.form x 4 (omega arith), e.room),
-            writes_four T src at x (omega (arith, i.0, i.1, c.loop-at-test.true)) i.4 (run x (sym w.in-Some-far_scalar.ensures)) e.contents e.room e.loan,
-            i.5,
-            w.part_at-part-in_default.ensures,
-          )
-    ]
+    let e = c.put-else-byte-lt128.ensures in
+    let x = c.in-Some.scalar in
+    let found = c.in-Some.ensures in
+    let run = four_at tables c.ranges-ranges.result.list.now c.four_pointer-pointer.result (get_or src at 0) (get_or src (at + 1) 0) (get_or src (at + 2) 0)
+    (get_or src (at + 3) 0) x c.ranges-ranges.ensures c.four_pointer-pointer.ensures.place found.0 in (
+      omega (arith, i.0, c.loop-at-test.true),
+      i.1,
+      i.2,
+      omega (arith, i.3, four_fit T.form x 4 (omega arith), e.room),
+      writes_four T src at x (omega (arith, i.0, i.1, c.loop-at-test.true)) i.4 run e.contents e.room e.loan,
+      i.5,
+      found.1,
+    )
