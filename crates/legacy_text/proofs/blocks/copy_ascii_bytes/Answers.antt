@@ -1,11 +1,10 @@
+use Rattle.std.proofs.lemmas.Grind.{common_steps}
+use Rattle.std.proofs.Common.{arith}
 use Rattle.legacy_text.proofs.Ascii.{ascii_behind, stored_next, all_behind}
 use Rattle.legacy_text.proofs.blocks.copy_ascii_bytes.Goals as goal
 
 pub returns-clause-ascii : goal.returns-clause-ascii
-returns-clause-ascii c =
-    let front = c.copy_blocks-front.result.0 in
-    let e = rw (all_behind front c.args.bytes.now) at c.copy_blocks-rest.ensures in
-    ascii_behind c.args.bytes.now front c.copy_blocks-rest.result.0 c.copy_blocks-front.ensures.ascii e.ascii
+returns-clause-ascii c = grind (arith, common_steps, all_behind, ascii_behind)
 
 pub returns-clause-stored : goal.returns-clause-stored
 returns-clause-stored c =

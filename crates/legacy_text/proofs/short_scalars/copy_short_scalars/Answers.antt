@@ -1,12 +1,10 @@
-use Rattle.std.proofs.Common.{◌≡◌, ◌+◌, take, ap, add-zero, arith}
+use Rattle.std.proofs.lemmas.Grind.{common_steps}
+use Rattle.std.proofs.Common.{◌≡◌, ◌+◌, add-zero, arith}
 use Rattle.legacy_text.proofs.ShortScalars.{scalars_none, scalars_append}
 use Rattle.legacy_text.proofs.short_scalars.copy_short_scalars.Goals as goal
 
 pub loop-place-init : goal.loop-place-init
-loop-place-init g c = (
-  omega (arith, c.requires.room),
-  scalars_none _ c.args.bytes.now c.args.start _ _ c.requires.place c.requires.text (ap (λ n. take n c.args.dst.now) (add-zero c.args.at)),
-)
+loop-place-init g c = grind (arith, common_steps, scalars_none, add-zero)
 
 pub overflow_sub-bytes : goal.overflow_sub-bytes
 overflow_sub-bytes g c = c.loop-place.invariant.1.within

@@ -1,3 +1,4 @@
+use Rattle.std.proofs.lemmas.Grind.{common_steps}
 use Rattle.std.proofs.Common.{◌≡◌, ◌∙◌, ◌+◌, ◌<◌, length, take, ap, refl, add-zero, arith, slice_set}
 use Rattle.std.proofs.lemmas.Bool.{ltb-true}
 use Rattle.std.proofs.lemmas.List.{take-set-le, take_more_set}
@@ -46,10 +47,7 @@ pub returns-then-is_known-clause-before : goal.returns-then-is_known-clause-befo
 returns-then-is_known-clause-before g c = c.loop-k.invariant.2
 
 pub returns-then-is_known-clause-turn : goal.returns-then-is_known-clause-turn
-returns-then-is_known-clause-turn g c =
-    let i = c.loop-k.invariant in
-    let eight : c.loop-k.k ≡ 8 = omega (arith, i.0, c.loop-k-test.false) in
-    rw eight at (i.3 c.if-is_known.true)
+returns-then-is_known-clause-turn g c = grind (arith, common_steps)
 
 pub returns-else-is_known-clause-before : goal.returns-else-is_known-clause-before
 returns-else-is_known-clause-before g c = c.loop-k.invariant.2

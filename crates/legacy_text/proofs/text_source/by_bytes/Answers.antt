@@ -1,3 +1,4 @@
+use Rattle.std.proofs.lemmas.Grind.{common_steps}
 use Rattle.std.proofs.Common.{◌≡◌, ◌∙◌, ◌+◌, ◌*◌, ◌%◌, arith, refl, sym, subst}
 use Rattle.std.specs.Char.{IsScalar}
 use Rattle.legacy_text.proofs.Texts.{stands_one, stands_four, made_of_two, made_of_three}
@@ -19,10 +20,7 @@ bounds-bytes-place-then-first-lt240-2 c =
     omega (arith, made.within)
 
 pub scalar_of-requires : goal.scalar_of-requires
-scalar_of-requires c =
-    let made = made_of_two c.requires.stands (omega (arith, c.from-first.ensures)) (omega (arith, c.from-first.ensures)) in
-    let is : c.from-first.result % 0x20 * 0x40 + c.from-second.result % 0x40 ≡ c.args.c = rw (c.from-first.ensures, c.from-second.ensures) made.made in
-    subst IsScalar (sym is) c.ranges.c.0
+scalar_of-requires c = grind (arith, common_steps, made_of_two)
 
 pub scalar_of-requires-then-first-lt240 : goal.scalar_of-requires-then-first-lt240
 scalar_of-requires-then-first-lt240 c =

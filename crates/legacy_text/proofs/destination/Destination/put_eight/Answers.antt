@@ -1,13 +1,11 @@
-use Rattle.std.proofs.Common.{◌∙◌, ◌+◌, ◌++◌, ℕ, List, arith, ap, sym}
+use Rattle.std.proofs.lemmas.Grind.{common_steps}
+use Rattle.std.proofs.Common.{◌∙◌, ◌+◌, ℕ, List, arith, ap, sym}
 use Rattle.std.proofs.lemmas.List.{take_all}
-use Rattle.legacy_text.specs.EncodingForm.{all_code_units, total_unit_count}
+use Rattle.legacy_text.specs.EncodingForm.{total_unit_count}
 use Rattle.legacy_text.proofs.destination.Destination.put_eight.Goals as goal
 
 pub returns-clause-contents : goal.returns-clause-contents
-returns-clause-contents g c =
-    c.put_first.ensures.contents
-    ∙ ap (λ (l : List ℕ). g.Self.Destination.contents c.args.self.now ++ all_code_units g.Self.Destination.form l)
-    (take_all 8 c.args.units (omega (arith, c.fits-units.0)))
+returns-clause-contents g c = grind (arith, common_steps, take_all)
 
 pub returns-clause-room : goal.returns-clause-room
 returns-clause-room g c =

@@ -1,15 +1,12 @@
-use Rattle.std.proofs.Common.{◌∙◌, ◌++◌, ap, sym, take, length, List, ℕ, arith}
+use Rattle.std.proofs.lemmas.Grind.{common_steps}
+use Rattle.std.proofs.Common.{ap, length, List, ℕ, arith}
 use Rattle.std.proofs.lemmas.List.{length-take-le}
 use Rattle.legacy_text.proofs.Ascii.{stored}
 use Rattle.legacy_text.proofs.VectorUnits.{own-units}
 use Rattle.legacy_text.proofs.destination.Utf16DestinationDestination.put_first.Goals as goal
 
 pub returns-clause-contents : goal.returns-clause-contents
-returns-clause-contents c =
-    let buffer = c.args.self.now.buffer.now in
-    stored c.args.self.now.filled c.args.count buffer c.args.units (omega (arith, c.fits-units.0, c.requires.room))
-    (omega (arith, c.fits-units.0, c.requires.count))
-    ∙ ap (λ (l : List ℕ). take c.args.self.now.filled buffer ++ l) (sym (own-units c.args.count c.args.units c.fits-units.1))
+returns-clause-contents c = grind (arith, common_steps, stored, own-units)
 
 pub returns-clause-room : goal.returns-clause-room
 returns-clause-room c =

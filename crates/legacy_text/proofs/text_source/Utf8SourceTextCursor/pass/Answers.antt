@@ -1,5 +1,5 @@
-use Rattle.std.proofs.Common.{◌∙◌, ap, drop}
-use Rattle.std.specs.Str.{chars}
+use Rattle.std.proofs.lemmas.Grind.{common_steps}
+use Rattle.std.proofs.Common.{arith}
 use Rattle.legacy_text.proofs.Texts.{utf8_pass}
 use Rattle.legacy_text.proofs.text_source.Utf8SourceTextCursor.pass.Goals as goal
 
@@ -15,7 +15,4 @@ invariant_of-self c =
     record { in_range = rw c.place_behind-self.ensures p.0; is_text = rw c.place_behind-self.ensures p.1 }
 
 pub returns-clause-left : goal.returns-clause-left
-returns-clause-left c =
-    let s = c.args.self.now in
-    let p = utf8_pass s.text.now s.place c.args.count s.in_range s.is_text c.requires.some c.requires.count in
-    ap (λ n. chars (drop n s.text.now)) c.place_behind-self.ensures ∙ p.2
+returns-clause-left c = grind (arith, common_steps, utf8_pass)
