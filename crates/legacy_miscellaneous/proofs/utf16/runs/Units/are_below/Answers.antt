@@ -30,5 +30,6 @@ loop-group-preserved c = record {
 }
 
 pub returns : goal.returns
-returns c t k h = c.loop-group.invariant.below c.args.bound (λ j l. All-get_or (λ u. u < c.args.bound) c.loop-group.greatest j 0 l (c.are_all_below.ensures.0 t))
+returns c t k h =
+    c.loop-group.invariant.below c.args.bound (λ j l. All-get_or (λ u. u < c.args.bound) c.loop-group.greatest j 0 l (c.are_all_below.ensures.0 t))
     k (omega (arith, h, c.loop-group-test.false, c.loop-group.invariant.within))

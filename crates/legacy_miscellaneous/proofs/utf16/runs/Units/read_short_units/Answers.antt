@@ -13,13 +13,15 @@ loop-group-init g c =
 pub put_eight_short-requires-clause-scalars : goal.put_eight_short-requires-clause-scalars
 put_eight_short-requires-clause-scalars g c =
     let units = c.eight_units-units in
-    let short = short_eight c.args.self.now.big_endian c.args.src.now units.result c.loop-group.group c.args.eights c.requires.short c.loop-group-test.true units.ensures in
+    let short = short_eight c.args.self.now.big_endian c.args.src.now units.result c.loop-group.group c.args.eights c.requires.short
+    c.loop-group-test.true units.ensures in
     All-from_get_or IsScalar units.result 0 (λ k h. below_scalar _ (short k (omega (arith, h, units.type_inv))))
 
 pub put_eight_short-requires-clause-short : goal.put_eight_short-requires-clause-short
 put_eight_short-requires-clause-short g c =
     let units = c.eight_units-units in
-    let short = short_eight c.args.self.now.big_endian c.args.src.now units.result c.loop-group.group c.args.eights c.requires.short c.loop-group-test.true units.ensures in
+    let short = short_eight c.args.self.now.big_endian c.args.src.now units.result c.loop-group.group c.args.eights c.requires.short
+    c.loop-group-test.true units.ensures in
     All-from_get_or (λ u. u < 0x800) units.result 0 (λ k h. short k (omega (arith, h, units.type_inv)))
 
 pub loop-group-preserved : goal.loop-group-preserved
@@ -27,7 +29,8 @@ loop-group-preserved g c =
     let units = c.eight_units-units in
     let i = c.loop-group.invariant in
     let e = c.put_eight_short.ensures in
-    let short = short_eight c.args.self.now.big_endian c.args.src.now units.result c.loop-group.group c.args.eights c.requires.short c.loop-group-test.true units.ensures in
+    let short = short_eight c.args.self.now.big_endian c.args.src.now units.result c.loop-group.group c.args.eights c.requires.short
+    c.loop-group-test.true units.ensures in
     let more = eight_more g.T.Destination c.args.self.now.big_endian c.args.src.now units.result c.loop-group.group
     (λ k. let f = c.type_inv.src k in omega arith)
     (omega (arith, c.loop-group-test.true, c.requires.source)) (omega (arith, units.type_inv)) i.room i.writes
