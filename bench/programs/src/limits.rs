@@ -128,6 +128,7 @@ fn encode<E: RawEncoder>(part: Part, name: &str, make: impl Fn() -> E, Text(bloc
     check(&format!("{name} from UTF-8"), make().encode_from_utf8_raw(text, output.units, true), answer(text.len(), count * bytes));
     let units = |text: &str| text.encode_utf16().collect::<Vec<u16>>();
     let (source, count) = Mapped::source(&units(block), &units(end));
+    let output = Mapped::<u8>::new(count * bytes / SEGMENT + 2);
     check(&format!("{name} from UTF-16"), make().encode_from_utf16_raw(source.units, output.units, true), answer(source.units.len(), count * bytes));
 }
 
