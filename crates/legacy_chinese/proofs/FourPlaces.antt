@@ -60,7 +60,8 @@ four_placed tables a b c d x e = go (is_lead a) (is_ascii_digit b) (is_lead c) (
     none p h e = let past = range_past tables.flat.ranges p h in cc
 
     go : (l m n o : Bool) → is_lead a ≡ l → is_ascii_digit b ≡ m → is_lead c ≡ n → is_ascii_digit d ≡ o
-        → range tables.flat.ranges (1260 * (cond l (10 * (a - 0x81)) 1_240_000 + cond m (b - 0x30) 1_240_000) + (cond n (10 * (c - 0x81)) 1_240_000 + cond o (d - 0x30) 1_240_000)) ≡ Some x
+        → range tables.flat.ranges (1260 * (cond l (10 * (a - 0x81)) 1_240_000 + cond m (b - 0x30) 1_240_000)
+        + (cond n (10 * (c - 0x81)) 1_240_000 + cond o (d - 0x30) 1_240_000)) ≡ Some x
         → Runs (gb18030 tables.flat.gb18030 tables.flat.ranges) (a ∷ b ∷ c ∷ d ∷ []) (x ∷ [])
     go true true true true u v w y e =
         let first = lead_bounds a u in
@@ -75,6 +76,8 @@ four_placed tables a b c d x e = go (is_lead a) (is_ascii_digit b) (is_lead c) (
     go true true true false u v w y e = none _ (omega arith) e
 
 -- the same of a number that is the pointer, and a list that is the ranges
-pub four_at : (tables : AcceptedIndexes) (list : List (ℕ × ℕ)) (p a b c d x : ℕ) → list ≡ tables.flat.ranges → p ≡ four_place a b c d → range list p ≡ Some x
+pub four_at : (tables : AcceptedIndexes) (list : List (ℕ × ℕ)) (p a b c d x : ℕ) → list ≡ tables.flat.ranges → p ≡ four_place a b c d
+    → range list p ≡ Some x
     → Runs (gb18030 tables.flat.gb18030 tables.flat.ranges) (a ∷ b ∷ c ∷ d ∷ []) (x ∷ [])
-four_at tables list p a b c d x same place e = four_placed tables a b c d x (ap (λ l. range l (four_place a b c d)) (sym same) ∙ ap (range list) (sym place) ∙ e)
+four_at tables list p a b c d x same place e =
+    four_placed tables a b c d x (ap (λ l. range l (four_place a b c d)) (sym same) ∙ ap (range list) (sym place) ∙ e)

@@ -22,9 +22,11 @@ loop-at-preserved g c =
     let form = c.in-Some.ensures in
     let l = length-take (length src - at) (drop at src) in
     let d = length-drop at src in
+    let rest = take (length src - at) (drop at src) in
+    let put = writes_put T (take c.in-Some.length rest) c.in-Some.scalar form.2 e.contents e.room e.loan in
     let small = four_fit T.form c.in-Some.scalar 4 (omega arith) in (
       omega (arith, i.0, form.1, l, d),
-      writes_run T src at c.in-Some.length i.1 (writes_put T (take c.in-Some.length (take (length src - at) (drop at src))) c.in-Some.scalar form.2 e.contents e.room e.loan),
+      writes_run T src at c.in-Some.length i.1 put,
       λ h. omega (arith, c.free.ensures, c.if-free-ge7.true, e.room, small),
       λ h. omega (arith, c.free.ensures, c.if-free-ge7.true, i.1.room),
     )
