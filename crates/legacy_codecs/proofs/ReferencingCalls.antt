@@ -13,7 +13,7 @@ use Rattle.legacy_base.specs.declared.results.EncoderResult.{EncoderResult}
 use Rattle.legacy_base.specs.declared.results.EncoderResult.TheVariants.{InputEmpty, OutputFull, Unmappable}
 use Rattle.legacy_text.specs.EncodingForm.{EncodingForm, total_unit_count}
 use Rattle.legacy_base.specs.Encoders.{EncoderState, encoded, end_bytes, encoder_need, encoder_answer}
-use Rattle.legacy_base.specs.EncoderCalls.{EncoderCall, EncoderLacksRoom, tells_end, reported}
+use Rattle.legacy_base.specs.EncoderCalls.{EncoderCall, tells_end, reported}
 use Rattle.legacy_base.proofs.Beginnings.{begins_later}
 use Rattle.legacy_base.proofs.EncoderLaws.{end-encoded, encoder_need-small}
 use Rattle.legacy_codecs.specs.declared.results.CoderResult.TheVariants as coder

@@ -1,11 +1,14 @@
 -- What was written if a read, a write or a flush failed.
-use Rattle.std.proofs.Common.{◌≡◌, ◌∙◌, ◌++◌, List, ℕ, Option, Some, None, ◌⊎◌, inl, inr, refl, Result, Ok, Err, OnErr, OnOk, Bool}
-use Rattle.std.specs.Io.KnownBytes.{Appends, Keeps}
+use Rattle.std.proofs.Common.{◌≡◌, List, ℕ, Bool, Option, ◌⊎◌, inl, inr, refl, Result, Ok, Err, OnErr, OnOk}
+use Rattle.std.specs.Io.KnownBytes.{Keeps}
+use Rattle.std.proofs.KnownBytes.{Appends-kept}
+use Rattle.legacy_base.specs.declared.results.DecodeEvent.{DecodeEvent}
 use Rattle.legacy_base.specs.{Encoders.EncoderState, States.DecoderState}
 use Rattle.legacy_streams.specs.declared.recode.RecodeError.{RecodeError}
 use Rattle.legacy_streams.specs.declared.recode.RecodeError.TheVariants.{Read, Write}
-use Rattle.legacy_streams.specs.{Recoding.RecodesAll, Recoding.RecodesBeginning, Recoding.RecodesPartly, Text.WritesAll, Text.WritesBeginning, Text.WritesPartly}
-use Rattle.legacy_streams.specs.{Encoding.EncodesAll, Encoding.EncodesBeginning, Encoding.EncodesPartly, Encoding.EncodesFront, Encoding.Sends}
+use Rattle.legacy_streams.specs.Streams.{AppendsFront, DecodesAll, DecodesBeginning, DecodesPartly}
+use Rattle.legacy_streams.specs.{Recoding.RecodesBeginning, Recoding.RecodesPartly, Text.WritesBeginning, Text.WritesPartly}
+use Rattle.legacy_streams.specs.{Encoding.EncodesAll, Encoding.EncodesBeginning, Encoding.EncodesPartly, Encoding.EncodesUpTo}
 use Rattle.legacy_command.specs.declared.words.OutputKind.{OutputKind}
 use Rattle.legacy_command.specs.declared.words.OutputKind.TheVariants.{Lines, Text}
 use Rattle.legacy_command.specs.declared.host.Program.{Program}
@@ -47,127 +50,79 @@ some_encoded b a i j o p all = (a, inl all)
 
 -- ---- a flush changes nothing of what was written
 
-keeps : (o p q : Option (List ℕ)) (bs : List ℕ) → Appends o p bs → Keeps p q → Appends o q bs
-keeps None p q bs a k = tt
-keeps (Some x) None q bs a k = absurd a
-keeps (Some x) (Some y) None bs a k = absurd k
-keeps (Some x) (Some y) (Some z) bs a k = k ∙ a
+-- what is true of the events, with something weaker that is true of them
+module _ {b a : DecoderState} {i j : Option (List ℕ)} {Shown Weaker : List DecodeEvent → Type 0}
+    (weaker : (events : List DecodeEvent) → Shown events → Weaker events) where
+  weaker_all : DecodesAll b a i j Shown → DecodesAll b a i j Weaker
+  weaker_all r = record { bytes = r.bytes; read = r.read; at_end = r.at_end; shown = weaker _ r.shown; ended = r.ended }
+
+  weaker_beginning : DecodesBeginning b a i j Shown → DecodesBeginning b a i j Weaker
+  weaker_beginning r =
+      record { bytes = r.bytes; read = r.read; passed = r.passed; events = r.events; progress = r.progress; shown = weaker _ r.shown; beginning = r.beginning }
+
+  weaker_partly : DecodesPartly b a i j Shown → DecodesPartly b a i j Weaker
+  weaker_partly r = record {
+    bytes = r.bytes;
+    read = r.read;
+    last = r.last;
+    at_end = r.at_end;
+    passed = r.passed;
+    left = r.left;
+    events = r.events;
+    progress = r.progress;
+    shown = weaker _ r.shown;
+    beginning = r.beginning;
+  }
 
 module _ (i j o p q : Option (List ℕ)) (k : Keeps p q) where
-  lines_all : (b a : DecoderState) → RecodesAll b a i j o p → RecodesAll b a i j o q
-  lines_all b a r = record { bytes = r.bytes; read = r.read; at_end = r.at_end; written = keeps o p q _ r.written k; ended = r.ended }
-
-  lines_beginning : (b a : DecoderState) → RecodesBeginning b a i j o p → RecodesBeginning b a i j o q
-  lines_beginning b a r = record {
-    bytes = r.bytes;
-    read = r.read;
-    passed = r.passed;
-    events = r.events;
-    progress = r.progress;
-    written = keeps o p q _ r.written k;
-    beginning = r.beginning;
-  }
-
-  lines_partly : (b a : DecoderState) → RecodesPartly b a i j o p → RecodesPartly b a i j o q
-  lines_partly b a r = record {
-    bytes = r.bytes;
-    read = r.read;
-    last = r.last;
-    at_end = r.at_end;
-    passed = r.passed;
-    left = r.left;
-    events = r.events;
-    progress = r.progress;
-    sent = r.sent;
-    unsent = r.unsent;
-    lines = r.lines;
-    written = keeps o p q _ r.written k;
-    beginning = r.beginning;
-  }
-
-  text_all : (b a : DecoderState) (found : Bool) → WritesAll b a found i j o p → WritesAll b a found i j o q
-  text_all b a found r = record {
-    bytes = r.bytes;
-    read = r.read;
-    at_end = r.at_end;
-    found_is = r.found_is;
-    written = keeps o p q _ r.written k;
-    ended = r.ended;
-  }
-
-  text_beginning : (b a : DecoderState) → WritesBeginning b a i j o p → WritesBeginning b a i j o q
-  text_beginning b a r = record {
-    bytes = r.bytes;
-    read = r.read;
-    passed = r.passed;
-    events = r.events;
-    progress = r.progress;
-    written = keeps o p q _ r.written k;
-    beginning = r.beginning;
-  }
-
-  text_partly : (b a : DecoderState) → WritesPartly b a i j o p → WritesPartly b a i j o q
-  text_partly b a r = record {
-    bytes = r.bytes;
-    read = r.read;
-    last = r.last;
-    at_end = r.at_end;
-    passed = r.passed;
-    left = r.left;
-    events = r.events;
-    progress = r.progress;
-    sent = r.sent;
-    unsent = r.unsent;
-    text = r.text;
-    written = keeps o p q _ r.written k;
-    beginning = r.beginning;
-  }
+  front_kept : {bytes : List ℕ} → AppendsFront o p bytes → AppendsFront o q bytes
+  front_kept f = record { sent = f.sent; unsent = f.unsent; parts = f.parts; written = Appends-kept o p q _ f.written k }
 
   pub some_kept : (kind : OutputKind) (b : DecoderState) → RecodesSome kind b i j o p → RecodesSome kind b i j o q
-  some_kept Lines b (a, inl r) = (a, inl (lines_all b a r))
-  some_kept Lines b (a, inr (inl r)) = (a, inr (inl (lines_beginning b a r)))
-  some_kept Lines b (a, inr (inr r)) = (a, inr (inr (lines_partly b a r)))
-  some_kept Text b (a, inl (found, r)) = (a, inl (found, text_all b a found r))
-  some_kept Text b (a, inr (inl r)) = (a, inr (inl (text_beginning b a r)))
-  some_kept Text b (a, inr (inr r)) = (a, inr (inr (text_partly b a r)))
+  some_kept Lines b (a, inl r) = (a, inl (weaker_all (λ e w. Appends-kept o p q _ w k) r))
+  some_kept Lines b (a, inr (inl r)) = (a, inr (inl (weaker_beginning (λ e w. Appends-kept o p q _ w k) r)))
+  some_kept Lines b (a, inr (inr r)) = (a, inr (inr (weaker_partly (λ e w. front_kept w) r)))
+  some_kept Text b (a, inl (found, r)) = (a, inl (found, weaker_all (λ e w. (w.0, Appends-kept o p q _ w.1 k)) r))
+  some_kept Text b (a, inr (inl r)) = (a, inr (inl (weaker_beginning (λ e w. Appends-kept o p q _ w k) r)))
+  some_kept Text b (a, inr (inr r)) = (a, inr (inr (weaker_partly (λ e w. front_kept w) r)))
 
-  encoded_all : (b a : EncoderState) → EncodesAll b a i j o p → EncodesAll b a i j o q
-  encoded_all b a r = record { bytes = r.bytes; read = r.read; at_end = r.at_end; written = keeps o p q _ r.written k; ended = r.ended }
-
-  encoded_beginning : (b a : EncoderState) → EncodesBeginning b a i j o p → EncodesBeginning b a i j o q
-  encoded_beginning b a r = record {
-    bytes = r.bytes;
-    read = r.read;
-    held = r.held;
-    short = r.short;
-    scalars = r.scalars;
-    decodes = r.decodes;
-    events = r.events;
-    goes_on = r.goes_on;
-    written = keeps o p q _ r.written k;
-  }
-
-  encoded_partly : (b a : EncoderState) → EncodesPartly b a i j o p → EncodesPartly b a i j o q
-  encoded_partly b a r = record {
-    bytes = r.bytes;
-    read = r.read;
-    last = r.last;
-    at_end = r.at_end;
-    text = r.text;
-    is_text = r.is_text;
-    front = record {
-      events = r.front.events;
-      left = r.front.left;
-      goes_on = r.front.goes_on;
-      unsent = r.front.unsent;
-      sends = record { sent = r.front.sends.sent; parts = r.front.sends.parts; written = keeps o p q _ r.front.sends.written k };
-    };
+  up_to_kept : {b a : EncoderState} {text left waited waiting : List ℕ} {last : Bool} → EncodesUpTo b text last a left waited waiting o p
+      → EncodesUpTo b text last a left waited waiting o q
+  up_to_kept d = record {
+    events = d.events;
+    goes_on = d.goes_on;
+    sends = record { sent = d.sends.sent; parts = d.sends.parts; written = Appends-kept o p q _ d.sends.written k };
   }
 
   pub encoded_kept : (b : EncoderState) → EncodesSome b i j o p → EncodesSome b i j o q
-  encoded_kept b (a, inl r) = (a, inl (encoded_all b a r))
-  encoded_kept b (a, inr (inl r)) = (a, inr (inl (encoded_beginning b a r)))
-  encoded_kept b (a, inr (inr r)) = (a, inr (inr (encoded_partly b a r)))
+  encoded_kept b (a, inl r) =
+      (a, inl (record { bytes = r.bytes; read = r.read; at_end = r.at_end; written = Appends-kept o p q _ r.written k; ended = r.ended }))
+  encoded_kept b (a, inr (inl r)) = (
+    a,
+    inr (inl (record {
+      bytes = r.bytes;
+      read = r.read;
+      held = r.held;
+      short = r.short;
+      scalars = r.scalars;
+      decodes = r.decodes;
+      events = r.events;
+      goes_on = r.goes_on;
+      written = Appends-kept o p q _ r.written k;
+    })),
+  )
+  encoded_kept b (a, inr (inr r)) = (
+    a,
+    inr (inr (record {
+      bytes = r.bytes;
+      read = r.read;
+      last = r.last;
+      at_end = r.at_end;
+      text = r.text;
+      is_text = r.is_text;
+      front = (r.front.0, r.front.1, up_to_kept r.front.2);
+    })),
+  )
 
 pub untouched : (program : Program) (words : List (List ℕ)) (files : List (Option (List ℕ))) (i j o p : Option (List ℕ))
     → Untouched i j o p → IsStoppedBy program words files i j o p

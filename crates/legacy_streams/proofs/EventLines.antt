@@ -1,11 +1,11 @@
 -- Laws of event lines.
-use Rattle.std.proofs.Common.{◌≡◌, ◌∙◌, ℕ, zero, suc, zero-add, ◌+◌, ◌*◌, ◌-◌, ◌/◌, ◌%◌, ◌≤◌, ◌<◌, ◌^◌, List, [], ◌∷◌, ◌++◌, length, take, drop, set, map}
-use Rattle.std.proofs.Common.{get_or, refl, sym, ap, arith, append_assoc, append-nil}
-use Rattle.std.proofs.Common.{length-append, take-suc, add-one, decimal}
-use Rattle.std.proofs.lemmas.List.{drop-set, map-append}
+use Rattle.std.proofs.Common.{◌≡◌, ◌∙◌, ℕ, zero, suc, zero-add, ◌+◌, ◌*◌, ◌-◌, ◌/◌, ◌%◌, ◌≤◌, ◌<◌, ◌^◌, List, [], ◌∷◌, ◌++◌, length, map}
+use Rattle.std.proofs.Common.{refl, sym, ap, arith, append_assoc, append-nil}
+use Rattle.std.proofs.Common.{decimal}
 use Rattle.std.proofs.lemmas.Fmt.{decimal_step, decimal_digit, length-decimal-le}
 use Rattle.legacy_base.specs.declared.results.DecodeEvent.{DecodeEvent}
 use Rattle.legacy_base.specs.declared.results.DecodeEvent.TheVariants.{Scalar, Bad}
+use Rattle.legacy_codecs.proofs.ReferenceTexts.{length-decimal_one, length-decimal_more}
 use Rattle.legacy_streams.specs.Lines.{event_line, event_lines, lone_faults}
 use Rattle.legacy_streams.proofs.Hexadecimal.{glyph, last_four, hexadecimal_4, hexadecimal_5, hexadecimal_6}
 
@@ -45,19 +45,6 @@ pub no_lines : (o : List ℕ) → o ≡ o ++ event_lines []
 unfolding event_lines
 no_lines o = sym (append-nil o)
 
--- the lines of i + 1 scalars are those of i scalars and one more line
-pub one_more_line : (o : List ℕ) {a b : List ℕ} (scalars : List ℕ) (i c : ℕ) → i < length scalars → c ≡ get_or scalars i c
-    → a ≡ o ++ event_lines (map Scalar (take i scalars)) → b ≡ a ++ event_line (Scalar c)
-    → b ≡ o ++ event_lines (map Scalar (take (i + 1) scalars))
-one_more_line o scalars i c h e p q =
-    rw (q, p, add-one i, take-suc scalars i c h, map-append, event_lines-append, event_lines-one, ← e) (append_assoc o _ _)
-
-pub length-decimal_digit : (n : ℕ) → n < 10 → length (decimal n) ≡ 1
-length-decimal_digit n h = ap length (decimal_digit n h)
-
-pub length-decimal_more : (n : ℕ) → 10 ≤ n → n < 2 ^ 64 → length (decimal n) ≡ length (decimal (n / 10)) + 1
-length-decimal_more n h k = ap length (decimal_step n h k) ∙ length-append (decimal (n / 10)) ((48 + n % 10) ∷ [])
-
 pub length-decimal_20 : (n : ℕ) → n < 2 ^ 64 → length (decimal n) ≤ 20
 length-decimal_20 n h = length-decimal-le 20 n (omega arith) (omega arith) h
 
@@ -71,31 +58,13 @@ decimal_of_hundreds n h k =
     ∙ rw (tens, ten, one) (append_assoc (decimal (n / 100)) ((48 + n % 100 / 10) ∷ []) ((48 + n % 100 % 10) ∷ []))
 
 -- the number of decimal digits of a number
-pub ruleset decimal_lengths = (length-decimal_digit, length-decimal_more, length-decimal_20)
+pub ruleset decimal_lengths = (length-decimal_one, length-decimal_more, length-decimal_20)
 
 -- the lines of a call that reports a malformed sequence: those of its scalars, and then one for the sequence
 pub line_of_fault : (o : List ℕ) {a b : List ℕ} (scalars : List ℕ) {place n : ℕ} (read sequence back : ℕ)
     → a ≡ o ++ event_lines (map Scalar scalars) → b ≡ a ++ event_line (Bad place n) → place ≡ read - back - sequence → n ≡ sequence
     → b ≡ o ++ event_lines (map Scalar scalars ++ Bad (read - back - sequence) sequence ∷ [])
 line_of_fault o scalars read sequence back p q e f = rw (event_lines-append, event_lines-one, ← e, ← f, q, p) (append_assoc o _ _)
-
--- one step of writing digits from the last to the first: the next digit goes before those already written
-pub digit_before : (digits : List ℕ) (place rest all : ℕ) → 10 ≤ rest → rest < 2 ^ 64 → 1 ≤ place → place ≤ length digits
-    → decimal rest ++ drop place digits ≡ decimal all
-    → decimal (rest / 10) ++ drop (place - 1) (set digits (place - 1) (48 + rest % 10)) ≡ decimal all
-digit_before digits place rest all h k one within e =
-    let at : place - 1 < length digits = omega arith in
-    let next : place - 1 + 1 ≡ place = omega arith in
-    rw (drop-set digits (place - 1) (48 + rest % 10) at, next)
-    (sym (append_assoc (decimal (rest / 10)) ((48 + rest % 10) ∷ []) (drop place digits)) ∙ ap (λ l. l ++ drop place digits) (sym (decimal_step rest h k)) ∙ e)
-
--- the last step of writing digits from the last to the first
-pub last_digit : (digits : List ℕ) (place rest all : ℕ) → rest < 10 → 1 ≤ place → place ≤ length digits
-    → decimal rest ++ drop place digits ≡ decimal all → drop (place - 1) (set digits (place - 1) (48 + rest)) ≡ decimal all
-last_digit digits place rest all h one within e =
-    let at : place - 1 < length digits = omega arith in
-    let next : place - 1 + 1 ≡ place = omega arith in
-    rw (drop-set digits (place - 1) (48 + rest) at, next) (ap (λ l. l ++ drop place digits) (sym (decimal_digit rest h)) ∙ e)
 
 -- ---- malformed sequences of one byte each
 
@@ -120,12 +89,6 @@ pub more_lone_lines : (o : List ℕ) {a b : List ℕ} (place m n : ℕ) → a �
     → b ≡ a ++ event_lines (lone_faults (place + m) n) → b ≡ o ++ event_lines (lone_faults place (m + n))
 more_lone_lines o place m n p q =
     rw (q, p, lone_faults-append place m n, event_lines-append) (append_assoc o (event_lines (lone_faults place m)) (event_lines (lone_faults (place + m) n)))
-
--- the lines of count + 1 sequences are the first line and then those of count
-pub two_lone_lines : (o : List ℕ) (place count : ℕ)
-    → o ++ event_lines (lone_faults place (suc count)) ≡ (o ++ event_line (Bad place 1)) ++ event_lines (lone_faults (place + 1) count)
-unfolding lone_faults event_lines
-two_lone_lines o place count = sym (append_assoc o (event_line (Bad place 1)) (event_lines (lone_faults (place + 1) count)))
 
 -- the line of one such sequence
 pub one_lone_line : (place : ℕ) → event_line (Bad place 1) ≡ event_lines (lone_faults place 1)

@@ -2,8 +2,8 @@
 pub mod Hexadecimal
 pub mod EventLines
 pub mod PlainLines
-pub mod PieceUnderWay
 pub mod Whole
+pub mod PieceUnderWay
 pub mod TextUnderWay
 pub mod Utf8Pieces
 pub mod EncodingUnderWay

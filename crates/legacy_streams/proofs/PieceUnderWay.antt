@@ -1,8 +1,8 @@
 -- Decoding one piece: what holds after each step.
-use Rattle.std.proofs.Common.{◌≡◌, ◌∙◌, ℕ, zero, suc, ◌+◌, ◌-◌, ◌≤◌, ◌<◌, List, [], ◌∷◌, ◌++◌, length, take, drop, take-append-drop, refl, sym, ap, arith}
+use Rattle.std.proofs.Common.{◌≡◌, ◌∙◌, ℕ, zero, suc, ◌+◌, ◌-◌, ◌≤◌, ◌<◌, List, [], ◌∷◌, ◌++◌, length, take, drop, refl, sym, ap, arith}
 use Rattle.std.proofs.Common.{append_assoc, append-nil, length-append}
 use Rattle.std.proofs.Common.{length-drop, map, get_or, Bool, true, false, Option, inl}
-use Rattle.std.proofs.lemmas.List.{drop-drop, drop_more, get_or-drop}
+use Rattle.std.proofs.lemmas.List.{drop-drop}
 use Rattle.std.proofs.Math.ListN.{drop_of_length-le}
 use Rattle.std.proofs.KnownBytes.{Appends-nil, Appends-trans}
 use Rattle.std.specs.Io.KnownBytes.{Appends}
@@ -20,9 +20,12 @@ use Rattle.legacy_base.proofs.Progress.{stay, after_that, at_less, at_last, end_
 use Rattle.legacy_base.proofs.Rooms.{lacks_small}
 use Rattle.legacy_codecs.proofs.RunEvents.{placed-append, placed-scalars}
 use Rattle.legacy_codecs.specs.Runs.{placed}
-use Rattle.legacy_streams.specs.Lines.{event_line, event_lines, lone_faults}
-use Rattle.legacy_streams.specs.Recoding.{input_events, RecodesPiece, RecodesFront}
-use Rattle.legacy_streams.proofs.EventLines.{event_lines-append, event_lines-none, event_lines-one, no_lone_lines, two_lone_lines}
+use Rattle.legacy_codecs.proofs.Replaced.{length-shift}
+use Rattle.legacy_streams.proofs.Whole.{Joins, front_of, front_after}
+use Rattle.legacy_streams.specs.Lines.{event_lines, lone_faults}
+use Rattle.legacy_streams.specs.Streams.{AppendsFront}
+use Rattle.legacy_streams.specs.Recoding.{input_events, piece_lines, lines_of, RecodesPiece, RecodesFront}
+use Rattle.legacy_streams.proofs.EventLines.{event_lines-append, event_lines-none}
 
 -- `offset` bytes of the piece were decoded. The lines of their events were written, except `pending`, which are the
 -- last.
@@ -57,30 +60,43 @@ piece_start before piece last total pending old e = record {
   lines = event_lines-none ∙ sym e;
 }
 
--- the event of a malformed byte, with its place in the whole input
-lone_given : (total held passed place : ℕ) → total + passed - held ≡ place → input_events total held (shift passed (Bad 0 1 ∷ [])) ≡ Bad place 1 ∷ []
-unfolding input_events placed
-lone_given total held passed place e = let at : total + (passed + 0) - held ≡ place = omega arith in ap (λ n. Bad n 1 ∷ []) at
+-- the places of a later piece's events in the whole input
+placed-shift : (h passed total held : ℕ) (es : List DecodeEvent) → passed + held ≡ h + total → placed h (shift passed es) ≡ input_events total held es
+unfolding placed input_events
+placed-shift h passed total held [] e = refl
+placed-shift h passed total held (Scalar c ∷ es) e = ap (λ (l : List DecodeEvent). Scalar c ∷ l) (placed-shift h passed total held es e)
+placed-shift h passed total held (Bad p n ∷ es) e =
+    let k : passed + p - h ≡ total + p - held = omega arith in
+    ap (λ q. Bad q n ∷ placed h (shift passed es)) k ∙ ap (λ (l : List DecodeEvent). Bad (total + p - held) n ∷ l) (placed-shift h passed total held es e)
 
-length-shift : (k : ℕ) (es : List DecodeEvent) → length (shift k es) ≡ length es
-length-shift k [] = refl
-length-shift k (e ∷ es) = ap suc (length-shift k es)
+pub lines_of_none : (before : DecoderState) → lines_of before [] ≡ []
+unfolding placed
+lines_of_none before = event_lines-none
+
+-- the lines of the input, if a piece was decoded after some bytes
+lines-append : (before now : DecoderState) (total passed : ℕ) (xs ys : List DecodeEvent) → passed + length now.held ≡ length before.held + total
+    → lines_of before (xs ++ shift passed ys) ≡ lines_of before xs ++ piece_lines total now ys
+lines-append before now total passed xs ys e =
+    let h = length before.held in
+    ap event_lines (placed-append h xs (shift passed ys) ∙ ap (λ l. placed h xs ++ l) (placed-shift h passed total (length now.held) ys e))
+    ∙ event_lines-append (placed h xs) (input_events total (length now.held) ys)
+
+module _ (before now : DecoderState) (total : ℕ) (old mid new : Option (List ℕ)) where
+  pub lines_join : Joins before now total (λ events. Appends old mid (lines_of before events)) (λ events. Appends mid new (piece_lines total now events))
+      (λ events. Appends old new (lines_of before events))
+  lines_join = record { join = λ passed xs ys e a b. rw (lines-append before now total passed xs ys e) (Appends-trans _ _ _ _ _ a b) }
+
+  pub lines_front_join : Joins before now total (λ events. Appends old mid (lines_of before events))
+      (λ events. AppendsFront mid new (piece_lines total now events)) (λ events. AppendsFront old new (lines_of before events))
+  lines_front_join = record { join = λ passed xs ys e a b. rw (lines-append before now total passed xs ys e) (front_after mid _ a b) }
 
 module _ {before : DecoderState} {piece : List ℕ} {last : Bool} {total : ℕ} {now : DecoderState} {offset : ℕ} {pending : List ℕ}
     {old mid : Option (List ℕ)} (u : IsUnderWay before piece last total now offset pending old mid) where
   -- if only a front of the pending lines is written, the piece was decoded in part
-  pub piece_front : {new : Option (List ℕ)} (count : ℕ) → Appends mid new (take count pending)
-      → RecodesFront before piece last total now old new
-  piece_front count w = record {
-    passed = u.passed;
-    left = drop offset piece;
-    events = u.events;
-    progress = u.progress;
-    sent = u.sent ++ take count pending;
-    unsent = drop count pending;
-    lines = u.lines ∙ ap (λ l. u.sent ++ l) (sym (take-append-drop count pending)) ∙ sym (append_assoc u.sent (take count pending) (drop count pending));
-    written = Appends-trans _ _ _ _ _ u.written w;
-  }
+  pub piece_front : (new : Option (List ℕ)) (count : ℕ) → Appends mid new (take count pending) → RecodesFront before piece last total now old new
+  piece_front new count w =
+      let shown = front_after mid u.sent u.written (front_of count w) in
+      record { passed = u.passed; left = drop offset piece; events = u.events; progress = u.progress; shown = rw u.lines shown }
 
   -- writing `sent` leaves the pending lines after it
   pub piece_sent : {kept : List ℕ} {new : Option (List ℕ)} (sent : List ℕ) → Appends mid new sent → pending ≡ sent ++ kept
@@ -94,6 +110,26 @@ module _ {before : DecoderState} {piece : List ℕ} {last : Bool} {total : ℕ} 
     written = Appends-trans _ _ _ _ _ u.written w;
     lines = u.lines ∙ ap (λ l. u.sent ++ l) e ∙ sym (append_assoc u.sent sent _);
   }
+
+  -- events more, with their lines
+  more_events : (count : ℕ) → offset + count ≤ length piece → {passed : ℕ} {after : DecoderState} {given made : List DecodeEvent}
+      → Progress last now (drop offset piece) passed after (drop count (drop offset piece)) given
+      → input_events total (length before.held) (shift u.passed given) ≡ made → {more : List ℕ} → more ≡ pending ++ event_lines made
+      → IsUnderWay before piece last total after (offset + count) more old mid
+  more_events count within {passed} {given = given} {made} way is e =
+      let h = length before.held in
+      record {
+        within = within;
+        passed = u.passed + passed;
+        events = u.events ++ shift u.passed given;
+        progress = rw (← drop-drop count offset piece) (after_that _ _ _ _ _ _ _ _ _ _ _ u.progress way);
+        sent = u.sent;
+        written = u.written;
+        lines =
+            ap event_lines (input_events-append total h u.events (shift u.passed given) ∙ ap (λ l. input_events total h u.events ++ l) is)
+            ∙ event_lines-append (input_events total h u.events) made ∙ ap (λ l. l ++ event_lines made) u.lines
+            ∙ append_assoc u.sent pending (event_lines made) ∙ ap (λ l. u.sent ++ l) (sym e);
+      }
 
   module _ {after : DecoderState} {answer : DecoderResult} {read : ℕ} {scalars more : List ℕ}
       (c : DecoderCall Utf16 now (drop offset piece) last 1024 after answer read scalars)
@@ -124,36 +160,17 @@ module _ {before : DecoderState} {piece : List ℕ} {last : Bool} {total : ℕ} 
 
     pub piece_step : IsUnderWay before piece last total after (offset + read) more old mid
     piece_step =
-        let h = length before.held in
-        let made : List DecodeEvent = map Scalar scalars ++ reported_events (total + offset + read) answer in
-        record {
-          within = let r = c.within in let v = u.within in omega (arith, length-drop offset piece);
-          passed = u.passed + c.passed;
-          events = u.events ++ shift u.passed given;
-          progress =
-              rw (← drop-drop read offset piece)
-              (after_that _ _ _ _ _ _ _ _ _ _ _ u.progress (at_less _ last (end_report-last last answer _) _ _ _ _ _ _ c.progress));
-          sent = u.sent;
-          written = u.written;
-          lines =
-              ap event_lines (input_events-append total h u.events (shift u.passed given) ∙ ap (λ l. input_events total h u.events ++ l) given_is)
-              ∙ event_lines-append (input_events total h u.events) made ∙ ap (λ l. l ++ event_lines made) u.lines
-              ∙ append_assoc u.sent pending (event_lines made) ∙ ap (λ l. u.sent ++ l) (sym w);
-        }
+        let within : offset + read ≤ length piece = let r = c.within in let v = u.within in omega (arith, length-drop offset piece) in
+        more_events read within (at_less _ last (end_report-last last answer _) _ _ _ _ _ _ c.progress) given_is w
 
     -- after the last call of a piece, all its lines are written
-    pub piece_end : {new : Option (List ℕ)} → answer ≡ InputEmpty → Appends mid new more → RecodesPiece before piece last total after old new
-    piece_end e v =
+    pub piece_end : (new : Option (List ℕ)) → answer ≡ InputEmpty → Appends mid new more → RecodesPiece before piece last total after old new
+    piece_end new e v =
         let s = piece_step in
         let done = c.input_empty e in
         let none : drop (offset + read) piece ≡ [] = drop_of_length-le piece (let l = done.0 in omega (arith, length-drop offset piece)) in
-        record {
-          passed = s.passed;
-          events = s.events;
-          progress = rw (← none) s.progress;
-          written = rw s.lines (Appends-trans _ _ _ _ _ s.written v);
-          ended = λ l. done.2 l;
-        }
+        let shown = Appends-trans _ _ _ _ _ s.written v in
+        record { passed = s.passed; events = s.events; progress = rw (← none) s.progress; shown = rw s.lines shown; ended = done.2 }
 
     some_cases : (x : DecoderResult) → answer ≡ x → (cs : List ℕ) → scalars ≡ cs → (answer ≡ InputEmpty → ⊥) → 1 ≤ length given
     some_cases InputEmpty e cs f h = absurd (h e)
@@ -173,61 +190,46 @@ module _ {before : DecoderState} {piece : List ℕ} {last : Bool} {total : ℕ} 
         let counted = rw (append-nil, append-nil, drop-drop, length-append, length-shift) at all in
         omega arith
 
--- what holds for the bytes of `unread` holds for the same bytes in the piece
-pub lone_bytes : (piece unread : List ℕ) (offset count : ℕ) (state : DecoderState) → unread ≡ drop offset piece → offset ≤ length piece → count ≤ length unread
-    → ((k : ℕ) → k < count → IsLoneFault state (get_or unread k 0))
-    → (offset + count ≤ length piece) × ((k : ℕ) → k < count → IsLoneFault state (get_or piece (offset + k) 0))
-lone_bytes piece unread offset count state e within few lone =
-    let n = length-drop offset piece in
-    let m = rw e at few in
-    (omega (arith, within, m, n), λ k f. rw (← get_or-drop offset piece k 0, ← e) (lone k f))
+-- ---- bytes that are malformed one by one
 
--- adds the line of one byte that is malformed by itself
-piece_lone_byte : {before : DecoderState} {piece : List ℕ} {last : Bool} {total : ℕ} {now : DecoderState} {offset : ℕ} {pending more : List ℕ}
-    {old mid : Option (List ℕ)} → IsUnderWay before piece last total now offset pending old mid → offset < length piece
-    → IsLoneFault now (get_or piece offset 0) → more ≡ pending ++ event_line (Bad (total + offset) 1)
-    → IsUnderWay before piece last total now (offset + 1) more old mid
-piece_lone_byte {before} {piece} {last} {total} {now} {offset} {pending} {more} u h lone w =
-    let at : drop offset piece ≡ get_or piece offset 0 ∷ drop (offset + 1) piece = drop_more piece offset 0 h in
-    let one = at_last last _ _ _ _ _ _ (behind _ _ _ _ _ _ (drop (offset + 1) piece) lone.progress) in
-    let all = after_that _ _ _ _ _ _ _ _ _ _ _ (rw at at u.progress) one in
-    let held : length now.held ≡ 0 = ap length lone.empty in
-    let given : input_events total (length before.held) (shift u.passed (Bad 0 1 ∷ [])) ≡ Bad (total + offset) 1 ∷ [] =
-    lone_given total (length before.held) u.passed (total + offset) (let k = u.progress.counts in omega (arith, held, length-drop offset piece)) in
-    record {
-      within = omega arith;
-      passed = u.passed + 1;
-      events = u.events ++ shift u.passed (Bad 0 1 ∷ []);
-      progress = all;
-      sent = u.sent;
-      written = u.written;
-      lines =
-          ap event_lines (input_events-append total (length before.held) u.events (shift u.passed (Bad 0 1 ∷ []))
-          ∙ ap (λ l. input_events total (length before.held) u.events ++ l) given)
-          ∙ event_lines-append (input_events total (length before.held) u.events) (Bad (total + offset) 1 ∷ [])
-          ∙ ap (λ l. l ++ event_lines (Bad (total + offset) 1 ∷ [])) u.lines
-          ∙ append_assoc u.sent pending (event_lines (Bad (total + offset) 1 ∷ []))
-          ∙ ap (λ l. u.sent ++ (pending ++ l)) (event_lines-one (Bad (total + offset) 1)) ∙ ap (λ l. u.sent ++ l) (sym w);
-    }
+shifted_lone : (k place count : ℕ) → shift k (lone_faults place count) ≡ lone_faults (k + place) count
+unfolding lone_faults
+shifted_lone k place zero = refl
+shifted_lone k place (suc count) =
+    let next : k + (place + 1) ≡ k + place + 1 = omega arith in
+    ap (λ l. Bad (k + place) 1 ∷ l) (shifted_lone k (place + 1) count ∙ ap (λ n. lone_faults n count) next)
 
--- Adds the lines of `count` bytes that are malformed one by one.
-pub piece_lone : (count : ℕ) {before : DecoderState} {piece : List ℕ} {last : Bool} {total : ℕ} {now : DecoderState} {offset : ℕ} {pending more : List ℕ}
-    {old mid : Option (List ℕ)} → IsUnderWay before piece last total now offset pending old mid → offset + count ≤ length piece
-    → ((k : ℕ) → k < count → IsLoneFault now (get_or piece (offset + k) 0)) → more ≡ pending ++ event_lines (lone_faults (total + offset) count)
-    → IsUnderWay before piece last total now (offset + count) more old mid
-piece_lone zero {before} {piece} {last} {total} {now} {offset} {pending} {more} {old} {mid} u h lone w =
-    let here : offset + 0 ≡ offset = omega arith in
-    rw (here, w ∙ sym (no_lone_lines pending (total + offset))) u
-piece_lone (suc count) {before} {piece} {last} {total} {now} {offset} {pending} {more} {old} {mid} u h lone w =
-    let here : offset + 0 ≡ offset = omega arith in
-    let first = lone 0 (omega arith) in
-    let one = piece_lone_byte u (omega arith) (rw here at first) refl in
-    let there : offset + 1 + count ≡ offset + suc count = omega arith in
-    let place : total + (offset + 1) ≡ total + offset + 1 = omega arith in
-    let rest =
-    piece_lone count {more = more} one (omega arith) (λ k f. let e : offset + 1 + k ≡ offset + suc k = omega arith in rw e (lone (suc k) (omega arith)))
-    (rw place (w ∙ two_lone_lines pending (total + offset) count)) in
-    rw there at rest
+placed_lone : (h place count : ℕ) → h ≤ place → placed h (lone_faults place count) ≡ lone_faults (place - h) count
+unfolding lone_faults placed
+placed_lone h place zero l = refl
+placed_lone h place (suc count) l =
+    let next : place + 1 - h ≡ place - h + 1 = omega arith in
+    ap (λ l. Bad (place - h) 1 ∷ l) (placed_lone h (place + 1) count (omega arith) ∙ ap (λ n. lone_faults n count) next)
+
+none_given : (total h passed place : ℕ) → input_events total h (shift passed (lone_faults 0 0)) ≡ lone_faults place 0
+unfolding lone_faults placed input_events
+none_given total h passed place = refl
+
+lone_given : (total h passed offset count : ℕ) → (0 < count → passed ≡ h + offset)
+    → input_events total h (shift passed (lone_faults 0 count)) ≡ lone_faults (total + offset) count
+unfolding input_events
+lone_given total h passed offset zero e = none_given total h passed (total + offset)
+lone_given total h passed offset (suc count) e =
+    let is = e (omega arith) in
+    let place : total + (passed + 0) - h ≡ total + offset = omega arith in
+    rw (shifted_lone passed 0 (suc count), shifted_lone total (passed + 0) (suc count), placed_lone h (total + (passed + 0)) (suc count) (omega arith), place)
+    refl
+
+lone_way : (last : Bool) (state : DecoderState) (bytes : List ℕ) (count : ℕ) → count ≤ length bytes
+    → ((k : ℕ) → k < count → IsLoneFault state (get_or bytes k 0)) → Progress last state bytes count state (drop count bytes) (lone_faults 0 count)
+unfolding lone_faults
+lone_way last state bytes zero few lone = stay last state bytes
+lone_way last state [] (suc count) few lone = absurd (omega arith)
+lone_way last state (b ∷ bytes) (suc count) few lone =
+    let first = at_last last _ _ _ _ _ _ (behind _ _ _ _ _ _ bytes (lone 0 (omega arith)).progress) in
+    let rest = lone_way last state bytes count (omega arith) (λ k l. lone (suc k) (omega arith)) in
+    let all : 1 + count ≡ suc count = omega arith in
+    rw (shifted_lone 1 0 count, all) at (after_that _ _ _ _ _ _ _ _ _ _ _ first rest)
 
 -- Lines are written, so that room is made, and then those of bytes that are malformed one by one are added.
 pub piece_ahead : (count : ℕ) {before : DecoderState} {piece : List ℕ} {last : Bool} {total : ℕ} {now : DecoderState} {offset : ℕ}
@@ -235,24 +237,22 @@ pub piece_ahead : (count : ℕ) {before : DecoderState} {piece : List ℕ} {last
     → (sent : List ℕ) × Appends mid new sent × (pending ≡ sent ++ kept) → unread ≡ drop offset piece → count ≤ length unread
     → ((k : ℕ) → k < count → IsLoneFault now (get_or unread k 0)) → more ≡ kept ++ event_lines (lone_faults (total + offset) count)
     → IsUnderWay before piece last total now (offset + count) more old new
-piece_ahead count {piece = piece} {now = now} {offset = offset} {unread = unread} u sent e within lone w =
-    let alone = lone_bytes piece unread offset count now e u.within within lone in
-    piece_lone count (piece_sent u sent.0 sent.1 sent.2) alone.0 alone.1 w
+piece_ahead count {before} {piece} {last} {total} {now} {offset} u sent e few lone w =
+    let s = piece_sent u sent.0 sent.1 sent.2 in
+    let bound : count ≤ length (drop offset piece) = rw e at few in
+    let alone = rw e at lone in
+    let left = length-drop offset piece in
+    let start : 0 < count → s.passed ≡ length before.held + offset =
+    λ some. omega (arith, s.progress.counts, ap length (alone 0 some).empty, left, u.within) in
+    more_events s count (omega (arith, u.within, bound, left)) (lone_way last now (drop offset piece) count bound alone)
+    (lone_given total (length before.held) s.passed offset count start) w
 
 -- After these bytes no more events are left than before.
-pub piece_lone_less : (count : ℕ) (now : DecoderState) (piece : List ℕ) (offset : ℕ) → offset + count ≤ length piece
-    → ((k : ℕ) → k < count → IsLoneFault now (get_or piece (offset + k) 0))
+pub piece_lone_less : (count : ℕ) (now : DecoderState) (piece : List ℕ) (offset : ℕ) {unread : List ℕ} → unread ≡ drop offset piece → count ≤ length unread
+    → ((k : ℕ) → k < count → IsLoneFault now (get_or unread k 0))
     → length (events_of now.grammar (now.held ++ drop (offset + count) piece)) ≤ length (events_of now.grammar (now.held ++ drop offset piece))
-piece_lone_less zero now piece offset h lone = let here : offset + 0 ≡ offset = omega arith in rw here (omega arith)
-piece_lone_less (suc count) now piece offset h lone =
-    let here : offset + 0 ≡ offset = omega arith in
-    let there : offset + 1 + count ≡ offset + suc count = omega arith in
-    let first = lone 0 (omega arith) in
-    let one = rw here at first in
-    let all = ap length (one.progress.events (drop (offset + 1) piece) (λ f. absurd (let no : false ≡ true = f in cc))) in
-    let more = rw (length-shift, ← drop_more piece offset 0 (omega arith)) at all in
-    let rest =
-    piece_lone_less count now piece (offset + 1) (omega arith)
-    (λ k f. let e : offset + 1 + k ≡ offset + suc k = omega arith in rw e (lone (suc k) (omega arith))) in
-    let rest' = rw there at rest in
-    omega (arith, more, rest')
+piece_lone_less count now piece offset e few lone =
+    let way = lone_way false now (drop offset piece) count (rw e at few) (rw e at lone) in
+    let all = ap length (way.events [] (λ f. absurd (let no : false ≡ true = f in cc))) in
+    let counted = rw (append-nil, append-nil, drop-drop, length-append, length-shift) at all in
+    omega (arith, counted)

@@ -1,9 +1,9 @@
 -- Decoding an input to text: what holds after each step.
-use Rattle.std.proofs.Common.{◌≡◌, ◌∙◌, ℕ, ◌+◌, ◌-◌, ◌≤◌, ◌<◌, List, [], ◌∷◌, ◌++◌, length, take, drop, take-append-drop, refl, sym, ap, arith, append_assoc}
+use Rattle.std.proofs.Common.{◌≡◌, ◌∙◌, ℕ, ◌+◌, ◌-◌, ◌≤◌, ◌<◌, List, [], ◌∷◌, ◌++◌, length, take, drop, refl, ap, arith}
 use Rattle.std.proofs.Common.{append-nil}
-use Rattle.std.proofs.Common.{length-append, length-drop, Bool, true, false, ◌||◌, IsTrue, Option, inl}
-use Rattle.std.specs.Io.KnownBytes.{Appends, Consumes, IsAtEnd, Keeps}
-use Rattle.std.proofs.KnownBytes.{Appends-nil, Appends-trans, Consumes-nil, Consumes-trans, Consumes-kept}
+use Rattle.std.proofs.Common.{length-append, length-drop, Bool, false, ◌||◌, Option, inl}
+use Rattle.std.specs.Io.KnownBytes.{Appends}
+use Rattle.std.proofs.KnownBytes.{Appends-nil, Appends-trans}
 use Rattle.std.proofs.lemmas.List.{drop-drop}
 use Rattle.std.proofs.Math.ListN.{drop_of_length-le}
 use Rattle.legacy_base.specs.declared.results.DecodeEvent.{DecodeEvent}
@@ -20,8 +20,9 @@ use Rattle.legacy_codecs.specs.declared.results.CoderResult.TheVariants.{InputEm
 use Rattle.legacy_codecs.specs.Replacing.{replaced_scalars, has_bad, ReplacingDecoderCall}
 use Rattle.legacy_codecs.proofs.Replacements.{end_found-last}
 use Rattle.legacy_codecs.proofs.Replaced.{replaced-append, replaced-shift, has_bad-append, has_bad-shift, length-shift}
-use Rattle.legacy_streams.specs.Text.{text_of, WritesPiece, WritesFront, WritesAll, WritesBeginning, WritesPartly}
-use Rattle.legacy_streams.proofs.Whole.{way_on}
+use Rattle.legacy_streams.specs.Streams.{AppendsFront}
+use Rattle.legacy_streams.specs.Text.{text_of, WritesPiece, WritesFront}
+use Rattle.legacy_streams.proofs.Whole.{Joins, front_of, front_after}
 
 text-none : text_of [] ≡ []
 unfolding text_of
@@ -61,14 +62,8 @@ pub record TextUnderWay (before : DecoderState) (piece : List ℕ) (last : Bool)
   pub written : Appends old new (text_of events)
 
 pub text_start : (before : DecoderState) (piece : List ℕ) (last : Bool) (old : Option (List ℕ)) → TextUnderWay before piece last before 0 false old old
-text_start before piece last old = record {
-  within = omega arith;
-  passed = 0;
-  events = [];
-  progress = stay last before piece;
-  found_is = refl;
-  written = rw text-none (Appends-nil old);
-}
+text_start before piece last old =
+    record { within = omega arith; passed = 0; events = []; progress = stay last before piece; found_is = refl; written = rw text-none (Appends-nil old) }
 
 module _ {before : DecoderState} {piece : List ℕ} {last : Bool} {now : DecoderState} {offset : ℕ} {found : Bool} {old mid : Option (List ℕ)}
     (u : TextUnderWay before piece last now offset found old mid)
@@ -80,21 +75,14 @@ module _ {before : DecoderState} {piece : List ℕ} {last : Bool} {now : Decoder
       rw (← drop-drop read offset piece) (after_that _ _ _ _ _ _ _ _ _ _ _ u.progress (at_less _ last (end_found-last last more _) _ _ _ _ _ _ c.progress))
 
   -- if only a front of the text of the call is written, the piece was decoded in part
-  pub text_front : {new : Option (List ℕ)} (count : ℕ) → Appends mid new (take count written) → WritesFront before piece last after old new
-  text_front count w =
-      let first = text_of u.events in
-      record {
-        passed = u.passed + c.passed;
-        left = drop (offset + read) piece;
-        events = u.events ++ shift u.passed c.out;
-        progress = way_of_call;
-        sent = first ++ take count written;
-        unsent = drop count written;
-        text =
-            text-append u.events c.out u.passed ∙ ap (λ l. first ++ l) (sym (text_is c.out written c.text) ∙ sym (take-append-drop count written))
-            ∙ sym (append_assoc first (take count written) (drop count written));
-        written = Appends-trans _ _ _ _ _ u.written w;
-      }
+  pub text_front : (new : Option (List ℕ)) (count : ℕ) → Appends mid new (take count written) → WritesFront before piece last after old new
+  text_front new count w = record {
+    passed = u.passed + c.passed;
+    left = drop (offset + read) piece;
+    events = u.events ++ shift u.passed c.out;
+    progress = way_of_call;
+    shown = rw (text-append u.events c.out u.passed, ← text_is c.out written c.text) (front_after mid (text_of u.events) u.written (front_of count w));
+  }
 
   -- after the text of the call was written, `offset + read` bytes of the piece are done
   pub text_step : {new : Option (List ℕ)} → Appends mid new written → TextUnderWay before piece last after (offset + read) (found || more) old new
@@ -108,19 +96,12 @@ module _ {before : DecoderState} {piece : List ℕ} {last : Bool} {now : Decoder
   }
 
   -- after the last call of a piece, all its text is written
-  pub text_end : {new : Option (List ℕ)} → Appends mid new written → answer ≡ InputEmpty → WritesPiece before piece last after (found || more) old new
-  text_end w e =
+  pub text_end : (new : Option (List ℕ)) → Appends mid new written → answer ≡ InputEmpty → WritesPiece before piece last after (found || more) old new
+  text_end new w e =
       let s = text_step w in
       let done = c.input_empty e in
       let none : drop (offset + read) piece ≡ [] = drop_of_length-le piece (let l = done.0 in omega (arith, length-drop offset piece)) in
-      record {
-        passed = s.passed;
-        events = s.events;
-        progress = rw (← none) s.progress;
-        found_is = s.found_is;
-        written = s.written;
-        ended = λ l. done.2 l;
-      }
+      record { passed = s.passed; events = s.events; progress = rw (← none) s.progress; shown = (s.found_is, s.written); ended = done.2 }
 
   -- each call that fills the output gives an event
   gave_event : 4 ≤ free → answer ≡ OutputFull → 1 ≤ length c.out
@@ -143,100 +124,17 @@ module _ {before : DecoderState} {piece : List ℕ} {last : Bool} {now : Decoder
 
 -- ---- the whole input
 
--- The bytes that were read were decoded, and the text of their events was written.
-pub record TextSoFar (before now : DecoderState) (found : Bool) (left_old left old new : Option (List ℕ)) : Type 0 where
-  pub bytes : List ℕ
-  pub read : Consumes left_old left bytes
-  pub passed : ℕ
-  pub events : List DecodeEvent
-  pub progress : Progress false before bytes passed now [] events
-  pub found_is : found ≡ has_bad events
-  pub written : Appends old new (text_of events)
+pub whole_text_start : (old : Option (List ℕ)) → (false ≡ has_bad []) × Appends old old (text_of [])
+whole_text_start old = (refl, rw text-none (Appends-nil old))
 
-pub so_far_start : (before : DecoderState) (left old : Option (List ℕ)) → TextSoFar before before false left left old old
-so_far_start before left old = record {
-  bytes = [];
-  read = Consumes-nil left;
-  passed = 0;
-  events = [];
-  progress = stay false before [];
-  found_is = refl;
-  written = rw text-none (Appends-nil old);
-}
+module _ (before now : DecoderState) (total : ℕ) (found : Bool) (old mid new : Option (List ℕ)) where
+  pub text_join : (more : Bool) → Joins before now total (λ events. (found ≡ has_bad events) × Appends old mid (text_of events))
+      (λ events. (more ≡ has_bad events) × Appends mid new (text_of events)) (λ events. ((found || more) ≡ has_bad events) × Appends old new (text_of events))
+  text_join more = record {
+    join = λ passed xs ys e one two.
+        (rw (found-append xs ys passed, ← one.0, ← two.0) refl, rw (text-append xs ys passed) (Appends-trans _ _ _ _ _ one.1 two.1));
+  }
 
-module _ {before now : DecoderState} {found : Bool} {left_old left_mid old mid : Option (List ℕ)}
-    (s : TextSoFar before now found left_old left_mid old mid)
-    (piece : List ℕ) {after : DecoderState} {new : Option (List ℕ)} where
-  joined_text : {last more : Bool} (p : WritesPiece now piece last after more mid new) → Appends old new (text_of (s.events ++ shift s.passed p.events))
-  joined_text p = rw (text-append s.events p.events s.passed) (Appends-trans _ _ _ _ _ s.written p.written)
-
-  joined_found : {last more : Bool} (p : WritesPiece now piece last after more mid new) → (found || more) ≡ has_bad (s.events ++ shift s.passed p.events)
-  joined_found p = rw (found-append s.events p.events s.passed, ← s.found_is, ← p.found_is) refl
-
-  module _ {left : Option (List ℕ)} (r : Consumes left_mid left piece) where
-    pub so_far_step : {last more : Bool} → last ≡ false → WritesPiece now piece last after more mid new
-        → TextSoFar before after (found || more) left_old left old new
-    so_far_step e given =
-        let p = rw e at given in
-        record {
-          bytes = s.bytes ++ piece;
-          read = Consumes-trans _ _ _ _ _ s.read r;
-          passed = s.passed + p.passed;
-          events = s.events ++ shift s.passed p.events;
-          progress = way_on false piece s.progress p.progress;
-          found_is = joined_found p;
-          written = joined_text p;
-        }
-
-    pub so_far_end : {last more : Bool} → IsAtEnd left → last ≡ true → WritesPiece now piece last after more mid new
-        → WritesAll before after (found || more) left_old left old new
-    so_far_end at_end is_last given =
-        let p = rw is_last at given in
-        let all = s.events ++ shift s.passed p.events in
-        let e : events_of before.grammar (before.held ++ (s.bytes ++ piece)) ≡ all =
-        ap (λ l. events_of before.grammar (before.held ++ l)) (sym (append-nil (s.bytes ++ piece)))
-        ∙ (way_on true piece s.progress p.progress).events [] (λ _. inl refl)
-        ∙ ap (λ l. all ++ shift (s.passed + p.passed) l) (ap (events_of after.grammar) (append-nil after.held) ∙ p.ended refl) ∙ append-nil all in
-        record {
-          bytes = s.bytes ++ piece;
-          read = Consumes-trans _ _ _ _ _ s.read r;
-          at_end = at_end;
-          found_is = rw e (joined_found p);
-          written = rw e (joined_text p);
-          ended = p.ended refl;
-        }
-
-    -- what holds after a failed write
-    pub so_far_partly : (last : Bool) → (IsTrue last → IsAtEnd left) → WritesFront now piece last after mid new
-        → WritesPartly before after left_old left old new
-    so_far_partly last at_end p =
-        let first = text_of s.events in
-        let way = way_on last piece s.progress p.progress in
-        record {
-          bytes = s.bytes ++ piece;
-          read = Consumes-trans _ _ _ _ _ s.read r;
-          last = last;
-          at_end = at_end;
-          passed = s.passed + p.passed;
-          left = p.left;
-          events = s.events ++ shift s.passed p.events;
-          progress = way;
-          sent = first ++ p.sent;
-          unsent = p.unsent;
-          text = text-append s.events p.events s.passed ∙ ap (λ l. first ++ l) p.text ∙ sym (append_assoc first p.sent p.unsent);
-          written = Appends-trans _ _ _ _ _ s.written p.written;
-          beginning = λ more e. (shift (s.passed + p.passed) (events_of after.grammar (after.held ++ (p.left ++ more))), way.events more (λ l. inl (e l)));
-        }
-
--- what holds after a failed read
-pub so_far_beginning : {before now : DecoderState} {found : Bool} {left_old left_mid left old new : Option (List ℕ)}
-    → TextSoFar before now found left_old left_mid old new → Keeps left_mid left → WritesBeginning before now left_old left old new
-so_far_beginning s k = record {
-  bytes = s.bytes;
-  read = Consumes-kept _ _ _ _ s.read k;
-  passed = s.passed;
-  events = s.events;
-  progress = s.progress;
-  written = s.written;
-  beginning = λ more. (shift s.passed (events_of _ (_ ++ ([] ++ more))), s.progress.events more (λ f. absurd (let no : false ≡ true = f in cc)));
-}
+  pub text_front_join : Joins before now total (λ events. (found ≡ has_bad events) × Appends old mid (text_of events))
+      (λ events. AppendsFront mid new (text_of events)) (λ events. AppendsFront old new (text_of events))
+  text_front_join = record { join = λ passed xs ys e one front. rw (text-append xs ys passed) (front_after mid _ one.1 front) }

@@ -22,24 +22,24 @@ pub record Sends (waited bytes waiting : List ℕ) (old new : Option (List ℕ))
 
 -- ---- a text
 
--- The whole text was encoded; after the last text the encoder's end too. Its bytes and references were written after
--- those that waited, except for those that wait now.
-pub record EncodesText (before : EncoderState) (text : List ℕ) (last : Bool) (after : EncoderState) (waited waiting : List ℕ)
+-- The text was encoded except for what is left. Its bytes and references were written after those that waited, except
+-- for those that wait now.
+pub record EncodesUpTo (before : EncoderState) (text : List ℕ) (last : Bool) (after : EncoderState) (left waited waiting : List ℕ)
     (old new : Option (List ℕ)) : Type 0 where
   pub events : List EncodeEvent
-  pub goes_on : GoesOn last before text events after []
+  pub goes_on : GoesOn last before text events after left
   pub sends : Sends waited (referenced_bytes events) waiting old new
+
+-- The whole text was encoded; after the last text the encoder's end too.
+pub record EncodesText (before : EncoderState) (text : List ℕ) (last : Bool) (after : EncoderState) (waited waiting : List ℕ)
+    (old new : Option (List ℕ)) : Type 0 where
+  pub done : EncodesUpTo before text last after [] waited waiting old new
   pub ended : IsTrue last → end_bytes after ≡ []
 
 -- Some of the text was encoded. Of the bytes that waited and its bytes and references a front was written, which may end
 -- inside a sequence.
-pub record EncodesFront (before : EncoderState) (text : List ℕ) (last : Bool) (after : EncoderState) (waited : List ℕ)
-    (old new : Option (List ℕ)) : Type 0 where
-  pub events : List EncodeEvent
-  pub left : List ℕ
-  pub goes_on : GoesOn last before text events after left
-  pub unsent : List ℕ
-  pub sends : Sends waited (referenced_bytes events) unsent old new
+abbrev pub EncodesFront : EncoderState → List ℕ → Bool → EncoderState → List ℕ → Option (List ℕ) → Option (List ℕ) → Type 0
+EncodesFront before text last after waited old new = (left : List ℕ) × (unsent : List ℕ) × EncodesUpTo before text last after left waited unsent old new
 
 -- ---- one piece of the input
 
@@ -52,15 +52,19 @@ end_scalars (suc n) = 0xFFFD ∷ []
 pub record DecodesTo (piece scalars left : List ℕ) : Type 0 where
   pub text : (more : List ℕ) → utf8_text (piece ++ more) ≡ scalars ++ utf8_text (left ++ more)
 
+-- The text of the bytes was encoded except for that of what is left.
+pub record EncodesBytes (before : EncoderState) (bytes left : List ℕ) (after : EncoderState) (waiting : List ℕ) (old new : Option (List ℕ)) : Type 0 where
+  pub scalars : List ℕ
+  pub decodes : DecodesTo bytes scalars left
+  pub text : EncodesText before scalars false after [] waiting old new
+
 -- The piece was encoded except for its last `held` bytes, which are a beginning of one character. Its bytes and
 -- references were written, except for those that wait.
 pub record EncodesPiece (before : EncoderState) (piece : List ℕ) (held : ℕ) (after : EncoderState) (waiting : List ℕ) (old new : Option (List ℕ)) : Type 0 where
   pub within : held ≤ length piece
   pub short : held < 4
-  pub scalars : List ℕ
-  pub decodes : DecodesTo piece scalars (drop (length piece - held) piece)
+  pub done : EncodesBytes before piece (drop (length piece - held) piece) after waiting old new
   pub cut : utf8_text (drop (length piece - held) piece) ≡ end_scalars held
-  pub text : EncodesText before scalars false after [] waiting old new
 
 -- Some of the piece was encoded, and of its bytes and references a front was written, which may end inside a sequence.
 pub record EncodesPieceFront (before : EncoderState) (piece : List ℕ) (after : EncoderState) (old new : Option (List ℕ)) : Type 0 where

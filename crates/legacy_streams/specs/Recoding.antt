@@ -1,13 +1,12 @@
 -- What `recode` writes.
-use Rattle.std.specs.Prelude.{◌≡◌, ℕ, List, [], ◌++◌, length, Bool, false, IsTrue, Option}
-use Rattle.std.specs.Io.KnownBytes.{Appends, Consumes, IsAtEnd}
+use Rattle.std.specs.Prelude.{ℕ, List, length, Bool, Option}
+use Rattle.std.specs.Io.KnownBytes.{Appends}
 use Rattle.legacy_base.specs.declared.results.DecodeEvent.{DecodeEvent}
 use Rattle.legacy_base.specs.Events.{shift}
-use Rattle.legacy_base.specs.Grammar.{events_of}
 use Rattle.legacy_base.specs.States.{DecoderState}
-use Rattle.legacy_base.specs.Calls.{Progress}
 use Rattle.legacy_codecs.specs.Runs.{placed}
 use Rattle.legacy_streams.specs.Lines.{event_lines}
+use Rattle.legacy_streams.specs.Streams.{AppendsFront, DecodesPiece, DecodesFront, DecodesAll, DecodesBeginning, DecodesPartly}
 
 -- ---- one piece of the input
 
@@ -16,62 +15,36 @@ use Rattle.legacy_streams.specs.Lines.{event_lines}
 unfoldable pub input_events : ℕ → ℕ → List DecodeEvent → List DecodeEvent
 input_events total held events = placed held (shift total events)
 
--- The whole piece was decoded, and the lines of its events were written.
-pub record RecodesPiece (before : DecoderState) (piece : List ℕ) (last : Bool) (total : ℕ) (after : DecoderState) (old new : Option (List ℕ)) : Type 0 where
-  pub passed : ℕ
-  pub events : List DecodeEvent
-  pub progress : Progress last before piece passed after [] events
-  pub written : Appends old new (event_lines (input_events total (length before.held) events))
-  pub ended : IsTrue last → events_of after.grammar after.held ≡ []
+-- the lines of the events of a piece
+abbrev pub piece_lines : ℕ → DecoderState → List DecodeEvent → List ℕ
+piece_lines total before events = event_lines (input_events total (length before.held) events)
 
--- A part of the piece was decoded. A front of the lines of its events was written, which may end inside a line.
-pub record RecodesFront (before : DecoderState) (piece : List ℕ) (last : Bool) (total : ℕ) (after : DecoderState) (old new : Option (List ℕ)) : Type 0 where
-  pub passed : ℕ
-  pub left : List ℕ
-  pub events : List DecodeEvent
-  pub progress : Progress last before piece passed after left events
-  pub sent : List ℕ
-  pub unsent : List ℕ
-  pub lines : event_lines (input_events total (length before.held) events) ≡ sent ++ unsent
-  pub written : Appends old new sent
+-- the whole piece was decoded, and the lines of its events were written
+abbrev pub RecodesPiece : DecoderState → List ℕ → Bool → ℕ → DecoderState → Option (List ℕ) → Option (List ℕ) → Type 0
+RecodesPiece before piece last total after old new = DecodesPiece before piece last after (λ events. Appends old new (piece_lines total before events))
+
+-- a part of the piece was decoded, and a front of the lines of its events was written, which may end inside a line
+abbrev pub RecodesFront : DecoderState → List ℕ → Bool → ℕ → DecoderState → Option (List ℕ) → Option (List ℕ) → Type 0
+RecodesFront before piece last total after old new = DecodesFront before piece last after (λ events. AppendsFront old new (piece_lines total before events))
 
 -- ---- the whole input
 
--- The input was read to its end. The lines of all events of the held-back and read bytes were written. No event is left
--- in the decoder.
-pub record RecodesAll (before after : DecoderState) (input_old input_new output_old output_new : Option (List ℕ)) : Type 0 where
-  pub bytes : List ℕ
-  pub read : Consumes input_old input_new bytes
-  pub at_end : IsAtEnd input_new
-  pub written : Appends output_old output_new (event_lines (placed (length before.held) (events_of before.grammar (before.held ++ bytes))))
-  pub ended : events_of after.grammar after.held ≡ []
+-- the lines of events from the beginning of the input on
+abbrev pub lines_of : DecoderState → List DecodeEvent → List ℕ
+lines_of before events = event_lines (placed (length before.held) events)
 
--- Some bytes of the input were read and decoded, and the lines of their events were written. All events begin with
--- these, whatever the rest of the input is. The decoder has read exactly those bytes.
-pub record RecodesBeginning (before after : DecoderState) (input_old input_new output_old output_new : Option (List ℕ)) : Type 0 where
-  pub bytes : List ℕ
-  pub read : Consumes input_old input_new bytes
-  pub passed : ℕ
-  pub events : List DecodeEvent
-  pub progress : Progress false before bytes passed after [] events
-  pub written : Appends output_old output_new (event_lines (placed (length before.held) events))
-  pub beginning : (more : List ℕ) → (rest : List DecodeEvent) × (events_of before.grammar (before.held ++ (bytes ++ more)) ≡ events ++ rest)
+-- the input was read to its end, and the lines of all events of the held-back and read bytes were written
+abbrev pub RecodesAll : DecoderState → DecoderState → Option (List ℕ) → Option (List ℕ) → Option (List ℕ) → Option (List ℕ) → Type 0
+RecodesAll before after input_old input_new output_old output_new =
+    DecodesAll before after input_old input_new (λ events. Appends output_old output_new (lines_of before events))
 
--- Some bytes of the input were read, and a part of them was decoded. All events begin with the events of that part,
--- whatever follows if the input was not read to its end. A front of their lines was written, which may end inside a
--- line.
-pub record RecodesPartly (before after : DecoderState) (input_old input_new output_old output_new : Option (List ℕ)) : Type 0 where
-  pub bytes : List ℕ
-  pub read : Consumes input_old input_new bytes
-  pub last : Bool
-  pub at_end : IsTrue last → IsAtEnd input_new
-  pub passed : ℕ
-  pub left : List ℕ
-  pub events : List DecodeEvent
-  pub progress : Progress last before bytes passed after left events
-  pub sent : List ℕ
-  pub unsent : List ℕ
-  pub lines : event_lines (placed (length before.held) events) ≡ sent ++ unsent
-  pub written : Appends output_old output_new sent
-  pub beginning : (more : List ℕ) → (IsTrue last → more ≡ [])
-      → (rest : List DecodeEvent) × (events_of before.grammar (before.held ++ (bytes ++ more)) ≡ events ++ rest)
+-- some bytes of the input were read and decoded, and the lines of their events were written
+abbrev pub RecodesBeginning : DecoderState → DecoderState → Option (List ℕ) → Option (List ℕ) → Option (List ℕ) → Option (List ℕ) → Type 0
+RecodesBeginning before after input_old input_new output_old output_new =
+    DecodesBeginning before after input_old input_new (λ events. Appends output_old output_new (lines_of before events))
+
+-- Some bytes of the input were read, and a part of them was decoded. A front of the lines of its events was written,
+-- which may end inside a line.
+abbrev pub RecodesPartly : DecoderState → DecoderState → Option (List ℕ) → Option (List ℕ) → Option (List ℕ) → Option (List ℕ) → Type 0
+RecodesPartly before after input_old input_new output_old output_new =
+    DecodesPartly before after input_old input_new (λ events. AppendsFront output_old output_new (lines_of before events))

@@ -1,10 +1,13 @@
-use Rattle.std.proofs.Common.{◌∙◌, refl, sym, arith, inl, inr, ⊎_elim}
-use Rattle.std.proofs.lemmas.Bool.{eqb-true}
+use Rattle.std.proofs.Common.{◌≡◌, ◌<◌, ◌∙◌, ℕ, false, eqb, refl, sym, arith, inl, inr, ⊎_elim}
+use Rattle.std.proofs.lemmas.Bool.{eqb-true, eqb-false}
 use Rattle.std.proofs.lemmas.Result.{err_from_is_err_and}
 use Rattle.legacy_streams.proofs.Utf8Pieces.{replacement_chars}
 use Rattle.legacy_streams.proofs.EncodingUnderWay.{piece_start, piece_end, chunk_front, chunk_end, fault_front, fault_step, held_valid, held_nothing}
-use Rattle.legacy_streams.proofs.EncodingUnderWay.{text_of_held, some_of, unequal, end_of_none_text}
+use Rattle.legacy_streams.proofs.EncodingUnderWay.{text_of_held, end_of_none_text}
 use Rattle.legacy_streams.proofs.encode.push_piece.Goals as goal
+
+some_invalid : (n : ℕ) → eqb n 0 ≡ false → 0 < n
+some_invalid n e = omega (arith, eqb-false n 0 e)
 
 pub chunks-init : goal.chunks-init
 chunks-init g c = piece_start _ c.args.piece.now _ c.requires
@@ -26,13 +29,13 @@ returns-then-is_empty-clause-piece g c =
 pub is_held-requires : goal.is_held-requires
 is_held-requires g c t =
     let k = rw c.rest_of.ensures at c.in-Some.ensures in
-    let some = some_of _ (sym c.is_empty.ensures ∙ c.if-is_empty.false) in
+    let some = some_invalid _ (sym c.is_empty.ensures ∙ c.if-is_empty.false) in
     held_valid c.chunks.invariant k some (eqb-true _ _ t)
 
 pub returns-then-is_held-clause-piece : goal.returns-then-is_held-clause-piece
 returns-then-is_held-clause-piece g c =
     let k = rw c.rest_of.ensures at c.in-Some.ensures in
-    let some = some_of _ (sym c.is_empty.ensures ∙ c.if-is_empty.false) in
+    let some = some_invalid _ (sym c.is_empty.ensures ∙ c.if-is_empty.false) in
     let held = c.is_held.ensures.held c.if-is_held.true in
     let e = eqb-true _ _ held.0 in
     chunk_end c.chunks.invariant k _ c.in_ok-push_text.ensures.text refl (held_nothing c.chunks.invariant k some e) held.2
@@ -41,8 +44,8 @@ returns-then-is_held-clause-piece g c =
 pub returns-in_err-push_text-2-clause-err : goal.returns-in_err-push_text-2-clause-err
 returns-in_err-push_text-2-clause-err g c =
     let k = rw c.rest_of.ensures at c.in-Some.ensures in
-    let some = some_of _ (sym c.is_empty.ensures ∙ c.if-is_empty.false) in
-    let told = ⊎_elim (λ ne. inl (unequal _ _ ne)) (λ f. inr f) (c.is_held.ensures.fault c.if-is_held.false) in
+    let some = some_invalid _ (sym c.is_empty.ensures ∙ c.if-is_empty.false) in
+    let told = ⊎_elim (λ ne. inl (eqb-false _ _ ne)) (λ f. inr f) (c.is_held.ensures.fault c.if-is_held.false) in
     let second = rw replacement_chars at c.in_err-push_text-2.ensures.err in
     rw (err_from_is_err_and c.from_residual-in_err-push_text-2.result c.from_residual-in_err-push_text-2.ensures.1).1
     (fault_front c.chunks.invariant k some told c.in_ok-push_text.ensures.text second)
@@ -50,7 +53,7 @@ returns-in_err-push_text-2-clause-err g c =
 pub chunks-preserved : goal.chunks-preserved
 chunks-preserved g c =
     let k = rw c.rest_of.ensures at c.in-Some.ensures in
-    let some = some_of _ (sym c.is_empty.ensures ∙ c.if-is_empty.false) in
-    let told = ⊎_elim (λ ne. inl (unequal _ _ ne)) (λ f. inr f) (c.is_held.ensures.fault c.if-is_held.false) in
+    let some = some_invalid _ (sym c.is_empty.ensures ∙ c.if-is_empty.false) in
+    let told = ⊎_elim (λ ne. inl (eqb-false _ _ ne)) (λ f. inr f) (c.is_held.ensures.fault c.if-is_held.false) in
     let second = rw replacement_chars at c.in_ok-push_text-2.ensures.text in
     fault_step c.chunks.invariant k some told c.in_ok-push_text.ensures.text second

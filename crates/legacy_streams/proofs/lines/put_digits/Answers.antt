@@ -1,6 +1,7 @@
 use Rattle.std.proofs.Common.{◌≡◌, ◌∙◌, ◌≤◌, ◌++◌, [], drop, length, decimal, arith, ap, append-nil}
 use Rattle.std.proofs.Math.ListN.{drop_of_length-le}
-use Rattle.legacy_streams.proofs.EventLines.{length-decimal_20, length-decimal_digit, length-decimal_more, digit_before, last_digit}
+use Rattle.legacy_codecs.proofs.ReferenceTexts.{length-decimal_one, length-decimal_more, digit_before, first_digit}
+use Rattle.legacy_streams.proofs.EventLines.{length-decimal_20}
 use Rattle.legacy_streams.proofs.lines.put_digits.Goals as goal
 
 pub digits-init : goal.digits-init
@@ -20,11 +21,11 @@ digits-preserved c =
     record {
       place = omega arith;
       room = omega (arith, more);
-      digits = digit_before c.digits.digits c.digits.place c.digits.rest c.args.number c.digits-test.true
+      digits = digit_before c.digits.digits c.digits.place c.digits.rest _ c.digits-test.true
           (omega arith) (omega (arith, more)) (omega arith) i.digits;
     }
 
 pub returns-clause-digits : goal.returns-clause-digits
 returns-clause-digits c =
-    let one = length-decimal_digit c.digits.rest c.digits-test.false in
-    last_digit c.digits.digits c.digits.place c.digits.rest c.args.number c.digits-test.false (omega (arith, one)) (omega arith) c.digits.invariant.digits
+    let one = length-decimal_one c.digits.rest c.digits-test.false in
+    first_digit c.digits.digits c.digits.place c.digits.rest _ c.digits-test.false (omega (arith, one)) (omega arith) c.digits.invariant.digits

@@ -8,11 +8,7 @@ pub plain-init : goal.plain-init
 plain-init c =
     let at = c.args.at in
     let zero : at + 0 ≡ at = omega arith in
-    record {
-      within = omega arith;
-      text = ap (λ n. take n c.args.bytes.now) zero ∙ no_lines (take at c.args.bytes.now);
-      scalars = refl;
-    }
+    record { within = omega arith; text = ap (λ n. take n c.args.bytes.now) zero ∙ no_lines (take at c.args.bytes.now); scalars = refl }
 
 pub plain-preserved : goal.plain-preserved
 plain-preserved c =

@@ -1,26 +1,31 @@
 use Rattle.std.proofs.Common.{◌≡◌, arith, length, take, length-take, eq-eqb}
 use Rattle.std.proofs.lemmas.Bool.{ne_eqb, eqb-true}
+use Rattle.std.proofs.KnownBytes.{Appends-nil}
 use Rattle.legacy_streams.proofs.Whole.{whole_start, whole_step, whole_end, whole_beginning, whole_partly}
+use Rattle.legacy_streams.proofs.PieceUnderWay.{lines_of_none, lines_join, lines_front_join}
 use Rattle.legacy_streams.proofs.recode.recode.Goals as goal
 
 pub pieces-init : goal.pieces-init
-pieces-init g c = record { whole = whole_start _ _ _; small = omega arith; empty = c.new-lines.ensures }
+pieces-init g c = record { whole = whole_start _ _ _ (rw lines_of_none (Appends-nil _)); small = omega arith; empty = c.new-lines.ensures }
 
 pub returns-in_default-clause-read : goal.returns-in_default-clause-read
-returns-in_default-clause-read g c e = whole_beginning c.pieces.invariant.whole c.in_default.ensures.kept
+returns-in_default-clause-read g c e = whole_beginning c.pieces.invariant.whole _ (λ _ shown. shown) c.in_default.ensures.kept
 
 pub returns-then-last-clause-ok : goal.returns-then-last-clause-ok
 returns-then-last-clause-ok g c =
     let read = c.in-Some.ensures.bytes in
-    whole_end c.pieces.invariant.whole _ read.0 (read.1 c.if-last.true) (eq-eqb c.in-Some.count 0 c.if-last.true) c.in-Ok.ensures.piece
+    whole_end c.pieces.invariant.whole _ read.0 (lines_join _ _ _ _ _ _) (read.1 c.if-last.true) (eq-eqb c.in-Some.count 0 c.if-last.true)
+    c.in-Ok.ensures.piece
 
 pub pieces-preserved : goal.pieces-preserved
 pieces-preserved g c =
     let count = c.in-Some.count in
     let within = c.in-Some.ensures.count in
     let long : length (take count c.read_piece.new.buffer) ≡ count = simp length-take (omega (arith, within)) in
+    let read = c.in-Some.ensures.bytes in
     record {
-      whole = rw (← long) (whole_step c.pieces.invariant.whole _ c.in-Some.ensures.bytes.0 (ne_eqb count 0 c.if-last.false) c.in-Ok.ensures.piece);
+      whole =
+          rw (← long) (whole_step c.pieces.invariant.whole _ read.0 (lines_join _ _ _ _ _ _) (ne_eqb count 0 c.if-last.false) c.in-Ok.ensures.piece);
       small = within.1;
       empty = c.in-Ok.ensures.empty;
     }
@@ -28,4 +33,4 @@ pieces-preserved g c =
 pub returns-in_default-recode_piece-clause-write : goal.returns-in_default-recode_piece-clause-write
 returns-in_default-recode_piece-clause-write g c e =
     let read = c.in-Some.ensures.bytes in
-    whole_partly c.pieces.invariant.whole _ _ read.0 (λ l. read.1 (eqb-true _ _ l)) c.in_default-recode_piece.ensures.err
+    whole_partly c.pieces.invariant.whole _ read.0 (lines_front_join _ _ _ _ _ _) _ (λ l. read.1 (eqb-true _ _ l)) c.in_default-recode_piece.ensures.err

@@ -1,6 +1,6 @@
 use Rattle.std.proofs.Common.{arith}
 use Rattle.std.proofs.lemmas.Result.{on_ok_weaker, on_err_weaker, err_from_is_err_and}
-use Rattle.legacy_streams.proofs.PieceUnderWay.{piece_start, piece_step, piece_front, piece_end, piece_less, lone_bytes, piece_ahead, piece_lone_less}
+use Rattle.legacy_streams.proofs.PieceUnderWay.{piece_start, piece_step, piece_front, piece_end, piece_less, piece_ahead, piece_lone_less}
 use Rattle.legacy_streams.proofs.recode.recode_piece.Goals as goal
 
 pub calls-init : goal.calls-init
@@ -9,7 +9,7 @@ calls-init g c = piece_start _ c.args.piece.now c.args.last c.args.total _ _ c.r
 pub returns-in_err-make_room-clause-err : goal.returns-in_err-make_room-clause-err
 returns-in_err-make_room-clause-err g c =
     let w = c.in_err-make_room.ensures.err in
-    rw (err_from_is_err_and c.from_residual.result c.from_residual.ensures.1).1 (piece_front c.calls.invariant w.0 w.1)
+    rw (err_from_is_err_and c.from_residual.result c.from_residual.ensures.1).1 (piece_front c.calls.invariant _ w.0 w.1)
 
 pub returns-in-InputEmpty-clause-piece : goal.returns-in-InputEmpty-clause-piece
 returns-in-InputEmpty-clause-piece g c =
@@ -18,7 +18,7 @@ returns-in-InputEmpty-clause-piece g c =
     let ahead = piece_ahead c.lines_of_lone-offset.result c.calls.invariant room c.rest_of.ensures lone.count lone.lone lone.text in
     let call = c.lines_of_one_call-answer.ensures in
     let one = rw c.rest_of-unread.ensures at call.1 in
-    on_ok_weaker c.write_to.result (λ w. piece_end ahead one call.2 c.in-InputEmpty.is w) c.write_to.ensures.written
+    on_ok_weaker c.write_to.result (λ w. piece_end ahead one call.2 _ c.in-InputEmpty.is w) c.write_to.ensures.written
 
 pub returns-in-InputEmpty-clause-err : goal.returns-in-InputEmpty-clause-err
 returns-in-InputEmpty-clause-err g c =
@@ -27,7 +27,7 @@ returns-in-InputEmpty-clause-err g c =
     let ahead = piece_ahead c.lines_of_lone-offset.result c.calls.invariant room c.rest_of.ensures lone.count lone.lone lone.text in
     let call = c.lines_of_one_call-answer.ensures in
     let one = rw c.rest_of-unread.ensures at call.1 in
-    on_err_weaker c.write_to.result (λ w. piece_front (piece_step ahead one call.2) w.0 w.1) c.write_to.ensures.err
+    on_err_weaker c.write_to.result (λ w. piece_front (piece_step ahead one call.2) _ w.0 w.1) c.write_to.ensures.err
 
 pub calls-preserved : goal.calls-preserved
 calls-preserved g c =
@@ -46,7 +46,5 @@ calls-smaller g c =
     let call = c.lines_of_one_call-answer.ensures in
     let one = rw c.rest_of-unread.ensures at call.1 in
     let less = piece_less ahead one call.2 c.in_default.not-InputEmpty in
-    let piece = c.args.piece.now in
-    let alone = lone_bytes piece _ c.calls.offset _ _ c.rest_of.ensures c.calls.invariant.within lone.count lone.lone in
-    let most = piece_lone_less c.lines_of_lone-offset.result (g.D.RawDecoder.state c.calls.decoder) piece c.calls.offset alone.0 alone.1 in
+    let most = piece_lone_less _ (g.D.RawDecoder.state c.calls.decoder) c.args.piece.now c.calls.offset c.rest_of.ensures lone.count lone.lone in
     omega (arith, less, most)

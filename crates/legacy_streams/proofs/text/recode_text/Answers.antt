@@ -1,32 +1,36 @@
-use Rattle.std.proofs.Common.{arith, eq-eqb}
+use Rattle.std.proofs.Common.{◌≡◌, arith, eq-eqb, length, take, length-take}
 use Rattle.std.proofs.lemmas.Bool.{ne_eqb, eqb-true}
-use Rattle.legacy_streams.proofs.TextUnderWay.{so_far_start, so_far_step, so_far_end, so_far_beginning, so_far_partly}
+use Rattle.legacy_streams.proofs.Whole.{whole_start, whole_step, whole_end, whole_beginning, whole_partly}
+use Rattle.legacy_streams.proofs.TextUnderWay.{whole_text_start, text_join, text_front_join}
 use Rattle.legacy_streams.proofs.text.recode_text.Goals as goal
 
 pub pieces-init : goal.pieces-init
-pieces-init g c = record { so_far = so_far_start _ _ _; small = omega arith }
+pieces-init g c = record { whole = whole_start _ _ _ (whole_text_start _); small = omega arith }
 
 pub returns-in_default-clause-read : goal.returns-in_default-clause-read
-returns-in_default-clause-read g c e = so_far_beginning c.pieces.invariant.so_far c.in_default.ensures.kept
+returns-in_default-clause-read g c e = whole_beginning c.pieces.invariant.whole _ (λ _ shown. shown.1) c.in_default.ensures.kept
 
 pub returns-then-last-clause-ok : goal.returns-then-last-clause-ok
 returns-then-last-clause-ok g c =
     let read = c.in-Some.ensures.bytes in
-    rw (← c.either-any_replaced.ensures) at
-    (so_far_end c.pieces.invariant.so_far _ read.0 (read.1 c.if-last.true) (eq-eqb c.in-Some.count 0 c.if-last.true) c.in-Ok.ensures.piece)
+    rw c.either-any_replaced.ensures
+    (whole_end c.pieces.invariant.whole _ read.0 (text_join _ _ _ _ _ _ _ _) (read.1 c.if-last.true) (eq-eqb c.in-Some.count 0 c.if-last.true)
+    c.in-Ok.ensures.piece)
 
 pub pieces-preserved : goal.pieces-preserved
 pieces-preserved g c =
+    let count = c.in-Some.count in
     let within = c.in-Some.ensures.count in
+    let long : length (take count c.read_piece.new.buffer) ≡ count = simp length-take (omega (arith, within)) in
     let read = c.in-Some.ensures.bytes in
     record {
-      so_far =
-          rw c.either-any_replaced.ensures
-          (so_far_step c.pieces.invariant.so_far _ read.0 (ne_eqb c.in-Some.count 0 c.if-last.false) c.in-Ok.ensures.piece);
+      whole =
+          rw (c.either-any_replaced.ensures, ← long)
+          (whole_step c.pieces.invariant.whole _ read.0 (text_join _ _ _ _ _ _ _ _) (ne_eqb count 0 c.if-last.false) c.in-Ok.ensures.piece);
       small = within.1;
     }
 
 pub returns-in_default-write_piece-clause-write : goal.returns-in_default-write_piece-clause-write
 returns-in_default-write_piece-clause-write g c e =
     let read = c.in-Some.ensures.bytes in
-    so_far_partly c.pieces.invariant.so_far _ read.0 _ (λ l. read.1 (eqb-true _ _ l)) c.in_default-write_piece.ensures.err
+    whole_partly c.pieces.invariant.whole _ read.0 (text_front_join _ _ _ _ _ _ _) _ (λ l. read.1 (eqb-true _ _ l)) c.in_default-write_piece.ensures.err

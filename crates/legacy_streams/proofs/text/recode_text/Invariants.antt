@@ -1,11 +1,14 @@
-use Rattle.std.proofs.Common.{◌^◌, ◌-◌, ◌<◌}
-use Rattle.legacy_streams.proofs.TextUnderWay.{TextSoFar}
+use Rattle.std.proofs.Common.{◌≡◌, ◌^◌, ◌-◌, ◌<◌}
+use Rattle.std.specs.Io.KnownBytes.{Appends}
+use Rattle.legacy_codecs.specs.Replacing.{has_bad}
+use Rattle.legacy_streams.specs.Text.{text_of}
+use Rattle.legacy_streams.proofs.Whole.{Whole}
 use Rattle.legacy_streams.proofs.text.recode_text.Given as goal
 
 abbrev pub invariant-pieces : goal.invariant-pieces
 invariant-pieces g l = record {
-  so_far : TextSoFar (g.D.RawDecoder.state l.fn.decoder) (g.D.RawDecoder.state l.decoder) l.any_replaced
-      (g.R.Read.remaining l.fn.input) (g.R.Read.remaining l.input) (g.W.Write.contents l.fn.output) (g.W.Write.contents l.output);
+  whole : Whole (g.D.RawDecoder.state l.fn.decoder) l.total (g.D.RawDecoder.state l.decoder) (g.R.Read.remaining l.fn.input) (g.R.Read.remaining l.input)
+      (λ events. (l.any_replaced ≡ has_bad events) × Appends (g.W.Write.contents l.fn.output) (g.W.Write.contents l.output) (text_of events));
   small : l.total < 2 ^ 64;
 }
 

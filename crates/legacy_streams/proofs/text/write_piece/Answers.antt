@@ -9,7 +9,7 @@ calls-init g c = text_start _ c.args.piece.now c.args.last _
 pub returns-in-InputEmpty-clause-piece : goal.returns-in-InputEmpty-clause-piece
 returns-in-InputEmpty-clause-piece g c =
     let call = rw c.rest_of-unread.ensures at c.decode_replacing_utf8-answer.ensures.call in
-    rw c.either-replaced.ensures (text_end c.calls.invariant call c.in_ok-write_whole.ensures.ok c.in-InputEmpty.is)
+    rw c.either-replaced.ensures (text_end c.calls.invariant call _ c.in_ok-write_whole.ensures.ok c.in-InputEmpty.is)
 
 pub calls-preserved : goal.calls-preserved
 calls-preserved g c =
@@ -26,4 +26,4 @@ pub returns-in_err-write_whole-clause-err : goal.returns-in_err-write_whole-clau
 returns-in_err-write_whole-clause-err g c =
     let call = rw c.rest_of-unread.ensures at c.decode_replacing_utf8-answer.ensures.call in
     let w = c.in_err-write_whole.ensures.err in
-    rw (err_from_is_err_and c.from_residual.result c.from_residual.ensures.1).1 (text_front c.calls.invariant call w.0 w.1)
+    rw (err_from_is_err_and c.from_residual.result c.from_residual.ensures.1).1 (text_front c.calls.invariant call _ w.0 w.1)

@@ -4,11 +4,7 @@ use Rattle.legacy_streams.proofs.EventLines.{no_lone_lines, more_lone_lines}
 use Rattle.legacy_streams.proofs.lines.LineBuffer.push_lone.Goals as goal
 
 pub hundreds-init : goal.hundreds-init
-hundreds-init c = record {
-  within = omega arith;
-  room = omega arith;
-  text = no_lone_lines (line_bytes c.args.self.now) c.args.place;
-}
+hundreds-init c = record { within = omega arith; room = omega arith; text = no_lone_lines (line_bytes c.args.self.now) c.args.place }
 
 pub hundreds-preserved : goal.hundreds-preserved
 hundreds-preserved c =
