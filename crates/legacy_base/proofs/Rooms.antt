@@ -7,8 +7,8 @@ use Rattle.std.proofs.Math.Nat.{sub-zero}
 use Rattle.legacy_text.specs.EncodingForm.{EncodingForm, code_units, unit_count, all_code_units, total_unit_count, bmp_room, wide_room}
 use Rattle.legacy_base.specs.Grammar.{Grammar, events_of}
 use Rattle.legacy_base.specs.States.{DecoderState, rests}
-use Rattle.legacy_base.specs.Acts.{takes, act_room, has_short_ascii, has_marks, is_mark_behind, room_needed, LacksRoom, full_room_in, release_room_in}
-use Rattle.legacy_base.specs.Acts.{HadRoom, HadRoomReleased, HadRooms}
+use Rattle.legacy_base.specs.DecoderActs.{takes, act_room, has_short_ascii, has_marks, is_mark_behind, room_needed, LacksRoom, full_room_in, release_room_in}
+use Rattle.legacy_base.specs.DecoderActs.{HadRoom, HadRoomReleased, HadRooms}
 
 -- ---- the room before each scalar
 

@@ -11,7 +11,7 @@ use Rattle.legacy_base.specs.Beginnings.{BeginsWith}
 use Rattle.legacy_base.specs.Profile.{is_empty}
 use Rattle.legacy_base.specs.Grammar.{events_of}
 use Rattle.legacy_base.specs.States.{DecoderState, may_hold, rests}
-use Rattle.legacy_base.specs.Acts.{LacksRoom, HadRooms, fault_room, full_room_in}
+use Rattle.legacy_base.specs.DecoderActs.{LacksRoom, HadRooms, fault_room, full_room_in}
 use Rattle.legacy_base.specs.Lengths.{LengthQuery, query_form, query_answer, answer_units, room}
 
 -- The malformed sequence that a result reports. It has `length` bytes and ends `back` bytes before the end of the

@@ -8,7 +8,7 @@ pub use Rattle.legacy_base.specs.Formulas.{Formula, number, ◌⊕◌, ◌⊗◌
 use Rattle.legacy_base.specs.Formulas.{formula}
 use Rattle.legacy_base.specs.Grammar.{Grammar, profile}
 use Rattle.legacy_base.specs.States.{DecoderState, additional_from_state}
-use Rattle.legacy_base.specs.Acts.{has_reported}
+use Rattle.legacy_base.specs.DecoderActs.{has_reported}
 
 -- ---- formulas
 

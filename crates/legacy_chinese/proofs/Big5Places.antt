@@ -13,7 +13,7 @@ use Rattle.legacy_tables.proofs.Accepted.{length-big5, big5-used}
 use Rattle.legacy_base.specs.Big5.{big5_scalars}
 use Rattle.legacy_base.specs.States.{is_lead}
 use Rattle.legacy_base.specs.Grammar.{big5}
-use Rattle.legacy_decoder_engine.specs.Ahead.{HasAscii, Runs}
+use Rattle.legacy_decoder_engine.specs.ReadAhead.{HasAscii, Runs}
 use Rattle.legacy_decoder_engine.proofs.LeadHeld.{ascii, pair}
 use Rattle.legacy_chinese.specs.Big5Shown.{big5_codec}
 use Rattle.legacy_chinese.proofs.EntryScalars.{scalar_at}

@@ -9,7 +9,7 @@ use Rattle.legacy_base.specs.Gb18030.{gb18030_range_pointer}
 use Rattle.legacy_base.specs.Grammar.{gb18030}
 use Rattle.legacy_base.specs.States.{is_lead}
 use Rattle.legacy_decoder_engine.proofs.PairPlaces.{read}
-use Rattle.legacy_decoder_engine.specs.Ahead.{Runs}
+use Rattle.legacy_decoder_engine.specs.ReadAhead.{Runs}
 use Rattle.legacy_chinese.specs.FourPlaces.{lead_part, digit_part, four_place}
 use Rattle.legacy_chinese.specs.declared.gb18030.four_places.TheConstants.{LEADS, DIGITS}
 use Rattle.legacy_chinese.proofs.Gb18030Held.{four}

@@ -10,7 +10,7 @@ use Rattle.legacy_base.specs.States.{is_lead}
 use Rattle.legacy_base.specs.States.{gb18030_may_hold}
 use Rattle.legacy_decoder_engine.specs.Steps.{hold, finish, leave, trail_step}
 use Rattle.legacy_chinese.specs.Gb18030Machine.{gb18030_first, gb18030_step}
-use Rattle.legacy_decoder_engine.specs.Costs.{units, IsWidth, Cost}
+use Rattle.legacy_decoder_engine.specs.StepUnits.{units, IsWidth, Cost}
 use Rattle.legacy_decoder_engine.proofs.Widths.{idx_units, option_units}
 use Rattle.legacy_decoder_engine.proofs.TwoByteCosts.{cost_test, units_test, trail_cost}
 

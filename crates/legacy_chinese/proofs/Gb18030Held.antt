@@ -18,12 +18,12 @@ use Rattle.legacy_tables.proofs.Accepted.{gb18030-below, gb18030-scalars, length
 use Rattle.legacy_chinese.specs.declared.gb18030.decoder.Gb18030Decoder.{Gb18030Decoder}
 use Rattle.legacy_chinese.specs.declared.gb18030.decoder.Held.{Held}
 use Rattle.legacy_chinese.specs.declared.gb18030.decoder.Held.TheVariants.{Nothing, First, Second, Third, Digit, DigitLead}
-use Rattle.legacy_decoder_engine.specs.declared.held.Lead.{Lead}
+use Rattle.legacy_decoder_engine.specs.declared.held_lead.Lead.{Lead}
 use Rattle.legacy_chinese.specs.declared.gb18030.digit.Digit.{Digit as HeldDigit}
 use Rattle.legacy_decoder_engine.specs.declared.moves.Fed.{Fed}
 use Rattle.legacy_decoder_engine.specs.Moves.{IsCovered, Feeds, Releases, Reports}
 use Rattle.legacy_base.specs.States.{state_of}
-use Rattle.legacy_decoder_engine.specs.Ahead.{Runs, HasAscii, IsIdle, IsPair}
+use Rattle.legacy_decoder_engine.specs.ReadAhead.{Runs, HasAscii, IsIdle, IsPair}
 use Rattle.legacy_decoder_engine.specs.Feeding.{Took}
 use Rattle.legacy_chinese.specs.Gb18030Decoder.{gb18030_state}
 use Rattle.legacy_chinese.specs.Gb18030Machine.{gb18030_step, gb18030_machine}

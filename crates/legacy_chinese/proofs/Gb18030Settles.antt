@@ -12,7 +12,7 @@ use Rattle.legacy_base.specs.Grammar.{gb18030}
 use Rattle.legacy_base.specs.States.{gb18030_may_hold, rests}
 use Rattle.legacy_decoder_engine.specs.Steps.{hold, finish, leave, trail_step}
 use Rattle.legacy_chinese.specs.Gb18030Machine.{gb18030_step}
-use Rattle.legacy_decoder_engine.specs.Settling.{IsOneOrMarked, Settles}
+use Rattle.legacy_decoder_engine.specs.StatesAfterSteps.{IsOneOrMarked, Settles}
 use Rattle.legacy_decoder_engine.proofs.SettledSteps.{settles_test, one_test, one_option, trail_settles, or_settles}
 
 gb18030_one : (index : List ℕ) (a b : ℕ) → IsOneOrMarked false (gb18030_scalars index a b)

@@ -5,10 +5,10 @@ use Rattle.std.specs.Char.{is_ascii, is_ascii_digit}
 use Rattle.legacy_tables.specs.Unicode.{IsByte, AreBytes}
 use Rattle.legacy_base.specs.Grammar.{gb18030}
 use Rattle.legacy_base.specs.States.{DecoderState, gb18030_may_hold, rests}
-use Rattle.legacy_base.specs.Acts.{act_room, takes}
+use Rattle.legacy_base.specs.DecoderActs.{act_room, takes}
 use Rattle.legacy_base.specs.Lengths.{LengthQuery, to_utf16, query_form, room}
 use Rattle.legacy_text.specs.EncodingForm.{unit_count, bmp_room, wide_room}
-use Rattle.legacy_decoder_engine.specs.Costs.{IsWidth, Cost, WritePays}
+use Rattle.legacy_decoder_engine.specs.StepUnits.{IsWidth, Cost, WritePays}
 use Rattle.legacy_base.specs.States.{state_of}
 use Rattle.legacy_chinese.specs.Gb18030Machine.{gb18030_machine, gb18030_pending}
 use Rattle.legacy_decoder_engine.proofs.Widths.{width_of}

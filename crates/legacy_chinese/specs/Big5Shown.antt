@@ -8,8 +8,8 @@ use Rattle.legacy_base.specs.States.{is_lead}
 use Rattle.legacy_base.specs.Lengths.{to_utf16}
 use Rattle.legacy_decoder_engine.specs.LeadMachines.{lead_first}
 use Rattle.legacy_chinese.specs.Big5Machine.{big5_pair_scalars}
-use Rattle.legacy_decoder_engine.specs.Costs.{units, IsWidth}
-use Rattle.legacy_decoder_engine.specs.Settling.{IsOneOrMarked}
+use Rattle.legacy_decoder_engine.specs.StepUnits.{units, IsWidth}
+use Rattle.legacy_decoder_engine.specs.StatesAfterSteps.{IsOneOrMarked}
 use Rattle.legacy_decoder_engine.proofs.Widths.{idx_units}
 use Rattle.legacy_decoder_engine.proofs.SettledSteps.{one_test, one_option}
 use Rattle.legacy_decoder_engine.proofs.TwoByteMeets.{IsTwoByte, is_lead-past, lead_byte_below, lead_first_is, lead_front_is}

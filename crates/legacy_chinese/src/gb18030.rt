@@ -3,6 +3,6 @@ pub mod decoder;
 pub mod digit;
 pub mod encoder;
 pub mod four_places;
-pub mod fours;
+pub mod four_byte_blocks;
 pub mod list;
 pub mod pair_places;

@@ -14,7 +14,7 @@ use Rattle.legacy_text.specs.EncodingForm.{EncodingForm, Utf8, Utf16, code_units
 use Rattle.legacy_base.specs.Events.{shift}
 use Rattle.legacy_base.specs.Grammar.{Grammar, profile, events_of}
 use Rattle.legacy_base.specs.States.{DecoderState}
-use Rattle.legacy_base.specs.Acts.{LacksRoom, reading_room, writing_room, full_room_in, release_room_in}
+use Rattle.legacy_base.specs.DecoderActs.{LacksRoom, reading_room, writing_room, full_room_in, release_room_in}
 use Rattle.legacy_base.specs.Profile.{Rooms}
 use Rattle.legacy_base.specs.Lengths.{query_form, replacement_units, answer_units, room}
 use Rattle.legacy_base.specs.Calls.{Progress, DecoderCall, may_report_end, reported_events, out_events}

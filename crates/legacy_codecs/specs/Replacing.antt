@@ -8,7 +8,7 @@ use Rattle.legacy_text.specs.EncodingForm.{EncodingForm, Utf8, Utf16, all_code_u
 use Rattle.legacy_base.specs.Grammar.{events_of}
 use Rattle.legacy_base.specs.Profile.{is_empty}
 use Rattle.legacy_base.specs.States.{DecoderState, may_hold, rests}
-use Rattle.legacy_base.specs.Acts.{LacksRoom}
+use Rattle.legacy_base.specs.DecoderActs.{LacksRoom}
 use Rattle.legacy_base.specs.Lengths.{LengthQuery, to_utf16, to_utf8, query_answer, room}
 use Rattle.legacy_base.specs.Calls.{Progress}
 use Rattle.legacy_codecs.specs.declared.results.CoderResult.{CoderResult}

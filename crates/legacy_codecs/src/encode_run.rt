@@ -7,8 +7,8 @@ ghost use Rattle.legacy_codecs.specs.RoundTripRuns.{RunComesBack};
 ghost use Rattle.legacy_codecs.specs.EncodeRuns.{chars_of, unit_scalars_of, is_input_empty, IsEncodeRun, IsEncodeBeginning, HasNoEnd, HasAmpleOutputs};
 ghost use Rattle.legacy_codecs.specs.StandardRuns.{RunIsEncodedByHandler};
 
-use crate::run_parts::{RunError, is_last, longest, push_items, push_within, room_for_events};
-use crate::texts::Text;
+use crate::shared_by_runs::{RunError, is_last, longest, push_items, push_within, room_for_events};
+use crate::source_texts::Text;
 use legacy_base::{EncodeEvent, EncoderResult, RawEncoder, Source};
 use std::alloc::Global;
 

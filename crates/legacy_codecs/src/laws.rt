@@ -2,7 +2,7 @@
 ghost use Rattle.legacy_base.specs.Lengths.{to_utf16, to_utf8, to_utf8_without_replacement};
 ghost use Rattle.legacy_text.specs.EncodingForm.{Utf8, Utf16};
 ghost use Rattle.legacy_base.specs.RoundTrips.{RoundTrips, EscapesAreInPlace, ReencodesToTheSame, EncodesWellFormed, EscapesStayApart, ReencodesAnyText};
-ghost use Rattle.legacy_codecs.specs.Filling.{QueriedLengthSuffices};
+ghost use Rattle.legacy_codecs.specs.QueriedOutput.{QueriedLengthSuffices};
 ghost use Rattle.legacy_codecs.specs.EncodeFilling.{EncodeQueriedLengthSuffices};
 ghost use Rattle.legacy_codecs.specs.EncodeRuns.{EncodeCutsDoNotMatter};
 ghost use Rattle.legacy_codecs.specs.RoundTripRuns.{RunsEncode, RunsRoundTrip, RunsReencodeToTheSame, RunsEncodeWellFormed};

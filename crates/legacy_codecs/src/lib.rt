@@ -9,12 +9,12 @@ mod decode_run;
 mod encode_run;
 pub mod laws;
 mod malformed;
-mod references;
+mod character_references;
 mod replacing;
 mod results;
-mod run_parts;
+mod shared_by_runs;
 mod scalars;
-mod texts;
+mod source_texts;
 mod whole;
 
 pub use decode_run::{DecodeRun, decode_run_utf8, decode_run_utf16};
@@ -35,9 +35,9 @@ pub use legacy_encoders::{
     SingleByteRunError, UserDefinedEncoder,
 };
 pub use malformed::{MalformedSequence, malformed_sequences};
-pub use references::{encode_replacing_utf8, encode_replacing_utf16};
+pub use character_references::{encode_replacing_utf8, encode_replacing_utf16};
 pub use replacing::{decode_replacing_utf8, decode_replacing_utf16};
 pub use results::CoderResult;
-pub use run_parts::RunError;
+pub use shared_by_runs::RunError;
 pub use scalars::{OutputForm, ScalarBuffer, Utf8Form, Utf16Form};
 pub use whole::{SizedError, decode_piece, decode_whole, encode_whole, transcode};

@@ -7,7 +7,7 @@ ghost use Rattle.legacy_base.specs.Lengths.{query_answer, to_utf8};
 ghost use Rattle.legacy_codecs.specs.References.{referenced_bytes};
 ghost use Rattle.legacy_codecs.specs.WholeTexts.{text_of, TextGoesOn};
 
-use crate::references::encode_replacing_utf8;
+use crate::character_references::encode_replacing_utf8;
 use crate::replacing::decode_replacing_utf8;
 use crate::results::CoderResult;
 use legacy_base::{RawDecoder, RawEncoder};

@@ -8,9 +8,9 @@ use Rattle.legacy_text.specs.declared.destination.Destination.{Ghosts}
 use Rattle.legacy_text.proofs.CodeUnits.{all_code_units-append, total_unit_count-append}
 use Rattle.legacy_base.specs.States.{DecoderState, new_state, rests, may_hold}
 use Rattle.legacy_base.specs.Grammar.{Grammar, events_of}
-use Rattle.legacy_base.specs.{declared.results.DecodeEvent.DecodeEvent, declared.results.DecodeEvent.TheVariants.Scalar, Acts.HadRoom, Events.shift}
+use Rattle.legacy_base.specs.{declared.results.DecodeEvent.DecodeEvent, declared.results.DecodeEvent.TheVariants.Scalar, DecoderActs.HadRoom, Events.shift}
 use Rattle.legacy_base.proofs.{GrammarLaws.rests-none, GrammarLaws.may_none, Rooms.lacks_small, Rooms.full_most, SameUnits.some_unit}
-use Rattle.legacy_decoder_engine.specs.{Ahead.RunsTo, Ahead.Runs, Ahead.ReadsTo, Moves.HoldsBytes}
+use Rattle.legacy_decoder_engine.specs.{ReadAhead.RunsTo, ReadAhead.Runs, ReadAhead.ReadsTo, Moves.HoldsBytes}
 use Rattle.legacy_decoder_engine.proofs.{CallUnderWay.Going, CallUnderWay.going_then, CallUnderWay.held_going, WrittenRuns.rest_of}
 
 wide_most : (form : EncodingForm) → wide_room form ≤ 4

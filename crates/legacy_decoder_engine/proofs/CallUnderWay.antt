@@ -9,7 +9,7 @@ use Rattle.legacy_text.specs.EncodingForm.{EncodingForm, unit_count, total_unit_
 use Rattle.legacy_text.proofs.CodeUnits.{total_unit_count-append}
 use Rattle.legacy_base.specs.declared.results.DecoderResult.TheVariants.{InputEmpty, OutputFull, Malformed}
 use Rattle.legacy_base.specs.States.{DecoderState, may_hold, rests}
-use Rattle.legacy_base.specs.Acts.{LacksRoom, HadRoom, HadRooms, fault_room, full_room_in, release_room_in}
+use Rattle.legacy_base.specs.DecoderActs.{LacksRoom, HadRoom, HadRooms, fault_room, full_room_in, release_room_in}
 use Rattle.legacy_base.specs.Lengths.{LengthQuery, query_form, replacement_units, room}
 use Rattle.legacy_base.specs.Calls.{Progress, DecoderCall, IsFault, IsMalformed, HoldsBack, reported_events, may_report_end}
 use Rattle.legacy_base.specs.{declared.results.DecodeEvent.TheVariants.Scalar, declared.results.DecodeEvent.TheVariants.Bad}

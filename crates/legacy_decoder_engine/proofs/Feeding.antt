@@ -7,7 +7,7 @@ use Rattle.std.specs.Char.{IsScalar, is_ascii}
 use Rattle.legacy_text.specs.EncodingForm.{EncodingForm, Utf8, Utf16, code_units, unit_count, all_code_units, total_unit_count, bmp_room, wide_room}
 use Rattle.legacy_tables.specs.Unicode.{IsByte, AreBytes}
 use Rattle.legacy_base.specs.States.{DecoderState, rests, may_hold, state_of}
-use Rattle.legacy_base.specs.Acts.{act_room, takes, full_room, has_short_ascii, has_reported, has_marks, is_mark_behind, full_room_in, release_room_in, HadRoom}
+use Rattle.legacy_base.specs.DecoderActs.{act_room, takes, full_room, has_short_ascii, has_reported, has_marks, is_mark_behind, full_room_in, release_room_in, HadRoom}
 use Rattle.legacy_base.specs.Lengths.{LengthQuery, to_utf16, to_utf8, query_form, replacement_units, room}
 use Rattle.legacy_base.specs.{Fronts.reads, Fronts.malformed, Events.shift, declared.results.DecodeEvent.TheVariants.Scalar}
 use Rattle.legacy_base.specs.{declared.results.DecodeEvent.TheVariants.Bad, Grammar.Grammar, Grammar.events_of, Calls.IsLoneFault}
@@ -15,8 +15,8 @@ use Rattle.legacy_decoder_engine.specs.Moves.{IsCovered, read_room, fed_scalars,
 use Rattle.legacy_decoder_engine.specs.Steps.{Step, hold, finish, leave, step_held, step_length, step_unread, step_events, StepMeets, PendingMeets, end_events}
 use Rattle.legacy_decoder_engine.specs.Steps.{DecoderMachine}
 use Rattle.legacy_decoder_engine.specs.Feeding.{fed_form, fed_of, HasScalars, Took}
-use Rattle.legacy_decoder_engine.specs.{declared.moves.Fed.TheVariants.One, declared.moves.Fed.TheVariants.Two, Costs.units, Costs.step_units, Costs.step_left}
-use Rattle.legacy_decoder_engine.specs.{declared.moves.Fed.Fed, Settling.IsOneOrMarked, Settling.Settles, Shown.IsShown}
+use Rattle.legacy_decoder_engine.specs.{declared.moves.Fed.TheVariants.One, declared.moves.Fed.TheVariants.Two, StepUnits.units, StepUnits.step_units, StepUnits.step_left}
+use Rattle.legacy_decoder_engine.specs.{declared.moves.Fed.Fed, StatesAfterSteps.IsOneOrMarked, StatesAfterSteps.Settles, Shown.IsShown}
 use Rattle.legacy_base.proofs.{Rooms.release-full, GrammarLaws.may_none, GrammarLaws.rests-none}
 use Rattle.legacy_decoder_engine.proofs.RoomMoves.{all_needs}
 

@@ -3,7 +3,7 @@ use Rattle.std.proofs.Common.{◌≡◌, ◌∙◌, ℕ, ◌+◌, ◌-◌, ◌<�
 use Rattle.std.proofs.{lemmas.Bool.cases_lt, lemmas.List.take-take, lemmas.List.length-take, lemmas.List.length-take-le, lemmas.List.length-drop, Math.Seq.take-add}
 use Rattle.legacy_text.specs.{declared.destination.Destination.Ghosts, EncodingForm.total_unit_count}
 use Rattle.legacy_base.specs.{Grammar.Grammar, States.DecoderState, States.new_state}
-use Rattle.legacy_decoder_engine.specs.Ahead.{HasAscii, IsIdle, Writes, WritesTo, ReadsTo, ReadsAhead}
+use Rattle.legacy_decoder_engine.specs.ReadAhead.{HasAscii, IsIdle, Writes, WritesTo, ReadsTo, ReadsAhead}
 use Rattle.legacy_decoder_engine.proofs.{AheadRuns.reads_nothing, AheadRuns.with_empty, CallUnderWay.same_rooms, CallUnderWay.both_rooms}
 use Rattle.legacy_decoder_engine.proofs.WrittenRuns.{writes_then, writes_ascii}
 

@@ -24,7 +24,7 @@ use Rattle.legacy_text.proofs.UnitLanes.{of_eight}
 use Rattle.legacy_text.proofs.VectorUnits.{unit-below}
 use Rattle.legacy_base.specs.Grammar.{Grammar}
 use Rattle.legacy_decoder_engine.proofs.LanePlaces.{mask_if}
-use Rattle.legacy_decoder_engine.specs.Ahead.{HasAscii, Runs, Writes}
+use Rattle.legacy_decoder_engine.specs.ReadAhead.{HasAscii, Runs, Writes}
 use Rattle.legacy_decoder_engine.specs.LaneCodes.{kept_of, place_of, unit_at, ArePairs, IsLane, IsForm}
 use Rattle.legacy_decoder_engine.specs.PickedForms.{form_of, forms_of, IsFront}
 use Rattle.legacy_decoder_engine.proofs.WrittenRuns.{runs_none, runs_more, writes_then, all_short}

@@ -6,8 +6,8 @@ use Rattle.legacy_tables.specs.{Unicode.IsByte, Unicode.AreBytes, AcceptedTables
 use Rattle.legacy_base.specs.States.{may_hold, single_lead_may_hold, is_empty}
 use Rattle.legacy_base.specs.{Grammar.Grammar, Grammar.events_of, Calls.IsLoneFault, Fronts.malformed}
 use Rattle.legacy_decoder_engine.specs.{declared.moves.Fed.Fed, Steps.Step, Steps.finish, Moves.IsCovered, Moves.Feeds, Moves.Reports}
-use Rattle.legacy_decoder_engine.specs.{LeadMachines.two_byte_step, LeadMachines.two_byte_machine, Shown.IsShown, Feeding.Took, Ahead.Runs, Ahead.HasAscii}
-use Rattle.legacy_decoder_engine.specs.{Ahead.IsIdle, LeadCodecs.IsLeadCodec, LeadCodecs.held_bytes, LeadCodecs.lead_state}
+use Rattle.legacy_decoder_engine.specs.{LeadMachines.two_byte_step, LeadMachines.two_byte_machine, Shown.IsShown, Feeding.Took, ReadAhead.Runs, ReadAhead.HasAscii}
+use Rattle.legacy_decoder_engine.specs.{ReadAhead.IsIdle, LeadCodecs.IsLeadCodec, LeadCodecs.held_bytes, LeadCodecs.lead_state}
 use Rattle.legacy_decoder_engine.proofs.RunForms.{has_ascii, pair_runs, ascii_is}
 use Rattle.legacy_decoder_engine.proofs.Feeding as feeding
 

@@ -8,12 +8,12 @@ use Rattle.legacy_base.specs.Profile.{Profile, narrow_acts, is_empty, always_res
 use Rattle.legacy_base.specs.Formulas.{to_come, constant, ◌⊠◌}
 use Rattle.legacy_base.specs.Grammar.{Grammar, profile, events_of}
 use Rattle.legacy_base.specs.States.{may_hold, state_of}
-use Rattle.legacy_base.specs.Acts.{act_room, takes, has_marks}
+use Rattle.legacy_base.specs.DecoderActs.{act_room, takes, has_marks}
 use Rattle.legacy_base.specs.Lengths.{to_utf16}
 use Rattle.legacy_base.proofs.Cuts.{cut-nil}
 use Rattle.legacy_decoder_engine.specs.Steps.{Step, finish, no_pending, end_events, StepMeets, DecoderMachine, Meets}
-use Rattle.legacy_decoder_engine.specs.Costs.{IsWidth, Cost}
-use Rattle.legacy_decoder_engine.specs.{Settling.Settles, Shown.IsShown}
+use Rattle.legacy_decoder_engine.specs.StepUnits.{IsWidth, Cost}
+use Rattle.legacy_decoder_engine.specs.{StatesAfterSteps.Settles, Shown.IsShown}
 use Rattle.legacy_decoder_engine.proofs.CallUnderWay.{same_rooms}
 use Rattle.legacy_decoder_engine.proofs.FrontMoves.{Fits, fits_meets}
 use Rattle.legacy_decoder_engine.proofs.OneByteMeets.{few_held, no_report, one_fits}

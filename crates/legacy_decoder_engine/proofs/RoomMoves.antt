@@ -3,15 +3,15 @@ use Rattle.std.proofs.Common.{◌≡◌, ℕ, ◌+◌, ◌*◌, ◌<◌, ◌≤�
 use Rattle.std.proofs.{lemmas.Bool.false≢true, lemmas.Bool.cond_both, lemmas.Bool.Decides.nat_tests, Math.Nat.mul-le-mul_left}
 use Rattle.legacy_tables.specs.Unicode.{IsByte, AreBytes}
 use Rattle.legacy_base.specs.States.{DecoderState, may_hold, rests, is_empty, state_of}
-use Rattle.legacy_base.specs.Acts.{takes, writes, reports, act_at_end, act_at_rest, act_room, room_of_act, need, has_reported, has_short_ascii, full_room}
-use Rattle.legacy_base.specs.Acts.{reading_room, full_room_in, release_room_in}
+use Rattle.legacy_base.specs.DecoderActs.{takes, writes, reports, act_at_end, act_at_rest, act_room, room_of_act, need, has_reported, has_short_ascii, full_room}
+use Rattle.legacy_base.specs.DecoderActs.{reading_room, full_room_in, release_room_in}
 use Rattle.legacy_base.specs.Lengths.{LengthQuery, to_utf16, to_utf8, to_utf8_without_replacement, query_form, replacement_units, room}
 use Rattle.legacy_base.specs.{Grammar.Grammar, Grammar.profile, Profile.narrow_acts, Profile.wide_reads, Profile.wide_acts}
 use Rattle.legacy_text.specs.EncodingForm.{unit_count, bmp_room, wide_room}
 use Rattle.legacy_base.proofs.Enough.{room-rises}
 use Rattle.std.specs.Char.{is_ascii}
 use Rattle.legacy_decoder_engine.specs.Steps.{Step, step_held, end_events, DecoderMachine, Meets}
-use Rattle.legacy_decoder_engine.specs.Costs.{step_units, step_left, IsWidth, Cost, WritePays}
+use Rattle.legacy_decoder_engine.specs.StepUnits.{step_units, step_left, IsWidth, Cost, WritePays}
 use Rattle.legacy_decoder_engine.specs.Shown.{KeepsRooms}
 use Rattle.legacy_decoder_engine.proofs.Widths.{width_of}
 

@@ -8,7 +8,7 @@ use Rattle.legacy_text.specs.EncodingForm.{total_unit_count}
 use Rattle.legacy_base.specs.{declared.results.DecodeEvent.TheVariants.Scalar, Events.shift, Fronts.reads, Grammar.Grammar, Grammar.events_of, States.rests}
 use Rattle.legacy_base.specs.{States.may_hold, States.state_of, Lengths.LengthQuery, Lengths.query_form, Lengths.room}
 use Rattle.legacy_base.proofs.GrammarLaws.{may_none, rests-none}
-use Rattle.legacy_decoder_engine.specs.{Ahead.Runs, Ahead.HasAscii, Shown.IsShown, Steps.hold, Steps.finish, Steps.DecoderMachine}
+use Rattle.legacy_decoder_engine.specs.{ReadAhead.Runs, ReadAhead.HasAscii, Shown.IsShown, Steps.hold, Steps.finish, Steps.DecoderMachine}
 use Rattle.legacy_decoder_engine.proofs.Feeding.{units-total, all_dropped}
 
 pub ascii_is : (b : ℕ) → b < 0x80 → is_ascii b ≡ true

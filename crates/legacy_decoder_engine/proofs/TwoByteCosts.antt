@@ -5,7 +5,7 @@ use Rattle.std.specs.Char.{is_ascii}
 use Rattle.legacy_base.specs.Fronts.{malformed}
 use Rattle.legacy_tables.specs.Unicode.{is_katakana_byte}
 use Rattle.legacy_decoder_engine.specs.Steps.{Step, finish, leave, trail_step}
-use Rattle.legacy_decoder_engine.specs.Costs.{units, IsWidth, Cost}
+use Rattle.legacy_decoder_engine.specs.StepUnits.{units, IsWidth, Cost}
 use Rattle.legacy_decoder_engine.proofs.TwoByteMeets.{IsFirst, ascii, other, leads, fails}
 
 -- a step that depends on a test

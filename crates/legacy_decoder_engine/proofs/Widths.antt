@@ -4,7 +4,7 @@ use Rattle.std.proofs.{lemmas.Bool.cases_lt, lemmas.Bool.Decides.nat_tests, lemm
 use Rattle.legacy_text.specs.EncodingForm.{EncodingForm, Utf8, Utf16, unit_count, bmp_room, wide_room}
 use Rattle.legacy_tables.specs.Indexes.{entry_scalar, idx}
 use Rattle.legacy_text.proofs.CodeUnits.{encode_2, length-code_units-ascii, length-code_units-bmp, length-code_units-wide}
-use Rattle.legacy_decoder_engine.specs.Costs.{units, IsWidth, IsNarrowIndex}
+use Rattle.legacy_decoder_engine.specs.StepUnits.{units, IsWidth, IsNarrowIndex}
 
 -- UTF-8 and UTF-16 have the properties of `IsWidth`
 pub width_of : (form : EncodingForm) → IsWidth (unit_count form) (bmp_room form) (wide_room form)

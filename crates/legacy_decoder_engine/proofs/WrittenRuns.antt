@@ -11,7 +11,7 @@ use Rattle.legacy_base.specs.{declared.results.DecodeEvent.TheVariants.Scalar, E
 use Rattle.legacy_base.proofs.Shifts.{shift-append, shift-zero, shift-shift, shift-scalars}
 use Rattle.legacy_base.proofs.SameUnits.{some_unit}
 use Rattle.legacy_text.proofs.CodeUnits.{all_code_units-append, total_unit_count-append, encode_1, utf16_1, length-code_units-bmp, length-code_units-wide}
-use Rattle.legacy_decoder_engine.specs.Ahead.{HasAscii, RunsTo, Runs, WritesTo, Writes, ReadsAhead}
+use Rattle.legacy_decoder_engine.specs.ReadAhead.{HasAscii, RunsTo, Runs, WritesTo, Writes, ReadsAhead}
 use Rattle.legacy_decoder_engine.proofs.CallUnderWay.{same_rooms}
 
 -- no bytes

@@ -2,7 +2,7 @@
 use Rattle.std.specs.Prelude.{◌≡◌, ◌≢◌, ℕ, List, [], ◌∷◌, ◌+◌, ◌<◌, ◌≤◌, ◌/◌, ◌%◌, ◌||◌, cond, ltb, leb, min, length, get_or}
 use Rattle.std.specs.Char.{IsScalar}
 use Rattle.legacy_base.specs.Grammar.{Grammar}
-use Rattle.legacy_decoder_engine.specs.{Ahead.IsPair, Ahead.Runs, PickedForms.form_of}
+use Rattle.legacy_decoder_engine.specs.{ReadAhead.IsPair, ReadAhead.Runs, PickedForms.form_of}
 
 -- the first byte of a code if it is ASCII or the pointer is at most `last`, and otherwise 0
 abbrev pub kept_of : (ℕ → ℕ) → ℕ → ℕ → ℕ

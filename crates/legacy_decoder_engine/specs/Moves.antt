@@ -4,7 +4,7 @@ use Rattle.std.specs.Prelude.{if◌then◌else◌}
 use Rattle.std.specs.Char.{IsScalar}
 use Rattle.legacy_base.specs.declared.results.DecoderResult.TheVariants.{InputEmpty, OutputFull, Malformed}
 use Rattle.legacy_base.specs.States.{DecoderState, may_hold, rests}
-use Rattle.legacy_base.specs.Acts.{act_room, full_room_in, release_room_in, room_needed, wants_full_room, HadRoom}
+use Rattle.legacy_base.specs.DecoderActs.{act_room, full_room_in, release_room_in, room_needed, wants_full_room, HadRoom}
 use Rattle.legacy_base.specs.Lengths.{LengthQuery, query_form, replacement_units, room}
 use Rattle.legacy_base.specs.{declared.results.DecodeEvent.DecodeEvent, declared.results.DecodeEvent.TheVariants.Scalar}
 use Rattle.legacy_base.specs.{declared.results.DecodeEvent.TheVariants.Bad, declared.results.DecoderResult.DecoderResult, Grammar.Grammar, Grammar.events_of}
@@ -12,7 +12,7 @@ use Rattle.legacy_base.specs.{Calls.Progress, Calls.IsFault}
 use Rattle.legacy_text.specs.EncodingForm.{EncodingForm, unit_count, total_unit_count, bmp_room, wide_room}
 use Rattle.legacy_decoder_engine.specs.declared.moves.Fed.TheVariants.{Nothing, One, Two, Fault}
 use Rattle.legacy_decoder_engine.specs.{declared.moves.Room.Room, declared.moves.Fed.Fed}
-use Rattle.legacy_base.specs.Acts as acts
+use Rattle.legacy_base.specs.DecoderActs as acts
 use Rattle.legacy_decoder_engine.specs.declared.moves.Room.TheVariants.{Nothing as NoRoom, Unit as OneUnit, Narrow, Wide}
 
 -- the number of code units of an amount of room

@@ -3,8 +3,8 @@ use Rattle.std.specs.Prelude.{◌≡◌, ℕ, List, [], ◌∷◌, true, false, 
 use Rattle.std.specs.Char.{is_ascii}
 use Rattle.legacy_text.specs.EncodingForm.{unit_count, bmp_room, wide_room}
 use Rattle.legacy_base.specs.Lengths.{LengthQuery, query_form, replacement_units, room}
-use Rattle.legacy_base.specs.{Fronts.reads, Grammar.Grammar, States.may_hold, States.rests, Acts.has_short_ascii, Acts.has_reported, Acts.has_marks}
-use Rattle.legacy_decoder_engine.specs.{Steps.finish, Steps.DecoderMachine, Steps.Meets, Moves.SameRooms, Costs.RoomMeets, Settling.Settles}
+use Rattle.legacy_base.specs.{Fronts.reads, Grammar.Grammar, States.may_hold, States.rests, DecoderActs.has_short_ascii, DecoderActs.has_reported, DecoderActs.has_marks}
+use Rattle.legacy_decoder_engine.specs.{Steps.finish, Steps.DecoderMachine, Steps.Meets, Moves.SameRooms, StepUnits.RoomMeets, StatesAfterSteps.Settles}
 
 -- the rooms of one query are kept
 abbrev pub KeepsRooms : LengthQuery → Grammar → DecoderMachine → Type 0

@@ -2,9 +2,9 @@
 //! malformed sequences, held-back bytes, small outputs.
 ghost use Rattle.legacy_base.specs.Grammar.{Grammar};
 ghost use Rattle.legacy_base.specs.States.{new_state};
-ghost use Rattle.legacy_decoder_engine.specs.Ahead.{IsCommonForm, ReadsAhead};
+ghost use Rattle.legacy_decoder_engine.specs.ReadAhead.{IsCommonForm, ReadsAhead};
 
-use crate::runs::{Forms, read_run};
+use crate::read_ahead::{Forms, read_run};
 use legacy_base::Destination;
 
 /// What is at the front of the input.

@@ -7,13 +7,13 @@ ghost use Rattle.legacy_tables.specs.AcceptedTables.{AcceptedIndexes};
 ghost use Rattle.legacy_tables.specs.Indexes.{FlatIndexes};
 ghost use Rattle.legacy_base.specs.Grammar.{Grammar};
 ghost use Rattle.legacy_base.specs.States.{new_state};
-ghost use Rattle.legacy_decoder_engine.specs.Ahead.{HasAscii, IsCommonForm, ReadsAhead, Runs, Writes};
+ghost use Rattle.legacy_decoder_engine.specs.ReadAhead.{HasAscii, IsCommonForm, ReadsAhead, Runs, Writes};
 ghost use Rattle.legacy_decoder_engine.specs.LaneCodes.{kept_of, place_of, unit_at, ArePairs, IsLane, IsForm};
 ghost use Rattle.legacy_decoder_engine.specs.PickedForms.{forms_of};
 
 use crate::common_forms::{CommonForm, CommonForms, FormsInTurn, read_forms};
 use crate::picks::{past_ascii, pick_forms};
-use crate::runs::{Blocks, read_ascii, read_blocks, read_one};
+use crate::read_ahead::{Blocks, read_ascii, read_blocks, read_one};
 use legacy_base::Destination;
 use legacy_tables::FlatTables;
 use legacy_text::first_units;

@@ -5,15 +5,15 @@
 
 pub mod common_forms;
 pub mod drive;
-pub mod held;
+pub mod held_lead;
 pub mod lanes;
-pub mod lead;
+pub mod lead_decoder;
 pub mod moves;
 mod pick_rows;
 mod picks;
 pub mod places;
 pub mod rows;
-pub mod runs;
+pub mod read_ahead;
 pub mod split_rows;
-pub mod trail;
-pub mod two_byte;
+pub mod unmapped_trail;
+pub mod lead_and_trail;

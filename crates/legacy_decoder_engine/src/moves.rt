@@ -4,10 +4,10 @@ ghost use Rattle.legacy_text.specs.EncodingForm.{EncodingForm};
 ghost use Rattle.legacy_base.specs.Grammar.{events_of};
 ghost use Rattle.legacy_base.specs.States.{DecoderState, may_hold, rests};
 ghost use Rattle.legacy_base.specs.Calls.{IsLoneFault};
-ghost use Rattle.legacy_base.specs.Acts.{release_room_in};
+ghost use Rattle.legacy_base.specs.DecoderActs.{release_room_in};
 ghost use Rattle.legacy_decoder_engine.specs.Moves.{room_units, read_room, IsCovered, Releases, Feeds, Reports};
 ghost use Rattle.legacy_decoder_engine.specs.Moves.{HoldsBytes};
-ghost use Rattle.legacy_decoder_engine.specs.Ahead.{ReadsTo, ReadsAhead};
+ghost use Rattle.legacy_decoder_engine.specs.ReadAhead.{ReadsTo, ReadsAhead};
 
 use legacy_base::Destination;
 

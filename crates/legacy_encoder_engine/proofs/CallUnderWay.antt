@@ -13,7 +13,7 @@ use Rattle.legacy_base.specs.EncoderCalls.{EncoderCall, EncoderLacksRoom, bytes_
 use Rattle.legacy_base.proofs.{Enough.answer-value, Beginnings.begins_later}
 use Rattle.legacy_encoder_engine.specs.declared.moves.EncoderMove.{EncoderMove}
 use Rattle.legacy_encoder_engine.specs.Moves.{Moves, Finishes, move_bytes, move_report, unread_scalar, is_escape, differs, wants_escape, state_for}
-use Rattle.legacy_encoder_engine.specs.{UnderWay.LowersEscaped, UnderWay.Underway, Serves.Serves}
+use Rattle.legacy_encoder_engine.specs.{UnfinishedCall.LowersEscaped, UnfinishedCall.Underway, ProfileSuffices.Serves}
 use Rattle.legacy_base.specs.declared.results.EncodeEvent.TheVariants as events
 use Rattle.legacy_encoder_engine.specs.declared.moves.EncoderMove.TheVariants as moves
 

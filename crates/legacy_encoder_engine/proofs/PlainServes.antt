@@ -13,7 +13,7 @@ use Rattle.legacy_base.proofs.SameUnits.{some_unit}
 use Rattle.legacy_encoder_engine.specs.declared.moves.EncoderMove.TheVariants.{One, Two, Four, Escape, Unmappable}
 use Rattle.legacy_encoder_engine.specs.declared.moves.EncoderMove.{EncoderMove}
 use Rattle.legacy_encoder_engine.specs.Moves.{differs, Moves, IsCode, is_escape, move_bytes, move_report, unread_scalar, wants_escape}
-use Rattle.legacy_encoder_engine.specs.{Serves.mode_room, Serves.Serves, UnderWay.PutsCode, UnderWay.ReadsByte, UnitTurns.HasUnitCode, UnitTurns.ReadsUnit}
+use Rattle.legacy_encoder_engine.specs.{ProfileSuffices.mode_room, ProfileSuffices.Serves, UnfinishedCall.PutsCode, UnfinishedCall.ReadsByte, UnitTurns.HasUnitCode, UnitTurns.ReadsUnit}
 use Rattle.legacy_encoder_engine.specs.PlainCodecs.{HasPlainLengths, IsPlainCodec, HasByte}
 use Rattle.legacy_encoder_engine.proofs.{ReadingAhead.IsSame, CallUnderWay.state_stays}
 

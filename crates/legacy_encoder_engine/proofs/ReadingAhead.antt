@@ -8,8 +8,8 @@ use Rattle.legacy_text.proofs.CodeUnits.{length-code_units-ascii, total_unit_cou
 use Rattle.legacy_base.specs.Encoders.{EncoderState, encoder_profile, scalar_room}
 use Rattle.legacy_encoder_engine.specs.declared.moves.EncoderMove.{EncoderMove}
 use Rattle.legacy_encoder_engine.specs.Moves.{Moves, move_bytes, move_report, is_escape}
-use Rattle.legacy_encoder_engine.specs.UnderWay.{KeepsOn, Encodes, PutsCode, ReadsByte}
-use Rattle.legacy_encoder_engine.specs.Serves.{Serves}
+use Rattle.legacy_encoder_engine.specs.UnfinishedCall.{KeepsOn, Encodes, PutsCode, ReadsByte}
+use Rattle.legacy_encoder_engine.specs.ProfileSuffices.{Serves}
 use Rattle.legacy_encoder_engine.proofs.CallUnderWay.{underway_read, first_units}
 use Rattle.legacy_encoder_engine.specs.declared.moves.EncoderMove.TheVariants as moves
 

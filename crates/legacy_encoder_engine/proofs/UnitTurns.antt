@@ -4,7 +4,7 @@ use Rattle.std.proofs.Math.Seq.{take-suc, take-append-add}
 use Rattle.std.proofs.lemmas.{Bool.cases_lt, List.get_or-take, List.length-take-le, List.take-take, Grind.common_steps}
 use Rattle.legacy_base.specs.Encoders.{EncoderState, encoder_profile, scalar_room}
 use Rattle.legacy_text.specs.UnitCodes.{IsNoSurrogate}
-use Rattle.legacy_encoder_engine.specs.{Serves.Serves, UnitTurns.PutsUnits, UnitTurns.ReadsUnit, UnitTurns.two_bytes}
+use Rattle.legacy_encoder_engine.specs.{ProfileSuffices.Serves, UnitTurns.PutsUnits, UnitTurns.ReadsUnit, UnitTurns.two_bytes}
 use Rattle.legacy_encoder_engine.proofs.ReadingAhead.{keeps_none, keeps_then, keeps_move}
 
 -- two bytes were written after the old bytes, and the first `count` of them are kept

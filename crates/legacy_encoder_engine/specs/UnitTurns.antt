@@ -4,7 +4,7 @@ use Rattle.legacy_base.specs.Encoders.{Codec, EncoderState, encoder_profile}
 use Rattle.legacy_text.specs.{UnitCodes.IsNoSurrogate, UnitTurns.AreLone}
 use Rattle.legacy_encoder_engine.specs.declared.moves.EncoderMove.{EncoderMove}
 use Rattle.legacy_encoder_engine.specs.Moves.{Moves, is_escape, move_bytes, move_report}
-use Rattle.legacy_encoder_engine.specs.UnderWay.{KeepsOn}
+use Rattle.legacy_encoder_engine.specs.UnfinishedCall.{KeepsOn}
 
 -- the code of the scalar c is the low byte of `both` for ASCII, and its low and high bytes for other scalars
 pub record HasUnitCode (codec : Codec) (c both : ℕ) : Type 0 where

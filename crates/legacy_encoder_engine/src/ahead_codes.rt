@@ -2,8 +2,8 @@
 ghost use Rattle.std.specs.Prelude.{◌≡◌, ℕ, ◌+◌, ◌≤◌, true, length, take, MatchOption};
 ghost use Rattle.legacy_base.specs.Encoders.{EncoderState, encoder_profile, scalar_room};
 ghost use Rattle.legacy_encoder_engine.specs.Near.{IsNear};
-ghost use Rattle.legacy_encoder_engine.specs.Serves.{Serves};
-ghost use Rattle.legacy_encoder_engine.specs.UnderWay.{EncodesBy, PutsCode};
+ghost use Rattle.legacy_encoder_engine.specs.ProfileSuffices.{Serves};
+ghost use Rattle.legacy_encoder_engine.specs.UnfinishedCall.{EncodesBy, PutsCode};
 ghost use Rattle.legacy_encoder_engine.specs.UnitTurns.{ReadsUnit};
 
 use legacy_tables::RangePart;

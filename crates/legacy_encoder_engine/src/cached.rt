@@ -5,14 +5,14 @@ ghost use Rattle.legacy_base.specs.Encoders.{encoder_profile, new_encoder};
 ghost use Rattle.legacy_encoder_engine.specs.CachedPairs.{AreAllPairsOf, IsNoPair};
 ghost use Rattle.legacy_encoder_engine.specs.Moves.{IsCode};
 ghost use Rattle.legacy_encoder_engine.specs.Near.{IsNear};
-ghost use Rattle.legacy_encoder_engine.specs.UnderWay.{EncodesFrom};
+ghost use Rattle.legacy_encoder_engine.specs.UnfinishedCall.{EncodesFrom};
 
 use crate::drive::drive_encoder;
 use crate::moves::EncoderMove;
-use crate::pairs::{FillsPairs, PairCodec, PairEncoder};
+use crate::pair_encoder::{FillsPairs, PairCodec, PairEncoder};
 use crate::plain::PlainEncoder;
 use crate::plain_codes::PlainCodes;
-use crate::runs::read_runs;
+use crate::read_ahead::read_runs;
 use legacy_base::{EncoderResult, RawEncoder, Source};
 use legacy_tables::RangePart;
 use std::alloc::AllocError;

@@ -2,8 +2,8 @@
 ghost use Rattle.std.specs.Prelude.{◌≡◌, ◌≤◌, [], length, true, false};
 ghost use Rattle.legacy_base.specs.Encoders.{EncoderState, encoder_profile, is_pending, scalar_room};
 ghost use Rattle.legacy_encoder_engine.specs.Moves.{Moves, Finishes, is_escape, move_report};
-ghost use Rattle.legacy_encoder_engine.specs.Serves.{Serves};
-ghost use Rattle.legacy_encoder_engine.specs.UnderWay.{EncodesFrom};
+ghost use Rattle.legacy_encoder_engine.specs.ProfileSuffices.{Serves};
+ghost use Rattle.legacy_encoder_engine.specs.UnfinishedCall.{EncodesFrom};
 
 use legacy_base::Source;
 

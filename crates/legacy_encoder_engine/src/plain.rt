@@ -1,13 +1,13 @@
 //! The encoder of the codecs without modes: each `PlainCodes` makes the moves of its codes.
 ghost use Rattle.std.specs.Prelude.{◌≤◌, length};
 ghost use Rattle.legacy_base.specs.Encoders.{new_encoder};
-ghost use Rattle.legacy_encoder_engine.specs.UnderWay.{EncodesFrom};
+ghost use Rattle.legacy_encoder_engine.specs.UnfinishedCall.{EncodesFrom};
 
 use crate::ahead_codes::AheadCodes;
 use crate::drive::{put_four, put_move, put_two};
 use crate::moves::{EncoderMove, EncoderMoves};
 use crate::plain_codes::PlainCodes;
-use crate::units::Units;
+use crate::unit_codes::Units;
 use legacy_base::Source;
 use legacy_tables::RangePart;
 use legacy_text::TextCursor;

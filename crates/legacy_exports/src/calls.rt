@@ -1,7 +1,7 @@
 //! The two kinds of calls: raw ones, and those with replacement.
 ghost use Rattle.std.specs.Prelude.{◌≡◌, ◌≤◌, length, IfSome};
 
-use crate::texts::Text;
+use crate::source_texts::Text;
 use crate::unit::CodeUnit;
 use legacy_base::{DecoderResult, EncoderResult, RawDecoder, RawEncoder};
 use legacy_codecs::CoderResult;

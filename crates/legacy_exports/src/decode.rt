@@ -1,6 +1,6 @@
 //! The decoder of a codec.
 ghost use Rattle.std.specs.Prelude.{◌≡◌, ◌≤◌, ◌⊎◌, ◌↔◌, length, IfSome, IsSome};
-ghost use Rattle.legacy_exports.specs.Taken.{AreTaken, IsRefused, IsTaken};
+ghost use Rattle.legacy_exports.specs.AcceptedIndexes.{AreTaken, IsRefused, IsTaken};
 
 use crate::calls::Calls;
 use crate::codec::codec_of_number;

@@ -1,12 +1,12 @@
 //! The encoder of a codec.
 ghost use Rattle.std.specs.Prelude.{◌≡◌, ◌≤◌, ◌⊎◌, ◌↔◌, length, IfSome, IsSome};
-ghost use Rattle.legacy_exports.specs.Taken.{AreTakenToEncode, IsRefusedToEncode, IsTakenToEncode};
+ghost use Rattle.legacy_exports.specs.AcceptedIndexes.{AreTakenToEncode, IsRefusedToEncode, IsTakenToEncode};
 
 use crate::calls::{CallEnd, Calls};
 use crate::codec::codec_of_number;
 use crate::indexes::{IndexSlices, RANGE_LIMIT, range_pairs, single_byte_table, tables_with};
 use crate::pieces::Reading;
-use crate::texts::Text;
+use crate::source_texts::Text;
 use legacy_base::RawEncoder;
 use legacy_encodings::{AnyEncoder, EncoderTask, ListedEncoder};
 use legacy_index_files::Codec;

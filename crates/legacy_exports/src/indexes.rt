@@ -1,8 +1,8 @@
 //! The indexes as a caller in another language passes them.
 ghost use Rattle.std.specs.Prelude.{◌≡◌, ◌≤◌, ◌↔◌, length, map, take, IfSome, IsSome};
 ghost use Rattle.legacy_tables.specs.Tables.{flat_indexes};
-ghost use Rattle.legacy_exports.specs.Taken.{indexes_with, packed_with, range_pair};
-ghost use Rattle.legacy_exports.specs.Taken.{AreTablesOf, AreTakenIndexes, IsTakenTable};
+ghost use Rattle.legacy_exports.specs.AcceptedIndexes.{indexes_with, packed_with, range_pair};
+ghost use Rattle.legacy_exports.specs.AcceptedIndexes.{AreTablesOf, AreTakenIndexes, IsTakenTable};
 
 use legacy_base::{GB18030_2022_PUA, Indexes, Packed, Run, SingleByteTable, Tables};
 

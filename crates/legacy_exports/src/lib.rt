@@ -15,7 +15,7 @@
 #![tactic(auto)]
 
 ghost use Rattle.std.specs.Prelude.{◌≡◌, ◌≤◌, ◌⊎◌, length, IsUtf8};
-ghost use Rattle.legacy_exports.specs.Taken.{IsRefused, IsRefusedToEncode, IsTaken, IsTakenToEncode};
+ghost use Rattle.legacy_exports.specs.AcceptedIndexes.{IsRefused, IsRefusedToEncode, IsTaken, IsTakenToEncode};
 
 mod calls;
 mod codec;
@@ -23,7 +23,7 @@ mod decode;
 mod encode;
 mod indexes;
 mod pieces;
-mod texts;
+mod source_texts;
 mod unit;
 
 use crate::calls::{Raw, Replacing};

@@ -5,11 +5,11 @@ ghost use Rattle.legacy_index_files.specs.Packing.{HasParts, IsPackOf};
 
 pub(crate) mod entries;
 pub(crate) mod orders;
-pub(crate) mod runs;
+pub(crate) mod pointer_runs;
 
 use legacy_tables::{Indexes, Packed, Run};
 use orders::add_orders;
-use runs::packed_runs;
+use pointer_runs::packed_runs;
 use std::alloc::{AllocError, Global};
 
 /// Packed indexes with their memory, one field for each part of `legacy_tables::Packed`.

@@ -5,8 +5,8 @@ use Rattle.std.specs.{Int.is_in_range, Char.IsScalar, Char.is_ascii}
 use Rattle.legacy_base.specs.{EucJp.euc_jp_scalars, Fronts.malformed, Calls.IsLoneFault, Grammar.Grammar, Grammar.euc_jp, Grammar.events_of}
 use Rattle.legacy_base.specs.States.{is_euc_jp_lead, euc_jp_may_hold, state_of}
 use Rattle.legacy_tables.specs.{AcceptedTables.AcceptedIndexes, Unicode.IsByte, Unicode.AreBytes}
-use Rattle.legacy_decoder_engine.specs.{Steps.finish, Moves.IsCovered, Moves.Feeds, Moves.Reports, Costs.IsNarrowIndex, Feeding.Took, Shown.IsShown}
-use Rattle.legacy_decoder_engine.specs.{Ahead.Runs, Ahead.HasAscii, Ahead.IsPair, LaneRows.row_place}
+use Rattle.legacy_decoder_engine.specs.{Steps.finish, Moves.IsCovered, Moves.Feeds, Moves.Reports, StepUnits.IsNarrowIndex, Feeding.Took, Shown.IsShown}
+use Rattle.legacy_decoder_engine.specs.{ReadAhead.Runs, ReadAhead.HasAscii, ReadAhead.IsPair, LaneRows.row_place}
 use Rattle.legacy_tables.proofs.Accepted.{jis0208-below, jis0212-below, jis0208-scalars, length-jis0208}
 use Rattle.legacy_decoder_engine.specs.declared.moves.Fed.{Fed}
 use Rattle.legacy_decoder_engine.proofs.{RunForms.pair_runs, RunForms.has_ascii, RunForms.ascii_is, Widths.idx_below, LanePlaces.entry_is}

@@ -5,13 +5,13 @@ use Rattle.std.proofs.lemmas.Bool.Decides.{nat_tests}
 use Rattle.std.specs.{Int.is_in_range, Char.is_ascii}
 use Rattle.legacy_base.specs.EucJp.{euc_jp_front, euc_jp_katakana, euc_jp_second, euc_jp_third, euc_jp_pair, euc_jp_scalars, euc_jp_weight}
 use Rattle.legacy_base.specs.Fronts.{malformed, reads_or, trail_rule, cut}
-use Rattle.legacy_base.specs.{Grammar.euc_jp, Grammar.events_of, Acts.act_room, Acts.takes, Lengths.to_utf16}
+use Rattle.legacy_base.specs.{Grammar.euc_jp, Grammar.events_of, DecoderActs.act_room, DecoderActs.takes, Lengths.to_utf16}
 use Rattle.legacy_base.specs.States.{is_euc_jp_lead, euc_jp_may_hold, state_of}
 use Rattle.legacy_tables.specs.Unicode.{is_katakana_byte, katakana_of}
 use Rattle.legacy_base.proofs.{Cuts.cut-nil, FrontLaws.euc_jp_front-of}
 use Rattle.legacy_decoder_engine.specs.Steps.{Step, end_events, trail_step, Meets}
-use Rattle.legacy_decoder_engine.specs.Costs.{units, IsWidth, IsNarrowIndex, Cost}
-use Rattle.legacy_decoder_engine.specs.{Settling.IsOneOrMarked, Settling.Settles, Shown.IsShown}
+use Rattle.legacy_decoder_engine.specs.StepUnits.{units, IsWidth, IsNarrowIndex, Cost}
+use Rattle.legacy_decoder_engine.specs.{StatesAfterSteps.IsOneOrMarked, StatesAfterSteps.Settles, Shown.IsShown}
 use Rattle.legacy_decoder_engine.proofs.FrontMoves.{Fits, fits_trail, fits_meets, end_meets, report_meets}
 use Rattle.legacy_decoder_engine.proofs.RoomMoves.{first_room, held_room_is, HasCosts, IsSloped, sloped_rooms}
 use Rattle.legacy_decoder_engine.proofs.{CallUnderWay.same_rooms, Widths.narrow_idx_units, TwoByteCosts.katakana_below}

@@ -9,7 +9,7 @@ use Rattle.legacy_base.specs.{Beginnings.BeginsWith, EncodeEvents.code_events, E
 use Rattle.legacy_base.proofs.Iso2022JpEncoding.{text_events, text_events-here, text_events-escape, text_events-end, text_events-open, mode_for, mode_for-twice}
 use Rattle.legacy_base.proofs.Iso2022JpEncoding.{code-short, at_special, at_neutral, IsWritten}
 use Rattle.legacy_encoder_engine.specs.Moves.{Moves, Finishes, IsCode, differs}
-use Rattle.legacy_encoder_engine.specs.{Serves.Serves, UnderWay.ReadsByte, UnitTurns.ReadsUnit}
+use Rattle.legacy_encoder_engine.specs.{ProfileSuffices.Serves, UnfinishedCall.ReadsByte, UnitTurns.ReadsUnit}
 use Rattle.legacy_encoder_engine.specs.declared.moves.{EncoderMove.EncoderMove, EncoderMove.TheVariants.One, EncoderMove.TheVariants.Two}
 use Rattle.legacy_encoder_engine.proofs.PlainServes.{differs-same, here_moves}
 use Rattle.legacy_japanese.specs.declared.iso_2022_jp.encoder.Mode.{Mode}

@@ -8,7 +8,7 @@ use Rattle.legacy_base.specs.declared.results.DecodeEvent.TheVariants.{Scalar}
 use Rattle.legacy_text.specs.EncodingForm.{all_code_units}
 use Rattle.legacy_base.specs.{States.DecoderState, Events.shift, Grammar.iso_2022_jp, Grammar.events_of, Iso2022Jp.esc}
 use Rattle.legacy_base.proofs.{Iso2022JpParts.no_escape, Shifts.shift-append, Shifts.shift-shift, Shifts.shift-scalars}
-use Rattle.legacy_decoder_engine.specs.Ahead.{RunsTo, Runs, ReadsTo, ReadsAhead}
+use Rattle.legacy_decoder_engine.specs.ReadAhead.{RunsTo, Runs, ReadsTo, ReadsAhead}
 use Rattle.legacy_decoder_engine.proofs.{AheadRuns.reads_nothing, JoinedRuns.reads_then, WrittenRuns.rest_of}
 use Rattle.legacy_japanese.specs.declared.iso_2022_jp.{steps.Mode.Mode, steps.Escape.Escape, steps.Start.TheVariants.Nothing, steps.Held.TheVariants.Begun}
 use Rattle.legacy_japanese.specs.Iso2022JpMachine.{mode_meaning, mode_of, second_of, third_of}

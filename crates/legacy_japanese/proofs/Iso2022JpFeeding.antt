@@ -4,7 +4,7 @@ use Rattle.std.specs.Char.{IsScalar}
 use Rattle.std.proofs.Common.{◌≡◌, ◌≢◌, ◌∙◌, ℕ, ◌+◌, ◌*◌, ◌≤◌, true, All, None, List, [], ◌∷◌, ◌++◌, length, map, refl, sym, ap, arith, append-nil}
 use Rattle.std.proofs.lemmas.List.Elements.{All-cons, All-nil}
 use Rattle.legacy_base.specs.declared.results.DecodeEvent.TheVariants.{Scalar}
-use Rattle.legacy_base.specs.{Acts.HadRoom, States.rests, Grammar.iso_2022_jp, Grammar.events_of, Lengths.LengthQuery, Lengths.query_form}
+use Rattle.legacy_base.specs.{DecoderActs.HadRoom, States.rests, Grammar.iso_2022_jp, Grammar.events_of, Lengths.LengthQuery, Lengths.query_form}
 use Rattle.legacy_text.specs.EncodingForm.{EncodingForm, bmp_room, total_unit_count}
 use Rattle.legacy_decoder_engine.specs.Moves.{fed_scalars, fed_fault, fed_units, unread_byte, FedHolds, Feeds}
 use Rattle.legacy_japanese.specs.declared.iso_2022_jp.{steps.Mode.Mode, steps.Held.Held, steps.Action.Action, steps.Outcome.Outcome}

@@ -3,7 +3,7 @@ use Rattle.std.proofs.Common.{◌≡◌, ℕ, ◌+◌, ◌*◌, ◌<◌, ◌≤�
 use Rattle.std.specs.Char.{is_ascii}
 use Rattle.legacy_base.specs.declared.results.DecodeEvent.{DecodeEvent}
 use Rattle.legacy_text.specs.EncodingForm.{EncodingForm, bmp_room, wide_room, code_units, total_unit_count}
-use Rattle.legacy_base.specs.Acts.{writes, act_at_end, act_at_rest, room_of_act}
+use Rattle.legacy_base.specs.DecoderActs.{writes, act_at_end, act_at_rest, room_of_act}
 use Rattle.legacy_base.specs.Lengths.{LengthQuery, to_utf16, query_form, replacement_units, room}
 use Rattle.legacy_base.specs.{Grammar.iso_2022_jp, Grammar.events_of, States.rests, States.is_empty}
 use Rattle.legacy_text.proofs.CodeUnits.{length-code_units-bmp}

@@ -12,7 +12,7 @@ use Rattle.legacy_tables.specs.Indexes.{idx}
 use Rattle.legacy_base.proofs.Iso2022JpFronts.{step_one, step_two}
 use Rattle.legacy_japanese.specs.declared.iso_2022_jp.{steps.Mode.TheVariants.Ascii, steps.Mode.TheVariants.TwoByte, steps.Start.TheVariants.Nothing}
 use Rattle.legacy_japanese.specs.declared.iso_2022_jp.{steps.Held.TheVariants.Begun, places.TheConstants.LEADS, places.TheConstants.TRAILS}
-use Rattle.legacy_decoder_engine.specs.{Ahead.Runs, Ahead.IsPair, Ahead.ReadsAhead, Places.IsTableOf}
+use Rattle.legacy_decoder_engine.specs.{ReadAhead.Runs, ReadAhead.IsPair, ReadAhead.ReadsAhead, Places.IsTableOf}
 use Rattle.legacy_japanese.specs.{Iso2022JpMoves.IsNarrowScalar, Iso2022JpRuns.ArePlain, Iso2022JpRuns.IsPlain, Iso2022JpRuns.run_state}
 use Rattle.legacy_japanese.specs.Jis0208Places.{jis_lead_place, jis_trail_place}
 use Rattle.legacy_decoder_engine.proofs.WrittenRuns.{runs_none, runs_more, code_units_ascii, all_code_units_ascii}

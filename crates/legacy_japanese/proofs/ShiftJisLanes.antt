@@ -8,7 +8,7 @@ use Rattle.legacy_text.proofs.UnitLanes.{of_eight}
 use Rattle.legacy_tables.specs.AcceptedTables.{AcceptedIndexes}
 use Rattle.legacy_tables.proofs.Accepted.{jis0208-scalars, length-jis0208}
 use Rattle.legacy_base.specs.{Grammar.shift_jis, ShiftJis.is_shift_jis_lead, ShiftJis.shift_jis_scalars}
-use Rattle.legacy_decoder_engine.specs.{Ahead.HasAscii, Ahead.IsPair, SplitRows.lead_place_of, SplitRows.trail_place_of}
+use Rattle.legacy_decoder_engine.specs.{ReadAhead.HasAscii, ReadAhead.IsPair, SplitRows.lead_place_of, SplitRows.trail_place_of}
 use Rattle.legacy_decoder_engine.proofs.LanePlaces.{entry_is}
 use Rattle.legacy_japanese.specs.{ShiftJisLanes.shift_jis_place, ShiftJisMachine.shift_jis_pair_scalars, ShiftJisShown.shift_jis_codec}
 use Rattle.legacy_japanese.specs.ShiftJisPlaces.{shift_jis_lead_place, shift_jis_trail_place}

@@ -5,7 +5,7 @@ use Rattle.std.specs.{Char.IsScalar, Char.is_ascii, Int.is_in_range, Option.opti
 use Rattle.legacy_tables.specs.{AcceptedTables.AcceptedIndexes, Indexes.idx, Unicode.is_katakana_byte, Unicode.katakana_of}
 use Rattle.legacy_base.specs.{Grammar.shift_jis, ShiftJis.is_shift_jis_lead, ShiftJis.shift_jis_pointer, ShiftJis.shift_jis_scalars}
 use Rattle.legacy_tables.proofs.Accepted.{jis0208-below}
-use Rattle.legacy_decoder_engine.specs.{Ahead.Runs, Costs.IsNarrowIndex}
+use Rattle.legacy_decoder_engine.specs.{ReadAhead.Runs, StepUnits.IsNarrowIndex}
 use Rattle.legacy_decoder_engine.proofs.{LeadHeld.pair, PairPlaces.found, RunForms.single_runs, Widths.idx_below}
 use Rattle.legacy_japanese.specs.{ShiftJisMachine.shift_jis_pair_scalars, ShiftJisShown.shift_jis_codec}
 

@@ -5,7 +5,7 @@ use Rattle.std.specs.{Int.is_in_range, Option.option_map_or, Char.is_ascii}
 use Rattle.legacy_base.specs.ShiftJis.{shift_jis_front, shift_jis_pair, is_shift_jis_lead, shift_jis_scalars, shift_jis_pointer}
 use Rattle.legacy_base.specs.{Fronts.Front, Fronts.reads, Fronts.malformed, Grammar.shift_jis, Lengths.to_utf16}
 use Rattle.legacy_tables.specs.{Unicode.is_katakana_byte, Unicode.katakana_of, Indexes.idx}
-use Rattle.legacy_decoder_engine.specs.{Steps.hold, Steps.finish, Costs.units, Costs.IsWidth, Costs.IsNarrowIndex, Settling.IsOneOrMarked}
+use Rattle.legacy_decoder_engine.specs.{Steps.hold, Steps.finish, StepUnits.units, StepUnits.IsWidth, StepUnits.IsNarrowIndex, StatesAfterSteps.IsOneOrMarked}
 use Rattle.legacy_decoder_engine.specs.LeadCodecs.{IsLeadCodec}
 use Rattle.legacy_japanese.specs.ShiftJisMachine.{shift_jis_first, shift_jis_pair_scalars}
 use Rattle.legacy_decoder_engine.proofs.TwoByteMeets.{IsFirst, ascii, other, leads, fails, IsTwoByte, step_front, first_test, front_test}

@@ -1,4 +1,4 @@
 //! EUC-JP.
 pub mod decoder;
 pub mod encoder;
-pub mod lead;
+pub mod held_lead;

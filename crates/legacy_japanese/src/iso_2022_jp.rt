@@ -4,5 +4,5 @@ pub mod cached;
 pub mod decoder;
 pub mod encoder;
 pub mod places;
-pub mod runs;
+pub mod read_ahead;
 pub mod steps;

@@ -5,7 +5,7 @@
 
 mod asked_scalars;
 mod euc_jp;
-mod folds;
+mod folded_scalars;
 mod iso_2022_jp;
 mod shift_jis;
 

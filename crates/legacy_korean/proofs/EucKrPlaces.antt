@@ -6,7 +6,7 @@ use Rattle.legacy_tables.specs.declared.tables.IndexName.TheVariants.{EucKr}
 use Rattle.legacy_tables.specs.{AcceptedTables.AcceptedIndexes, Indexes.idx, Unicode.IsByte}
 use Rattle.legacy_tables.proofs.Accepted.{narrow_index, index-scalars}
 use Rattle.legacy_base.specs.{EucKr.euc_kr, EucKr.euc_kr_pointer, LeadForms.pair_scalars, LeadForms.pointer_scalars, Profile.is_lead}
-use Rattle.legacy_decoder_engine.specs.{Ahead.IsPair, Costs.IsNarrowIndex, LaneCodes.ArePairs, LaneRows.row_place, Places.IsTableOf, Places.lead_place}
+use Rattle.legacy_decoder_engine.specs.{ReadAhead.IsPair, StepUnits.IsNarrowIndex, LaneCodes.ArePairs, LaneRows.row_place, Places.IsTableOf, Places.lead_place}
 use Rattle.legacy_decoder_engine.proofs.{LanePlaces.entry_is, LeadHeld.pair, PairPlaces.found, PairPlaces.none_past, Widths.idx_below}
 use Rattle.legacy_korean.specs.{EucKrShown.euc_kr_codec, declared.euc_kr.places.TheConstants.TRAILS}
 

@@ -4,8 +4,8 @@ use Rattle.legacy_tables.specs.declared.tables.IndexName.TheVariants.{EucKr}
 use Rattle.legacy_tables.proofs.Accepted.{narrow_index}
 use Rattle.legacy_base.specs.{EucKr.euc_kr, EucKr.euc_kr_pointer, LeadForms.lead_front, LeadForms.lead_pair, LeadForms.pair_scalars, LeadForms.pointer_scalars}
 use Rattle.legacy_base.specs.{Lengths.to_utf16, Profile.is_lead}
-use Rattle.legacy_decoder_engine.specs.{Costs.units, Costs.IsWidth, Costs.IsNarrowIndex, LeadCodecs.IsLeadCodec, LeadMachines.lead_first}
-use Rattle.legacy_decoder_engine.specs.Settling.{IsOneOrMarked}
+use Rattle.legacy_decoder_engine.specs.{StepUnits.units, StepUnits.IsWidth, StepUnits.IsNarrowIndex, LeadCodecs.IsLeadCodec, LeadMachines.lead_first}
+use Rattle.legacy_decoder_engine.specs.StatesAfterSteps.{IsOneOrMarked}
 use Rattle.legacy_decoder_engine.proofs.{SettledSteps.one_option, Widths.narrow_idx_units, TwoByteShown.HasTwoByteRooms, TwoByteShown.lead_codec}
 use Rattle.legacy_decoder_engine.proofs.TwoByteMeets.{IsTwoByte, is_lead-past, lead_byte_below, lead_first_is, lead_front_is}
 

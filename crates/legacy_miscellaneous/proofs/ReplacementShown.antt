@@ -9,7 +9,7 @@ use Rattle.legacy_base.specs.States.{state_of}
 use Rattle.legacy_base.specs.Lengths.{LengthQuery, to_utf16, query_form, replacement_units, room}
 use Rattle.legacy_base.specs.Fronts.{reads}
 use Rattle.legacy_decoder_engine.specs.Steps.{finish}
-use Rattle.legacy_decoder_engine.specs.Settling.{Settles}
+use Rattle.legacy_decoder_engine.specs.StatesAfterSteps.{Settles}
 use Rattle.legacy_decoder_engine.specs.Shown.{KeepsRooms, IsShown}
 use Rattle.legacy_miscellaneous.proofs.ReplacementMeets.{replacement_meets}
 use Rattle.legacy_decoder_engine.proofs.RoomMoves.{no_short_room, cond_most}

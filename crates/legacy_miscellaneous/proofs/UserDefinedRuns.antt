@@ -9,7 +9,7 @@ use Rattle.std.specs.Char.{IsScalar, is_ascii}
 use Rattle.legacy_base.specs.Grammar.{user_defined}
 use Rattle.legacy_base.specs.Fronts.{reads}
 use Rattle.legacy_decoder_engine.specs.declared.moves.Fed.TheVariants.{One}
-use Rattle.legacy_decoder_engine.specs.Ahead.{IsSingle, HasAscii}
+use Rattle.legacy_decoder_engine.specs.ReadAhead.{IsSingle, HasAscii}
 use Rattle.legacy_decoder_engine.specs.Steps.{finish}
 use Rattle.legacy_decoder_engine.specs.Moves.{Feeds}
 use Rattle.legacy_decoder_engine.proofs.Feeding as moves

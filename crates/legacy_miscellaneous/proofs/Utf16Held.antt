@@ -8,9 +8,9 @@ use Rattle.legacy_tables.specs.Unicode.{IsByte, AreBytes}
 use Rattle.legacy_base.specs.Grammar.{utf16, events_of}
 use Rattle.legacy_base.specs.States.{utf16_may_hold, rests}
 use Rattle.legacy_base.specs.Utf16.{unit_of}
-use Rattle.legacy_miscellaneous.specs.declared.utf16.held.Held.{Held}
-use Rattle.legacy_miscellaneous.specs.declared.utf16.held.Held.TheVariants.{Nothing, Odd, High, HighOdd, Pending}
-use Rattle.legacy_miscellaneous.specs.declared.utf16.held.UnitScalar.{UnitScalar}
+use Rattle.legacy_miscellaneous.specs.declared.utf16.held_bytes.Held.{Held}
+use Rattle.legacy_miscellaneous.specs.declared.utf16.held_bytes.Held.TheVariants.{Nothing, Odd, High, HighOdd, Pending}
+use Rattle.legacy_miscellaneous.specs.declared.utf16.held_bytes.UnitScalar.{UnitScalar}
 use Rattle.legacy_decoder_engine.specs.declared.moves.Fed.{Fed}
 use Rattle.legacy_decoder_engine.specs.Moves.{IsCovered, Feeds, Releases, Reports}
 use Rattle.legacy_base.specs.States.{state_of}

@@ -14,7 +14,7 @@ use Rattle.legacy_text.specs.EncodingForm.{EncodingForm, code_units, all_code_un
 use Rattle.legacy_tables.specs.Unicode.{IsByte}
 use Rattle.legacy_base.specs.Grammar.{utf16}
 use Rattle.legacy_base.specs.Utf16.{unit_of}
-use Rattle.legacy_decoder_engine.specs.Ahead.{Runs, IsPair, Writes, ReadsAhead}
+use Rattle.legacy_decoder_engine.specs.ReadAhead.{Runs, IsPair, Writes, ReadsAhead}
 use Rattle.legacy_base.specs.States.{new_state}
 use Rattle.legacy_miscellaneous.specs.Utf16Decoder.{HasAsciiUnits, AreUnitsBelow, unit_at}
 use Rattle.legacy_decoder_engine.proofs.RunForms.{pair_runs}

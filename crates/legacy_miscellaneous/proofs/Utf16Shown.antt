@@ -7,15 +7,15 @@ use Rattle.legacy_base.specs.Fronts.{malformed}
 use Rattle.legacy_base.specs.Grammar.{utf16}
 use Rattle.legacy_base.specs.Utf16.{unit_of}
 use Rattle.legacy_base.specs.States.{DecoderState, utf16_may_hold, rests}
-use Rattle.legacy_base.specs.Acts.{act_room, takes}
+use Rattle.legacy_base.specs.DecoderActs.{act_room, takes}
 use Rattle.legacy_text.specs.EncodingForm.{unit_count, bmp_room, wide_room}
 use Rattle.legacy_decoder_engine.specs.Steps.{Step, hold, finish, step_held}
 use Rattle.legacy_miscellaneous.specs.Utf16Machine.{utf16_machine, utf16_pending, utf16_step}
-use Rattle.legacy_decoder_engine.specs.Costs.{step_units, step_left, IsWidth, WritePays}
+use Rattle.legacy_decoder_engine.specs.StepUnits.{step_units, step_left, IsWidth, WritePays}
 use Rattle.legacy_base.specs.States.{state_of}
 use Rattle.legacy_miscellaneous.proofs.Utf16Meets.{utf16_meets}
 use Rattle.legacy_base.specs.Lengths.{LengthQuery, to_utf16, to_utf8, to_utf8_without_replacement, query_form, replacement_units, room}
-use Rattle.legacy_decoder_engine.specs.Settling.{Settles}
+use Rattle.legacy_decoder_engine.specs.StatesAfterSteps.{Settles}
 use Rattle.legacy_decoder_engine.specs.Shown.{KeepsRooms, IsShown, WriteSettles}
 use Rattle.legacy_decoder_engine.proofs.CallUnderWay.{same_rooms}
 use Rattle.legacy_decoder_engine.proofs.Widths.{width_of}

@@ -3,10 +3,10 @@ use Rattle.std.specs.Prelude.{◌≡◌, ℕ, ◌+◌, ◌*◌, ◌<◌, length,
 use Rattle.legacy_base.specs.Grammar.{Grammar, utf16}
 use Rattle.legacy_base.specs.Utf16.{unit_of}
 use Rattle.legacy_base.specs.States.{DecoderState}
-use Rattle.legacy_miscellaneous.specs.declared.utf16.held.Held.{Held}
-use Rattle.legacy_miscellaneous.specs.declared.utf16.held.Held.TheVariants.{Nothing, Odd, High, HighOdd, Pending}
+use Rattle.legacy_miscellaneous.specs.declared.utf16.held_bytes.Held.{Held}
+use Rattle.legacy_miscellaneous.specs.declared.utf16.held_bytes.Held.TheVariants.{Nothing, Odd, High, HighOdd, Pending}
 use Rattle.legacy_miscellaneous.specs.declared.utf16.decoder.Utf16Decoder.{Utf16Decoder}
-use Rattle.legacy_miscellaneous.specs.declared.utf16.runs.Units.{Units}
+use Rattle.legacy_miscellaneous.specs.declared.utf16.unit_blocks.Units.{Units}
 
 -- the first and the second byte of a unit, in the byte order
 abbrev pub first_byte : Bool → ℕ → ℕ

@@ -1,6 +1,6 @@
 //! UTF-16, in either byte order.
 pub mod decoder;
-pub mod held;
-pub mod runs;
-pub mod units;
+pub mod held_bytes;
+pub mod unit_blocks;
+pub mod unit_steps;
 pub mod vectors;

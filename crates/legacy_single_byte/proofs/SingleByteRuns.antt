@@ -13,7 +13,7 @@ use Rattle.legacy_tables.specs.Indexes.{entry_scalar, idx}
 use Rattle.legacy_tables.specs.AcceptedTables.{AcceptedTable}
 use Rattle.legacy_base.specs.Grammar.{single_byte}
 use Rattle.legacy_tables.proofs.AcceptedTable.{table-below, table-scalars}
-use Rattle.legacy_decoder_engine.specs.Ahead.{Runs, IsSingle, HasAscii, Writes, ReadsAhead}
+use Rattle.legacy_decoder_engine.specs.ReadAhead.{Runs, IsSingle, HasAscii, Writes, ReadsAhead}
 use Rattle.legacy_single_byte.specs.ByteEntries.{IsByteEntry}
 use Rattle.legacy_decoder_engine.proofs.RunForms.{single_runs, has_ascii, ascii_is, past_ascii}
 use Rattle.legacy_decoder_engine.proofs.JoinedRuns.{reads_written}

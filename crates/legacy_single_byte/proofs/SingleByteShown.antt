@@ -5,7 +5,7 @@ use Rattle.std.specs.Option.{IfSome}
 use Rattle.legacy_base.specs.SingleByte.{single_byte_front}
 use Rattle.legacy_base.specs.Grammar.{single_byte}
 use Rattle.legacy_tables.specs.Indexes.{idx}
-use Rattle.legacy_decoder_engine.specs.Costs.{IsNarrowIndex}
+use Rattle.legacy_decoder_engine.specs.StepUnits.{IsNarrowIndex}
 use Rattle.legacy_decoder_engine.specs.Shown.{IsShown}
 use Rattle.legacy_decoder_engine.proofs.{OneByteShown.one_byte_shown, Widths.narrow_entry}
 use Rattle.legacy_single_byte.specs.SingleByteMachine.{single_byte_machine}

@@ -16,7 +16,7 @@ pub(crate) mod pointer_set;
 pub(crate) mod pointers;
 pub(crate) mod private_use;
 pub(crate) mod ranges;
-pub(crate) mod runs;
+pub(crate) mod pointer_runs;
 pub(crate) mod unpacking;
 pub(crate) mod walks;
 

@@ -1,7 +1,7 @@
 //! The rows of each codec, followed.
 use crate::codecs::follow_each;
 use crate::{
-    big5, euc_jp, euc_kr, gb18030, iso_2022_jp, replacement, replacing, runs, shift_jis,
+    big5, euc_jp, euc_kr, gb18030, iso_2022_jp, replacement, replacing, decoder_runs, shift_jis,
     single_byte, user_defined, utf16,
 };
 
@@ -102,20 +102,20 @@ fn what_has_no_bytes_is_written_as_a_reference(rt: HostRuntime) {
 
 #[test]
 fn runs_over_tables_give_the_same_events_in_every_cut(rt: HostRuntime) {
-    follow_each(&rt, runs::CASES_OVER_TABLES);
+    follow_each(&rt, decoder_runs::CASES_OVER_TABLES);
 }
 
 #[test]
 fn runs_of_the_other_decoders_do_so_too(rt: HostRuntime) {
-    follow_each(&rt, runs::CASES_OF_OTHERS);
+    follow_each(&rt, decoder_runs::CASES_OF_OTHERS);
 }
 
 #[test]
 fn runs_of_encoders_over_tables_give_the_same_events_in_every_cut(rt: HostRuntime) {
-    follow_each(&rt, runs::encoders::CASES_OVER_TABLES);
+    follow_each(&rt, decoder_runs::encoders::CASES_OVER_TABLES);
 }
 
 #[test]
 fn runs_of_the_other_encoders_do_so_too(rt: HostRuntime) {
-    follow_each(&rt, runs::encoders::CASES_OF_OTHERS);
+    follow_each(&rt, decoder_runs::encoders::CASES_OF_OTHERS);
 }

@@ -6,7 +6,7 @@ use crate::compared::{Place, is_answer, is_refusal};
 use crate::cuts::{small_lengths, spaced, text_pieces, unit_pieces};
 use crate::encode_events::{Wanted, events_of};
 use crate::replacing::encoders::follow_replacing;
-use crate::texts::Text;
+use crate::source_texts::Text;
 use legacy_base::{EncodeEvent, EncoderResult, RawEncoder};
 use legacy_codecs::{CoderResult, RunError};
 use legacy_encodings::AnyEncoder;

@@ -50,7 +50,7 @@ mod replacing;
 #[cfg(test)]
 mod rows;
 #[cfg(test)]
-mod runs;
+mod decoder_runs;
 #[cfg(test)]
 mod shift_jis;
 #[cfg(test)]
@@ -58,7 +58,7 @@ mod single_byte;
 #[cfg(test)]
 mod tables;
 #[cfg(test)]
-mod texts;
+mod source_texts;
 #[cfg(test)]
 mod units;
 #[cfg(test)]

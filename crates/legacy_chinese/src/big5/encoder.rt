@@ -8,7 +8,7 @@ ghost use Rattle.legacy_chinese.specs.Big5Codes.{big5_pairs, big5_mark, big5_mar
 use super::decoder::Big5;
 use legacy_encoder_engine::asked_pairs::ask_pairs;
 use legacy_encoder_engine::moves::EncoderMove;
-use legacy_encoder_engine::pairs::{FillsPairs, PairCodec, PairCodes, PairEncoder};
+use legacy_encoder_engine::pair_encoder::{FillsPairs, PairCodec, PairCodes, PairEncoder};
 use legacy_tables::{EncoderTables, Marks, PackedPart};
 
 /// The encoder of Big5 (Encoding Standard, "Big5 encoder").

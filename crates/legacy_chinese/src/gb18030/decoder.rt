@@ -12,16 +12,16 @@ ghost use Rattle.legacy_decoder_engine.specs.Feeding.{Took};
 ghost use Rattle.legacy_chinese.specs.Gb18030Held.{held_bytes, is_resting};
 
 use super::digit::Digit;
-use super::fours::{guessed_scalar, read_flat};
+use super::four_byte_blocks::{guessed_scalar, read_flat};
 use super::pair_places::TRAILS;
 use legacy_base::{DecoderResult, Destination, IndexName, RawDecoder, Tables};
 use legacy_decoder_engine::drive::{count_lone, drive_decoder};
-use legacy_decoder_engine::held::Lead;
+use legacy_decoder_engine::held_lead::Lead;
 use legacy_decoder_engine::moves::{DecoderMoves, Fed, Room};
 use legacy_decoder_engine::places::{ROWS_OF_190, pair_pointer};
-use legacy_decoder_engine::runs::read_ascii;
-use legacy_decoder_engine::trail::unmapped;
-use legacy_decoder_engine::two_byte::fault_through;
+use legacy_decoder_engine::read_ahead::read_ascii;
+use legacy_decoder_engine::unmapped_trail::unmapped;
+use legacy_decoder_engine::lead_and_trail::fault_through;
 use legacy_tables::DecoderTables;
 use std::cell::Cell;
 

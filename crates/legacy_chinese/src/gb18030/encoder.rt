@@ -8,7 +8,7 @@ ghost use Rattle.legacy_base.specs.Encoders.{encoder_profile, new_encoder};
 ghost use Rattle.legacy_base.specs.Lengths.{answer, number, ◌⊕◌, ◌⊗◌};
 ghost use Rattle.legacy_encoder_engine.specs.CachedPairs.{AreAllPairsOf};
 ghost use Rattle.legacy_encoder_engine.specs.Moves.{IsCode};
-ghost use Rattle.legacy_encoder_engine.specs.UnderWay.{EncodesFrom};
+ghost use Rattle.legacy_encoder_engine.specs.UnfinishedCall.{EncodesFrom};
 ghost use Rattle.legacy_chinese.specs.Gb18030Codec.{gb18030_codec};
 ghost use Rattle.legacy_chinese.specs.Gb18030Codes.{gb18030_plain};
 
@@ -20,7 +20,7 @@ use legacy_encoder_engine::drive::drive_encoder;
 use legacy_encoder_engine::moves::EncoderMove;
 use legacy_encoder_engine::plain::PlainEncoder;
 use legacy_encoder_engine::plain_codes::PlainCodes;
-use legacy_encoder_engine::runs::read_runs;
+use legacy_encoder_engine::read_ahead::read_runs;
 use legacy_tables::{DecoderTables, EncoderTables, FlatTables, RangePart};
 
 /// The encoder of GB18030 or of GBK (Encoding Standard, "gb18030 encoder").

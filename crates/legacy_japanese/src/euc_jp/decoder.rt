@@ -15,16 +15,16 @@ ghost use Rattle.legacy_decoder_engine.specs.Feeding.{Took};
 ghost use Rattle.legacy_decoder_engine.specs.LaneRows.{row_place};
 ghost use Rattle.legacy_japanese.specs.EucJpHeld.{held_bytes};
 
-use super::lead::EucJpLead;
+use super::held_lead::EucJpLead;
 use legacy_base::{DecoderResult, Destination, IndexName, RawDecoder, Tables};
 use legacy_decoder_engine::common_forms::CommonForm;
 use legacy_decoder_engine::drive::{count_lone, drive_decoder};
 use legacy_decoder_engine::lanes::{LaneCodec, LaneForms, narrow_entries, read_common};
 use legacy_decoder_engine::moves::{DecoderMoves, Fed, Room};
 use legacy_decoder_engine::rows::row_pointers;
-use legacy_decoder_engine::runs::read_ascii;
-use legacy_decoder_engine::trail::unmapped;
-use legacy_decoder_engine::two_byte::fault_through;
+use legacy_decoder_engine::read_ahead::read_ascii;
+use legacy_decoder_engine::unmapped_trail::unmapped;
+use legacy_decoder_engine::lead_and_trail::fault_through;
 use legacy_tables::{DecoderTables, FlatTables};
 use std::simd::prelude::*;
 

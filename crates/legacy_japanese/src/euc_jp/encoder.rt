@@ -6,9 +6,9 @@ ghost use Rattle.legacy_base.specs.Encoders.{euc_jp};
 ghost use Rattle.legacy_japanese.specs.EucJpCodes.{euc_jp_pairs, euc_jp_mark, euc_jp_mark-some};
 
 use crate::asked_scalars::ask_others;
-use crate::folds::{is_by_index, minus_as_hyphen};
+use crate::folded_scalars::{is_by_index, minus_as_hyphen};
 use legacy_encoder_engine::moves::EncoderMove;
-use legacy_encoder_engine::pairs::{FillsPairs, PairCodec, PairCodes, PairEncoder};
+use legacy_encoder_engine::pair_encoder::{FillsPairs, PairCodec, PairCodes, PairEncoder};
 use legacy_tables::{EncoderTables, Marks, PackedPart};
 
 /// The codec of EUC-JP.

@@ -1,7 +1,7 @@
 //! The codes of ISO-2022-JP's encoder in ASCII mode, which it copies by blocks.
 ghost use Rattle.std.specs.Prelude.{◌≡◌, ◌+◌, ◌≤◌, length, true, false};
 ghost use Rattle.legacy_base.specs.Iso2022Jp.{is_mode_control};
-ghost use Rattle.legacy_encoder_engine.specs.UnderWay.{EncodesBy};
+ghost use Rattle.legacy_encoder_engine.specs.UnfinishedCall.{EncodesBy};
 ghost use Rattle.legacy_japanese.specs.Iso2022JpEncoder.{HasNoControl, IsOwnByte, ascii_state};
 
 use legacy_base::Tables;

@@ -13,7 +13,7 @@ use legacy_encoder_engine::asked_pairs::PairEntries;
 use legacy_encoder_engine::cached::PAIR_ROOM;
 use legacy_encoder_engine::drive::{drive_encoder, put_two};
 use legacy_encoder_engine::moves::{EncoderMove, EncoderMoves};
-use legacy_encoder_engine::runs::read_runs;
+use legacy_encoder_engine::read_ahead::read_runs;
 use legacy_tables::{EncoderTables, Marks, RangePart};
 
 // The entries of a list of pairs, each looked up in the tables.

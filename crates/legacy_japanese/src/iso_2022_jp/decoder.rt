@@ -6,7 +6,7 @@ ghost use Rattle.legacy_base.specs.States.{is_neutral, new_state};
 ghost use Rattle.legacy_japanese.specs.Iso2022JpMachine.{is_held};
 ghost use Rattle.legacy_japanese.specs.Iso2022JpMoves.{weight_of};
 
-use super::runs::{escape_at, read_modes};
+use super::read_ahead::{escape_at, read_modes};
 use super::steps::{Held, Mode, Start, finish, pending, read};
 use legacy_base::{DecoderResult, Destination, RawDecoder, Tables};
 use legacy_decoder_engine::drive::drive_decoder;

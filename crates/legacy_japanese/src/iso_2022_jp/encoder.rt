@@ -8,13 +8,13 @@ ghost use Rattle.legacy_japanese.specs.Iso2022JpEncoder.{Asks, escape_move, is_s
 ghost use Rattle.legacy_japanese.specs.Iso2022JpEncoder.{iso_2022_jp_encoder_state, mode_of};
 ghost use Rattle.legacy_japanese.specs.Iso2022JpEncoder.{state_in};
 
-use crate::folds::minus_as_hyphen;
+use crate::folded_scalars::minus_as_hyphen;
 use crate::iso_2022_jp::ascii::{AsciiCodes, is_control};
 use legacy_base::{EncoderResult, IndexName, RawEncoder, Source, Tables};
 use legacy_encoder_engine::ahead_codes::AheadCodes;
 use legacy_encoder_engine::drive::{drive_encoder, put_move};
 use legacy_encoder_engine::moves::{EncoderMove, EncoderMoves};
-use legacy_encoder_engine::runs::read_runs;
+use legacy_encoder_engine::read_ahead::read_runs;
 use legacy_tables::{EncoderTables, RangePart};
 
 /// The mode of the encoder: how the next bytes are read.

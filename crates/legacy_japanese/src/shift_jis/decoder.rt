@@ -10,16 +10,16 @@ ghost use Rattle.legacy_japanese.specs.ShiftJisShown.{shift_jis_codec};
 ghost use Rattle.legacy_decoder_engine.specs.LeadCodecs.{held_bytes};
 ghost use Rattle.legacy_japanese.specs.ShiftJisLanes.{shift_jis_place};
 
-use super::lead::ShiftJisLead;
+use super::held_lead::ShiftJisLead;
 use super::places::{LEADS, TRAILS};
 use legacy_base::{IndexName, Tables};
 use legacy_decoder_engine::common_forms::CommonForm;
 use legacy_decoder_engine::lanes::{LaneCodec, narrow_entries};
-use legacy_decoder_engine::lead::{LeadCodec, LeadDecoder};
+use legacy_decoder_engine::lead_decoder::{LeadCodec, LeadDecoder};
 use legacy_decoder_engine::moves::{Fed, Room};
 use legacy_decoder_engine::places::pair_pointer;
 use legacy_decoder_engine::split_rows::{lead_places, place_sums, trail_places};
-use legacy_decoder_engine::two_byte::{fault_through, read_trail};
+use legacy_decoder_engine::lead_and_trail::{fault_through, read_trail};
 use legacy_tables::{DecoderTables, FlatTables};
 use std::simd::prelude::*;
 

@@ -8,9 +8,9 @@ ghost use Rattle.legacy_japanese.specs.ShiftJisCodes.{shift_jis_mark-some};
 
 use super::decoder::ShiftJis;
 use crate::asked_scalars::ask_others;
-use crate::folds::{is_by_index, minus_as_hyphen};
+use crate::folded_scalars::{is_by_index, minus_as_hyphen};
 use legacy_encoder_engine::moves::EncoderMove;
-use legacy_encoder_engine::pairs::{FillsPairs, PairCodec, PairCodes, PairEncoder};
+use legacy_encoder_engine::pair_encoder::{FillsPairs, PairCodec, PairCodes, PairEncoder};
 use legacy_tables::{EncoderTables, Marks, PackedPart};
 
 /// The encoder of Shift_JIS (Encoding Standard, "Shift_JIS encoder").

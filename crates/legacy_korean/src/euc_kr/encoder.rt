@@ -8,7 +8,7 @@ ghost use Rattle.legacy_korean.specs.EucKrCodes.{euc_kr_pairs, euc_kr_mark, euc_
 use super::decoder::EucKr;
 use legacy_encoder_engine::asked_pairs::ask_pairs;
 use legacy_encoder_engine::moves::EncoderMove;
-use legacy_encoder_engine::pairs::{FillsPairs, PairCodec, PairCodes, PairEncoder};
+use legacy_encoder_engine::pair_encoder::{FillsPairs, PairCodec, PairCodes, PairEncoder};
 use legacy_tables::{EncoderTables, Marks, PackedPart};
 
 /// The encoder of EUC-KR (Encoding Standard, "EUC-KR encoder").

@@ -6,13 +6,13 @@ ghost use Rattle.std.specs.Char.{is_ascii};
 ghost use Rattle.legacy_text.specs.EncodingForm.{bmp_room};
 ghost use Rattle.legacy_base.specs.Grammar.{user_defined};
 ghost use Rattle.legacy_base.specs.States.{new_state};
-ghost use Rattle.legacy_decoder_engine.specs.Ahead.{ReadsAhead};
+ghost use Rattle.legacy_decoder_engine.specs.ReadAhead.{ReadsAhead};
 
 use legacy_base::{DecoderResult, Destination, RawDecoder};
 use legacy_decoder_engine::common_forms::{CommonForm, CommonForms, read_forms};
 use legacy_decoder_engine::drive::drive_decoder;
 use legacy_decoder_engine::moves::{DecoderMoves, Fed, Room};
-use legacy_decoder_engine::runs::{Blocks, read_ascii, read_blocks};
+use legacy_decoder_engine::read_ahead::{Blocks, read_ascii, read_blocks};
 
 /// The decoder of x-user-defined (Encoding Standard, "x-user-defined decoder").
 ///

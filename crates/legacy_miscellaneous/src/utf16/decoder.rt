@@ -4,13 +4,13 @@ ghost use Rattle.legacy_base.specs.Grammar.{utf16};
 ghost use Rattle.legacy_base.specs.States.{additional_from_state, new_state};
 ghost use Rattle.legacy_base.specs.Lengths.{answer, utf16_units};
 
-use super::held::Held;
-use super::runs::Units;
-use super::units::read_byte;
+use super::held_bytes::Held;
+use super::unit_blocks::Units;
+use super::unit_steps::read_byte;
 use legacy_base::{DecoderResult, Destination, RawDecoder};
 use legacy_decoder_engine::drive::drive_decoder;
 use legacy_decoder_engine::moves::{DecoderMoves, Fed, Room};
-use legacy_decoder_engine::runs::read_blocks;
+use legacy_decoder_engine::read_ahead::read_blocks;
 
 /// The decoder of UTF-16 in either byte order (Encoding Standard, "shared UTF-16 decoder").
 ///

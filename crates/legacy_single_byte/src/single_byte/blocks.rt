@@ -6,7 +6,7 @@ ghost use Rattle.std.specs.Char.{IsScalar};
 ghost use Rattle.legacy_text.specs.EncodingForm.{all_code_units, total_unit_count};
 ghost use Rattle.legacy_base.specs.Grammar.{Grammar, single_byte};
 ghost use Rattle.legacy_base.specs.States.{new_state};
-ghost use Rattle.legacy_decoder_engine.specs.Ahead.{ReadsAhead};
+ghost use Rattle.legacy_decoder_engine.specs.ReadAhead.{ReadsAhead};
 
 use super::scalars::ByteScalars;
 use legacy_base::Destination;

@@ -10,7 +10,7 @@ use legacy_encoder_engine::drive::drive_encoder;
 use legacy_encoder_engine::moves::EncoderMove;
 use legacy_encoder_engine::plain::PlainEncoder;
 use legacy_encoder_engine::plain_codes::PlainCodes;
-use legacy_encoder_engine::runs::read_runs;
+use legacy_encoder_engine::read_ahead::read_runs;
 
 /// The encoder of a single-byte encoding (Encoding Standard, "single-byte encoder").
 ///

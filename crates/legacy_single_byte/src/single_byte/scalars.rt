@@ -4,7 +4,7 @@
 // and keep the destination's place there.
 ghost use Rattle.std.specs.Prelude.{◌≡◌, ◌<◌, ◌≤◌, ℕ, length, slice_index, IfSome};
 ghost use Rattle.legacy_base.specs.Grammar.{single_byte};
-ghost use Rattle.legacy_decoder_engine.specs.Ahead.{IsSingle};
+ghost use Rattle.legacy_decoder_engine.specs.ReadAhead.{IsSingle};
 ghost use Rattle.legacy_single_byte.specs.ByteEntries.{IsByteEntry, AreByteEntries};
 
 use legacy_base::SingleByteTable;

@@ -9,7 +9,7 @@ ghost use Rattle.legacy_tables.specs.Tables.{flat_indexes};
 
 use super::numbers::Numbers;
 use super::packed::{Packed, PackedPart, Run};
-use super::runs::{Runs, first_out_of_order};
+use super::pointer_runs::{Runs, first_out_of_order};
 use super::{Indexes, TableError};
 
 /// Returns the number that a flat index has for a pointer.

@@ -6,7 +6,7 @@ use crate::encoder_rows::EncoderRow::{Encoder, ReplacedFromUtf8, ReplacedFromUtf
 use crate::indexes::EMPTY;
 use crate::iso_2022_jp::encoder::ONE_PAIR;
 use crate::single_byte::encoder::WITH_RUN;
-use crate::texts::Text;
+use crate::source_texts::Text;
 use legacy_base::RawEncoder;
 use legacy_codecs::CoderResult;
 use legacy_codecs::CoderResult::{InputEmpty, OutputFull};

@@ -2,7 +2,7 @@ use Rattle.std.proofs.Common.{◌≡◌, ◌∙◌, ◌*◌, ◌+◌, ◌++◌, 
 use Rattle.std.proofs.lemmas.List.{get_or-drop, length-drop, take_all}
 use Rattle.std.specs.List.{count_by}
 use Rattle.legacy_text.specs.EncodingForm.{all_code_units, total_unit_count}
-use Rattle.legacy_decoder_engine.specs.Ahead.{Writes}
+use Rattle.legacy_decoder_engine.specs.ReadAhead.{Writes}
 use Rattle.legacy_decoder_engine.specs.PickedForms.{forms_of}
 use Rattle.legacy_decoder_engine.proofs.LaneUnits.{all_scalars, codes_more, units_written}
 use Rattle.legacy_decoder_engine.proofs.WrittenRuns.{writes_none, all_short}

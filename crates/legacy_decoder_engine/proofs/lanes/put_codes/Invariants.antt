@@ -1,5 +1,5 @@
 use Rattle.std.proofs.Common.{◌≡◌, ◌-◌, ◌*◌, ◌≤◌, length, take}
-use Rattle.legacy_decoder_engine.specs.{Ahead.Writes, PickedForms.forms_of}
+use Rattle.legacy_decoder_engine.specs.{ReadAhead.Writes, PickedForms.forms_of}
 use Rattle.legacy_decoder_engine.proofs.lanes.put_codes.Given as goal
 
 -- the groups of eight so far are written, and there is room left

@@ -1,5 +1,5 @@
 use Rattle.std.proofs.Common.{ℕ, ◌∙◌, cond, ltb, take, ap, sym, subst, arith}
-use Rattle.legacy_decoder_engine.specs.Ahead.{Writes}
+use Rattle.legacy_decoder_engine.specs.ReadAhead.{Writes}
 use Rattle.legacy_decoder_engine.proofs.{FormStarts.front_chunk, LaneUnits.front_part, WrittenRuns.writes_none}
 use Rattle.legacy_decoder_engine.proofs.lanes.read_block.Goals as goal
 

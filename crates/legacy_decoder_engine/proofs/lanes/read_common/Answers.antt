@@ -1,6 +1,6 @@
 use Rattle.std.proofs.Common.{subst}
 use Rattle.legacy_base.specs.States.{new_state}
-use Rattle.legacy_decoder_engine.specs.Ahead.{ReadsAhead}
+use Rattle.legacy_decoder_engine.specs.ReadAhead.{ReadsAhead}
 use Rattle.legacy_decoder_engine.proofs.WrittenRuns.{reads_none}
 use Rattle.legacy_decoder_engine.proofs.lanes.read_common.Goals as goal
 

@@ -1,6 +1,6 @@
 use Rattle.std.proofs.Common.{◌-◌, length}
 use Rattle.legacy_base.specs.States.{new_state}
-use Rattle.legacy_decoder_engine.specs.Ahead.{ReadsAhead}
+use Rattle.legacy_decoder_engine.specs.ReadAhead.{ReadsAhead}
 use Rattle.legacy_decoder_engine.proofs.lanes.read_lanes.Given as goal
 
 -- the scalars of the bytes read are written

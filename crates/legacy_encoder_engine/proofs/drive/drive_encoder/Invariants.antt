@@ -1,6 +1,6 @@
 use Rattle.std.proofs.Common.{◌≡◌, ◌≤◌, ◌+◌, ◌-◌, length, take}
 use Rattle.legacy_text.specs.EncodingForm.{total_unit_count}
-use Rattle.legacy_encoder_engine.specs.UnderWay.{Underway}
+use Rattle.legacy_encoder_engine.specs.UnfinishedCall.{Underway}
 use Rattle.legacy_encoder_engine.proofs.drive.drive_encoder.Given as goal
 
 -- the call is under way, and the output has the written bytes

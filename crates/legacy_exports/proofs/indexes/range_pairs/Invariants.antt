@@ -1,5 +1,5 @@
 use Rattle.std.proofs.Common.{◌≡◌, ◌-◌, ◌≤◌, length, take, map}
-use Rattle.legacy_exports.specs.Taken.{range_pair}
+use Rattle.legacy_exports.specs.AcceptedIndexes.{range_pair}
 use Rattle.legacy_exports.proofs.indexes.range_pairs.Given as goal
 
 -- the ranges that were passed are pairs

@@ -1,5 +1,5 @@
 use Rattle.std.proofs.Common.{◌+◌, ◌*◌, ◌≤◌, take}
-use Rattle.legacy_decoder_engine.specs.Ahead.{Writes}
+use Rattle.legacy_decoder_engine.specs.ReadAhead.{Writes}
 use Rattle.legacy_decoder_engine.proofs.common_forms.FormsInTurnForms.read_forms.Given as goal
 
 -- the scalars of the bytes read are written, and there is room for the turns left

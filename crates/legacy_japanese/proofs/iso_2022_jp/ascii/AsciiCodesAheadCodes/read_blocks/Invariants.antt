@@ -1,5 +1,5 @@
 use Rattle.std.proofs.Common.{◌-◌, length}
-use Rattle.legacy_encoder_engine.specs.UnderWay.{EncodesBy}
+use Rattle.legacy_encoder_engine.specs.UnfinishedCall.{EncodesBy}
 use Rattle.legacy_japanese.specs.Iso2022JpEncoder.{ascii_state}
 use Rattle.legacy_japanese.proofs.iso_2022_jp.ascii.AsciiCodesAheadCodes.read_blocks.Given as goal
 

@@ -1,6 +1,6 @@
 use Rattle.std.proofs.Common.{◌+◌, ◌*◌, ◌-◌, ◌≤◌, take}
 use Rattle.legacy_base.specs.Grammar.{single_byte}
-use Rattle.legacy_decoder_engine.specs.Ahead.{Writes}
+use Rattle.legacy_decoder_engine.specs.ReadAhead.{Writes}
 use Rattle.legacy_single_byte.proofs.single_byte.blocks.Eights.read_singly.Given as goal
 
 -- the bytes read are written, with at most three code units for each

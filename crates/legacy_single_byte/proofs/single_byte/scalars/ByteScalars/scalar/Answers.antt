@@ -1,7 +1,7 @@
 use Rattle.std.proofs.Common.{◌≡◌, ◌<◌, ◌^◌, ◌∙◌, get_or, sym, ap, subst, arith}
 use Rattle.std.specs.Char.{IsScalar}
 use Rattle.legacy_base.specs.Grammar.{single_byte}
-use Rattle.legacy_decoder_engine.specs.Ahead.{IsSingle}
+use Rattle.legacy_decoder_engine.specs.ReadAhead.{IsSingle}
 use Rattle.legacy_single_byte.proofs.SingleByteRuns.{entry_below, entry_runs}
 use Rattle.legacy_single_byte.proofs.single_byte.scalars.ByteScalars.scalar.Goals as goal
 

@@ -1,0 +1,77 @@
+use Rattle.std.proofs.Common.{◌+◌, ◌<◌, length, get_or, ap, arith}
+use Rattle.legacy_base.specs.Grammar.{gb18030}
+use Rattle.legacy_decoder_engine.proofs.JoinedRuns.{reads_front}
+use Rattle.legacy_decoder_engine.proofs.WrittenRuns.{runs_byte, code_units_ascii, writes_none, writes_one, writes_four, four_fit}
+use Rattle.legacy_chinese.proofs.Gb18030Held.{ascii}
+use Rattle.legacy_chinese.proofs.FourPlaces.{four_at}
+use Rattle.legacy_chinese.proofs.gb18030.four_byte_blocks.Gb18030Blocks.read_fours.Goals as goal
+
+pub loop-at-init : goal.loop-at-init
+loop-at-init g c =
+    let flat = c.args.self.now.tables.now.flat in (
+      omega arith,
+      omega (arith, c.min-most.ensures),
+      omega (arith, c.min-most.ensures, c.saturating_sub.ensures, c.free.ensures),
+      omega arith,
+      writes_none g.T.Destination (gb18030 flat.gb18030 flat.ranges) c.args.dst.now,
+      c.ranges-ranges.ensures,
+      c.part_at-part.ensures,
+    )
+
+pub returns-then-src-at-lt128 : goal.returns-then-src-at-lt128
+returns-then-src-at-lt128 g c =
+    let T = g.T.Destination in
+    let tables = c.args.self.now.tables.now in
+    let src = c.args.src.now in
+    let i = c.loop-at.invariant in
+    let e = c.put.ensures in
+    let fits = four_fit T.form c.from.result 4 (omega arith) in
+    reads_front (omega (arith, i.0, i.1, c.loop-at-test.true))
+    (writes_one T src c.loop-at.at c.from.result (omega (arith, i.0, i.1, c.loop-at-test.true)) i.4
+    (runs_byte (ascii tables) (get_or src c.loop-at.at 0) c.from.result c.if-byte-lt128.true c.from.ensures) e.contents e.room e.loan)
+    (λ h. omega (arith, i.2, i.3, c.loop-at-test.true, e.room, fits)) (λ h. omega (arith, i.2, c.loop-at-test.true))
+
+pub loop-at-preserved-else-src-at-lt128 : goal.loop-at-preserved-else-src-at-lt128
+loop-at-preserved-else-src-at-lt128 g c =
+    let T = g.T.Destination in
+    let tables = c.args.self.now.tables.now in
+    let src = c.args.src.now in
+    let i = c.loop-at.invariant in
+    let e = c.put.ensures in
+    let below : c.from.result < 128 = omega (arith, c.from.ensures, c.if-byte-lt128.true) in
+    let one = ap length (code_units_ascii T.form c.from.result below) in (
+      omega (arith, i.0, c.loop-at-test.true),
+      i.1,
+      i.2,
+      omega (arith, i.3, e.room, one),
+      writes_one T src c.loop-at.at c.from.result (omega (arith, i.0, i.1, c.loop-at-test.true)) i.4
+          (runs_byte (ascii tables) (get_or src c.loop-at.at 0) c.from.result c.if-byte-lt128.true c.from.ensures) e.contents e.room e.loan,
+      i.5,
+      i.6,
+    )
+
+pub put-requires-else-byte-lt128 : goal.put-requires-else-byte-lt128
+put-requires-else-byte-lt128 g c =
+    let i = c.loop-at.invariant in
+    four_fit g.T.Destination.form c.in-Some.scalar _ (omega (arith, i.2, i.3, c.loop-at-test.true))
+
+pub loop-at-preserved : goal.loop-at-preserved
+loop-at-preserved g c =
+    let T = g.T.Destination in
+    let tables = c.args.self.now.tables.now in
+    let src = c.args.src.now in
+    let at = c.loop-at.at in
+    let i = c.loop-at.invariant in
+    let e = c.put-else-byte-lt128.ensures in
+    let x = c.in-Some.scalar in
+    let found = c.in-Some.ensures in
+    let run = four_at tables c.ranges-ranges.result.list.now c.four_pointer-pointer.result (get_or src at 0) (get_or src (at + 1) 0) (get_or src (at + 2) 0)
+    (get_or src (at + 3) 0) x c.ranges-ranges.ensures c.four_pointer-pointer.ensures.place found.0 in (
+      omega (arith, i.0, c.loop-at-test.true),
+      i.1,
+      i.2,
+      omega (arith, i.3, four_fit T.form x 4 (omega arith), e.room),
+      writes_four T src at x (omega (arith, i.0, i.1, c.loop-at-test.true)) i.4 run e.contents e.room e.loan,
+      i.5,
+      found.1,
+    )

@@ -1,0 +1,10 @@
+use Rattle.std.proofs.Common.{◌/◌, ◌%◌}
+use Rattle.legacy_decoder_engine.specs.Places.{lead_place}
+use Rattle.legacy_chinese.specs.Gb18030Places.{gb18030_trail_place}
+use Rattle.legacy_chinese.proofs.gb18030.four_byte_blocks.Gb18030LaneCodec.places.Goals as goal
+
+pub returns : goal.returns
+unfolding lead_place gb18030_trail_place
+returns c =
+    c.place_sums.ensures (λ code. lead_place (code % 256)) (λ code. gb18030_trail_place (code / 256)) c.args.codes c.lead_places.ensures
+    c.trail_places.ensures

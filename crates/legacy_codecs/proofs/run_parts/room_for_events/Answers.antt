@@ -1,6 +1,0 @@
-use Rattle.std.proofs.Common.{arith}
-use Rattle.std.proofs.lemmas.Grind.{common_steps}
-use Rattle.legacy_codecs.proofs.run_parts.room_for_events.Goals as goal
-
-pub returns-in_default-clause-too_long : goal.returns-in_default-clause-too_long
-returns-in_default-clause-too_long g c = grind (arith, common_steps)

@@ -1,6 +1,0 @@
-use Rattle.std.proofs.Common.{ap, map}
-use Rattle.std.proofs.lemmas.Str.{utf16_chars-nil}
-use Rattle.legacy_codecs.proofs.texts.RefSliceU16Text.empty.Goals as goal
-
-pub returns : goal.returns
-returns c = ap (map _) utf16_chars-nil

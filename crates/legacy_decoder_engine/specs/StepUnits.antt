@@ -1,0 +1,69 @@
+-- The code units that a move of a decoder writes, and their bounds.
+use Rattle.std.specs.Prelude.{ℕ, ◌+◌, ◌*◌, ◌<◌, ◌≤◌, ◌≡◌, List, [], ◌∷◌, true, false, drop, length, All, Option, Some, None}
+use Rattle.legacy_tables.specs.Unicode.{IsByte, AreBytes}
+use Rattle.legacy_base.specs.States.{DecoderState, state_of, may_hold, rests}
+use Rattle.legacy_base.specs.{Fronts.reads, Fronts.malformed, Grammar.Grammar, DecoderActs.takes, DecoderActs.writes, DecoderActs.act_room}
+use Rattle.legacy_decoder_engine.specs.Steps.{Step, hold, finish, leave, step_held, DecoderMachine}
+
+-- the number of code units of scalars
+abbrev pub units : (ℕ → ℕ) → List ℕ → ℕ
+units len [] = 0
+units len (c ∷ scalars) = len c + units len scalars
+
+-- the code units that a step writes, with `fault` for a malformed sequence
+abbrev pub step_units : (ℕ → ℕ) → ℕ → Step → ℕ
+step_units len fault hold = 0
+step_units len fault (finish (reads n scalars)) = units len scalars
+step_units len fault (finish (malformed n)) = fault
+step_units len fault (leave n) = fault
+
+-- 1 if the byte is still to be read, and 0 if it was read
+abbrev pub step_left : Step → ℕ
+step_left (leave n) = 1
+step_left s = 0
+
+-- The common properties of the code units of UTF-8 and UTF-16. `narrow` is the number of code units of U+FFFD, and of
+-- the longest scalar up to U+FFFF. `wide` is that of the longest scalar.
+pub record IsWidth (len : ℕ → ℕ) (narrow wide : ℕ) : Type 0 where
+  pub ascii : (c : ℕ) → c < 0x80 → len c ≡ 1
+  pub two : (c : ℕ) → c < 0x800 → len c + len c ≤ wide
+  pub bmp : (c : ℕ) → c < 0x1_0000 → len c ≤ narrow
+  pub every : (c : ℕ) → len c ≤ wide
+  pub some : 1 ≤ narrow
+  pub most : narrow ≤ 3
+  pub rises : narrow ≤ wide
+  pub twice : wide ≤ narrow + 1
+
+-- no entry is above U+FFFF
+abbrev pub IsNarrowIndex : List ℕ → Type 0
+IsNarrowIndex index = All (λ c. c < 0x1_0000) index
+
+-- The bounds of what a step writes: the room for reading the byte, and the room that n fewer bytes save. `wt` is the
+-- weight of the held-back bytes. The last bound counts no malformed sequence: `slope` for each byte pays for twice the
+-- code units written.
+pub record Cost (len : ℕ → ℕ) (narrow at_most : ℕ) (wt : List ℕ → ℕ) (slope : ℕ) (held : List ℕ) (b : ℕ) (s : Step) : Type 0 where
+  pub fits : step_units len narrow s ≤ at_most
+  pub pays : step_units len narrow s + narrow * (wt (step_held s held b) + step_left s) ≤ narrow * (wt held + 1)
+  pub pays_without : 2 * step_units len 0 s + slope * (wt (step_held s held b) + step_left s) ≤ slope * (wt held + 1)
+
+-- a held-back scalar in the first k bytes has its room, and the room needed falls by its code units
+abbrev pub WritePays : (ℕ → ℕ) → ℕ → ℕ → (DecoderState → ℕ → ℕ) → Grammar → List ℕ → Option (ℕ × ℕ) → Type 0
+WritePays len narrow wide room g held None = Unit {0}
+WritePays len narrow wide room g held (Some (k, c)) =
+    (len c ≤ act_room narrow wide (state_of g held) writes)
+    × ((n : ℕ) → room (state_of g (drop k held)) n + len c ≤ room (state_of g held) n)
+
+-- Each move has its room, and lowers the room still needed by what it writes (and by `fault` for a malformed sequence).
+-- That room covers reading a byte, and writing or reporting the held-back bytes.
+pub record RoomMeets (len : ℕ → ℕ) (narrow wide fault : ℕ) (room : DecoderState → ℕ → ℕ) (g : Grammar) (m : DecoderMachine) : Type 0 where
+  pub step_fits : (held : List ℕ) (b : ℕ) → may_hold g held ≡ true → rests g held ≡ true → AreBytes held → IsByte b →
+      step_units len narrow (m.step held b) ≤ act_room narrow wide (state_of g held) (takes b)
+  pub step_pays : (held : List ℕ) (b n : ℕ) → may_hold g held ≡ true → rests g held ≡ true → AreBytes held → IsByte b →
+      room (state_of (m.to held b) (step_held (m.step held b) held b)) (n + step_left (m.step held b)) + step_units len fault (m.step held b) ≤ room
+      (state_of g held) (n + 1)
+  pub write_pays : (held : List ℕ) → may_hold g held ≡ true → rests g held ≡ false → AreBytes held → WritePays len narrow wide room g held (m.pending held)
+  pub report_pays : (b : ℕ) (held : List ℕ) → may_hold g (b ∷ held) ≡ true → rests g (b ∷ held) ≡ true
+      → room (state_of g []) 0 + fault ≤ room (state_of g (b ∷ held)) 0
+  pub reads_covered : (held : List ℕ) (b n : ℕ) → may_hold g held ≡ true → 0 < n → act_room narrow wide (state_of g held) (takes b) ≤ room (state_of g held) n
+  pub holds_covered : (held : List ℕ) (n : ℕ) → may_hold g held ≡ true → 0 < length held
+      → act_room narrow wide (state_of g held) writes ≤ room (state_of g held) n

@@ -1,0 +1,53 @@
+//! The common steps of codecs whose sequences are a lead and a trail.
+ghost use Rattle.std.specs.Prelude.{◌≡◌, ℕ, [], ◌∷◌, Bool, false, option_to_list};
+ghost use Rattle.legacy_decoder_engine.specs.Steps.{trail_step};
+ghost use Rattle.legacy_decoder_engine.specs.LeadMachines.{lead_first};
+ghost use Rattle.legacy_decoder_engine.specs.Feeding.{Took};
+ghost use Rattle.legacy_decoder_engine.specs.LeadCodecs.{IsLeadOf, held_bytes};
+
+use crate::moves::Fed;
+use crate::unmapped_trail::unmapped;
+
+/// Returns a malformed sequence that ends with the byte, with nothing held back after it.
+#[inline]
+pub fn fault_through(length: u8) -> Fed
+    ensures { result ≡ Fed.Fault length 0 false }
+{
+    Fed::Fault {
+        length,
+        back: 0,
+        unread: false,
+    }
+}
+
+/// Reads the first byte of a sequence, given the byte as a lead or `None`.
+///
+/// ASCII is its own scalar, a lead is held back, and any other byte is malformed.
+#[inline]
+pub fn read_first<L: Copy>(byte: u8, lead: Option<L>) -> (Fed, Option<L>)
+    ensures { (is_lead : ℕ → Bool) (byte_of : L → ℕ) → IsLeadOf is_lead byte_of byte lead
+        → Took (lead_first is_lead byte) [] byte result.0 (held_bytes byte_of result.1) }
+{
+    if byte < 0x80 {
+        return (Fed::One(char::from(byte)), None);
+    }
+    match lead {
+        Some(lead) => (Fed::Nothing, Some(lead)),
+        None => (fault_through(1), None),
+    }
+}
+
+/// Reads the trail after a lead, given the scalar of the pair or `None`.
+///
+/// If the pair has no scalar, an ASCII trail is left unread and the lead alone is malformed. If the
+/// trail is not ASCII, both are malformed.
+#[inline]
+pub fn read_trail(scalar: Option<char>, trail: u8) -> Fed
+    ensures { (lead : ℕ) → Took (trail_step 1 (option_to_list scalar) trail)
+        (lead ∷ []) trail result [] }
+{
+    match scalar {
+        Some(scalar) => Fed::One(scalar),
+        None => unmapped(1, trail),
+    }
+}

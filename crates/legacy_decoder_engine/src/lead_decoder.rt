@@ -1,0 +1,242 @@
+//! The one decoder of the codecs whose forms have one byte, or a lead and a trail.
+ghost use Rattle.std.specs.Prelude.{◌≡◌, ℕ, List, [], ◌∷◌, Bool, true, length};
+ghost use Rattle.legacy_tables.specs.Indexes.{FlatIndexes};
+ghost use Rattle.legacy_text.specs.EncodingForm.{EncodingForm};
+ghost use Rattle.legacy_base.specs.States.{is_neutral, new_state};
+ghost use Rattle.legacy_base.specs.DecoderActs.{full_room_in, release_room_in};
+ghost use Rattle.legacy_base.specs.Formulas.{Formula, number, ◌⊕◌};
+ghost use Rattle.legacy_base.specs.Lengths.{answer, utf16_formula, utf8_formula, utf8_without_replacement_formula};
+ghost use Rattle.legacy_base.specs.Fronts.{malformed};
+ghost use Rattle.legacy_decoder_engine.specs.Steps.{Step, finish, trail_step};
+ghost use Rattle.legacy_decoder_engine.specs.Moves.{room_units};
+ghost use Rattle.legacy_decoder_engine.specs.Feeding.{Took};
+ghost use Rattle.legacy_decoder_engine.specs.LeadCodecs.{IsLeadCodec, held_bytes, lead_state};
+
+use crate::drive::{count_lone, drive_decoder};
+use crate::lanes::{LaneCodec, LaneForms, read_common};
+use crate::moves::{DecoderMoves, Fed, Room};
+use crate::read_ahead::read_ascii;
+use legacy_base::{DecoderResult, Destination, RawDecoder, Tables};
+use legacy_tables::DecoderTables;
+
+/// A codec whose forms have one byte, or a lead and a trail: the parts that it does not share with the others.
+pub trait LeadCodec: LaneCodec {
+    /// A byte that begins a form of two bytes and is held back.
+    type Lead: Copy;
+
+    /// Which bytes are leads.
+    ghost is_lead: { ℕ → Bool };
+
+    /// The byte of a lead.
+    ghost byte_of: { Self.Lead → ℕ };
+
+    /// The step at the first byte of a form.
+    ghost first: { ℕ → Step };
+
+    /// The scalars of a lead and a trail.
+    ghost scalars: { FlatIndexes → ℕ → ℕ → List ℕ };
+
+    /// Reads the first byte of a form.
+    fn read_first(byte: u8) -> (Fed, Option<Self::Lead>)
+        ensures { Took (first byte) [] byte result.0 (held_bytes byte_of result.1) };
+
+    /// Reads the byte after a lead.
+    fn read_pair(tables: &Tables<'_>, lead: Self::Lead, trail: u8) -> Fed
+        ensures { Took (trail_step 1 (scalars tables.now.flat (byte_of lead) trail) trail)
+            (byte_of lead ∷ []) trail result [] };
+
+    /// Returns the room of every act except reading ASCII with nothing held back.
+    fn room() -> Room
+        ensures reads { (form : EncodingForm) (flat : FlatIndexes) →
+            room_units form result ≡ full_room_in form (Self.grammar flat) }
+        ensures writes { (form : EncodingForm) (flat : FlatIndexes) →
+            room_units form result ≡ release_room_in form (Self.grammar flat) };
+
+    /// Returns `max_utf16_buffer_length` if `held` bytes are held back.
+    fn utf16_length(byte_length: usize, held: usize) -> Option<usize>
+        ensures { (flat : FlatIndexes) (units : Formula) →
+            result ≡ answer (utf16_formula (Self.grammar flat) (number byte_length)
+            (number byte_length ⊕ number held) units) };
+
+    /// Returns `max_utf8_buffer_length_without_replacement` if `held` bytes are held back.
+    fn utf8_length_without_replacement(byte_length: usize, held: usize) -> Option<usize>
+        ensures { (flat : FlatIndexes) (units : Formula) →
+            result ≡ answer (utf8_without_replacement_formula (Self.grammar flat) (number byte_length)
+            (number byte_length ⊕ number held) units) };
+
+    /// Returns `max_utf8_buffer_length` if `held` bytes are held back.
+    fn utf8_length(byte_length: usize, held: usize) -> Option<usize>
+        ensures { (flat : FlatIndexes) (units : Formula) →
+            result ≡ answer (utf8_formula (Self.grammar flat) (number byte_length)
+            (number byte_length ⊕ number held) units) };
+
+    ghost codec: { IsLeadCodec Self.grammar is_lead first scalars };
+
+    ghost leads: { (lead : Self.Lead) → is_lead (byte_of lead) ≡ true };
+}
+
+/// Returns true only if the byte is malformed by itself at the beginning of a form.
+#[inline(always)]
+fn is_fault<C: LeadCodec>(byte: u8) -> bool
+    ensures { result ≡ true → C.first byte ≡ finish (malformed 1) }
+{
+    matches!(
+        C::read_first(byte).0,
+        Fed::Fault {
+            length: 1,
+            back: 0,
+            unread: false
+        }
+    )
+}
+
+/// The decoder of a `LeadCodec`. It holds back a lead, or nothing.
+#[derive(Drop)]
+pub struct LeadDecoder<'a, C: LeadCodec> {
+    tables: &'a Tables<'a>,
+    held: Option<C::Lead>,
+}
+
+impl<'a, C: LeadCodec> LeadDecoder<'a, C> {
+    /// Returns a decoder before its first byte, which uses the codec's index of the tables.
+    pub fn new(tables: &'a Tables<'a>) -> LeadDecoder<'a, C>
+        ensures { lead_state C.grammar C.byte_of result.tables.now result.held ≡ new_state
+            (C.grammar tables.now.flat) }
+    {
+        LeadDecoder { tables, held: None }
+    }
+
+    /// Returns whether no lead is held back.
+    pub fn in_neutral_state(&self) -> bool
+        ensures { result ≡ is_neutral
+            (lead_state C.grammar C.byte_of self.now.tables.now self.now.held) }
+    {
+        self.held.is_none()
+    }
+
+    /// Returns the number of held-back bytes.
+    #[inline]
+    fn held_count(&self) -> usize
+        ensures { result ≡ length (held_bytes C.byte_of self.now.held) }
+    {
+        usize::from(self.held.is_some())
+    }
+}
+
+impl<'a, C: LeadCodec> DecoderMoves for LeadDecoder<'a, C> {
+    ghost state = { λ d. lead_state C.grammar C.byte_of d.tables.now d.held };
+
+    #[inline]
+    fn rests(&self) -> bool {
+        true
+    }
+
+    #[inline]
+    fn reading_room(&self, byte: u8) -> Room {
+        if byte < 0x80 && self.held.is_none() {
+            return Room::Unit;
+        }
+        C::room()
+    }
+
+    #[inline]
+    fn release_room(&self) -> Room {
+        C::room()
+    }
+
+    #[inline]
+    fn release(&mut self) -> Option<char> {
+        None
+    }
+
+    #[inline(always)]
+    fn feed(&mut self, byte: u8) -> Fed {
+        match self.held {
+            Some(lead) => {
+                self.held = None;
+                C::read_pair(self.tables, lead, byte)
+            }
+            None => {
+                let (fed, held) = C::read_first(byte);
+                self.held = held;
+                fed
+            }
+        }
+    }
+
+    #[inline]
+    #[tactic(auto, using(crate::proofs::LeadHeld::ends_none, crate::proofs::LeadHeld::ends_some))]
+    fn has_rest(&self) -> bool {
+        self.held.is_some()
+    }
+
+    #[inline]
+    #[tactic(auto, using(crate::proofs::LeadHeld::ends_none, crate::proofs::LeadHeld::reports))]
+    fn report(&mut self) -> Option<(u8, u8)> {
+        match self.held {
+            Some(_) => {
+                self.held = None;
+                Some((1, 0))
+            }
+            None => None,
+        }
+    }
+
+    #[inline(always)]
+    fn is_lone(&self, byte: u8) -> bool {
+        match self.held {
+            Some(_) => false,
+            None => is_fault::<C>(byte),
+        }
+    }
+
+    // Over packed tables only ASCII is read ahead.
+    #[inline(always)]
+    fn read_ahead<T: Destination>(&self, src: &[u8], dst: &mut T) -> usize {
+        if self.held.is_some() {
+            return 0;
+        }
+        match self.tables.flat() {
+            Some(tables) => {
+                let forms = LaneForms::<C>::new(tables);
+                read_common(&forms, &forms, src, dst)
+            }
+            None => read_ascii(src, dst),
+        }
+    }
+
+    #[inline(always)]
+    fn read_runs<T: Destination>(&mut self, src: &[u8], dst: &mut T) -> usize {
+        self.read_ahead(src, dst)
+    }
+}
+
+impl<'a, C: LeadCodec> RawDecoder for LeadDecoder<'a, C> {
+    ghost state = { λ d. lead_state C.grammar C.byte_of d.tables.now d.held };
+
+    #[inline(always)]
+    fn step<T: Destination>(
+        &mut self,
+        src: &[u8],
+        dst: &mut T,
+        last: bool,
+    ) -> (DecoderResult, usize) {
+        drive_decoder(self, src, dst, last)
+    }
+
+    fn lone_malformed(&self, src: &[u8]) -> usize {
+        count_lone(self, src)
+    }
+
+    fn max_utf16_buffer_length(&self, byte_length: usize) -> Option<usize> {
+        C::utf16_length(byte_length, self.held_count())
+    }
+
+    fn max_utf8_buffer_length_without_replacement(&self, byte_length: usize) -> Option<usize> {
+        C::utf8_length_without_replacement(byte_length, self.held_count())
+    }
+
+    fn max_utf8_buffer_length(&self, byte_length: usize) -> Option<usize> {
+        C::utf8_length(byte_length, self.held_count())
+    }
+}

@@ -1,0 +1,207 @@
+//! The encoder of the codecs of ASCII and pairs, whose codes have at most two bytes.
+ghost use Rattle.std.specs.Prelude.{◌≡◌, ◌≤◌, [], ◌∷◌, Some, IfSome, length};
+ghost use Rattle.legacy_encoder_engine.specs.CachedPairs.{AreAllPairsOf};
+ghost use Rattle.legacy_tables.specs.Indexes.{FlatIndexes};
+ghost use Rattle.legacy_base.specs.Encoders.{Codec, encoder_profile, new_encoder};
+ghost use Rattle.legacy_base.specs.Lengths.{answer, number, ◌⊕◌, ◌⊗◌};
+ghost use Rattle.legacy_encoder_engine.specs.Moves.{IsCode};
+ghost use Rattle.legacy_encoder_engine.specs.PairCodecs.{IsPairCodec, pair_encoder_state, pair_plain};
+
+use crate::drive::drive_encoder;
+use crate::moves::EncoderMove;
+use crate::plain::PlainEncoder;
+use crate::plain_codes::PlainCodes;
+use crate::read_ahead::read_runs;
+use legacy_base::{EncoderResult, RawEncoder, Source, Tables};
+use legacy_tables::{DecoderTables, EncoderTables, FlatTables};
+use std::marker::PhantomData;
+
+/// A codec of ASCII and pairs: the parts in which these codecs differ.
+pub trait PairCodec {
+    /// The codec, by the flat indexes.
+    ghost codec: { FlatIndexes → Codec };
+
+    /// It is such a codec for all indexes.
+    ghost pairs: { (flat : FlatIndexes) → IsPairCodec (codec flat) };
+
+    /// Returns the lead and the trail of a scalar past ASCII.
+    ///
+    /// The result may be `None` for any scalar: `code_of` has all codes.
+    fn pair_of<V: EncoderTables>(tables: &V, c: char) -> Option<(u8, u8)>
+        requires { 0x80 ≤ c }
+        ensures { IfSome result (λ pair. (encoder_profile (codec (V.indexes tables.now).flat)).code c
+            ≡ Some (pair.0 ∷ pair.1 ∷ [])) };
+
+    /// Checks whether the fast loop makes the codes of scalars past ASCII without a pair here.
+    ///
+    /// It does if they are common. It is a hint: any result is right.
+    #[inline(always)]
+    fn goes_past_pairs() -> bool {
+        false
+    }
+
+    /// Returns the bytes of a scalar, or the scalar itself as unmappable.
+    fn code_of<V: EncoderTables>(tables: &V, c: char) -> EncoderMove
+        ensures { IsCode ((encoder_profile (codec (V.indexes tables.now).flat)).code c) c result };
+}
+
+/// A codec of ASCII and pairs that can list the codes of all scalars below U+10000.
+// `ask_pairs` is generic over the codec, and a method of `PairCodec` cannot call it: hence this
+// trait.
+pub trait FillsPairs: PairCodec {
+    /// Fills a list with the codes of all scalars below U+10000.
+    fn fill<V: EncoderTables>(tables: &V, entries: &mut [u16])
+        requires { length entries.old ≡ 65536 }
+        ensures { AreAllPairsOf (Self.codec (V.indexes tables.now).flat) entries.new };
+}
+
+/// The encoder of a codec of ASCII and pairs, by an index of the tables.
+#[derive(Drop)]
+pub struct PairEncoder<'a, C: PairCodec> {
+    pub(crate) tables: &'a Tables<'a>,
+    codec: PhantomData<C>,
+}
+
+impl<'a, C: PairCodec> PairEncoder<'a, C> {
+    /// Returns an encoder before its first scalar, which writes by the codec's index of the tables.
+    pub fn new(tables: &'a Tables<'a>) -> PairEncoder<'a, C>
+        ensures { pair_encoder_state C.codec result.tables.now ≡ new_encoder
+            (C.codec tables.now.flat) }
+    {
+        PairEncoder {
+            tables,
+            codec: PhantomData,
+        }
+    }
+}
+
+impl<'a, C: PairCodec> PlainCodes for PairEncoder<'a, C> {
+    ghost codec = { λ e. C.codec e.tables.now.flat };
+
+    ghost past = { 2 };
+
+    ghost plain = { λ e. pair_plain (C.codec e.tables.now.flat) (C.pairs e.tables.now.flat) };
+
+    #[inline]
+    fn past_room(&self) -> usize {
+        2
+    }
+
+    #[inline]
+    fn code_of(&self, c: char) -> EncoderMove {
+        C::code_of(self.tables, c)
+    }
+
+    #[inline(always)]
+    fn goes_past_pairs(&self) -> bool {
+        C::goes_past_pairs()
+    }
+}
+
+impl<'a, C: PairCodec> PlainEncoder for PairEncoder<'a, C> {
+    #[inline]
+    fn read_codes<S: Source>(&self, src: &mut S, dst: &mut [u8], start: usize) -> usize {
+        match self.tables.flat() {
+            Some(tables) => {
+                read_runs(
+                    &PairCodes::<C, FlatTables<'_>>::new(tables),
+                    src,
+                    dst,
+                    start,
+                )
+            }
+            None => {
+                read_runs(
+                    &PairCodes::<C, Tables<'a>>::new(self.tables),
+                    src,
+                    dst,
+                    start,
+                )
+            }
+        }
+    }
+}
+
+/// The codes of a codec of ASCII and pairs, by one kind of tables.
+#[derive(Drop)]
+pub struct PairCodes<'a, C: PairCodec, V: EncoderTables> {
+    tables: &'a V,
+    codec: PhantomData<C>,
+}
+
+impl<'a, C: PairCodec, V: EncoderTables> PairCodes<'a, C, V> {
+    /// Returns the codes by these tables.
+    #[inline]
+    pub fn new(tables: &'a V) -> PairCodes<'a, C, V>
+        ensures { result.tables.now ≡ tables.now }
+    {
+        PairCodes {
+            tables,
+            codec: PhantomData,
+        }
+    }
+}
+
+impl<'a, C: PairCodec, V: EncoderTables> PlainCodes for PairCodes<'a, C, V> {
+    ghost codec = { λ e. C.codec (V.indexes e.tables.now).flat };
+
+    ghost past = { 2 };
+
+    ghost plain = { λ e. pair_plain (C.codec (V.indexes e.tables.now).flat)
+        (C.pairs (V.indexes e.tables.now).flat) };
+
+    #[inline]
+    fn past_room(&self) -> usize {
+        2
+    }
+
+    #[inline(always)]
+    fn code_of(&self, c: char) -> EncoderMove {
+        C::code_of(self.tables, c)
+    }
+
+    #[inline(always)]
+    fn goes_past_pairs(&self) -> bool {
+        C::goes_past_pairs()
+    }
+
+    #[inline(always)]
+    fn pair_of(&self, c: char) -> Option<(u8, u8)> {
+        C::pair_of(self.tables, c)
+    }
+}
+
+/// Returns twice the number of code units: each may need a pair.
+fn length_from_utf16(u16_length: usize) -> Option<usize>
+    ensures { result ≡ answer (number 2 ⊗ number u16_length) }
+{
+    u16_length.checked_mul(2)
+}
+
+/// Returns one more than the number of bytes: a scalar of two bytes or more may need a pair.
+fn length_from_utf8(byte_length: usize) -> Option<usize>
+    ensures { result ≡ answer (number byte_length ⊕ number 1) }
+{
+    byte_length.checked_add(1)
+}
+
+impl<'a, C: PairCodec> RawEncoder for PairEncoder<'a, C> {
+    ghost state = { λ e. pair_encoder_state C.codec e.tables.now };
+
+    fn step<S: Source>(
+        &mut self,
+        src: &mut S,
+        dst: &mut [u8],
+        last: bool,
+    ) -> (EncoderResult, usize) {
+        drive_encoder(self, src, dst, last)
+    }
+
+    fn max_buffer_length_from_utf16_without_replacement(&self, u16_length: usize) -> Option<usize> {
+        length_from_utf16(u16_length)
+    }
+
+    fn max_buffer_length_from_utf8_without_replacement(&self, byte_length: usize) -> Option<usize> {
+        length_from_utf8(byte_length)
+    }
+}

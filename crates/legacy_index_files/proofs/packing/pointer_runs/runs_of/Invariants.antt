@@ -1,0 +1,13 @@
+use Rattle.std.proofs.Common.{◌≤◌, ◌-◌}
+use Rattle.legacy_index_files.proofs.PackingRuns.{AreRunsBelow, AreLongestBelow}
+use Rattle.legacy_index_files.proofs.packing.pointer_runs.runs_of.Given as goal
+
+abbrev pub invariant-loop-pointer : goal.invariant-loop-pointer
+invariant-loop-pointer g l = record {
+  within : l.pointer ≤ l.end;
+  longest : AreLongestBelow l.end l.pointer (g.E.Entries.entries l.index) l.runs.items;
+  runs : AreRunsBelow l.limit l.pointer (g.E.Entries.entries l.index) l.runs.items;
+}
+
+abbrev pub decreases-loop-pointer : goal.decreases-loop-pointer
+decreases-loop-pointer g l = l.end - l.pointer

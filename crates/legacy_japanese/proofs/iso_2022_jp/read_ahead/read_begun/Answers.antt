@@ -1,0 +1,6 @@
+use Rattle.legacy_japanese.specs.Iso2022JpRuns.{run_state}
+use Rattle.legacy_decoder_engine.proofs.WrittenRuns.{reads_none}
+use Rattle.legacy_japanese.proofs.iso_2022_jp.read_ahead.read_begun.Goals as goal
+
+pub returns-then-not-may_begin : goal.returns-then-not-may_begin
+returns-then-not-may_begin g c = reads_none g.T.Destination (run_state c.args.tables.now.flat.jis0208 c.args.mode) c.args.src.now c.args.dst.now

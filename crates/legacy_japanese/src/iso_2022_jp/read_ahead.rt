@@ -1,0 +1,224 @@
+//! The runs of ISO-2022-JP: plain ASCII in ASCII mode, pairs of index jis0208 in two-byte mode, and the
+//! escapes between them.
+// Functions that run for each sequence or block are always inlined, and so are their callers. A call would pass vectors
+// through memory, and keep the destination's place there.
+ghost use Rattle.std.specs.Prelude.{◌≡◌, ℕ, ◌≤◌, List, IfSome, length, true};
+ghost use Rattle.legacy_japanese.specs.Iso2022JpRuns.{ArePlain, HasEscape, IsPlain};
+ghost use Rattle.legacy_japanese.specs.Iso2022JpRuns.{pairs_grammar, run_state};
+ghost use Rattle.legacy_decoder_engine.specs.ReadAhead.{ReadsTo, ReadsAhead};
+
+use super::places::{LEADS, TRAILS};
+use super::steps::{DOLLAR, ESCAPE, Escape, Mode, PAREN, Start, completed, entry};
+use legacy_base::{Destination, Tables};
+use legacy_decoder_engine::common_forms::{CommonForm, CommonForms, read_forms};
+use legacy_decoder_engine::places::pair_pointer;
+use legacy_tables::{DecoderTables, FlatTables};
+
+/// The pairs of two-byte mode.
+#[derive(Drop)]
+struct Jis0208Pairs<'a, 'b> {
+    tables: &'a FlatTables<'b>,
+}
+
+impl CommonForms for Jis0208Pairs<'_, '_> {
+    ghost grammar = { λ pairs. pairs_grammar pairs.tables.now.flat.jis0208 };
+
+    const FOUR_AT_LEAST: usize = 8;
+
+    #[inline(always)]
+    fn form(&self, first: u8, second: u8) -> CommonForm {
+        match entry(self.tables, pair_pointer(&LEADS, &TRAILS, first, second)) {
+            Some(scalar) => CommonForm::Pair(scalar),
+            None => CommonForm::Other,
+        }
+    }
+}
+
+/// Checks whether the byte is plain: its own scalar in ASCII mode, and not the escape byte.
+#[inline]
+fn is_plain(byte: u8) -> bool
+    ensures { result ≡ true → IsPlain byte }
+{
+    byte < 0x80 && byte != 0x0E && byte != 0x0F && byte != 0x1B
+}
+
+/// Checks whether the first sixteen bytes are all plain.
+// No byte ends the loop early, so the compiler tests them at once.
+#[inline(always)]
+fn are_plain(src: &[u8]) -> bool
+    requires { 16 ≤ length src.now }
+    ensures { result ≡ true → ArePlain src.now 16 }
+{
+    let mut hold = true;
+    let mut at = 0;
+    while at < 16 {
+        hold = hold && is_plain(src[at]);
+        at += 1;
+    }
+    hold
+}
+
+/// Returns the number of bytes at the front that are in blocks of sixteen plain bytes.
+#[inline]
+fn plain_blocks(src: &[u8]) -> usize
+    ensures within { result ≤ length src.now }
+    ensures plain { ArePlain src.now result }
+{
+    let mut at = 0;
+    while src.len() - at >= 16 && are_plain(&src[at..]) {
+        at += 16;
+    }
+    at
+}
+
+/// Returns the number of plain bytes at the front.
+#[inline]
+fn plain_count(src: &[u8]) -> usize
+    ensures within { result ≤ length src.now }
+    ensures plain { ArePlain src.now result }
+{
+    let mut at = plain_blocks(src);
+    while at < src.len() && is_plain(src[at]) {
+        at += 1;
+    }
+    at
+}
+
+/// Reads plain bytes from the front in ASCII mode, and leaves three code units free.
+///
+/// Returns the number of bytes read, which may be 0.
+#[inline(always)]
+fn read_plain<T: Destination>(src: &[u8], dst: &mut T) -> usize
+    ensures { (jis0208 : List ℕ)
+        → ReadsAhead T.Destination (run_state jis0208 Mode.Ascii) src.now result dst.old dst.new }
+{
+    let most = dst.free().saturating_sub(3).min(src.len());
+    let count = plain_count(&src[..most]);
+    let mut at = dst.copy_ascii(&src[..count]);
+    while at < count {
+        dst.put(char::from(src[at]));
+        at += 1;
+    }
+    count
+}
+
+/// Reads a run of the mode from the front. Returns the number of bytes read, which may be 0.
+#[inline(always)]
+fn read_mode<T: Destination>(tables: &FlatTables<'_>, mode: Mode, src: &[u8], dst: &mut T) -> usize
+    ensures { ReadsAhead T.Destination (run_state tables.now.flat.jis0208 mode) src.now result
+        dst.old dst.new }
+{
+    match mode {
+        Mode::Ascii => read_plain(src, dst),
+        Mode::TwoByte => read_forms(&Jis0208Pairs { tables }, src, src.len(), dst),
+        Mode::Roman | Mode::Katakana => 0,
+    }
+}
+
+/// Checks whether the second byte is malformed in every mode.
+#[inline(always)]
+fn is_byte_alone(src: &[u8]) -> bool {
+    src.len() > 1 && src[1] >= 0x80
+}
+
+/// Checks whether a run of the mode may begin at the front.
+///
+/// It is a guess from the first two bytes, and may be wrong either way.
+#[inline(always)]
+fn may_begin(mode: Mode, src: &[u8]) -> bool {
+    if src.is_empty() {
+        return false;
+    }
+    match mode {
+        Mode::Ascii => is_plain(src[0]) && !is_byte_alone(src),
+        Mode::TwoByte => src[0] >= 0x21,
+        Mode::Roman | Mode::Katakana => false,
+    }
+}
+
+/// Reads a run of the mode from the front, if one may begin there. Returns the number of bytes read, which may be 0.
+#[inline(always)]
+fn read_begun<T: Destination>(tables: &FlatTables<'_>, mode: Mode, src: &[u8], dst: &mut T) -> usize
+    ensures { ReadsAhead T.Destination (run_state tables.now.flat.jis0208 mode) src.now result
+        dst.old dst.new }
+{
+    if !may_begin(mode, src) {
+        return 0;
+    }
+    read_mode(tables, mode, src, dst)
+}
+
+/// Reads a run from the front if the mode is ASCII. Returns the number of bytes read, which may be 0.
+#[inline(always)]
+fn read_ascii_mode<T: Destination>(mode: Mode, src: &[u8], dst: &mut T) -> usize
+    ensures { (jis0208 : List ℕ)
+        → ReadsAhead T.Destination (run_state jis0208 mode) src.now result dst.old dst.new }
+{
+    match mode {
+        Mode::Ascii => read_plain(src, dst),
+        _ => 0,
+    }
+}
+
+/// Returns the valid escape at the front, if a byte follows that is not the escape byte.
+#[inline]
+pub fn escape_at(src: &[u8]) -> Option<Escape>
+    ensures { IfSome result (λ escape. HasEscape escape src.now) }
+{
+    if src.len() < 4 || src[0] != ESCAPE || src[3] == ESCAPE {
+        return None;
+    }
+    if src[1] == DOLLAR {
+        completed(Start::Dollar, src[2])
+    } else if src[1] == PAREN {
+        completed(Start::Paren, src[2])
+    } else {
+        None
+    }
+}
+
+/// Reads a run of the mode from the front, and then each escape that has a run of its mode after it.
+///
+/// Returns the mode at the end, and the number of bytes read.
+#[inline(always)]
+fn read_flat<T: Destination>(
+    tables: &FlatTables<'_>,
+    first: Mode,
+    src: &[u8],
+    dst: &mut T,
+) -> (Mode, usize)
+    ensures { ReadsTo T.Destination (run_state tables.now.flat.jis0208 first)
+        (run_state tables.now.flat.jis0208 result.0) src.now result.1 dst.old dst.new }
+{
+    let mut mode = first;
+    let mut at = read_begun(tables, mode, src, dst);
+    while let Some(escape) = escape_at(&src[at..]) {
+        let next = escape.mode();
+        let read = read_begun(tables, next, &src[at + 3..], dst);
+        if read == 0 {
+            break;
+        }
+        mode = next;
+        at += 3 + read;
+    }
+    (mode, at)
+}
+
+/// Reads runs and escapes as `read_flat` does, or over packed tables a run of ASCII.
+///
+/// Returns the mode at the end, and the number of bytes read.
+#[inline(always)]
+pub fn read_modes<T: Destination>(
+    tables: &Tables,
+    first: Mode,
+    src: &[u8],
+    dst: &mut T,
+) -> (Mode, usize)
+    ensures { ReadsTo T.Destination (run_state tables.now.flat.jis0208 first)
+        (run_state tables.now.flat.jis0208 result.0) src.now result.1 dst.old dst.new }
+{
+    match tables.flat() {
+        Some(tables) => read_flat(tables, first, src, dst),
+        None => (first, read_ascii_mode(first, src, dst)),
+    }
+}

@@ -1,0 +1,6 @@
+use Rattle.std.proofs.Common.{arith}
+use Rattle.std.proofs.lemmas.Grind.{common_steps}
+use Rattle.legacy_miscellaneous.proofs.utf16.unit_steps.read_fourth.Goals as goal
+
+pub returns : goal.returns
+returns c = grind (arith, common_steps)

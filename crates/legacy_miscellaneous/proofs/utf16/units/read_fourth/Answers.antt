@@ -1,6 +1,0 @@
-use Rattle.std.proofs.Common.{arith}
-use Rattle.std.proofs.lemmas.Grind.{common_steps}
-use Rattle.legacy_miscellaneous.proofs.utf16.units.read_fourth.Goals as goal
-
-pub returns : goal.returns
-returns c = grind (arith, common_steps)

@@ -1,0 +1,250 @@
+//! Blocks of UTF-16 code units without surrogates: by 64, by eight, and one by one.
+// Functions that run for each block are always inlined. A call would pass vectors through memory, and
+// keep the destination's place there.
+ghost use Rattle.std.specs.Prelude.{◌≡◌, ◌+◌, ◌*◌, ◌<◌, ◌≤◌, ◌++◌, ℕ, length, true, false, slice_index};
+ghost use Rattle.std.specs.Char.{IsScalar};
+ghost use Rattle.legacy_text.specs.EncodingForm.{code_units, unit_count};
+ghost use Rattle.legacy_base.specs.Grammar.{utf16};
+ghost use Rattle.legacy_base.specs.States.{new_state};
+ghost use Rattle.legacy_decoder_engine.specs.ReadAhead.{ReadsAhead};
+ghost use Rattle.legacy_miscellaneous.specs.Utf16Decoder.{HasAsciiUnits, AreUnitsBelow};
+
+use super::unit_steps::unit;
+use super::vectors::{eight_units, greater_units, sixteen_units};
+use legacy_base::Destination;
+use legacy_decoder_engine::common_forms::{CommonForm, CommonForms, read_forms};
+use legacy_decoder_engine::read_ahead::{Blocks, read_blocks};
+use legacy_text::are_all_below;
+
+/// The code units of a byte order.
+#[derive(Drop)]
+pub struct Units {
+    pub big_endian: bool,
+}
+
+impl CommonForms for Units {
+    ghost use Rattle.legacy_miscellaneous.specs.Utf16Decoder.{units_grammar};
+
+    ghost grammar = { units_grammar };
+
+    const FOUR_AT_LEAST: usize = 8;
+
+    #[inline(always)]
+    fn form(&self, first: u8, second: u8) -> CommonForm {
+        match char::from_u32(u32::from(unit(self.big_endian, first, second))) {
+            Some(scalar) => CommonForm::Pair(scalar),
+            None => CommonForm::Other,
+        }
+    }
+}
+
+/// Checks whether any of the units is a surrogate.
+#[inline(always)]
+fn has_surrogate(units: &[u16]) -> bool
+    ensures { result ≡ false → (k : ℕ) → k < length units.now → IsScalar (slice_index units.now k) }
+{
+    let mut found = false;
+    let mut at = 0;
+    while at < units.len() {
+        found = found || (units[at] >= 0xD800 && units[at] <= 0xDFFF);
+        at += 1;
+    }
+    found
+}
+
+/// Writes a unit that is a scalar.
+#[inline(always)]
+fn put_unit<T: Destination>(dst: &mut T, unit: u16)
+    requires scalar { IsScalar unit }
+    requires room { 3 ≤ T.room dst.old }
+    ensures contents { T.contents dst.new ≡ T.contents dst.old ++ code_units T.form unit }
+    ensures room { T.room dst.new + unit_count T.form unit ≡ T.room dst.old }
+    ensures loan { T.loan dst.new ≡ T.loan dst.old }
+{
+    dst.put(unsafe { char::from_u32_unchecked(u32::from(unit)) });
+}
+
+/// Sixteen units at a time, for UTF-16 output.
+#[derive(Drop)]
+struct Sixteens<'a> {
+    units: &'a Units,
+}
+
+impl Blocks for Sixteens<'_> {
+    ghost grammar = { λ blocks. utf16 blocks.units.now.big_endian };
+
+    /// Decodes sixteen units, or none if one of them is a surrogate.
+    // No turn ends early and the units are those of a vector, so the compiler stores the vector as it is.
+    #[inline(always)]
+    fn read_block<T: Destination>(&self, src: &[u8], dst: &mut T) -> (usize, bool) {
+        if src.len() < 32 || dst.free() < 51 {
+            return (0, false);
+        }
+        let units = sixteen_units(self.units.big_endian, src).to_array();
+        if has_surrogate(&units) {
+            return (0, false);
+        }
+        let mut at = 0;
+        while at < 16 {
+            let unit = units[at];
+            put_unit(dst, unit);
+            at += 1;
+        }
+        (32, true)
+    }
+}
+
+/// Blocks of ASCII, sixteen units at a time.
+#[derive(Drop)]
+struct AsciiUnits<'a> {
+    units: &'a Units,
+}
+
+impl Blocks for AsciiUnits<'_> {
+    ghost grammar = { λ blocks. utf16 blocks.units.now.big_endian };
+
+    /// Decodes the ASCII at the start of sixteen units.
+    #[inline(always)]
+    fn read_block<T: Destination>(&self, src: &[u8], dst: &mut T) -> (usize, bool) {
+        if src.len() < 32 || dst.free() < 19 {
+            return (0, false);
+        }
+        let block = self.units.narrow_block(src);
+        let count = dst.copy_ascii(&block);
+        (2 * count, count >= 16)
+    }
+}
+
+impl Units {
+    /// Returns the first sixteen units as bytes: a unit below 0x100 as it is, and 0xFF for others.
+    // The compiler makes two vector operations of this.
+    #[inline(always)]
+    fn narrow_block(&self, src: &[u8]) -> [u8; 16]
+        requires { 32 ≤ length src.now }
+        ensures count { length result ≡ 16 }
+        ensures narrow { HasAsciiUnits self.now.big_endian src.now result 16 }
+    {
+        let units = sixteen_units(self.big_endian, src).to_array();
+        let mut block = [0u8; 16];
+        let mut at = 0;
+        while at < 16 {
+            block[at] = units[at].min(0xFF) as u8;
+            at += 1;
+        }
+        block
+    }
+
+    /// Checks whether the units of the first groups of eight are below the bound.
+    #[inline(always)]
+    fn are_below(&self, src: &[u8], eights: usize, bound: u16) -> bool
+        requires some { 0 < eights }
+        requires source { 16 * eights ≤ length src.now }
+        ensures { result ≡ true → AreUnitsBelow self.now.big_endian src.now (8 * eights) bound }
+    {
+        let mut greatest = eight_units(self.big_endian, src);
+        let mut group = 1;
+        while group < eights {
+            let units = eight_units(self.big_endian, &src[16 * group..]);
+            greatest = greater_units(greatest, units);
+            group += 1;
+        }
+        are_all_below(greatest, bound)
+    }
+
+    /// Decodes groups of eight units by the longest scalar in UTF-8, up to the first group with a surrogate.
+    ///
+    /// Returns the number of bytes read.
+    // The length of the scalars is tested once for all groups. In text with letters past ASCII that is predicted
+    // better than a test for each eight.
+    #[inline(always)]
+    fn read_groups<T: Destination>(&self, src: &[u8], dst: &mut T, eights: usize) -> usize
+        requires some { 0 < eights }
+        requires source { 16 * eights ≤ length src.now }
+        requires room { 24 * eights + 11 ≤ T.room dst.old }
+        ensures { ReadsAhead T.Destination (new_state (utf16 self.now.big_endian)) src.now result
+            dst.old dst.new }
+    {
+        if self.are_below(src, eights, 0x80) {
+            return read_blocks(&AsciiUnits { units: self }, src, dst);
+        }
+        if self.are_below(src, eights, 0x800) {
+            return self.read_short_units(src, dst, eights);
+        }
+        self.read_eights(src, dst, eights)
+    }
+
+    /// Decodes groups of eight units, up to the first group with a surrogate.
+    ///
+    /// Returns the number of bytes read.
+    #[inline(always)]
+    fn read_eights<T: Destination>(&self, src: &[u8], dst: &mut T, eights: usize) -> usize
+        requires source { 16 * eights ≤ length src.now }
+        requires room { 0 < eights → 24 * eights + 11 ≤ T.room dst.old }
+        ensures { ReadsAhead T.Destination (new_state (utf16 self.now.big_endian)) src.now result
+            dst.old dst.new }
+    {
+        let mut group = 0;
+        while group < eights {
+            let units = eight_units(self.big_endian, &src[16 * group..]);
+            if has_surrogate(&units.to_array()) {
+                return 16 * group;
+            }
+            dst.put_eight(units);
+            group += 1;
+        }
+        16 * eights
+    }
+
+    /// Decodes groups of eight units below U+0800. Returns the number of bytes read.
+    #[inline(always)]
+    fn read_short_units<T: Destination>(&self, src: &[u8], dst: &mut T, eights: usize) -> usize
+        requires source { 16 * eights ≤ length src.now }
+        requires short { AreUnitsBelow self.now.big_endian src.now (8 * eights) 0x800 }
+        requires room { 0 < eights → 24 * eights + 11 ≤ T.room dst.old }
+        ensures { ReadsAhead T.Destination (new_state (utf16 self.now.big_endian)) src.now result
+            dst.old dst.new }
+    {
+        let mut group = 0;
+        while group < eights {
+            let units = eight_units(self.big_endian, &src[16 * group..]);
+            dst.put_eight_short(units);
+            group += 1;
+        }
+        16 * eights
+    }
+
+    /// Decodes up to 64 units by vectors. Returns the number of bytes read.
+    // The numbers of groups are constants, so that the compiler unrolls the loops over them.
+    #[inline(always)]
+    fn read_vectors<T: Destination>(&self, src: &[u8], dst: &mut T) -> usize
+        ensures { ReadsAhead T.Destination (new_state (utf16 self.now.big_endian)) src.now result
+            dst.old dst.new }
+    {
+        if T::narrow() == 1 {
+            return read_blocks(&Sixteens { units: self }, src, dst);
+        }
+        let eights = (src.len() / 16).min(dst.free().saturating_sub(11) / 24);
+        if eights >= 8 {
+            self.read_groups(src, dst, 8)
+        } else if eights >= 4 {
+            self.read_groups(src, dst, 4)
+        } else {
+            self.read_eights(src, dst, eights)
+        }
+    }
+}
+
+impl Blocks for Units {
+    ghost grammar = { λ units. utf16 units.big_endian };
+
+    /// Decodes units by vectors, or up to eight one by one if no vector can be read.
+    #[inline(always)]
+    fn read_block<T: Destination>(&self, src: &[u8], dst: &mut T) -> (usize, bool) {
+        let at = self.read_vectors(src, dst);
+        if at > 0 {
+            return (at, true);
+        }
+        let read = read_forms(self, &src[at..], 16, dst);
+        (at + read, read > 0)
+    }
+}

@@ -1,0 +1,126 @@
+//! The steps of the UTF-16 decoders, byte by byte.
+ghost use Rattle.std.specs.Prelude.{◌≡◌, [], ◌∷◌, true, false, Bool};
+ghost use Rattle.std.specs.Char.Utf16.{is_high_surrogate, is_low_surrogate, surrogate_pair_char};
+ghost use Rattle.legacy_base.specs.Grammar.{utf16};
+ghost use Rattle.legacy_base.specs.Utf16.{unit_of};
+ghost use Rattle.legacy_base.specs.States.{rests};
+ghost use Rattle.legacy_miscellaneous.specs.Utf16Machine.{utf16_step};
+ghost use Rattle.legacy_decoder_engine.specs.Feeding.{Took};
+ghost use Rattle.legacy_miscellaneous.specs.Utf16Decoder.{first_byte, second_byte, held_bytes};
+
+use super::held_bytes::{Held, HighSurrogate, OddByte, UnitScalar};
+use legacy_decoder_engine::moves::Fed;
+
+/// Returns the unit of two bytes.
+#[inline]
+pub fn unit(big_endian: bool, first: u8, second: u8) -> u16
+    ensures { result ≡ unit_of big_endian first second }
+{
+    if big_endian {
+        u16::from(first) * 0x100 + u16::from(second)
+    } else {
+        u16::from(second) * 0x100 + u16::from(first)
+    }
+}
+
+#[inline]
+fn is_high(unit: u16) -> bool
+    ensures { result ≡ is_high_surrogate unit }
+{
+    unit >= 0xD800 && unit < 0xDC00
+}
+
+#[inline]
+fn is_low(unit: u16) -> bool
+    ensures { result ≡ is_low_surrogate unit }
+{
+    unit >= 0xDC00 && unit < 0xE000
+}
+
+/// Returns what the second byte of a unit leads to if no high surrogate is before the unit.
+#[inline]
+fn read_second(big_endian: bool, first: OddByte, byte: u8) -> (Fed, Held)
+    ensures { let held = first.byte ∷ [] in Took (utf16_step big_endian held byte) held byte
+        result.0 (held_bytes big_endian result.1) }
+{
+    let unit = unit(big_endian, first.byte, byte);
+    if is_high(unit) {
+        return (Fed::Nothing, Held::High(HighSurrogate { unit }));
+    }
+    match char::from_u32(u32::from(unit)) {
+        Some(scalar) => (Fed::One(scalar), Held::Nothing),
+        None => (
+            Fed::Fault {
+                length: 2,
+                back: 0,
+                unread: false,
+            },
+            Held::Nothing,
+        ),
+    }
+}
+
+/// Returns the scalar of a high and a low surrogate.
+#[inline]
+fn pair(high: HighSurrogate, low: u16) -> char
+    requires { is_low_surrogate low ≡ true }
+    ensures { result ≡ surrogate_pair_char high.unit low }
+{
+    let code = 0x1_0000 + (u32::from(high.unit) - 0xD800) * 0x400 + (u32::from(low) - 0xDC00);
+    match char::from_u32(code) {
+        Some(scalar) => scalar,
+        None => unreachable!(),
+    }
+}
+
+/// Holds back a unit that is not a low surrogate.
+#[inline]
+fn hold_unit(unit: u16) -> Held
+    requires { is_low_surrogate unit ≡ false }
+    ensures { (big_endian : Bool) → held_bytes big_endian result
+        ≡ first_byte big_endian unit ∷ second_byte big_endian unit ∷ [] }
+{
+    if is_high(unit) {
+        return Held::High(HighSurrogate { unit });
+    }
+    match char::from_u32(u32::from(unit)) {
+        Some(scalar) => Held::Pending(UnitScalar { scalar }),
+        None => unreachable!(),
+    }
+}
+
+/// Returns what the second byte of a unit leads to if a high surrogate is before the unit.
+#[inline]
+fn read_fourth(big_endian: bool, high: HighSurrogate, third: OddByte, byte: u8) -> (Fed, Held)
+    ensures { let held = held_bytes big_endian (Held.HighOdd high third) in Took
+        (utf16_step big_endian held byte) held byte result.0 (held_bytes big_endian result.1) }
+{
+    let unit = unit(big_endian, third.byte, byte);
+    if is_low(unit) {
+        return (Fed::One(pair(high, unit)), Held::Nothing);
+    }
+    (
+        Fed::Fault {
+            length: 2,
+            back: 2,
+            unread: false,
+        },
+        hold_unit(unit),
+    )
+}
+
+/// Returns what a byte leads to, and what is held back after it.
+#[inline]
+pub fn read_byte(big_endian: bool, held: Held, byte: u8) -> (Fed, Held)
+    requires { rests (utf16 big_endian) (held_bytes big_endian held) ≡ true }
+    ensures { Took (utf16_step big_endian (held_bytes big_endian held) byte)
+        (held_bytes big_endian held) byte result.0 (held_bytes big_endian result.1) }
+{
+    match held {
+        Held::Nothing => (Fed::Nothing, Held::Odd(OddByte { byte })),
+        Held::Odd(first) => read_second(big_endian, first, byte),
+        Held::High(high) => (Fed::Nothing, Held::HighOdd(high, OddByte { byte })),
+        Held::HighOdd(high, third) => read_fourth(big_endian, high, third, byte),
+        Held::Pending(_) => unreachable!(),
+    }
+}
