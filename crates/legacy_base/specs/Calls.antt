@@ -11,7 +11,7 @@ use Rattle.legacy_base.specs.Beginnings.{BeginsWith}
 use Rattle.legacy_base.specs.Profile.{is_empty}
 use Rattle.legacy_base.specs.Grammar.{events_of}
 use Rattle.legacy_base.specs.States.{DecoderState, may_hold, rests}
-use Rattle.legacy_base.specs.DecoderActs.{LacksRoom, HadRooms, fault_room, full_room_in}
+use Rattle.legacy_base.specs.DecoderActs.{LacksRoom, HadRooms, malformed_room, full_room_in}
 use Rattle.legacy_base.specs.Lengths.{LengthQuery, query_form, query_answer, answer_units, room}
 
 -- The malformed sequence that a result reports. It has `length` bytes and ends `back` bytes before the end of the
@@ -49,13 +49,13 @@ pub record Progress (ended : Bool) (before : DecoderState) (source : List ℕ) (
       ≡ out ++ shift passed (events_of after.grammar (after.held ++ (left ++ more)))
 
 -- A byte that is malformed by itself if nothing is held back, whatever bytes follow. It leaves the state unchanged.
-pub record IsLoneFault (state : DecoderState) (byte : ℕ) : Type 0 where
+pub record IsMalformedByte (state : DecoderState) (byte : ℕ) : Type 0 where
   pub empty : state.held ≡ []
   pub progress : Progress false state (byte ∷ []) 1 state [] (Bad 0 1 ∷ [])
 
 -- A malformed sequence has one to four bytes and lies among the `seen` bytes. The bytes after it, at most three, are
 -- those held back.
-pub record IsFault (seen : ℕ) (after : DecoderState) (sequence back : ℕ) : Type 0 where
+pub record IsMalformedSequence (seen : ℕ) (after : DecoderState) (sequence back : ℕ) : Type 0 where
   -- it has at least one byte
   pub some : 1 ≤ sequence
   -- it has at most four bytes
@@ -71,7 +71,7 @@ pub record IsFault (seen : ℕ) (after : DecoderState) (sequence back : ℕ) : T
 abbrev pub HoldsBack : ℕ → DecoderState → DecoderResult → Type 0
 HoldsBack seen after InputEmpty = Unit {0}
 HoldsBack seen after OutputFull = Unit {0}
-HoldsBack seen after (Malformed length back) = IsFault seen after length back
+HoldsBack seen after (Malformed length back) = IsMalformedSequence seen after length back
 
 -- the result reports a malformed sequence
 abbrev pub IsMalformed : DecoderResult → Type 0
@@ -96,7 +96,7 @@ pub record DecoderCall (form : EncodingForm) (before : DecoderState) (source : L
   -- the codec may hold back these bytes
   pub allowed : IsTrue (may_hold after.grammar after.held)
   -- the sequence of Malformed has one to four bytes among the bytes seen, and the bytes after it are those held back
-  pub fault : HoldsBack (length before.held + read) after answer
+  pub malformed_sequence : HoldsBack (length before.held + read) after answer
   -- at InputEmpty all bytes are read and no scalar is held back; on a last call no events are left
   pub input_empty : answer ≡ InputEmpty → (read ≡ length source) × IsTrue (rests after.grammar after.held) × (IsTrue last → events_of after.grammar after.held ≡ [])
   -- at OutputFull the next act needs more room than is free
@@ -104,7 +104,7 @@ pub record DecoderCall (form : EncodingForm) (before : DecoderState) (source : L
   -- if the next act lacks room when the call begins, the result is OutputFull and nothing is done
   pub full_at_once : LacksRoom form before source last free → (answer ≡ OutputFull) × (read ≡ 0) × (scalars ≡ []) × (after ≡ before)
   -- after a malformed sequence there is room for U+FFFD
-  pub room_at_fault : IsMalformed answer → fault_room form before.grammar read ≤ free - total_unit_count form scalars
+  pub room_after_malformed : IsMalformed answer → malformed_room form before.grammar read ≤ free - total_unit_count form scalars
   -- if a byte was read and bytes are held back, there is room for reading a byte past ASCII
   pub room_held : 0 < read → after.held ≢ [] → full_room_in form before.grammar ≤ free - total_unit_count form scalars
   -- each scalar was written with the room that it needs

@@ -96,8 +96,8 @@ abbrev pub release_room_in : EncodingForm → Grammar → ℕ
 release_room_in form grammar = release_room (bmp_room form) (wide_room form) grammar
 
 -- the room after a malformed sequence; if no byte was read, it is the room of a report at the end of input
-abbrev pub fault_room : EncodingForm → Grammar → ℕ → ℕ
-fault_room form grammar read = if nat_eq read 0 then release_room_in form grammar else full_room_in form grammar
+abbrev pub malformed_room : EncodingForm → Grammar → ℕ → ℕ
+malformed_room form grammar read = if nat_eq read 0 then release_room_in form grammar else full_room_in form grammar
 
 -- true for Big5, in which four pairs give a letter and a combining mark
 abbrev pub has_marks : Grammar → Bool

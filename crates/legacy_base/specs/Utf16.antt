@@ -24,8 +24,8 @@ has_odd_byte (a ∷ []) = true
 has_odd_byte (a ∷ b ∷ bytes) = has_odd_byte bytes
 
 -- the events of the unpaired code unit with the index i
-abbrev pub lone_unit_events : ℕ → ℕ → List DecodeEvent
-lone_unit_events i u =
+abbrev pub single_unit_events : ℕ → ℕ → List DecodeEvent
+single_unit_events i u =
     if is_high_surrogate u || is_low_surrogate u then Bad (2 * i) 2 ∷ [] else Scalar u ∷ []
 
 -- the events of the end: none, or a malformed byte that is left over
@@ -37,7 +37,7 @@ odd_byte_events i true = Bad (2 * i) 1 ∷ []
 abbrev pub last_unit_events : ℕ → ℕ → Bool → List DecodeEvent
 last_unit_events i u odd =
     if is_high_surrogate u && odd then Bad (2 * i) 3 ∷ []
-    else lone_unit_events i u ++ odd_byte_events (i + 1) odd
+    else single_unit_events i u ++ odd_byte_events (i + 1) odd
 
 -- the events of code units, the first with the index i, and of a byte left over, if any
 unfoldable pub units_events : ℕ → List ℕ → Bool → List DecodeEvent
@@ -45,7 +45,7 @@ units_events i [] odd = odd_byte_events i odd
 units_events i (u ∷ []) odd = last_unit_events i u odd
 units_events i (u ∷ v ∷ units) odd = elim (is_high_surrogate u && is_low_surrogate v) [
   | true ↦ Scalar (surrogate_pair_char u v) ∷ units_events (i + 2) units odd
-  | false ↦ lone_unit_events i u ++ units_events (i + 1) (v ∷ units) odd
+  | false ↦ single_unit_events i u ++ units_events (i + 1) (v ∷ units) odd
 ]
 
 -- the events of a list of bytes

@@ -4,7 +4,7 @@ ghost use Rattle.legacy_text.specs.EncodingForm.{Utf8, Utf16};
 ghost use Rattle.legacy_base.specs.States.{DecoderState};
 ghost use Rattle.legacy_base.specs.Lengths.{query_answer, to_utf16, to_utf8};
 ghost use Rattle.legacy_base.specs.Lengths.{to_utf8_without_replacement};
-ghost use Rattle.legacy_base.specs.Calls.{IsDecoderCall, IsLoneFault};
+ghost use Rattle.legacy_base.specs.Calls.{IsDecoderCall, IsMalformedByte};
 
 use crate::results::DecoderResult;
 use legacy_text::{Destination, Utf8Destination, Utf16Destination};
@@ -98,10 +98,10 @@ pub trait RawDecoder {
     /// back. Reading one reports that sequence of one byte and leaves the decoder unchanged. A
     /// caller that reports them itself can therefore skip them without a call. The number may be
     /// less than there are, and may be 0. Nothing changes.
-    fn lone_malformed(&self, src: &[u8]) -> usize
+    fn malformed_bytes(&self, src: &[u8]) -> usize
         ensures count { result ≤ length src.now }
-        ensures lone { (k : ℕ) → k < result
-            → IsLoneFault (state self.now) (slice_index src.now k) }
+        ensures malformed_byte { (k : ℕ) → k < result
+            → IsMalformedByte (state self.now) (slice_index src.now k) }
     {
         let _ = src.len();
         0

@@ -6,7 +6,7 @@ use Rattle.std.specs.Prelude.{option_to_list}
 use Rattle.std.specs.Int.{is_in_range}
 use Rattle.std.specs.Char.{IsScalar, is_ascii, is_ascii_digit}
 use Rattle.legacy_tables.specs.Unicode.{IsByte, AreBytes}
-use Rattle.legacy_base.specs.Calls.{IsLoneFault}
+use Rattle.legacy_base.specs.Calls.{IsMalformedByte}
 use Rattle.legacy_tables.specs.declared.tables.IndexName.TheVariants as names
 use Rattle.legacy_tables.specs.Indexes.{idx, range}
 use Rattle.legacy_tables.specs.AcceptedTables.{AcceptedIndexes}
@@ -115,8 +115,8 @@ module _ (tables : AcceptedIndexes) where
   shown : IsShown (gb18030 tables.flat.gb18030 tables.flat.ranges) (gb18030_machine tables.flat.gb18030 tables.flat.ranges)
   shown = gb18030_shown tables.flat.gb18030 tables.flat.ranges
 
-  pub lone : (b : ℕ) → b ≡ 0xFF → IsLoneFault (state_of g []) b
-  lone b e = moves.lone shown b (rw e refl) refl
+  pub malformed_byte : (b : ℕ) → b ≡ 0xFF → IsMalformedByte (state_of g []) b
+  malformed_byte b e = moves.malformed_byte shown b (rw e refl) refl
 
   pub covered : (held : Held) → IsCovered (state_of g (held_bytes held))
   covered held = moves.covered shown (held_bytes held) (may held) (are_bytes held)

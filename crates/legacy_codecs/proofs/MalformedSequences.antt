@@ -60,7 +60,7 @@ module _ {before : DecoderState} {input : List ℕ} {free : ℕ} {now : DecoderS
   -- the place of a malformed sequence
   place_is : {a b : ℕ} → DecoderCall Utf8 now rest true free after (Malformed a b) count scalars →
       f.passed + (length now.held + count - b - a) - length before.held ≡ read + count - (a + b)
-  place_is c = let counts = f.progress.counts in let sum = f.counts in let within = c.fault.within in omega arith
+  place_is c = let counts = f.progress.counts in let sum = f.counts in let within = c.malformed_sequence.within in omega arith
 
   -- what a call that reports it adds
   added : {a b : ℕ} → DecoderCall Utf8 now rest true free after (Malformed a b) count scalars →

@@ -93,7 +93,7 @@ pub replacement_fits : {form : EncodingForm} {before : DecoderState} {source : L
     DecoderCall form before source last free after (Malformed a b) read scalars → total_unit_count form scalars + length (code_units form 0xFFFD) ≤ free
 replacement_fits {form} {before} {read = read} c =
     let least = fault_least form before.grammar (nat_eq read 0) in
-    let had = c.room_at_fault tt in
+    let had = c.room_after_malformed tt in
     let fits = c.fits in
     let count = replacement_count form in
     omega (arith, least, had)

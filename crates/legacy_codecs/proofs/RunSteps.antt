@@ -67,7 +67,7 @@ module _ {form : EncodingForm} {from : RunPlace DecoderState} {lengths : List â„
   items_behind =
       let h = length from.state.held in
       let fault = reported_events (length p.state.held + read) answer in
-      let same = reported-placed h r.passed (length p.state.held) total read after answer c.fault r.passed_is in
+      let same = reported-placed h r.passed (length p.state.held) total read after answer c.malformed_sequence r.passed_is in
       rw (
         placed-append h r.events (shift r.passed (map Scalar scalars ++ fault)),
         shift-append r.passed (map Scalar scalars) fault,

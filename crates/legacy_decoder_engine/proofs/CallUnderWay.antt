@@ -9,17 +9,17 @@ use Rattle.legacy_text.specs.EncodingForm.{EncodingForm, unit_count, total_unit_
 use Rattle.legacy_text.proofs.CodeUnits.{total_unit_count-append}
 use Rattle.legacy_base.specs.declared.results.DecoderResult.TheVariants.{InputEmpty, OutputFull, Malformed}
 use Rattle.legacy_base.specs.States.{DecoderState, may_hold, rests}
-use Rattle.legacy_base.specs.DecoderActs.{LacksRoom, HadRoom, HadRooms, fault_room, full_room_in, release_room_in}
+use Rattle.legacy_base.specs.DecoderActs.{LacksRoom, HadRoom, HadRooms, malformed_room, full_room_in, release_room_in}
 use Rattle.legacy_base.specs.Lengths.{LengthQuery, query_form, replacement_units, room}
-use Rattle.legacy_base.specs.Calls.{Progress, DecoderCall, IsFault, IsMalformed, HoldsBack, reported_events, may_report_end}
+use Rattle.legacy_base.specs.Calls.{Progress, DecoderCall, IsMalformedSequence, IsMalformed, HoldsBack, reported_events, may_report_end}
 use Rattle.legacy_base.specs.{declared.results.DecodeEvent.TheVariants.Scalar, declared.results.DecodeEvent.TheVariants.Bad}
 use Rattle.legacy_base.specs.{declared.results.DecoderResult.DecoderResult, Events.shift, Grammar.Grammar, Grammar.events_of}
 use Rattle.legacy_base.proofs.Progress.{stay, at_last, behind, after_that}
 use Rattle.legacy_base.proofs.Rooms.{HadRooms-append, HadRooms-none, HadRooms-released, room_needed-release, room_needed-read, room_needed-report}
 use Rattle.legacy_base.proofs.Rooms.{room_needed-none}
 use Rattle.legacy_base.proofs.{Enough.room-answer, Shifts.shift-scalars}
-use Rattle.legacy_decoder_engine.specs.declared.moves.Fed.TheVariants.{Nothing, One, Two, Fault}
-use Rattle.legacy_decoder_engine.specs.Moves.{SameRooms, Feeds, Releases, Reports, Finishes, IsCovered, HoldsBytes, IsFaulty, read_room, fed_scalars, fed_units}
+use Rattle.legacy_decoder_engine.specs.declared.moves.Fed.TheVariants.{Nothing, One, Two, MalformedSequence}
+use Rattle.legacy_decoder_engine.specs.Moves.{SameRooms, Feeds, Releases, Reports, Finishes, IsCovered, HoldsBytes, RevealsMalformed, read_room, fed_scalars, fed_units}
 use Rattle.legacy_decoder_engine.specs.Moves.{unread_byte}
 use Rattle.legacy_decoder_engine.specs.declared.moves.Fed.{Fed}
 
@@ -61,11 +61,11 @@ module _ (form : EncodingForm) (g : Grammar) where
   HadRoom-same h previous free (c ∷ cs) s a =
       (λ w. rw (← s.full form) (a.0 (rw (s.wants previous c) w)), HadRoom-same h (Some c) (free - unit_count form c) cs s a.1)
 
-  fault_room_at : (read n : ℕ) → (read ≡ 0 → release_room_in form g ≤ n) → (0 < read → full_room_in form g ≤ n) → fault_room form g read ≤ n
-  fault_room_at read n a b = grind (arith, nat_tests)
+  malformed_room_at : (read n : ℕ) → (read ≡ 0 → release_room_in form g ≤ n) → (0 < read → full_room_in form g ≤ n) → malformed_room form g read ≤ n
+  malformed_room_at read n a b = grind (arith, nat_tests)
 
-  fault_room_of : (read n : ℕ) → fault_room form g read ≤ n → (read ≡ 0 → release_room_in form g ≤ n) × (0 < read → full_room_in form g ≤ n)
-  fault_room_of read n h = (λ z. grind (arith, nat_tests), λ p. grind (arith, nat_tests))
+  malformed_room_of : (read n : ℕ) → malformed_room form g read ≤ n → (read ≡ 0 → release_room_in form g ≤ n) × (0 < read → full_room_in form g ≤ n)
+  malformed_room_of read n h = (λ z. grind (arith, nat_tests), λ p. grind (arith, nat_tests))
 
 -- ---- what is reported, if `p` more bytes were done with before
 
@@ -143,9 +143,9 @@ module _ {form : EncodingForm} {last : Bool} where
     call_then {next} {answer} {n} c kind =
         let counts = a.progress.counts in
         let seen : a.passed + (length now.held + n) ≡ length before.held + (read + n) = omega (arith, counts, length-drop read source, a.within) in
-        let reported = shift-reported a.passed (length now.held + n) (length before.held + (read + n)) next answer seen c.fault in
+        let reported = shift-reported a.passed (length now.held + n) (length before.held + (read + n)) next answer seen c.malformed_sequence in
         let full = a.rooms.full form in
-        let was_held : n ≤ 0 → IsMalformed answer → now.held ≢ [] = λ z m. malformed-held answer (length now.held + n) now.held next (omega arith) m c.fault in
+        let was_held : n ≤ 0 → IsMalformed answer → now.held ≢ [] = λ z m. malformed-held answer (length now.held + n) now.held next (omega arith) m c.malformed_sequence in
         let suffices : (query : LengthQuery) → query_form query ≡ form → room query before (length source) ≤ free → answer ≢ OutputFull =
         λ query q enough.
         let k = a.lowers query q 0 in
@@ -162,13 +162,13 @@ module _ {form : EncodingForm} {last : Bool} where
               (after_that (may_report_end last answer (drop n (drop read source))) before source a.passed now (drop read source) _ c.passed next _ _
               (at_last _ before source a.passed now (drop read source) _ a.progress) c.progress);
           allowed = c.allowed;
-          fault = reported.1;
+          malformed_sequence = reported.1;
           input_empty = λ e. let i = c.input_empty e in (omega (arith, i.0, a.within, length-drop read source), i.1, i.2);
           output_full = λ e. rw (← drop-drop n read source) (omega (arith, c.output_full e));
           full_at_once = λ l. let e = a.once l in let f = c.full_at_once (still l) in (f.0, omega (arith, e.0, f.1), e.1, f.3 ∙ e.2);
-          room_at_fault = λ m.
-              let r = fault_room_of form now.grammar n _ (c.room_at_fault m) in
-              fault_room_at form before.grammar (read + n) _ (λ z. omega (arith, r.0 (omega arith), a.rooms.report form)) (λ p. elim (cases_lt 0 n) [
+          room_after_malformed = λ m.
+              let r = malformed_room_of form now.grammar n _ (c.room_after_malformed m) in
+              malformed_room_at form before.grammar (read + n) _ (λ z. omega (arith, r.0 (omega arith), a.rooms.report form)) (λ p. elim (cases_lt 0 n) [
                 | inl q ↦ omega (arith, r.1 q, full)
                 | inr z ↦ a.held (omega arith) (was_held z m)
               ]);
@@ -227,8 +227,8 @@ module _ {form : EncodingForm} {last : Bool} where
 
   -- a byte is read
   fed_going : {before : DecoderState} {byte : ℕ} {rest : List ℕ} {free : ℕ} {next : DecoderState} (fed : Fed) → rests before.grammar before.held ≡ true
-      → Feeds before byte next fed → (IsFaulty fed → ⊥) → read_room form before byte ≤ free → Going form last before (byte ∷ rest) free next 1 (fed_scalars fed)
-  fed_going (Fault a b unread) r f sound enough = absurd (sound tt)
+      → Feeds before byte next fed → (RevealsMalformed fed → ⊥) → read_room form before byte ≤ free → Going form last before (byte ∷ rest) free next 1 (fed_scalars fed)
+  fed_going (MalformedSequence a b unread) r f sound enough = absurd (sound tt)
   fed_going {before} {byte} {rest} {free} {next} fed r f sound enough = record {
     within = omega arith;
     passed = f.passed;
@@ -257,7 +257,7 @@ module _ {form : EncodingForm} {last : Bool} where
 
   module _ {before : DecoderState} {source : List ℕ} {free : ℕ} {now : DecoderState} {read : ℕ} {scalars : List ℕ}
       (a : Going form last before source free now read scalars) {left : ℕ} (room_is : left + total_unit_count form scalars ≡ free) where
-    pub going_feed : {next : DecoderState} (fed : Fed) → read < length source → Feeds now (get_or source read 0) next fed → (IsFaulty fed → ⊥)
+    pub going_feed : {next : DecoderState} (fed : Fed) → read < length source → Feeds now (get_or source read 0) next fed → (RevealsMalformed fed → ⊥)
         → read_room form now (get_or source read 0) ≤ left → Going form last before source free next (read + 1) (scalars ++ fed_scalars fed)
     going_feed fed h f sound enough = going_then a room_is (rw (next_byte source read h) (fed_going fed a.resting f sound enough)) (omega arith)
 
@@ -295,11 +295,11 @@ module _ {form : EncodingForm} {last : Bool} where
           passed = 0;
           progress = stay false s source;
           allowed = m;
-          fault = tt;
+          malformed_sequence = tt;
           input_empty = done;
           output_full = λ e. rw sub-zero (full e).0;
           full_at_once = λ l. (lacks l, refl, refl, refl);
-          room_at_fault = λ x. absurd (sound x);
+          room_after_malformed = λ x. absurd (sound x);
           room_held = λ a. absurd (omega arith);
           had_room = HadRooms-none form s free;
           lowers = λ query q more z. omega arith;
@@ -318,14 +318,14 @@ module _ {form : EncodingForm} {last : Bool} where
     call_done r m none = call_none InputEmpty (λ x. x) m (λ e. (refl, r, none)) (λ e. cc) (λ l. absurd (omega (arith, room_needed-none form s last r none)))
 
     -- a malformed sequence is reported, after `n` more bytes
-    call_fault : {source : List ℕ} {next : DecoderState} {a b : ℕ} (n passed : ℕ) → n ≤ length source → may_hold next.grammar next.held ≡ true
-        → IsFault (passed + length next.held) next a b
+    call_malformed : {source : List ℕ} {next : DecoderState} {a b : ℕ} (n passed : ℕ) → n ≤ length source → may_hold next.grammar next.held ≡ true
+        → IsMalformedSequence (passed + length next.held) next a b
         → Progress (may_report_end last (Malformed a b) (drop n source)) s source passed next (drop n source) (Bad (passed - a) a ∷ [])
-        → (LacksRoom form s source last free → ⊥) → fault_room form s.grammar n ≤ free → (0 < n → full_room_in form s.grammar ≤ free)
+        → (LacksRoom form s source last free → ⊥) → malformed_room form s.grammar n ≤ free → (0 < n → full_room_in form s.grammar ≤ free)
         → ((query : LengthQuery) → query_form query ≡ form → (more : ℕ) → (IsTrue last → more ≡ 0)
         → room query next (length (drop n source) + more) + replacement_units query ≤ room query s (length source + more))
         → DecoderCall form s source last free next (Malformed a b) n []
-    call_fault {source} {next} {a} {b} n passed within allowed f progress had fault full lowers =
+    call_malformed {source} {next} {a} {b} n passed within allowed f progress had malformed_sequence full lowers =
         let all = progress.counts in
         let seen : passed + length next.held ≡ length s.held + n = omega (arith, all, length-drop n source, within) in
         let place : passed - a ≡ length s.held + n - b - a = omega (arith, seen, f.held) in
@@ -336,11 +336,11 @@ module _ {form : EncodingForm} {last : Bool} where
           passed = passed;
           progress = rw (← place) progress;
           allowed = allowed;
-          fault = rw (← seen) f;
+          malformed_sequence = rw (← seen) f;
           input_empty = λ x. cc;
           output_full = λ x. cc;
           full_at_once = λ l. absurd (had l);
-          room_at_fault = λ x. rw sub-zero fault;
+          room_after_malformed = λ x. rw sub-zero malformed_sequence;
           room_held = λ p ne. rw sub-zero (full p);
           had_room = HadRooms-none form s free;
           lowers = λ query q more z. omega (arith, lowers query q more z);
@@ -350,21 +350,21 @@ module _ {form : EncodingForm} {last : Bool} where
 
     -- a byte reveals a malformed sequence
     call_fed : {byte : ℕ} {rest : List ℕ} {next : DecoderState} {a b : ℕ} (unread : Bool) (n : ℕ) → rests s.grammar s.held ≡ true
-        → Feeds s byte next (Fault a b unread)
-        → read_room form s byte ≤ free → n ≤ length (byte ∷ rest) → drop n (byte ∷ rest) ≡ unread_byte byte (Fault a b unread) ++ rest
+        → Feeds s byte next (MalformedSequence a b unread)
+        → read_room form s byte ≤ free → n ≤ length (byte ∷ rest) → drop n (byte ∷ rest) ≡ unread_byte byte (MalformedSequence a b unread) ++ rest
         → DecoderCall form s (byte ∷ rest) last free next (Malformed a b) n []
     call_fed {byte} {rest} {next} {a} {b} unread n r f enough within left_is =
         let full = f.full form (inl tt) in
-        call_fault n f.passed within f.allowed f.holds
+        call_malformed n f.passed within f.allowed f.holds
         (at_last _ s (byte ∷ rest) f.passed next (drop n (byte ∷ rest)) _
-        (rw left_is (behind s (byte ∷ []) f.passed next (unread_byte byte (Fault a b unread)) _ rest f.progress)))
+        (rw left_is (behind s (byte ∷ []) f.passed next (unread_byte byte (MalformedSequence a b unread)) _ rest f.progress)))
         (λ l. omega (arith, enough, room_needed-read form s byte rest last r))
-        (fault_room_at form s.grammar n free (λ z. omega (arith, f.report form, full, enough)) (λ p. omega (arith, full, enough)))
+        (malformed_room_at form s.grammar n free (λ z. omega (arith, f.report form, full, enough)) (λ p. omega (arith, full, enough)))
         (λ p. omega (arith, full, enough))
         (λ query q more z.
         let l = f.lowers query (length rest + more) in
-        let c : length (drop n (byte ∷ rest)) + more ≡ (length rest + more) + length (unread_byte byte (Fault a b unread)) =
-        omega (arith, ap length left_is, length-append (unread_byte byte (Fault a b unread)) rest) in
+        let c : length (drop n (byte ∷ rest)) + more ≡ (length rest + more) + length (unread_byte byte (MalformedSequence a b unread)) =
+        omega (arith, ap length left_is, length-append (unread_byte byte (MalformedSequence a b unread)) rest) in
         let e : length (byte ∷ rest) + more ≡ length rest + more + 1 = omega arith in
         rw (c, e) (omega arith))
 
@@ -373,7 +373,7 @@ module _ {form : EncodingForm} {last : Bool} where
         → release_room_in form s.grammar ≤ free
         → Reports s next a b → DecoderCall form s [] last free next (Malformed a b) 0 []
     call_report {next} {a} {b} end r some enough f =
-        call_fault 0 f.passed (omega arith) f.allowed f.holds (rw end f.progress)
+        call_malformed 0 f.passed (omega arith) f.allowed f.holds (rw end f.progress)
         (λ l. let e = room_needed-report form s r some in omega (arith, rw end at l)) enough
         (λ p. absurd (omega arith)) (λ query q more z. let none = z end in rw none (f.lowers query))
 
@@ -404,10 +404,10 @@ module _ {form : EncodingForm} {last : Bool} where
 
     -- the next byte reveals a malformed sequence, and is read or not
     module _ {next : DecoderState} {x y : ℕ} (h : read < length source) (enough : read_room form now (get_or source read 0) ≤ left) where
-      pub call_read : Feeds now (get_or source read 0) next (Fault x y false) → DecoderCall form before source last free next (Malformed x y) (read + 1) scalars
+      pub call_read : Feeds now (get_or source read 0) next (MalformedSequence x y false) → DecoderCall form before source last free next (Malformed x y) (read + 1) scalars
       call_read f = call_then a room_is (rw (next_byte source read h) (call_fed false 1 a.resting f enough (omega arith) refl)) (inl tt)
 
-      pub call_unread : Feeds now (get_or source read 0) next (Fault x y true) → DecoderCall form before source last free next (Malformed x y) read scalars
+      pub call_unread : Feeds now (get_or source read 0) next (MalformedSequence x y true) → DecoderCall form before source last free next (Malformed x y) read scalars
       call_unread f = call_here a room_is (rw (next_byte source read h) (call_fed true 0 a.resting f enough (omega arith) refl)) (inl tt)
 
     -- all bytes are read

@@ -10,8 +10,8 @@ use Rattle.legacy_base.specs.States.{DecoderState, rests, may_hold, state_of}
 use Rattle.legacy_base.specs.DecoderActs.{act_room, takes, full_room, has_short_ascii, has_reported, has_marks, is_mark_behind, full_room_in, release_room_in, HadRoom}
 use Rattle.legacy_base.specs.Lengths.{LengthQuery, to_utf16, to_utf8, query_form, replacement_units, room}
 use Rattle.legacy_base.specs.{Fronts.reads, Fronts.malformed, Events.shift, declared.results.DecodeEvent.TheVariants.Scalar}
-use Rattle.legacy_base.specs.{declared.results.DecodeEvent.TheVariants.Bad, Grammar.Grammar, Grammar.events_of, Calls.IsLoneFault}
-use Rattle.legacy_decoder_engine.specs.Moves.{IsCovered, read_room, fed_scalars, fed_fault, FedHolds, IsFaulty, Feeds, Releases, Reports}
+use Rattle.legacy_base.specs.{declared.results.DecodeEvent.TheVariants.Bad, Grammar.Grammar, Grammar.events_of, Calls.IsMalformedByte}
+use Rattle.legacy_decoder_engine.specs.Moves.{IsCovered, read_room, fed_scalars, fed_malformed, FedHolds, RevealsMalformed, Feeds, Releases, Reports}
 use Rattle.legacy_decoder_engine.specs.Steps.{Step, hold, finish, leave, step_held, step_length, step_unread, step_events, StepMeets, PendingMeets, end_events}
 use Rattle.legacy_decoder_engine.specs.Steps.{DecoderMachine}
 use Rattle.legacy_decoder_engine.specs.Feeding.{fed_form, fed_of, HasScalars, Took}
@@ -45,7 +45,7 @@ fed_scalars_are : (marks : Bool) (cs : List ℕ) → IsOneOrMarked marks cs → 
 fed_scalars_are marks (c ∷ d ∷ e ∷ cs) h = absurd h
 fed_scalars_are marks cs h = refl
 
-form_sound : (cs : List ℕ) → IsFaulty (fed_form cs) → ⊥
+form_sound : (cs : List ℕ) → RevealsMalformed (fed_form cs) → ⊥
 form_sound (c ∷ d ∷ cs) f = f
 form_sound cs f = f
 
@@ -154,7 +154,7 @@ module _ {g : Grammar} {m : DecoderMachine} (shown : IsShown g m) (held : List �
     rest_is (leave n) e = drop-append-le n held (b ∷ []) (omega (arith, (meets _ e).counts, length-drop n held))
     rest_is s e = sym (append-nil (step_held s held b))
 
-    out_is : (s : Step) → Settles to held b s → step_events s ≡ map Scalar (fed_scalars (fed_of s held b)) ++ fed_fault (step_length s) (fed_of s held b)
+    out_is : (s : Step) → Settles to held b s → step_events s ≡ map Scalar (fed_scalars (fed_of s held b)) ++ fed_malformed (step_length s) (fed_of s held b)
     out_is (finish (malformed n)) h = let z : 0 ≡ n - n = omega arith in ap (λ p. Bad p n ∷ []) z
     out_is (leave n) h = let z : 0 ≡ n - n = omega arith in ap (λ p. Bad p n ∷ []) z
     out_is (finish (reads n (c ∷ d ∷ e ∷ cs))) h = absurd h.1
@@ -163,13 +163,13 @@ module _ {g : Grammar} {m : DecoderMachine} (shown : IsShown g m) (held : List �
     holds_is : (s : Step) → m.step held b ≡ s → FedHolds (step_length s) (state_of to (step_held s held b)) (fed_of s held b)
     holds_is hold e = settled hold e
     holds_is (finish (reads n cs)) e = form_holds n (state_of to (drop n (held ++ b ∷ []))) cs (rw (all_dropped n held b (settled _ e).0) (rests-none to))
-    holds_is s e = let k = meets s e in record { some = k.fault.0; few = k.fault.1; near = k.few; held = refl; within = omega arith }
+    holds_is s e = let k = meets s e in record { some = k.malformed_sequence.0; few = k.malformed_sequence.1; near = k.few; held = refl; within = omega arith }
 
     empties_is : (s : Step) → Settles to held b s → fed_scalars (fed_of s held b) ≢ [] → step_held s held b ≡ []
     empties_is (finish (reads n cs)) h ne = all_dropped n held b h.0
     empties_is s h ne = absurd (ne refl)
 
-    full_is : (form : EncodingForm) (s : Step) → m.step held b ≡ s → IsFaulty (fed_of s held b) ⊎ (step_held s held b ≢ [])
+    full_is : (form : EncodingForm) (s : Step) → m.step held b ≡ s → RevealsMalformed (fed_of s held b) ⊎ (step_held s held b ≢ [])
         → full_room_in form g ≤ read_room form (state_of g held) b
     full_is form (finish (reads n cs)) e x = elim x [
       | inl f ↦ absurd (form_sound cs f)
@@ -286,8 +286,8 @@ module _ {g : Grammar} {m : DecoderMachine} (shown : IsShown g m) (held : List �
     by_pending (Some (k, c)) w = λ e. let first = w.1.goes_on [] in let all = ap (events_of g) (append-nil held) in cc
 
 -- a byte that is malformed by itself in the machine, if nothing is held back
-pub lone : {g : Grammar} {m : DecoderMachine} → IsShown g m → (b : ℕ) → m.step [] b ≡ finish (malformed 1) → m.to [] b ≡ g → IsLoneFault (state_of g []) b
-lone shown b e t =
+pub malformed_byte : {g : Grammar} {m : DecoderMachine} → IsShown g m → (b : ℕ) → m.step [] b ≡ finish (malformed 1) → m.to [] b ≡ g → IsMalformedByte (state_of g []) b
+malformed_byte shown b e t =
     let s = shown.meets.steps [] b (may_none _) (rests-none _) in
     record {
       empty = refl;

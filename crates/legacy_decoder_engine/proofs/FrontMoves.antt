@@ -6,7 +6,7 @@ use Rattle.std.specs.Char.{is_ascii}
 use Rattle.legacy_base.specs.Fronts.{Front, reads, malformed, front_length, front_events, reads_or, trail_rule, cut}
 use Rattle.legacy_base.specs.Grammar.{Grammar, events_of}
 use Rattle.legacy_base.specs.{declared.results.DecodeEvent.TheVariants.Bad, Beginnings.BeginsWith, Events.shift, States.may_hold}
-use Rattle.legacy_decoder_engine.specs.Steps.{Step, hold, finish, leave, HasFaultLength, StepMeets, WriteMeets, end_events, ReportMeets, trail_step}
+use Rattle.legacy_decoder_engine.specs.Steps.{Step, hold, finish, leave, HasMalformedLength, StepMeets, WriteMeets, end_events, ReportMeets, trail_step}
 use Rattle.legacy_base.proofs.{Shifts.shift-zero, Cuts.cut-nil, Cuts.cut-front, Beginnings.no_sooner}
 
 -- the list begins with the front
@@ -70,9 +70,9 @@ fits_trail front may held [] t empty pos h =
     (λ e. (λ more. rw e at (h more), pos, le_refl (length held), rw drop-length empty))
     (λ e. (λ more. rw e at (h more), omega arith, omega arith, rw (all_dropped held t) empty))
 
-fault_length : (f : Front) (n : ℕ) → n ≤ 3 → 0 < front_length f → front_length f ≤ suc n → HasFaultLength f
-fault_length (reads k cs) n le pos h = tt
-fault_length (malformed k) n le pos h = (pos, omega arith)
+malformed_length : (f : Front) (n : ℕ) → n ≤ 3 → 0 < front_length f → front_length f ≤ suc n → HasMalformedLength f
+malformed_length (reads k cs) n le pos h = tt
+malformed_length (malformed k) n le pos h = (pos, omega arith)
 
 module _ (g : Grammar) (front : ℕ → List ℕ → Front) (ev_is : (bytes : List ℕ) → events_of g bytes ≡ cut front 0 0 bytes) where
   pub ev_front : (bytes behind : List ℕ) (f : Front) → HasFront front bytes f → 0 < front_length f → drop (front_length f) bytes ≡ behind →
@@ -85,7 +85,7 @@ module _ (g : Grammar) (front : ℕ → List ℕ → Front) (ev_is : (bytes : Li
       let l : length (held ++ b ∷ []) ≡ length held + 1 = length-append held (b ∷ []) in record {
         goes_on = λ more. rw (append_assoc, shift-zero);
         counts = omega arith;
-        fault = tt;
+        malformed_sequence = tt;
         few = omega (arith, fits.0);
         allowed = may_is _ ∙ fits.1;
       }
@@ -97,7 +97,7 @@ module _ (g : Grammar) (front : ℕ → List ℕ → Front) (ev_is : (bytes : Li
         goes_on = λ more. ev_front (held ++ b ∷ more) _ f (fits.0 more) (fits.1)
             (ap (drop (front_length f)) (sym (append_assoc held (b ∷ []) more)) ∙ drop-append-le (front_length f) (held ++ b ∷ []) more within);
         counts = omega arith;
-        fault = fault_length f (length held) few (fits.1) (fits.2);
+        malformed_sequence = malformed_length f (length held) few (fits.1) (fits.2);
         few = omega (arith, fits.1);
         allowed = may_is _ ∙ fits.3;
       }
@@ -105,7 +105,7 @@ module _ (g : Grammar) (front : ℕ → List ℕ → Front) (ev_is : (bytes : Li
       let d : length (drop n held) ≡ length held - n = length-drop n held in record {
         goes_on = λ more. ev_front (held ++ b ∷ more) _ (malformed n) (fits.0 more) (fits.1) (drop-append-le n held (b ∷ more) (fits.2));
         counts = omega (arith, fits.2);
-        fault = (fits.1, omega (arith, fits.2));
+        malformed_sequence = (fits.1, omega (arith, fits.2));
         few = omega arith;
         allowed = may_is _ ∙ fits.3;
       }

@@ -4,7 +4,7 @@ use Rattle.std.proofs.lemmas.List.Elements.{All-nil, All-cons}
 use Rattle.std.specs.Char.{IsScalar}
 use Rattle.legacy_tables.specs.{Unicode.IsByte, Unicode.AreBytes, AcceptedTables.AcceptedIndexes, Indexes.FlatIndexes}
 use Rattle.legacy_base.specs.States.{may_hold, single_lead_may_hold, is_empty}
-use Rattle.legacy_base.specs.{Grammar.Grammar, Grammar.events_of, Calls.IsLoneFault, Fronts.malformed}
+use Rattle.legacy_base.specs.{Grammar.Grammar, Grammar.events_of, Calls.IsMalformedByte, Fronts.malformed}
 use Rattle.legacy_decoder_engine.specs.{declared.moves.Fed.Fed, Steps.Step, Steps.finish, Moves.IsCovered, Moves.Feeds, Moves.Reports}
 use Rattle.legacy_decoder_engine.specs.{LeadMachines.two_byte_step, LeadMachines.two_byte_machine, Shown.IsShown, Feeding.Took, ReadAhead.Runs, ReadAhead.HasAscii}
 use Rattle.legacy_decoder_engine.specs.{ReadAhead.IsIdle, LeadCodecs.IsLeadCodec, LeadCodecs.held_bytes, LeadCodecs.lead_state}
@@ -80,8 +80,8 @@ module _ {L : Type 0} {grammar : FlatIndexes → Grammar} {is_lead_byte : ℕ �
       feeding.reports_all shown (held_bytes byte (Some lead)) (may (Some lead)) (are_bytes (Some lead)) (is.rests_is tables.flat (held_bytes byte (Some lead)))
       (some_held (Some lead) refl)
 
-  pub lone : (b : ℕ) → first b ≡ finish (malformed 1) → IsLoneFault (lead_state grammar byte tables None) b
-  lone b e = feeding.lone shown b e refl
+  pub malformed_byte : (b : ℕ) → first b ≡ finish (malformed 1) → IsMalformedByte (lead_state grammar byte tables None) b
+  malformed_byte b e = feeding.malformed_byte shown b e refl
 
   -- a decoder without a lead
   pub idle : (held : Option L) → is_some held ≡ false → IsIdle (lead_state grammar byte tables held)

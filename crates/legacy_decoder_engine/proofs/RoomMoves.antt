@@ -113,11 +113,11 @@ paid_of to_utf8 wt paid at_most held b s c = let p = c.pays in omega arith
 paid_of to_utf8_without_replacement wt paid at_most held b s c = c.pays_without
 
 -- a byte pays for a malformed sequence
-fault_paid : (query : LengthQuery) (paid x y : ℕ) → x + 1 ≤ y
+malformed_paid : (query : LengthQuery) (paid x y : ℕ) → x + 1 ≤ y
     → 2 * replacement_units query + query_slope paid query * (0 + x) ≤ query_slope paid query * (0 + y)
-fault_paid to_utf16 paid x y h = omega arith
-fault_paid to_utf8 paid x y h = omega arith
-fault_paid to_utf8_without_replacement paid x y h = let le : 0 + x ≤ 0 + y = omega arith in
+malformed_paid to_utf16 paid x y h = omega arith
+malformed_paid to_utf8 paid x y h = omega arith
+malformed_paid to_utf8_without_replacement paid x y h = let le : 0 + x ≤ 0 + y = omega arith in
     let m : paid * (0 + x) ≤ paid * (0 + y) = mul-le-mul_left paid le in omega arith
 
 -- ---- the room of an act, in any codec
@@ -168,7 +168,7 @@ module _ (g : Grammar) (m : DecoderMachine) (wt : List ℕ → ℕ) (paid : ℕ)
         (paid_of query wt paid (act_room (bmp_room (query_form query)) (wide_room (query_form query)) (state_of g held) (takes b)) held b (m.step held b)
         (costs.cost (unit_count (query_form query)) (bmp_room (query_form query)) (wide_room (query_form query)) w held b h r bytes byte)));
     write_pays = is.writes query;
-    report_pays = λ b held h r. is.falls query (b ∷ held) [] 0 0 (replacement_units query) (fault_paid query paid (wt []) (wt (b ∷ held)) (is.heavy b held h));
+    report_pays = λ b held h r. is.falls query (b ∷ held) [] 0 0 (replacement_units query) (malformed_paid query paid (wt []) (wt (b ∷ held)) (is.heavy b held h));
     reads_covered = λ held b n h p. takes_covered held b n p;
     holds_covered = λ held n h p. holds_covered held h n p;
   }

@@ -2,7 +2,7 @@
 use Rattle.std.specs.Prelude.{◌≡◌, ℕ, List, [], ◌∷◌, ◌++◌, drop, length, true, false}
 use Rattle.std.specs.Char.{IsScalar}
 use Rattle.legacy_base.specs.Fronts.{reads, malformed}
-use Rattle.legacy_decoder_engine.specs.declared.moves.Fed.TheVariants.{Nothing, One, Two, Fault}
+use Rattle.legacy_decoder_engine.specs.declared.moves.Fed.TheVariants.{Nothing, One, Two, MalformedSequence}
 use Rattle.legacy_decoder_engine.specs.Steps.{Step, hold, finish, leave, step_held}
 use Rattle.legacy_decoder_engine.specs.declared.moves.Fed.{Fed}
 
@@ -16,8 +16,8 @@ fed_form (c ∷ d ∷ scalars) = Two c d
 abbrev pub fed_of : Step → List ℕ → ℕ → Fed
 fed_of hold held b = Nothing
 fed_of (finish (reads n scalars)) held b = fed_form scalars
-fed_of (finish (malformed n)) held b = Fault n (length (drop n (held ++ b ∷ []))) false
-fed_of (leave n) held b = Fault n (length (drop n held)) true
+fed_of (finish (malformed n)) held b = MalformedSequence n (length (drop n (held ++ b ∷ []))) false
+fed_of (leave n) held b = MalformedSequence n (length (drop n held)) true
 
 -- the scalars of a result are Unicode scalar values
 abbrev pub HasScalars : Fed → Type 0

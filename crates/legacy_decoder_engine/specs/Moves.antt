@@ -8,9 +8,9 @@ use Rattle.legacy_base.specs.DecoderActs.{act_room, full_room_in, release_room_i
 use Rattle.legacy_base.specs.Lengths.{LengthQuery, query_form, replacement_units, room}
 use Rattle.legacy_base.specs.{declared.results.DecodeEvent.DecodeEvent, declared.results.DecodeEvent.TheVariants.Scalar}
 use Rattle.legacy_base.specs.{declared.results.DecodeEvent.TheVariants.Bad, declared.results.DecoderResult.DecoderResult, Grammar.Grammar, Grammar.events_of}
-use Rattle.legacy_base.specs.{Calls.Progress, Calls.IsFault}
+use Rattle.legacy_base.specs.{Calls.Progress, Calls.IsMalformedSequence}
 use Rattle.legacy_text.specs.EncodingForm.{EncodingForm, unit_count, total_unit_count, bmp_room, wide_room}
-use Rattle.legacy_decoder_engine.specs.declared.moves.Fed.TheVariants.{Nothing, One, Two, Fault}
+use Rattle.legacy_decoder_engine.specs.declared.moves.Fed.TheVariants.{Nothing, One, Two, MalformedSequence}
 use Rattle.legacy_decoder_engine.specs.{declared.moves.Room.Room, declared.moves.Fed.Fed}
 use Rattle.legacy_base.specs.DecoderActs as acts
 use Rattle.legacy_decoder_engine.specs.declared.moves.Room.TheVariants.{Nothing as NoRoom, Unit as OneUnit, Narrow, Wide}
@@ -39,30 +39,30 @@ fed_scalars (Two c d) = c ∷ d ∷ []
 fed_scalars fed = []
 
 -- the malformed sequence that a byte reveals; it ends the bytes that are done with
-abbrev pub fed_fault : ℕ → Fed → List DecodeEvent
-fed_fault passed (Fault sequence back unread) = Bad (passed - sequence) sequence ∷ []
-fed_fault passed fed = []
+abbrev pub fed_malformed : ℕ → Fed → List DecodeEvent
+fed_malformed passed (MalformedSequence sequence back unread) = Bad (passed - sequence) sequence ∷ []
+fed_malformed passed fed = []
 
 -- the code units that a length query sets aside for that sequence
 abbrev pub fed_units : LengthQuery → Fed → ℕ
-fed_units query (Fault sequence back unread) = replacement_units query
+fed_units query (MalformedSequence sequence back unread) = replacement_units query
 fed_units query fed = 0
 
 -- the byte, if it is not read
 abbrev pub unread_byte : ℕ → Fed → List ℕ
-unread_byte byte (Fault sequence back unread) = if unread then byte ∷ [] else []
+unread_byte byte (MalformedSequence sequence back unread) = if unread then byte ∷ [] else []
 unread_byte byte fed = []
 
 -- After a malformed sequence, the sequence is among the bytes seen and ends before the held-back bytes. Otherwise no
 -- held-back scalar is to be written.
 abbrev pub FedHolds : ℕ → DecoderState → Fed → Type 0
-FedHolds passed after (Fault sequence back unread) = IsFault (passed + length after.held) after sequence back
+FedHolds passed after (MalformedSequence sequence back unread) = IsMalformedSequence (passed + length after.held) after sequence back
 FedHolds passed after fed = IsTrue (rests after.grammar after.held)
 
 -- a byte reveals a malformed sequence
-abbrev pub IsFaulty : Fed → Type 0
-IsFaulty (Fault sequence back unread) = Unit {0}
-IsFaulty fed = ⊥
+abbrev pub RevealsMalformed : Fed → Type 0
+RevealsMalformed (MalformedSequence sequence back unread) = Unit {0}
+RevealsMalformed fed = ⊥
 
 -- two grammars need the same room for the same scalars
 pub record SameRooms (before after : Grammar) : Type 0 where
@@ -74,7 +74,7 @@ pub record SameRooms (before after : Grammar) : Type 0 where
 pub record Feeds (before : DecoderState) (byte : ℕ) (after : DecoderState) (fed : Fed) : Type 0 where
   -- the decoder goes on through the input
   pub passed : ℕ
-  pub progress : Progress false before (byte ∷ []) passed after (unread_byte byte fed) (map Scalar (fed_scalars fed) ++ fed_fault passed fed)
+  pub progress : Progress false before (byte ∷ []) passed after (unread_byte byte fed) (map Scalar (fed_scalars fed) ++ fed_malformed passed fed)
   pub holds : FedHolds passed after fed
   pub allowed : may_hold after.grammar after.held ≡ true
   pub rooms : SameRooms before.grammar after.grammar
@@ -82,7 +82,7 @@ pub record Feeds (before : DecoderState) (byte : ℕ) (after : DecoderState) (fe
   pub empties : fed_scalars fed ≢ [] → after.held ≡ []
   -- a malformed sequence and a held-back byte need the full room, and a report needs no more
   pub report : (form : EncodingForm) → release_room_in form before.grammar ≤ full_room_in form before.grammar
-  pub full : (form : EncodingForm) → (IsFaulty fed ⊎ (after.held ≢ [])) → full_room_in form before.grammar ≤ read_room form before byte
+  pub full : (form : EncodingForm) → (RevealsMalformed fed ⊎ (after.held ≢ [])) → full_room_in form before.grammar ≤ read_room form before byte
   -- the scalars fit into the room for reading the byte, and have the room that they need
   pub fits : (form : EncodingForm) → total_unit_count form (fed_scalars fed) ≤ read_room form before byte
   pub had : (form : EncodingForm) (free : ℕ) → read_room form before byte ≤ free → HadRoom form before.grammar None free (fed_scalars fed)
@@ -119,7 +119,7 @@ pub record Reports (before : DecoderState) (after : DecoderState) (sequence back
   pub passed : ℕ
   pub holding : before.held ≢ []
   pub progress : Progress true before [] passed after [] (Bad (passed - sequence) sequence ∷ [])
-  pub holds : IsFault (passed + length after.held) after sequence back
+  pub holds : IsMalformedSequence (passed + length after.held) after sequence back
   pub allowed : may_hold after.grammar after.held ≡ true
   pub lowers : (query : LengthQuery) → room query after 0 + replacement_units query ≤ room query before 0
 

@@ -12,10 +12,10 @@ units len (c ∷ scalars) = len c + units len scalars
 
 -- the code units that a step writes, with `fault` for a malformed sequence
 abbrev pub step_units : (ℕ → ℕ) → ℕ → Step → ℕ
-step_units len fault hold = 0
-step_units len fault (finish (reads n scalars)) = units len scalars
-step_units len fault (finish (malformed n)) = fault
-step_units len fault (leave n) = fault
+step_units len report hold = 0
+step_units len report (finish (reads n scalars)) = units len scalars
+step_units len report (finish (malformed n)) = report
+step_units len report (leave n) = report
 
 -- 1 if the byte is still to be read, and 0 if it was read
 abbrev pub step_left : Step → ℕ
@@ -55,15 +55,15 @@ WritePays len narrow wide room g held (Some (k, c)) =
 
 -- Each move has its room, and lowers the room still needed by what it writes (and by `fault` for a malformed sequence).
 -- That room covers reading a byte, and writing or reporting the held-back bytes.
-pub record RoomMeets (len : ℕ → ℕ) (narrow wide fault : ℕ) (room : DecoderState → ℕ → ℕ) (g : Grammar) (m : DecoderMachine) : Type 0 where
+pub record RoomMeets (len : ℕ → ℕ) (narrow wide report : ℕ) (room : DecoderState → ℕ → ℕ) (g : Grammar) (m : DecoderMachine) : Type 0 where
   pub step_fits : (held : List ℕ) (b : ℕ) → may_hold g held ≡ true → rests g held ≡ true → AreBytes held → IsByte b →
       step_units len narrow (m.step held b) ≤ act_room narrow wide (state_of g held) (takes b)
   pub step_pays : (held : List ℕ) (b n : ℕ) → may_hold g held ≡ true → rests g held ≡ true → AreBytes held → IsByte b →
-      room (state_of (m.to held b) (step_held (m.step held b) held b)) (n + step_left (m.step held b)) + step_units len fault (m.step held b) ≤ room
+      room (state_of (m.to held b) (step_held (m.step held b) held b)) (n + step_left (m.step held b)) + step_units len report (m.step held b) ≤ room
       (state_of g held) (n + 1)
   pub write_pays : (held : List ℕ) → may_hold g held ≡ true → rests g held ≡ false → AreBytes held → WritePays len narrow wide room g held (m.pending held)
   pub report_pays : (b : ℕ) (held : List ℕ) → may_hold g (b ∷ held) ≡ true → rests g (b ∷ held) ≡ true
-      → room (state_of g []) 0 + fault ≤ room (state_of g (b ∷ held)) 0
+      → room (state_of g []) 0 + report ≤ room (state_of g (b ∷ held)) 0
   pub reads_covered : (held : List ℕ) (b n : ℕ) → may_hold g held ≡ true → 0 < n → act_room narrow wide (state_of g held) (takes b) ≤ room (state_of g held) n
   pub holds_covered : (held : List ℕ) (n : ℕ) → may_hold g held ≡ true → 0 < length held
       → act_room narrow wide (state_of g held) writes ≤ room (state_of g held) n

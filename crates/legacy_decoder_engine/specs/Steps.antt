@@ -44,25 +44,25 @@ step_unread (leave n) b more = b ∷ more
 step_unread s b more = more
 
 -- the length of a malformed sequence
-abbrev pub IsFaultLength : ℕ → Type 0
-IsFaultLength n = (0 < n) × (n ≤ 4)
+abbrev pub IsMalformedLength : ℕ → Type 0
+IsMalformedLength n = (0 < n) × (n ≤ 4)
 
-abbrev pub HasFaultLength : Front → Type 0
-HasFaultLength (reads n scalars) = Unit {0}
-HasFaultLength (malformed n) = IsFaultLength n
+abbrev pub HasMalformedLength : Front → Type 0
+HasMalformedLength (reads n scalars) = Unit {0}
+HasMalformedLength (malformed n) = IsMalformedLength n
 
 -- a reported malformed sequence has 1 to 4 bytes
-abbrev pub StepFault : Step → Type 0
-StepFault hold = Unit {0}
-StepFault (finish f) = HasFaultLength f
-StepFault (leave n) = IsFaultLength n
+abbrev pub StepMalformed : Step → Type 0
+StepMalformed hold = Unit {0}
+StepMalformed (finish f) = HasMalformedLength f
+StepMalformed (leave n) = IsMalformedLength n
 
 -- the law of one step, for every continuation
 pub record StepMeets (g : Grammar) (held : List ℕ) (b : ℕ) (s : Step) (to : Grammar) : Type 0 where
   pub goes_on : (more : List ℕ)
       → events_of g (held ++ b ∷ more) ≡ step_events s ++ shift (step_length s) (events_of to (step_held s held b ++ step_unread s b more))
   pub counts : step_length s + length (step_held s held b) ≡ length held + step_read s
-  pub fault : StepFault s
+  pub malformed_sequence : StepMalformed s
   pub few : length (step_held s held b) ≤ 3
   pub allowed : may_hold to (step_held s held b) ≡ true
 

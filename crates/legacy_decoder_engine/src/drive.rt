@@ -2,7 +2,7 @@
 ghost use Rattle.std.specs.Prelude.{◌≡◌, ℕ, ◌+◌, ◌<◌, ◌≤◌, ◌++◌, length, slice_index, true, false};
 ghost use Rattle.legacy_text.specs.EncodingForm.{all_code_units, total_unit_count};
 ghost use Rattle.legacy_base.specs.States.{rests};
-ghost use Rattle.legacy_base.specs.Calls.{IsDecoderCall, IsLoneFault};
+ghost use Rattle.legacy_base.specs.Calls.{IsDecoderCall, IsMalformedByte};
 ghost use Rattle.legacy_decoder_engine.specs.Moves.{room_units, fed_scalars, Finishes};
 
 use crate::moves::{DecoderMoves, Fed, Room};
@@ -36,7 +36,7 @@ fn put_fed<T: Destination>(dst: &mut T, fed: Fed)
             dst.put(c);
             dst.put(d);
         }
-        Fed::Nothing | Fed::Fault { .. } => {}
+        Fed::Nothing | Fed::MalformedSequence { .. } => {}
     }
 }
 
@@ -101,7 +101,7 @@ pub fn drive_decoder<D: DecoderMoves, T: Destination>(
             return (DecoderResult::OutputFull, read);
         }
         let fed = decoder.feed(byte);
-        if let Fed::Fault {
+        if let Fed::MalformedSequence {
             length,
             back,
             unread,
@@ -120,14 +120,14 @@ pub fn drive_decoder<D: DecoderMoves, T: Destination>(
 
 /// Returns the number of bytes at the front that are each malformed by itself.
 #[inline]
-pub fn count_lone<D: DecoderMoves>(decoder: &D, src: &[u8]) -> usize
+pub fn count_malformed_bytes<D: DecoderMoves>(decoder: &D, src: &[u8]) -> usize
     ensures count { result ≤ length src.now }
-    ensures lone { (k : ℕ) → k < result
-        → IsLoneFault (D.state decoder.now) (slice_index src.now k) }
+    ensures malformed_byte { (k : ℕ) → k < result
+        → IsMalformedByte (D.state decoder.now) (slice_index src.now k) }
 {
     let mut count = 0;
     while count < src.len() {
-        if !decoder.is_lone(src[count]) {
+        if !decoder.is_malformed_byte(src[count]) {
             return count;
         }
         count += 1;

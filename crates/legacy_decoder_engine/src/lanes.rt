@@ -33,11 +33,11 @@ pub trait LaneCodec {
 
     /// Returns whether a quick test shows that the byte begins no common form. An ASCII byte is its own scalar.
     // No block is begun at such a byte.
-    fn is_rare(byte: u8) -> bool
+    fn is_uncommon(byte: u8) -> bool
         ensures { (tables : AcceptedIndexes) → HasAscii (grammar tables.flat) };
 
     /// Returns what is at the front of the input, given a byte past ASCII and the byte after it.
-    /// It is a scalar up to U+FFFF, or `Other` for a rare form, which the machine reads.
+    /// It is a scalar up to U+FFFF, or `Other` for an uncommon form, which the machine reads.
     fn front(tables: &FlatTables<'_>, lead: u8, trail: u8) -> CommonForm
         requires { 0x80 ≤ lead }
         ensures { IsCommonForm (grammar tables.now.flat) lead trail result };
@@ -164,7 +164,7 @@ fn known_count(units: u16x8) -> usize
     (zeros.trailing_zeros() as usize).min(8)
 }
 
-/// Returns what is kept of eight codes from a place on, and their units, with 0 for a rare code.
+/// Returns what is kept of eight codes from a place on, and their units, with 0 for an uncommon code.
 #[inline(always)]
 fn units_at<C: LaneCodec>(
     tables: &FlatTables<'_>,
@@ -222,7 +222,7 @@ fn put_units<T: Destination>(
     (few, bytes)
 }
 
-/// Writes the first `most` codes, up to one that is rare or whose form ends past `limit` bytes.
+/// Writes the first `most` codes, up to one that is uncommon or whose form ends past `limit` bytes.
 /// Stops before a group of eight if fewer than 32 code units are free.
 /// Returns the number of codes written, and the number of bytes of their forms.
 #[inline(always)]
@@ -286,7 +286,7 @@ fn codes_read(count: usize, limit: usize, past: u64) -> usize
 }
 
 /// Reads the forms at the front of a block with many bytes past ASCII.
-/// Stops at a form that is rare or ends past `limit` bytes.
+/// Stops at a form that is uncommon or ends past `limit` bytes.
 /// Returns the number of bytes read, and whether another block may follow.
 #[inline(always)]
 fn read_block<C: LaneCodec, T: Destination>(
@@ -398,20 +398,20 @@ fn read_lanes<C: LaneCodec, T: Destination>(
 
 /// Returns whether a quick test shows that the byte at the front begins no common form, if there is one.
 #[inline(always)]
-fn begins_rare<C: LaneCodec>(src: &[u8]) -> bool
+fn begins_uncommon<C: LaneCodec>(src: &[u8]) -> bool
     ensures { (tables : AcceptedIndexes) → HasAscii (C.grammar tables.flat) }
 {
-    C::is_rare(if src.is_empty() { 0 } else { src[0] })
+    C::is_uncommon(if src.is_empty() { 0 } else { src[0] })
 }
 
-/// Returns whether a rare byte follows the form at the front, which is taken to be one ASCII byte or two bytes.
+/// Returns whether an uncommon byte follows the form at the front, which is taken to be one ASCII byte or two bytes.
 /// Returns false if there are fewer than three bytes.
 #[inline(always)]
 fn stands_alone<C: LaneCodec>(src: &[u8]) -> bool {
     if src.len() < 3 {
         return false;
     }
-    C::is_rare(if src[0] < 0x80 { src[1] } else { src[2] })
+    C::is_uncommon(if src[0] < 0x80 { src[1] } else { src[2] })
 }
 
 /// The common forms of a codec over flat tables, if nothing is held back.
@@ -449,7 +449,7 @@ impl<C: LaneCodec> CommonForms for LaneForms<'_, '_, C> {
     }
 }
 
-/// Returns the scalar at the front of the input, and the number of its bytes, or `None` if the front is rare.
+/// Returns the scalar at the front of the input, and the number of its bytes, or `None` if the front is uncommon.
 #[inline(always)]
 fn form_at<C: LaneCodec>(tables: &FlatTables<'_>, src: &[u8]) -> Option<(char, usize)>
     requires ascii { HasAscii (C.grammar tables.now.flat) }
@@ -471,7 +471,7 @@ fn form_at<C: LaneCodec>(tables: &FlatTables<'_>, src: &[u8]) -> Option<(char, u
     }
 }
 
-/// Reads the last bytes of the input, up to a rare form. Returns the number of bytes read, which may be 0.
+/// Reads the last bytes of the input, up to an uncommon form. Returns the number of bytes read, which may be 0.
 // Any block is longer, so one loop reads every form.
 #[inline(always)]
 fn read_last<C: LaneCodec, T: Destination>(
@@ -495,7 +495,7 @@ fn read_last<C: LaneCodec, T: Destination>(
     at
 }
 
-/// Reads ASCII by blocks and other forms one by one from the front, up to a rare form or to several pairs in a row.
+/// Reads ASCII by blocks and other forms one by one from the front, up to an uncommon form or to several pairs in a row.
 /// Returns the number of bytes read, and whether a block with many bytes past ASCII may follow.
 // Most runs of pairs between tags are short. So no block of lanes is tried before five or six forms were read.
 #[inline(always)]
@@ -528,7 +528,7 @@ fn read_few<C: LaneCodec, T: Destination>(
 
 /// Reads blocks with many bytes past ASCII from the front, and then forms of at most 256 bytes one by one.
 /// Returns the number of bytes read, and whether another block may follow.
-// Malformed sequences often follow one another. No block is begun at a rare byte.
+// Malformed sequences often follow one another. No block is begun at an uncommon byte.
 #[inline(always)]
 pub fn read_many<C: LaneCodec, T: Destination>(
     forms: &LaneForms<'_, '_, C>,
@@ -539,7 +539,7 @@ pub fn read_many<C: LaneCodec, T: Destination>(
         result.0 dst.old dst.new }
     ensures goes_on { result.1 ≡ true → 0 < result.0 }
 {
-    if begins_rare::<C>(src) {
+    if begins_uncommon::<C>(src) {
         return (0, false);
     }
     let at = read_lanes::<C, T>(forms.tables, src, dst);
@@ -551,10 +551,10 @@ pub fn read_many<C: LaneCodec, T: Destination>(
 impl<C: LaneCodec> Blocks for LaneForms<'_, '_, C> {
     ghost grammar = { λ forms. C.grammar forms.tables.now.flat };
 
-    // Malformed sequences often follow one another. No block is begun at a rare byte.
+    // Malformed sequences often follow one another. No block is begun at an uncommon byte.
     #[inline(always)]
     fn read_block<T: Destination>(&self, src: &[u8], dst: &mut T) -> (usize, bool) {
-        if begins_rare::<C>(src) {
+        if begins_uncommon::<C>(src) {
             return (0, false);
         }
         let at = read_lanes::<C, T>(self.tables, src, dst);
@@ -563,7 +563,7 @@ impl<C: LaneCodec> Blocks for LaneForms<'_, '_, C> {
     }
 }
 
-/// Reads blocks of a codec from the front, but nothing at a rare byte, and one form if a rare byte follows it.
+/// Reads blocks of a codec from the front, but nothing at an uncommon byte, and one form if an uncommon byte follows it.
 /// Returns the number of bytes read, which may be 0. If it reads any, three code units stay free.
 // Malformed sequences often follow one another, or have a single form between them. Neither costs a call.
 #[inline(always)]
@@ -577,7 +577,7 @@ pub fn read_common<C: LaneCodec, B: Blocks, T: Destination>(
     ensures { ReadsAhead T.Destination (new_state (C.grammar forms.now.tables.now.flat)) src.now result
         dst.old dst.new }
 {
-    if begins_rare::<C>(src) {
+    if begins_uncommon::<C>(src) {
         return 0;
     }
     if stands_alone::<C>(src) {

@@ -10,10 +10,10 @@ use crate::unmapped_trail::unmapped;
 
 /// Returns a malformed sequence that ends with the byte, with nothing held back after it.
 #[inline]
-pub fn fault_through(length: u8) -> Fed
-    ensures { result ≡ Fed.Fault length 0 false }
+pub fn malformed_through(length: u8) -> Fed
+    ensures { result ≡ Fed.MalformedSequence length 0 false }
 {
-    Fed::Fault {
+    Fed::MalformedSequence {
         length,
         back: 0,
         unread: false,
@@ -33,7 +33,7 @@ pub fn read_first<L: Copy>(byte: u8, lead: Option<L>) -> (Fed, Option<L>)
     }
     match lead {
         Some(lead) => (Fed::Nothing, Some(lead)),
-        None => (fault_through(1), None),
+        None => (malformed_through(1), None),
     }
 }
 

@@ -12,7 +12,7 @@ ghost use Rattle.legacy_decoder_engine.specs.Moves.{room_units};
 ghost use Rattle.legacy_decoder_engine.specs.Feeding.{Took};
 ghost use Rattle.legacy_decoder_engine.specs.LeadCodecs.{IsLeadCodec, held_bytes, lead_state};
 
-use crate::drive::{count_lone, drive_decoder};
+use crate::drive::{count_malformed_bytes, drive_decoder};
 use crate::lanes::{LaneCodec, LaneForms, read_common};
 use crate::moves::{DecoderMoves, Fed, Room};
 use crate::read_ahead::read_ascii;
@@ -77,12 +77,12 @@ pub trait LeadCodec: LaneCodec {
 
 /// Returns true only if the byte is malformed by itself at the beginning of a form.
 #[inline(always)]
-fn is_fault<C: LeadCodec>(byte: u8) -> bool
+fn is_malformed<C: LeadCodec>(byte: u8) -> bool
     ensures { result ≡ true → C.first byte ≡ finish (malformed 1) }
 {
     matches!(
         C::read_first(byte).0,
-        Fed::Fault {
+        Fed::MalformedSequence {
             length: 1,
             back: 0,
             unread: false
@@ -183,10 +183,10 @@ impl<'a, C: LeadCodec> DecoderMoves for LeadDecoder<'a, C> {
     }
 
     #[inline(always)]
-    fn is_lone(&self, byte: u8) -> bool {
+    fn is_malformed_byte(&self, byte: u8) -> bool {
         match self.held {
             Some(_) => false,
-            None => is_fault::<C>(byte),
+            None => is_malformed::<C>(byte),
         }
     }
 
@@ -224,8 +224,8 @@ impl<'a, C: LeadCodec> RawDecoder for LeadDecoder<'a, C> {
         drive_decoder(self, src, dst, last)
     }
 
-    fn lone_malformed(&self, src: &[u8]) -> usize {
-        count_lone(self, src)
+    fn malformed_bytes(&self, src: &[u8]) -> usize {
+        count_malformed_bytes(self, src)
     }
 
     fn max_utf16_buffer_length(&self, byte_length: usize) -> Option<usize> {

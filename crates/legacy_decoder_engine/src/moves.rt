@@ -3,7 +3,7 @@ ghost use Rattle.std.specs.Prelude.{◌≡◌, ◌≢◌, ◌≤◌, [], length,
 ghost use Rattle.legacy_text.specs.EncodingForm.{EncodingForm};
 ghost use Rattle.legacy_base.specs.Grammar.{events_of};
 ghost use Rattle.legacy_base.specs.States.{DecoderState, may_hold, rests};
-ghost use Rattle.legacy_base.specs.Calls.{IsLoneFault};
+ghost use Rattle.legacy_base.specs.Calls.{IsMalformedByte};
 ghost use Rattle.legacy_base.specs.DecoderActs.{release_room_in};
 ghost use Rattle.legacy_decoder_engine.specs.Moves.{room_units, read_room, IsCovered, Releases, Feeds, Reports};
 ghost use Rattle.legacy_decoder_engine.specs.Moves.{HoldsBytes};
@@ -36,7 +36,7 @@ pub enum Fed {
     /// A malformed sequence of `length` bytes, with `back` bytes held back after it.
     ///
     /// If `unread` is true, the byte was not read.
-    Fault { length: u8, back: u8, unread: bool },
+    MalformedSequence { length: u8, back: u8, unread: bool },
 }
 
 /// The moves of a decoder, of which `drive` makes its calls.
@@ -100,8 +100,8 @@ pub trait DecoderMoves {
     ///
     /// It may return false for such a byte. Nothing changes.
     #[inline(always)]
-    fn is_lone(&self, byte: u8) -> bool
-        ensures { result ≡ true → IsLoneFault (state self.now) byte }
+    fn is_malformed_byte(&self, byte: u8) -> bool
+        ensures { result ≡ true → IsMalformedByte (state self.now) byte }
     {
         let _ = byte;
         false

@@ -31,7 +31,7 @@ pub trait Forms {
         ensures units { most_units * result ≤ units }
         ensures few { result ≤ units };
 
-    /// Reads at most `most` forms, up to a rare one, and returns the number of bytes read.
+    /// Reads at most `most` forms, up to an uncommon one, and returns the number of bytes read.
     /// The input has bytes for `most` forms, and the output has room for them and three more code units.
     fn read_forms<T: Destination>(&self, src: &[u8], dst: &mut T, most: usize) -> usize
         requires ready { ready self.now }
@@ -43,7 +43,7 @@ pub trait Forms {
         ensures slack { T.room dst.old ≤ T.room dst.new + most_units * most };
 }
 
-/// Reads a run of forms from the front, up to a rare one, and returns the number of bytes read, which may be 0.
+/// Reads a run of forms from the front, up to an uncommon one, and returns the number of bytes read, which may be 0.
 /// If it reads any, three code units stay free.
 // Four at a time: the compiler unrolls a loop of that size, so each place has its own branches, and the processor
 // predicts each of them by its own history.
@@ -71,7 +71,7 @@ pub fn read_run<F: Forms, T: Destination>(forms: &F, src: &[u8], dst: &mut T) ->
 }
 
 /// Reads the form at the front, and returns the number of bytes read.
-/// Returns 0 if the form is rare, if the input may be too short for it, or if three code units may not stay free.
+/// Returns 0 if the form is uncommon, if the input may be too short for it, or if three code units may not stay free.
 #[inline(always)]
 pub fn read_one<F: Forms, T: Destination>(forms: &F, src: &[u8], dst: &mut T) -> usize
     requires { F.ready forms.now }

@@ -10,17 +10,17 @@ use crate::moves::Fed;
 #[inline]
 pub fn unmapped(before: u8, byte: u8) -> Fed
     requires { before < 4 }
-    ensures { result ≡ (if is_ascii byte then Fed.Fault before 0 true else Fed.Fault
+    ensures { result ≡ (if is_ascii byte then Fed.MalformedSequence before 0 true else Fed.MalformedSequence
         (before + 1) 0 false) }
 {
     if byte < 0x80 {
-        return Fed::Fault {
+        return Fed::MalformedSequence {
             length: before,
             back: 0,
             unread: true,
         };
     }
-    Fed::Fault {
+    Fed::MalformedSequence {
         length: before + 1,
         back: 0,
         unread: false,

@@ -81,8 +81,8 @@ impl<'a> RawDecoder for AnyDecoder<'a> {
         match_decoder!(self, coder => coder.step(src, dst, last))
     }
 
-    fn lone_malformed(&self, src: &[u8]) -> usize {
-        match_decoder!(self, coder => coder.lone_malformed(src))
+    fn malformed_bytes(&self, src: &[u8]) -> usize {
+        match_decoder!(self, coder => coder.malformed_bytes(src))
     }
 
     fn max_utf16_buffer_length(&self, byte_length: usize) -> Option<usize> {

@@ -2,7 +2,7 @@
 use Rattle.std.proofs.Common.{◌≡◌, ◌≢◌, ℕ, ◌+◌, ◌-◌, ◌*◌, ◌/◌, ◌%◌, ◌^◌, ◌<◌, List, [], ◌∷◌, length, get_or, true, false, ◌==◌, refl, arith}
 use Rattle.std.proofs.lemmas.{Bool.cond_both, Bool.Decides.nat_tests, List.nil_from_length, List.Elements.All-nil, List.Elements.All-cons}
 use Rattle.std.specs.{Int.is_in_range, Char.IsScalar, Char.is_ascii}
-use Rattle.legacy_base.specs.{EucJp.euc_jp_scalars, Fronts.malformed, Calls.IsLoneFault, Grammar.Grammar, Grammar.euc_jp, Grammar.events_of}
+use Rattle.legacy_base.specs.{EucJp.euc_jp_scalars, Fronts.malformed, Calls.IsMalformedByte, Grammar.Grammar, Grammar.euc_jp, Grammar.events_of}
 use Rattle.legacy_base.specs.States.{is_euc_jp_lead, euc_jp_may_hold, state_of}
 use Rattle.legacy_tables.specs.{AcceptedTables.AcceptedIndexes, Unicode.IsByte, Unicode.AreBytes}
 use Rattle.legacy_decoder_engine.specs.{Steps.finish, Moves.IsCovered, Moves.Feeds, Moves.Reports, StepUnits.IsNarrowIndex, Feeding.Took, Shown.IsShown}
@@ -52,8 +52,8 @@ module _ (tables : AcceptedIndexes) where
   shown : IsShown (euc_jp tables.flat.jis0208 tables.flat.jis0212) (euc_jp_machine tables.flat.jis0208 tables.flat.jis0212)
   shown = euc_jp_shown tables.flat.jis0208 tables.flat.jis0212 (jis0208-below tables.flat tables.accepted) (jis0212-below tables.flat tables.accepted)
 
-  pub lone : (b : ℕ) → euc_jp_first b ≡ finish (malformed 1) → IsLoneFault (state_of g []) b
-  lone b e = moves.lone shown b e refl
+  pub malformed_byte : (b : ℕ) → euc_jp_first b ≡ finish (malformed 1) → IsMalformedByte (state_of g []) b
+  malformed_byte b e = moves.malformed_byte shown b e refl
 
   pub covered : (held : Held) → IsCovered (state_of g (held_bytes held))
   covered held = moves.covered shown (held_bytes held) (may held) (are_bytes held)

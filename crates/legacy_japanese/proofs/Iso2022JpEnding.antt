@@ -20,7 +20,7 @@ use Rattle.legacy_japanese.specs.declared.iso_2022_jp.steps.Held.TheVariants.{By
 use Rattle.legacy_japanese.specs.Iso2022JpMachine.{mode_meaning, bytes_of, finish, finish_start, is_held, is_resting, mode_of, pending, second_of, single}
 use Rattle.legacy_japanese.specs.Iso2022JpMachine.{start_bytes, third_of}
 use Rattle.legacy_japanese.specs.Iso2022JpMoves.{state_in, IsNarrowScalar}
-use Rattle.legacy_japanese.proofs.Iso2022JpStep.{front-lone, front-single, front-trail, front_of, escape_alone, in_range_plain, valid}
+use Rattle.legacy_japanese.proofs.Iso2022JpStep.{front-malformed_byte, front-single, front-trail, front_of, escape_alone, in_range_plain, valid}
 use Rattle.legacy_japanese.proofs.Iso2022JpRooms.{same_rooms, room-falls, replacement_fits, times_one}
 use Rattle.legacy_japanese.proofs.Iso2022JpLaw.{MeetsEnd, ended, events_in, front_in}
 use Rattle.legacy_japanese.proofs.Iso2022JpHeld.{held_allowed, held_rests, finish_sound, EndsSound}
@@ -71,20 +71,20 @@ module _ (jis0208 : List ℕ) where
   no_escape_yet s = grind arith
 
   -- a valid escape is not a lone escape byte
-  no_lone : (t : Bool) (items rest : List DecodeEvent) → cond t (Bad 0 3 ∷ []) [] ++ shift 3 items ≡ Bad 0 1 ∷ rest → ⊥
-  no_lone t items rest e = grind (arith, no_sooner 3 0 1 items rest)
+  no_malformed : (t : Bool) (items rest : List DecodeEvent) → cond t (Bad 0 3 ∷ []) [] ++ shift 3 items ≡ Bad 0 1 ∷ rest → ⊥
+  no_malformed t items rest e = grind (arith, no_sooner 3 0 1 items rest)
 
   -- an escape byte that is reported alone begins no valid escape
-  lone_escape : (mode : Mode) (rest : List ℕ) → BeginsWith (events_in jis0208 mode (esc ∷ rest)) (Bad 0 1 ∷ []) → part_mode (esc ∷ rest) ≡ None
+  malformed_escape : (mode : Mode) (rest : List ℕ) → BeginsWith (events_in jis0208 mode (esc ∷ rest)) (Bad 0 1 ∷ []) → part_mode (esc ∷ rest) ≡ None
   unfolding part_mode
-  lone_escape mode [] g = refl
-  lone_escape mode (a ∷ []) g = refl
-  lone_escape mode (a ∷ b ∷ more) g = by_mode (escape_mode a b) refl
+  malformed_escape mode [] g = refl
+  malformed_escape mode (a ∷ []) g = refl
+  malformed_escape mode (a ∷ b ∷ more) g = by_mode (escape_mode a b) refl
     where
       by_mode : (o : Option iso.Mode) → escape_mode a b ≡ o → o ≡ None
       by_mode None e = refl
       by_mode (Some next) e =
-          absurd (no_lone (is_some (part_mode more)) (iso_2022_jp_events jis0208 next more) g.0
+          absurd (no_malformed (is_some (part_mode more)) (iso_2022_jp_events jis0208 next more) g.0
           (sym (step_escape jis0208 (mode_meaning mode) next a b more e) ∙ g.1))
 
   -- an escape byte, and the bytes held back after it, at the end
@@ -93,7 +93,7 @@ module _ (jis0208 : List ℕ) where
       → events_in jis0208 mode (esc ∷ rest ++ more) ≡ Bad 0 1 ∷ shift 1 (events_in jis0208 mode (rest ++ more))
   escape_end mode rest more none h = elim h [
     | inl z ↦ let e : rest ++ more ≡ rest = ap (λ l. rest ++ l) z ∙ append-nil rest in rw e (step_no_escape jis0208 (mode_meaning mode) rest none)
-    | inr g ↦ step_no_escape jis0208 (mode_meaning mode) (rest ++ more) (lone_escape mode (rest ++ more) g)
+    | inr g ↦ step_no_escape jis0208 (mode_meaning mode) (rest ++ more) (malformed_escape mode (rest ++ more) g)
   ]
 
   start_end : (mode : Mode) (s : Start) → MeetsEnd jis0208 mode (Begun s) (finish_start mode s)
@@ -103,24 +103,24 @@ module _ (jis0208 : List ℕ) where
   start_end mode Paren = λ more h. escape_end mode (0x28 ∷ []) more (no_escape_yet Paren) h
 
   -- a lead and a trail do not give a malformed byte alone
-  no_lone_pair : (f : Front) (items rest : List DecodeEvent) → front_length f ≡ 2 → front_events 0 f ++ shift 2 items ≡ Bad 0 1 ∷ rest → ⊥
-  no_lone_pair (reads n []) items rest two e = no_sooner 2 0 1 items rest (omega arith) e
-  no_lone_pair (reads n (c ∷ scalars)) items rest two e = cc
-  no_lone_pair (malformed n) items rest two e = cc
+  no_malformed_pair : (f : Front) (items rest : List DecodeEvent) → front_length f ≡ 2 → front_events 0 f ++ shift 2 items ≡ Bad 0 1 ∷ rest → ⊥
+  no_malformed_pair (reads n []) items rest two e = no_sooner 2 0 1 items rest (omega arith) e
+  no_malformed_pair (reads n (c ∷ scalars)) items rest two e = cc
+  no_malformed_pair (malformed n) items rest two e = cc
 
   pair_two : (l t : ℕ) (rest : List ℕ) → is_in_range 0x21 0x7E l ≡ true → front_length (front_in jis0208 TwoByte l (t ∷ rest)) ≡ 2
   pair_two l t rest lead = rw (front-trail jis0208 l t rest lead) (grind arith)
 
   -- a lead at the end, or a lead that is reported alone, has no trail
-  lone_lead : (l : ℕ) (more : List ℕ) → is_in_range 0x21 0x7E l ≡ true → (more ≡ []) ⊎ BeginsWith (events_in jis0208 TwoByte (l ∷ more)) (Bad 0 1 ∷ [])
+  malformed_lead : (l : ℕ) (more : List ℕ) → is_in_range 0x21 0x7E l ≡ true → (more ≡ []) ⊎ BeginsWith (events_in jis0208 TwoByte (l ∷ more)) (Bad 0 1 ∷ [])
       → first_part more ≡ []
-  lone_lead l [] lead h = refl
-  lone_lead l (t ∷ more) lead h = elim h [
+  malformed_lead l [] lead h = refl
+  malformed_lead l (t ∷ more) lead h = elim h [
     | inl z ↦ absurd (let n : t ∷ more ≡ [] = z in cc)
     | inr g ↦ cond_both (t == esc) [] (t ∷ first_part more) (λ bytes. bytes ≡ []) (λ e. refl) (λ e.
         let f = front_in jis0208 TwoByte l (t ∷ first_part more) in
         let two = pair_two l t (first_part more) lead in
-        absurd (no_lone_pair f (events_in jis0208 TwoByte more) g.0 two
+        absurd (no_malformed_pair f (events_in jis0208 TwoByte more) g.0 two
         (sym (step_two jis0208 (mode_meaning TwoByte) l t more f (in_range_plain l lead) e refl two) ∙ g.1)))
   ]
 
@@ -128,7 +128,7 @@ module _ (jis0208 : List ℕ) where
       MeetsEnd jis0208 mode (Byte l) (finish mode (Byte l))
   lead_end TwoByte l held two = λ more h.
       step_one jis0208 (mode_meaning TwoByte) l more (malformed 1) (in_range_plain l held)
-      (ap (front_in jis0208 TwoByte l) (lone_lead l more held h) ∙ front-lone jis0208 l) refl
+      (ap (front_in jis0208 TwoByte l) (malformed_lead l more held h) ∙ front-malformed_byte jis0208 l) refl
   lead_end _ l held two = cc
 
   -- if an escape byte after a whole escape is reported alone, the whole escape is not malformed

@@ -6,7 +6,7 @@ use Rattle.std.proofs.lemmas.List.Elements.{All-cons, All-nil}
 use Rattle.legacy_base.specs.declared.results.DecodeEvent.TheVariants.{Scalar}
 use Rattle.legacy_base.specs.{DecoderActs.HadRoom, States.rests, Grammar.iso_2022_jp, Grammar.events_of, Lengths.LengthQuery, Lengths.query_form}
 use Rattle.legacy_text.specs.EncodingForm.{EncodingForm, bmp_room, total_unit_count}
-use Rattle.legacy_decoder_engine.specs.Moves.{fed_scalars, fed_fault, fed_units, unread_byte, FedHolds, Feeds}
+use Rattle.legacy_decoder_engine.specs.Moves.{fed_scalars, fed_malformed, fed_units, unread_byte, FedHolds, Feeds}
 use Rattle.legacy_japanese.specs.declared.iso_2022_jp.{steps.Mode.Mode, steps.Held.Held, steps.Action.Action, steps.Outcome.Outcome}
 use Rattle.legacy_japanese.specs.declared.iso_2022_jp.steps.Action.TheVariants.{Holds, Writes}
 use Rattle.legacy_japanese.specs.Iso2022JpMoves.{state_in, is_left, move_events, rooms_of, fed_by, fed_of, IsNarrow}
@@ -17,7 +17,7 @@ use Rattle.legacy_japanese.proofs.Iso2022JpHeld.{held_allowed, held_rests}
 
 -- ---- a move, and what the loop gets from it
 
-events_are : (k : ℕ) (move : Action) (back : ℕ) → move_events k move ≡ map Scalar (fed_scalars (fed_by move back)) ++ fed_fault k (fed_by move back)
+events_are : (k : ℕ) (move : Action) (back : ℕ) → move_events k move ≡ map Scalar (fed_scalars (fed_by move back)) ++ fed_malformed k (fed_by move back)
 events_are k move back = grind arith
 
 left_is : (move : Action) (back b : ℕ) (more : List ℕ) → (if is_left move then b ∷ more else more) ≡ unread_byte b (fed_by move back) ++ more

@@ -123,9 +123,9 @@ module _ (jis0208 : List ℕ) where
   unfolding iso_2022_jp_front
   front-no_lead b rest h = grind arith
 
-  pub front-lone : (l : ℕ) → front_in jis0208 TwoByte l [] ≡ malformed 1
+  pub front-malformed_byte : (l : ℕ) → front_in jis0208 TwoByte l [] ≡ malformed 1
   unfolding iso_2022_jp_front
-  front-lone l = refl
+  front-malformed_byte l = refl
 
   pub front-trail : (l b : ℕ) (rest : List ℕ) → is_in_range 0x21 0x7E l ≡ true
       → front_in jis0208 TwoByte l (b ∷ rest)
@@ -156,7 +156,7 @@ module _ (jis0208 : List ℕ) where
       IsStep mode (Byte l) b (read_trail jis0208 l b)
   lead_step TwoByte l b lead two = cond_both (b == esc) _ _ (IsStep TwoByte (Byte l) b)
       (λ h. rw (eqb-true b esc h) (record {
-        law = λ more. step_one jis0208 (mode_meaning TwoByte) l (esc ∷ more) (malformed 1) (in_range_plain l lead) (front-lone l) refl;
+        law = λ more. step_one jis0208 (mode_meaning TwoByte) l (esc ∷ more) (malformed 1) (in_range_plain l lead) (front-malformed_byte l) refl;
         sound = record { kept = refl; suffix = λ more. refl; sizes = (lit≤ tt, lit≤ tt, lit≤ tt, lit≤ tt); room = lit≤ tt; fits = lit≤ tt; rest = tt };
       }))
       (λ h. cond_both (is_in_range 0x21 0x7E b) _ _ (IsStep TwoByte (Byte l) b)
@@ -189,8 +189,8 @@ module _ (jis0208 : List ℕ) where
       (λ h. cond_both (b == 0x4A) _ _ (Completed 0x28 b) (λ k. (refl, sym (eqb-true b 0x4A k)))
       (λ k. cond_both (b == 0x49) _ _ (Completed 0x28 b) (λ l. (refl, sym (eqb-true b 0x49 l))) (λ l. rw (h, k, l))))
 
-  lone_step : (mode : Mode) (b : ℕ) → (b == 0x24) ≡ false → (b == 0x28) ≡ false → IsStep mode (Begun EscapeByte) b (moves Leaves mode (Begun Nothing))
-  lone_step mode b h k = record {
+  malformed_step : (mode : Mode) (b : ℕ) → (b == 0x24) ≡ false → (b == 0x28) ≡ false → IsStep mode (Begun EscapeByte) b (moves Leaves mode (Begun Nothing))
+  malformed_step mode b h k = record {
     law = λ more. step_no_escape jis0208 (mode_meaning mode) (b ∷ more) (no_second b more h k);
     sound = record { kept = refl; suffix = λ more. refl; sizes = (lit≤ tt, lit≤ tt, lit≤ tt, lit≤ tt); room = lit≤ tt; fits = lit≤ tt; rest = tt };
   }
@@ -223,7 +223,7 @@ module _ (jis0208 : List ℕ) where
       (λ h. hold_step mode (Begun EscapeByte) (Begun Dollar) b (rw (eqb-true b 0x24 h)) refl refl (lit≤ tt))
       (λ h. cond_both (b == 0x28) _ _ (IsStep mode (Begun EscapeByte) b)
       (λ k. hold_step mode (Begun EscapeByte) (Begun Paren) b (rw (eqb-true b 0x28 k)) refl refl (lit≤ tt))
-      (λ k. lone_step mode b h k))
+      (λ k. malformed_step mode b h k))
   start_step mode Dollar b = third_step mode Dollar 0x24 b (completes Dollar b) refl (second_kept mode).0 (completed_dollar b)
   start_step mode Paren b = third_step mode Paren 0x28 b (completes Paren b) refl (second_kept mode).1 (completed_paren b)
 
@@ -264,7 +264,7 @@ module _ (jis0208 : List ℕ) where
       (λ h. hold_step mode (Whole e EscapeByte) (Whole e Dollar) b (rw (eqb-true b 0x24 h)) refl refl (lit≤ tt))
       (λ h. cond_both (b == 0x28) _ _ (IsStep mode (Whole e EscapeByte) b)
       (λ k. hold_step mode (Whole e EscapeByte) (Whole e Paren) b (rw (eqb-true b 0x28 k)) refl refl (lit≤ tt))
-      (λ k. behind_step mode e EscapeByte b (moves Leaves (mode_of e) (Begun Nothing)) (λ more. no_second b more h k) (lone_step (mode_of e) b h k)))
+      (λ k. behind_step mode e EscapeByte b (moves Leaves (mode_of e) (Begun Nothing)) (λ more. no_second b more h k) (malformed_step (mode_of e) b h k)))
   whole_step mode e Dollar b = next_third_step mode e Dollar 0x24 b (completes Dollar b) refl (second_kept (mode_of e)).0 (completed_dollar b)
   whole_step mode e Paren b = next_third_step mode e Paren 0x28 b (completes Paren b) refl (second_kept (mode_of e)).1 (completed_paren b)
 

@@ -3,7 +3,7 @@ use Rattle.std.specs.Prelude.{ℕ, ◌+◌, ◌-◌, ◌<◌, List, [], ◌∷�
 use Rattle.std.specs.Char.{IsScalar}
 use Rattle.legacy_base.specs.declared.results.{DecodeEvent.DecodeEvent, DecodeEvent.TheVariants.Scalar, DecodeEvent.TheVariants.Bad}
 use Rattle.legacy_base.specs.{Grammar.iso_2022_jp, States.DecoderState}
-use Rattle.legacy_decoder_engine.specs.declared.moves.{Fed.Fed, Fed.TheVariants.Nothing, Fed.TheVariants.One, Fed.TheVariants.Fault}
+use Rattle.legacy_decoder_engine.specs.declared.moves.{Fed.Fed, Fed.TheVariants.Nothing, Fed.TheVariants.One, Fed.TheVariants.MalformedSequence}
 use Rattle.legacy_japanese.specs.declared.iso_2022_jp.steps.Action.TheVariants.{Holds, Writes, Reports, Leaves}
 use Rattle.legacy_japanese.specs.declared.iso_2022_jp.{steps.Mode.Mode, steps.Held.Held, steps.Action.Action, steps.Outcome.Outcome}
 use Rattle.legacy_japanese.specs.declared.iso_2022_jp.steps.Held.TheVariants.{Byte, Begun, Whole}
@@ -36,8 +36,8 @@ rooms_of Leaves = 1
 abbrev pub fed_by : Action → ℕ → Fed
 fed_by Holds back = Nothing
 fed_by (Writes c) back = One c
-fed_by (Reports a) back = Fault a back false
-fed_by Leaves back = Fault 1 back true
+fed_by (Reports a) back = MalformedSequence a back false
+fed_by Leaves back = MalformedSequence 1 back true
 
 -- what the loop gets from a step
 abbrev pub fed_of : Outcome → Fed

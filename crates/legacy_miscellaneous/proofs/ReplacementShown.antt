@@ -24,9 +24,9 @@ one_fits : (query : LengthQuery) (held : List ℕ) (n : ℕ) → bmp_room (query
 one_fits to_utf16 held n = omega arith
 one_fits _ held n = omega arith
 
-fault_fits : (query : LengthQuery) → replacement_units query ≤ bmp_room (query_form query)
-fault_fits to_utf16 = omega arith
-fault_fits _ = omega arith
+malformed_fits : (query : LengthQuery) → replacement_units query ≤ bmp_room (query_form query)
+malformed_fits to_utf16 = omega arith
+malformed_fits _ = omega arith
 
 rooms : (reported : Bool) (query : LengthQuery) → KeepsRooms query (replacement reported) (replacement_machine reported)
 rooms true query = record {
@@ -39,7 +39,7 @@ rooms true query = record {
 }
 rooms false query = record {
   step_fits = λ held b h r bytes byte. rw (no_short_room _ 1 (bmp_room (query_form query))) (omega arith);
-  step_pays = λ held b n h r bytes byte. let f = fault_fits query in let o = one_fits query held (n + 1) in omega arith;
+  step_pays = λ held b n h r bytes byte. let f = malformed_fits query in let o = one_fits query held (n + 1) in omega arith;
   write_pays = λ held h r bytes. tt;
   report_pays = λ b held h r. absurd (false≢true h);
   reads_covered = λ held b n h p. let w = (width_of (query_form query)).some in let o = one_fits query held n in

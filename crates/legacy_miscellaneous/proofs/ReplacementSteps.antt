@@ -3,7 +3,7 @@ use Rattle.std.proofs.Common.{◌≡◌, ℕ, [], Bool, true, false, refl}
 use Rattle.std.proofs.lemmas.List.Elements.{All-nil}
 use Rattle.legacy_tables.specs.Unicode.{IsByte}
 use Rattle.legacy_base.specs.Grammar.{replacement, events_of}
-use Rattle.legacy_decoder_engine.specs.declared.moves.Fed.TheVariants.{Nothing, Fault}
+use Rattle.legacy_decoder_engine.specs.declared.moves.Fed.TheVariants.{Nothing, MalformedSequence}
 use Rattle.legacy_decoder_engine.specs.Moves.{IsCovered, Feeds}
 use Rattle.legacy_base.specs.States.{state_of}
 use Rattle.legacy_decoder_engine.proofs.Feeding as moves
@@ -11,9 +11,9 @@ use Rattle.legacy_miscellaneous.proofs.ReplacementShown.{replacement_shown}
 
 -- the first byte is reported as malformed
 pub feeds_first : (reported : Bool) (b : ℕ) → IsByte b → reported ≡ false →
-    Feeds (state_of (replacement reported) []) b (state_of (replacement true) []) (Fault 1 0 false)
+    Feeds (state_of (replacement reported) []) b (state_of (replacement true) []) (MalformedSequence 1 0 false)
 feeds_first reported b byte e =
-    rw e (moves.feeds (replacement_shown false) [] refl (All-nil IsByte) b byte refl (Fault 1 0 false) [] (record { answer = refl; holds = refl; scalar = tt }))
+    rw e (moves.feeds (replacement_shown false) [] refl (All-nil IsByte) b byte refl (MalformedSequence 1 0 false) [] (record { answer = refl; holds = refl; scalar = tt }))
 
 -- each byte after it is dropped
 pub feeds_more : (reported : Bool) (b : ℕ) → IsByte b → reported ≡ true →

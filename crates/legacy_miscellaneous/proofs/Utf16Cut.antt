@@ -5,8 +5,8 @@ use Rattle.std.specs.Char.Utf16.{is_high_surrogate, is_low_surrogate, surrogate_
 use Rattle.legacy_base.specs.declared.results.DecodeEvent.{DecodeEvent}
 use Rattle.legacy_base.specs.declared.results.DecodeEvent.TheVariants.{Scalar}
 use Rattle.legacy_base.specs.Fronts.{Front, reads, malformed, cut}
-use Rattle.legacy_base.specs.Utf16.{unit_of, units_of, has_odd_byte, lone_unit_events, units_events}
-use Rattle.legacy_miscellaneous.specs.Utf16Fronts.{lone_unit_front, utf16_front}
+use Rattle.legacy_base.specs.Utf16.{unit_of, units_of, has_odd_byte, single_unit_events, units_events}
+use Rattle.legacy_miscellaneous.specs.Utf16Fronts.{single_unit_front, utf16_front}
 use Rattle.legacy_base.proofs.Cuts.{cut_at}
 
 -- ---- units
@@ -17,15 +17,15 @@ unfolding units_events
 paired i u v units odd e = rw (e, units_events)
 
 unpaired : (i u v : ℕ) (units : List ℕ) (odd : Bool) → (is_high_surrogate u && is_low_surrogate v) ≡ false →
-    units_events i (u ∷ v ∷ units) odd ≡ lone_unit_events i u ++ units_events (i + 1) (v ∷ units) odd
+    units_events i (u ∷ v ∷ units) odd ≡ single_unit_events i u ++ units_events (i + 1) (v ∷ units) odd
 unfolding units_events
 unpaired i u v units odd e = rw (e, units_events)
 
 -- ---- fronts
 
 -- two bytes of an unpaired unit
-cut_lone : (front : ℕ → List ℕ → Front) (i u a b : ℕ) (rest : List ℕ) → front a (b ∷ rest) ≡ lone_unit_front u →
-    cut front 0 (2 * i) (a ∷ b ∷ rest) ≡ lone_unit_events i u ++ cut front 0 (2 * (i + 1)) rest
+cut_lone : (front : ℕ → List ℕ → Front) (i u a b : ℕ) (rest : List ℕ) → front a (b ∷ rest) ≡ single_unit_front u →
+    cut front 0 (2 * i) (a ∷ b ∷ rest) ≡ single_unit_events i u ++ cut front 0 (2 * (i + 1)) rest
 cut_lone front i u a b rest h =
     let place : 2 * i + 2 ≡ 2 * (i + 1) = omega arith in
     elim (cases_Bool (is_high_surrogate u || is_low_surrogate u)) [
@@ -58,5 +58,5 @@ utf16_cut be i (a ∷ b ∷ c ∷ d ∷ rest) =
     (utf16_cut be (i + 2) rest ∙ ap (λ (p : ℕ). cut (utf16_front be) 0 p rest) (sym place))
     ∙ sym (cut_at (utf16_front be) (2 * i) a (b ∷ c ∷ d ∷ rest) (reads 4 (surrogate_pair_char u v ∷ [])) (rw e) (omega arith))))
     (λ e. unpaired i u v (units_of be rest) (has_odd_byte rest) e
-    ∙ (ap (λ (es : List DecodeEvent). lone_unit_events i u ++ es) (utf16_cut be (i + 1) (c ∷ d ∷ rest))
+    ∙ (ap (λ (es : List DecodeEvent). single_unit_events i u ++ es) (utf16_cut be (i + 1) (c ∷ d ∷ rest))
     ∙ sym (cut_lone (utf16_front be) i u a b (c ∷ d ∷ rest) (rw e))))

@@ -6,7 +6,7 @@ use Rattle.std.specs.Char.Utf16.{is_high_surrogate, is_low_surrogate}
 use Rattle.legacy_base.specs.Fronts.{front_length, cut}
 use Rattle.legacy_base.specs.Grammar.{utf16, events_of}
 use Rattle.legacy_base.specs.Utf16.{unit_of, utf16_events}
-use Rattle.legacy_miscellaneous.specs.Utf16Fronts.{lone_unit_front, utf16_front}
+use Rattle.legacy_miscellaneous.specs.Utf16Fronts.{single_unit_front, utf16_front}
 use Rattle.legacy_base.specs.States.{utf16_may_hold, rests}
 use Rattle.legacy_decoder_engine.specs.Steps.{PendingMeets, end_events, Meets}
 use Rattle.legacy_miscellaneous.specs.Utf16Machine.{utf16_pending, utf16_step, utf16_machine}
@@ -23,7 +23,7 @@ module _ (be : Bool) where
   ev_is bytes = utf16_cut be 0 bytes
 
   -- a unit that is not a high surrogate is a front of its own
-  front_lone : (a b : ℕ) (more : List ℕ) → is_high_surrogate (unit_of be a b) ≡ false → utf16_front be a (b ∷ more) ≡ lone_unit_front (unit_of be a b)
+  front_lone : (a b : ℕ) (more : List ℕ) → is_high_surrogate (unit_of be a b) ≡ false → utf16_front be a (b ∷ more) ≡ single_unit_front (unit_of be a b)
   unfolding utf16_front
   front_lone a b [] h = refl
   front_lone a b (c ∷ []) h = rw h

@@ -5,17 +5,17 @@ use Rattle.legacy_base.specs.Fronts.{Front, reads, malformed}
 use Rattle.legacy_base.specs.Utf16.{unit_of}
 
 -- the front of a unit alone
-abbrev pub lone_unit_front : ℕ → Front
-lone_unit_front u = if is_high_surrogate u || is_low_surrogate u then malformed 2 else reads 2 (u ∷ [])
+abbrev pub single_unit_front : ℕ → Front
+single_unit_front u = if is_high_surrogate u || is_low_surrogate u then malformed 2 else reads 2 (u ∷ [])
 
 -- the front that begins with a unit
 abbrev pub unit_front : Bool → ℕ → List ℕ → Front
-unit_front big_endian u [] = lone_unit_front u
-unit_front big_endian u (c ∷ []) = if is_high_surrogate u then malformed 3 else lone_unit_front u
+unit_front big_endian u [] = single_unit_front u
+unit_front big_endian u (c ∷ []) = if is_high_surrogate u then malformed 3 else single_unit_front u
 unit_front big_endian u (c ∷ d ∷ rest) =
     if is_high_surrogate u && is_low_surrogate (unit_of big_endian c d)
     then reads 4 (surrogate_pair_char u (unit_of big_endian c d) ∷ [])
-    else lone_unit_front u
+    else single_unit_front u
 
 unfoldable pub utf16_front : Bool → ℕ → List ℕ → Front
 utf16_front big_endian a [] = malformed 1

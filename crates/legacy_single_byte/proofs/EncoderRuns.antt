@@ -74,8 +74,8 @@ module _ (table : List ℕ) (accepted : IsAcceptedTable table) (c : ℕ) (past :
       rw (le-ltb c 128 past, (position-idx table accepted c (λ z. omega arith) p).1 is) refl
 
   -- the scalar at a place is not a surrogate
-  pub lone_at : (p : ℕ) → get_or table p 0 ≡ c → IsNoSurrogate c
-  lone_at p e high =
+  pub malformed_at : (p : ℕ) → get_or table p 0 ≡ c → IsNoSurrogate c
+  malformed_at p e high =
       let inside = within table accepted p c e (λ z. omega (arith, z, past)) in
       let scalar : IsScalar c = subst IsScalar e (All-get_or IsScalar table p 0 inside (table-scalars table accepted)) in
       grind (arith, nat_tests)

@@ -88,11 +88,11 @@ module _ (table : AcceptedTable) where
       pub reads_front : ReadsAhead T (new_state (single_byte table.entries)) source r old mid
       reads_front = reads_written (omega arith) front_writes (omega (arith, room)) (omega arith)
 
-      pub reads_lone : (new : D) (c : ℕ) → r < 64 → IsSingle (single_byte table.entries) (get_or source r 0) c →
+      pub reads_malformed : (new : D) (c : ℕ) → r < 64 → IsSingle (single_byte table.entries) (get_or source r 0) c →
           T.contents new ≡ T.contents mid ++ code_units T.form c
           → T.room new + length (code_units T.form c) ≡ T.room mid → T.loan new ≡ T.loan mid →
           ReadsAhead T (new_state (single_byte table.entries)) source (r + 1) old new
-      reads_lone new c less single more less_room same =
+      reads_malformed new c less single more less_room same =
           reads_written (omega arith) (writes_one T source r c (omega arith) front_writes single.1 more less_room same)
           (omega (arith, room, less_room, short T.form c single.0)) (omega arith)
 

@@ -6,7 +6,7 @@ use Rattle.std.proofs.lemmas.Bool.{cases_Bool, cond_both, and_left, and_right}
 use Rattle.std.proofs.lemmas.List.Elements.{All-head, All-tail}
 use Rattle.legacy_base.specs.declared.results.DecodeEvent.{DecodeEvent}
 use Rattle.legacy_base.specs.declared.results.DecodeEvent.TheVariants.{Scalar, Bad}
-use Rattle.legacy_base.specs.Utf16.{unit_of, units_of, has_odd_byte, lone_unit_events, units_events, utf16_events}
+use Rattle.legacy_base.specs.Utf16.{unit_of, units_of, has_odd_byte, single_unit_events, units_events, utf16_events}
 use Rattle.legacy_base.specs.Grammar.{utf16, events_of}
 use Rattle.legacy_tables.specs.Unicode.{IsByte, AreBytes}
 use Rattle.legacy_standard.specs.Queue.{Item, Handled}
@@ -46,13 +46,13 @@ module _ (is_utf16be : Bool) where
 
   -- two code units that are no surrogate pair
   unpaired-events : (i u v : ℕ) (units : List ℕ) (odd : Bool) → (is_high_surrogate u && is_low_surrogate v) ≡ false →
-      units_events i (u ∷ v ∷ units) odd ≡ lone_unit_events i u ++ units_events (i + 1) (v ∷ units) odd
+      units_events i (u ∷ v ∷ units) odd ≡ single_unit_events i u ++ units_events (i + 1) (v ∷ units) odd
   unfolding units_events
   unpaired-events i u v units odd e = rw (e, units_events)
 
   -- a code unit that is no high surrogate is not paired with the next one
   lone-events : (i u : ℕ) (units : List ℕ) (odd : Bool) → is_high_surrogate u ≡ false →
-      units_events i (u ∷ units) odd ≡ lone_unit_events i u ++ units_events (i + 1) units odd
+      units_events i (u ∷ units) odd ≡ single_unit_events i u ++ units_events (i + 1) units odd
   unfolding units_events
   lone-events i u [] odd h = rw h refl
   lone-events i u (v ∷ units) odd h = unpaired-events i u v units odd (and_left (is_high_surrogate u) (is_low_surrogate v) h)

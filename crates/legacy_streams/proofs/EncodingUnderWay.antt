@@ -25,7 +25,7 @@ use Rattle.legacy_codecs.proofs.WholeTexts.{wrote_last}
 use Rattle.legacy_streams.specs.Utf8Texts.{utf8_text, IsChunk}
 use Rattle.legacy_streams.specs.Encoding.{EncodesUpTo, EncodesText, EncodesFront, EncodesPiece, EncodesPieceFront, EncodesAll, EncodesPartly}
 use Rattle.legacy_streams.specs.Encoding.{DecodesTo, EncodesBytes, Sends, end_scalars}
-use Rattle.legacy_streams.proofs.Utf8Pieces.{cut_chunk, fault_chunk, faulty_back, text_of_cut, text_of_none}
+use Rattle.legacy_streams.proofs.Utf8Pieces.{cut_chunk, malformed_chunk, malformed_back, text_of_cut, text_of_none}
 
 -- ---- bytes that wait
 
@@ -211,34 +211,34 @@ module _ {before : EncoderState} {piece : List ℕ} {now : EncoderState} {passed
       held_nothing = let l = chunk_lengths in omega arith
 
       pub held_valid : IsValidUpTo invalid 0
-      held_valid = subst (λ l. IsValidUpTo l 0) (alone held_nothing) (faulty_back k some)
+      held_valid = subst (λ l. IsValidUpTo l 0) (alone held_nothing) (malformed_back k some)
 
     module _ (told : (passed + (length valid + length invalid) ≢ length piece) ⊎ (utf8_error_len invalid ≢ None)) where
-      is_fault : (0 < length k.later) ⊎ (utf8_error_len (invalid ++ k.later) ≢ None)
-      is_fault = ⊎_elim
+      is_malformed : (0 < length k.later) ⊎ (utf8_error_len (invalid ++ k.later) ≢ None)
+      is_malformed = ⊎_elim
           (λ (some : 0 < length k.later). inl some)
           (λ (none : length k.later ≤ 0).
           let l = chunk_lengths in
           ⊎_elim (λ no. absurd (no (omega arith))) (λ h. inr (λ n. h (ap utf8_error_len (sym (alone (omega arith))) ∙ n))) told)
           (cases_lt 0 (length k.later))
 
-      decodes_fault : DecodesTo (drop passed piece) (chars valid ++ 0xFFFD ∷ []) k.later
-      decodes_fault = record { text = fault_chunk k some is_fault }
+      decodes_malformed : DecodesTo (drop passed piece) (chars valid ++ 0xFFFD ∷ []) k.later
+      decodes_malformed = record { text = malformed_chunk k some is_malformed }
 
       module _ {between after : EncoderState} {half : List ℕ} {late new : Option (List ℕ)}
           (t : EncodesText now (chars valid) false between middle half mid late) where
-        pub fault_front : EncodesFront between (0xFFFD ∷ []) false after half late new → EncodesPieceFront before piece after old new
-        fault_front f = bytes_front u.done decodes_fault (front_join t f)
+        pub malformed_front : EncodesFront between (0xFFFD ∷ []) false after half late new → EncodesPieceFront before piece after old new
+        malformed_front f = bytes_front u.done decodes_malformed (front_join t f)
 
-        pub fault_step : {waiting : List ℕ} → EncodesText between (0xFFFD ∷ []) false after half waiting late new
+        pub malformed_step : {waiting : List ℕ} → EncodesText between (0xFFFD ∷ []) false after half waiting late new
             → PieceUnderWay before piece after (passed + (length valid + length invalid)) waiting old new
-        fault_step f =
+        malformed_step f =
             let l = chunk_lengths in
             let place : passed + (length valid + length invalid) ≡ passed + length valid + length invalid = omega arith in
             let at : drop (passed + (length valid + length invalid)) piece ≡ k.later =
             ap (λ n. drop n piece) place ∙ sym (drop-drop (length invalid) (passed + length valid) piece) ∙ ap (drop (length invalid)) at_invalid
             ∙ drop_at invalid k.later _ refl in
-            record { within = omega arith; done = rw at (bytes_join u.done decodes_fault (text_join t f)) }
+            record { within = omega arith; done = rw at (bytes_join u.done decodes_malformed (text_join t f)) }
 
 -- the piece is encoded
 pub piece_end : {before : EncoderState} {piece : List ℕ} {now : EncoderState} {passed : ℕ} {waiting : List ℕ} {old new : Option (List ℕ)}

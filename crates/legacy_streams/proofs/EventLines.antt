@@ -6,7 +6,7 @@ use Rattle.std.proofs.lemmas.Fmt.{decimal_step, decimal_digit, length-decimal-le
 use Rattle.legacy_base.specs.declared.results.DecodeEvent.{DecodeEvent}
 use Rattle.legacy_base.specs.declared.results.DecodeEvent.TheVariants.{Scalar, Bad}
 use Rattle.legacy_codecs.proofs.ReferenceTexts.{length-decimal_one, length-decimal_more}
-use Rattle.legacy_streams.specs.Lines.{event_line, event_lines, lone_faults}
+use Rattle.legacy_streams.specs.Lines.{event_line, event_lines, malformed_events}
 use Rattle.legacy_streams.proofs.Hexadecimal.{glyph, last_four, hexadecimal_4, hexadecimal_5, hexadecimal_6}
 
 pub line_of_four : (c : ℕ) → c < 0x1_0000 → event_line (Scalar c) ≡ 85 ∷ 43 ∷ (last_four c ++ 10 ∷ [])
@@ -61,45 +61,45 @@ decimal_of_hundreds n h k =
 pub ruleset decimal_lengths = (length-decimal_one, length-decimal_more, length-decimal_20)
 
 -- the lines of a call that reports a malformed sequence: those of its scalars, and then one for the sequence
-pub line_of_fault : (o : List ℕ) {a b : List ℕ} (scalars : List ℕ) {place n : ℕ} (read sequence back : ℕ)
+pub line_of_malformed : (o : List ℕ) {a b : List ℕ} (scalars : List ℕ) {place n : ℕ} (read sequence back : ℕ)
     → a ≡ o ++ event_lines (map Scalar scalars) → b ≡ a ++ event_line (Bad place n) → place ≡ read - back - sequence → n ≡ sequence
     → b ≡ o ++ event_lines (map Scalar scalars ++ Bad (read - back - sequence) sequence ∷ [])
-line_of_fault o scalars read sequence back p q e f = rw (event_lines-append, event_lines-one, ← e, ← f, q, p) (append_assoc o _ _)
+line_of_malformed o scalars read sequence back p q e f = rw (event_lines-append, event_lines-one, ← e, ← f, q, p) (append_assoc o _ _)
 
 -- ---- malformed sequences of one byte each
 
-pub lone_faults-append : (place m n : ℕ) → lone_faults place (m + n) ≡ lone_faults place m ++ lone_faults (place + m) n
-unfolding lone_faults
-lone_faults-append place zero n = let e : place + 0 ≡ place = omega arith in rw (zero-add n, e) refl
-lone_faults-append place (suc m) n =
+pub malformed_events-append : (place m n : ℕ) → malformed_events place (m + n) ≡ malformed_events place m ++ malformed_events (place + m) n
+unfolding malformed_events
+malformed_events-append place zero n = let e : place + 0 ≡ place = omega arith in rw (zero-add n, e) refl
+malformed_events-append place (suc m) n =
     let e : place + 1 + m ≡ place + suc m = omega arith in
     let s : suc m + n ≡ suc (m + n) = omega arith in
-    rw s (ap (λ l. Bad place 1 ∷ l) (lone_faults-append (place + 1) m n ∙ ap (λ k. lone_faults (place + 1) m ++ lone_faults k n) e))
+    rw s (ap (λ l. Bad place 1 ∷ l) (malformed_events-append (place + 1) m n ∙ ap (λ k. malformed_events (place + 1) m ++ malformed_events k n) e))
 
-pub lone_faults-one : (place : ℕ) → lone_faults place 1 ≡ Bad place 1 ∷ []
-unfolding lone_faults
-lone_faults-one place = refl
+pub malformed_events-one : (place : ℕ) → malformed_events place 1 ≡ Bad place 1 ∷ []
+unfolding malformed_events
+malformed_events-one place = refl
 
-pub no_lone_lines : (o : List ℕ) (place : ℕ) → o ≡ o ++ event_lines (lone_faults place 0)
-unfolding lone_faults
-no_lone_lines o place = no_lines o
+pub no_malformed_lines : (o : List ℕ) (place : ℕ) → o ≡ o ++ event_lines (malformed_events place 0)
+unfolding malformed_events
+no_malformed_lines o place = no_lines o
 
 -- the lines of m sequences and then those of n more are the lines of m + n
-pub more_lone_lines : (o : List ℕ) {a b : List ℕ} (place m n : ℕ) → a ≡ o ++ event_lines (lone_faults place m)
-    → b ≡ a ++ event_lines (lone_faults (place + m) n) → b ≡ o ++ event_lines (lone_faults place (m + n))
-more_lone_lines o place m n p q =
-    rw (q, p, lone_faults-append place m n, event_lines-append) (append_assoc o (event_lines (lone_faults place m)) (event_lines (lone_faults (place + m) n)))
+pub more_malformed_lines : (o : List ℕ) {a b : List ℕ} (place m n : ℕ) → a ≡ o ++ event_lines (malformed_events place m)
+    → b ≡ a ++ event_lines (malformed_events (place + m) n) → b ≡ o ++ event_lines (malformed_events place (m + n))
+more_malformed_lines o place m n p q =
+    rw (q, p, malformed_events-append place m n, event_lines-append) (append_assoc o (event_lines (malformed_events place m)) (event_lines (malformed_events (place + m) n)))
 
 -- the line of one such sequence
-pub one_lone_line : (place : ℕ) → event_line (Bad place 1) ≡ event_lines (lone_faults place 1)
-one_lone_line place = rw (lone_faults-one place) (sym (event_lines-one (Bad place 1)))
+pub one_malformed_line : (place : ℕ) → event_line (Bad place 1) ≡ event_lines (malformed_events place 1)
+one_malformed_line place = rw (malformed_events-one place) (sym (event_lines-one (Bad place 1)))
 
 -- the line of one such sequence, from the digits of the hundreds of its place and the last two digits
-pub lone_line : (o : List ℕ) {a b e : List ℕ} (number rest : ℕ) → 1 ≤ number → rest < 100 → number * 100 + rest < 2 ^ 64
+pub malformed_byte_line : (o : List ℕ) {a b e : List ℕ} (number rest : ℕ) → 1 ≤ number → rest < 100 → number * 100 + rest < 2 ^ 64
     → a ≡ o ++ 98 ∷ 97 ∷ 100 ∷ 32 ∷ [] → b ≡ a ++ decimal number
     → e ≡ b ++ (48 + rest / 10) ∷ (48 + rest % 10) ∷ 32 ∷ 49 ∷ 10 ∷ []
     → e ≡ o ++ event_line (Bad (number * 100 + rest) 1)
-lone_line o {a} {b} number rest some few within p q r =
+malformed_byte_line o {a} {b} number rest some few within p q r =
     let hundreds : (number * 100 + rest) / 100 ≡ number = omega arith in
     let others : (number * 100 + rest) % 100 ≡ rest = omega arith in
     let last : List ℕ = (48 + rest / 10) ∷ (48 + rest % 10) ∷ [] in

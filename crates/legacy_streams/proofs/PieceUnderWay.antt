@@ -14,7 +14,7 @@ use Rattle.legacy_text.specs.EncodingForm.{Utf16, total_unit_count}
 use Rattle.legacy_base.specs.Events.{shift}
 use Rattle.legacy_base.specs.Grammar.{events_of}
 use Rattle.legacy_base.specs.States.{DecoderState}
-use Rattle.legacy_base.specs.Calls.{Progress, DecoderCall, IsLoneFault, reported_events, out_events}
+use Rattle.legacy_base.specs.Calls.{Progress, DecoderCall, IsMalformedByte, reported_events, out_events}
 use Rattle.legacy_base.proofs.Shifts.{shift-append, shift-scalars}
 use Rattle.legacy_base.proofs.Progress.{stay, after_that, at_less, at_last, end_report-last, behind}
 use Rattle.legacy_base.proofs.Rooms.{lacks_small}
@@ -22,7 +22,7 @@ use Rattle.legacy_codecs.proofs.RunEvents.{placed-append, placed-scalars}
 use Rattle.legacy_codecs.specs.Runs.{placed}
 use Rattle.legacy_codecs.proofs.Replaced.{length-shift}
 use Rattle.legacy_streams.proofs.Whole.{Joins, front_of, front_after}
-use Rattle.legacy_streams.specs.Lines.{event_lines, lone_faults}
+use Rattle.legacy_streams.specs.Lines.{event_lines, malformed_events}
 use Rattle.legacy_streams.specs.Streams.{AppendsFront}
 use Rattle.legacy_streams.specs.Recoding.{input_events, piece_lines, lines_of, RecodesPiece, RecodesFront}
 use Rattle.legacy_streams.proofs.EventLines.{event_lines-append, event_lines-none}
@@ -138,13 +138,13 @@ module _ {before : DecoderState} {piece : List ℕ} {last : Bool} {total : ℕ} 
     abbrev given : List DecodeEvent
     given = out_events (length now.held + read) scalars answer
 
-    fault_is : (x : DecoderResult) → answer ≡ x
+    malformed_is : (x : DecoderResult) → answer ≡ x
         → input_events total (length before.held) (shift u.passed (reported_events (length now.held + read) x)) ≡ reported_events (total + offset + read) x
     unfolding input_events placed
-    fault_is InputEmpty e = refl
-    fault_is OutputFull e = refl
-    fault_is (Malformed a b) e =
-        let f = rw e at c.fault in
+    malformed_is InputEmpty e = refl
+    malformed_is OutputFull e = refl
+    malformed_is (Malformed a b) e =
+        let f = rw e at c.malformed_sequence in
         let t = f.within in
         let k = u.progress.counts in
         let within = u.within in
@@ -156,7 +156,7 @@ module _ {before : DecoderState} {piece : List ℕ} {last : Bool} {total : ℕ} 
     given_is =
         let reported = reported_events (length now.held + read) answer in
         rw (shift-append u.passed (map Scalar scalars) reported, shift-scalars u.passed scalars, input_events-append, input_events-scalars)
-        (ap (λ l. map Scalar scalars ++ l) (fault_is answer refl))
+        (ap (λ l. map Scalar scalars ++ l) (malformed_is answer refl))
 
     pub piece_step : IsUnderWay before piece last total after (offset + read) more old mid
     piece_step =
@@ -192,67 +192,67 @@ module _ {before : DecoderState} {piece : List ℕ} {last : Bool} {total : ℕ} 
 
 -- ---- bytes that are malformed one by one
 
-shifted_lone : (k place count : ℕ) → shift k (lone_faults place count) ≡ lone_faults (k + place) count
-unfolding lone_faults
-shifted_lone k place zero = refl
-shifted_lone k place (suc count) =
+shifted_malformed : (k place count : ℕ) → shift k (malformed_events place count) ≡ malformed_events (k + place) count
+unfolding malformed_events
+shifted_malformed k place zero = refl
+shifted_malformed k place (suc count) =
     let next : k + (place + 1) ≡ k + place + 1 = omega arith in
-    ap (λ l. Bad (k + place) 1 ∷ l) (shifted_lone k (place + 1) count ∙ ap (λ n. lone_faults n count) next)
+    ap (λ l. Bad (k + place) 1 ∷ l) (shifted_malformed k (place + 1) count ∙ ap (λ n. malformed_events n count) next)
 
-placed_lone : (h place count : ℕ) → h ≤ place → placed h (lone_faults place count) ≡ lone_faults (place - h) count
-unfolding lone_faults placed
-placed_lone h place zero l = refl
-placed_lone h place (suc count) l =
+placed_malformed : (h place count : ℕ) → h ≤ place → placed h (malformed_events place count) ≡ malformed_events (place - h) count
+unfolding malformed_events placed
+placed_malformed h place zero l = refl
+placed_malformed h place (suc count) l =
     let next : place + 1 - h ≡ place - h + 1 = omega arith in
-    ap (λ l. Bad (place - h) 1 ∷ l) (placed_lone h (place + 1) count (omega arith) ∙ ap (λ n. lone_faults n count) next)
+    ap (λ l. Bad (place - h) 1 ∷ l) (placed_malformed h (place + 1) count (omega arith) ∙ ap (λ n. malformed_events n count) next)
 
-none_given : (total h passed place : ℕ) → input_events total h (shift passed (lone_faults 0 0)) ≡ lone_faults place 0
-unfolding lone_faults placed input_events
+none_given : (total h passed place : ℕ) → input_events total h (shift passed (malformed_events 0 0)) ≡ malformed_events place 0
+unfolding malformed_events placed input_events
 none_given total h passed place = refl
 
-lone_given : (total h passed offset count : ℕ) → (0 < count → passed ≡ h + offset)
-    → input_events total h (shift passed (lone_faults 0 count)) ≡ lone_faults (total + offset) count
+malformed_given : (total h passed offset count : ℕ) → (0 < count → passed ≡ h + offset)
+    → input_events total h (shift passed (malformed_events 0 count)) ≡ malformed_events (total + offset) count
 unfolding input_events
-lone_given total h passed offset zero e = none_given total h passed (total + offset)
-lone_given total h passed offset (suc count) e =
+malformed_given total h passed offset zero e = none_given total h passed (total + offset)
+malformed_given total h passed offset (suc count) e =
     let is = e (omega arith) in
     let place : total + (passed + 0) - h ≡ total + offset = omega arith in
-    rw (shifted_lone passed 0 (suc count), shifted_lone total (passed + 0) (suc count), placed_lone h (total + (passed + 0)) (suc count) (omega arith), place)
+    rw (shifted_malformed passed 0 (suc count), shifted_malformed total (passed + 0) (suc count), placed_malformed h (total + (passed + 0)) (suc count) (omega arith), place)
     refl
 
-lone_way : (last : Bool) (state : DecoderState) (bytes : List ℕ) (count : ℕ) → count ≤ length bytes
-    → ((k : ℕ) → k < count → IsLoneFault state (get_or bytes k 0)) → Progress last state bytes count state (drop count bytes) (lone_faults 0 count)
-unfolding lone_faults
-lone_way last state bytes zero few lone = stay last state bytes
-lone_way last state [] (suc count) few lone = absurd (omega arith)
-lone_way last state (b ∷ bytes) (suc count) few lone =
-    let first = at_last last _ _ _ _ _ _ (behind _ _ _ _ _ _ bytes (lone 0 (omega arith)).progress) in
-    let rest = lone_way last state bytes count (omega arith) (λ k l. lone (suc k) (omega arith)) in
+malformed_way : (last : Bool) (state : DecoderState) (bytes : List ℕ) (count : ℕ) → count ≤ length bytes
+    → ((k : ℕ) → k < count → IsMalformedByte state (get_or bytes k 0)) → Progress last state bytes count state (drop count bytes) (malformed_events 0 count)
+unfolding malformed_events
+malformed_way last state bytes zero few malformed_byte = stay last state bytes
+malformed_way last state [] (suc count) few malformed_byte = absurd (omega arith)
+malformed_way last state (b ∷ bytes) (suc count) few malformed_byte =
+    let first = at_last last _ _ _ _ _ _ (behind _ _ _ _ _ _ bytes (malformed_byte 0 (omega arith)).progress) in
+    let rest = malformed_way last state bytes count (omega arith) (λ k l. malformed_byte (suc k) (omega arith)) in
     let all : 1 + count ≡ suc count = omega arith in
-    rw (shifted_lone 1 0 count, all) at (after_that _ _ _ _ _ _ _ _ _ _ _ first rest)
+    rw (shifted_malformed 1 0 count, all) at (after_that _ _ _ _ _ _ _ _ _ _ _ first rest)
 
 -- Lines are written, so that room is made, and then those of bytes that are malformed one by one are added.
 pub piece_ahead : (count : ℕ) {before : DecoderState} {piece : List ℕ} {last : Bool} {total : ℕ} {now : DecoderState} {offset : ℕ}
     {pending kept more unread : List ℕ} {old mid new : Option (List ℕ)} → IsUnderWay before piece last total now offset pending old mid
     → (sent : List ℕ) × Appends mid new sent × (pending ≡ sent ++ kept) → unread ≡ drop offset piece → count ≤ length unread
-    → ((k : ℕ) → k < count → IsLoneFault now (get_or unread k 0)) → more ≡ kept ++ event_lines (lone_faults (total + offset) count)
+    → ((k : ℕ) → k < count → IsMalformedByte now (get_or unread k 0)) → more ≡ kept ++ event_lines (malformed_events (total + offset) count)
     → IsUnderWay before piece last total now (offset + count) more old new
-piece_ahead count {before} {piece} {last} {total} {now} {offset} u sent e few lone w =
+piece_ahead count {before} {piece} {last} {total} {now} {offset} u sent e few malformed_byte w =
     let s = piece_sent u sent.0 sent.1 sent.2 in
     let bound : count ≤ length (drop offset piece) = rw e at few in
-    let alone = rw e at lone in
+    let alone = rw e at malformed_byte in
     let left = length-drop offset piece in
     let start : 0 < count → s.passed ≡ length before.held + offset =
     λ some. omega (arith, s.progress.counts, ap length (alone 0 some).empty, left, u.within) in
-    more_events s count (omega (arith, u.within, bound, left)) (lone_way last now (drop offset piece) count bound alone)
-    (lone_given total (length before.held) s.passed offset count start) w
+    more_events s count (omega (arith, u.within, bound, left)) (malformed_way last now (drop offset piece) count bound alone)
+    (malformed_given total (length before.held) s.passed offset count start) w
 
 -- After these bytes no more events are left than before.
-pub piece_lone_less : (count : ℕ) (now : DecoderState) (piece : List ℕ) (offset : ℕ) {unread : List ℕ} → unread ≡ drop offset piece → count ≤ length unread
-    → ((k : ℕ) → k < count → IsLoneFault now (get_or unread k 0))
+pub piece_malformed_less : (count : ℕ) (now : DecoderState) (piece : List ℕ) (offset : ℕ) {unread : List ℕ} → unread ≡ drop offset piece → count ≤ length unread
+    → ((k : ℕ) → k < count → IsMalformedByte now (get_or unread k 0))
     → length (events_of now.grammar (now.held ++ drop (offset + count) piece)) ≤ length (events_of now.grammar (now.held ++ drop offset piece))
-piece_lone_less count now piece offset e few lone =
-    let way = lone_way false now (drop offset piece) count (rw e at few) (rw e at lone) in
+piece_malformed_less count now piece offset e few malformed_byte =
+    let way = malformed_way false now (drop offset piece) count (rw e at few) (rw e at malformed_byte) in
     let all = ap length (way.events [] (λ f. absurd (let no : false ≡ true = f in cc))) in
     let counted = rw (append-nil, append-nil, drop-drop, length-append, length-shift) at all in
     omega (arith, counted)

@@ -157,8 +157,8 @@ error_len_longer (a ∷ b ∷ d ∷ []) more k e = grind (arith, nat_tests)
 error_len_longer (a ∷ b ∷ d ∷ c ∷ bad) more k e = grind (arith, nat_tests)
 
 -- no text begins with a malformed sequence
-faulty_longer : (bad more : List ℕ) (k : ℕ) → IsValidUpTo bad 0 → utf8_error_len bad ≡ Some k → IsValidUpTo (bad ++ more) 0
-faulty_longer bad more k valid e =
+malformed_longer : (bad more : List ℕ) (k : ℕ) → IsValidUpTo bad 0 → utf8_error_len bad ≡ Some k → IsValidUpTo (bad ++ more) 0
+malformed_longer bad more k valid e =
     let some = valid.short in
     record { short = omega (arith, length-append bad more); front = ([], (refl, refl)); longest = λ m above w. none m above w.0 w.1.0 w.1.1 }
   where
@@ -207,11 +207,11 @@ lossy_past_none bs valid =
     let short = valid.short in
     rw (len, zero-add (utf8_invalid_len bs)) at (utf8_lossy_step bs (omega (arith, len)))
 
-text_past_fault : (bad more : List ℕ) (k : ℕ) → IsValidUpTo bad 0 → utf8_error_len bad ≡ Some k → k ≤ length bad →
+text_past_malformed : (bad more : List ℕ) (k : ℕ) → IsValidUpTo bad 0 → utf8_error_len bad ≡ Some k → k ≤ length bad →
     utf8_text (bad ++ more) ≡ 0xFFFD ∷ utf8_text (drop k bad ++ more)
 unfolding utf8_text
-text_past_fault bad more k valid e within =
-    let past = rw (error_len_longer bad more k e, drop-append-le k bad more within) at (lossy_past_none (bad ++ more) (faulty_longer bad more k valid e)) in
+text_past_malformed bad more k valid e within =
+    let past = rw (error_len_longer bad more k e, drop-append-le k bad more within) at (lossy_past_none (bad ++ more) (malformed_longer bad more k valid e)) in
     rw (past, chars-append replacement_bytes _ replacement_utf8, replacement_chars) refl
 
 -- what the end of the input leaves of a character is malformed
@@ -238,27 +238,27 @@ module _ {rest valid invalid : List ℕ} (k : IsChunk rest valid invalid) where
     back : drop (utf8_valid_len rest) rest ≡ invalid ++ k.later
     back = ap (drop (utf8_valid_len rest)) k.parts ∙ drop_at valid (invalid ++ k.later) _ k.valid_len
 
-    pub faulty_back : IsValidUpTo (invalid ++ k.later) 0
-    faulty_back = ⊎_elim
+    pub malformed_back : IsValidUpTo (invalid ++ k.later) 0
+    malformed_back = ⊎_elim
         (λ w. let whole = utf8_valid_len-IsUtf8 rest w in
         let len = k.valid_len in
         let total = ap length k.parts ∙ length-append valid (invalid ++ k.later) in absurd (omega (arith, whole, total, length-append invalid k.later)))
         (λ v. subst (λ l. IsValidUpTo l 0) back (behind_text rest (utf8_valid_len rest) v))
         (utf8_cases rest)
 
-    fault_is : (o : Option ℕ) → utf8_error_len (invalid ++ k.later) ≡ o → (0 < length k.later) ⊎ (o ≢ None)
+    malformed_is : (o : Option ℕ) → utf8_error_len (invalid ++ k.later) ≡ o → (0 < length k.later) ⊎ (o ≢ None)
         → utf8_error_len (invalid ++ k.later) ≡ Some (length invalid)
-    fault_is None e h =
+    malformed_is None e h =
         let len = rw (back, e) at k.invalid_len in
         elim h [ inl long ↦ absurd (omega (arith, len, length-append invalid k.later)) | inr f ↦ absurd (f refl) ]
-    fault_is (Some n) e h = let len = rw (back, e) at k.invalid_len in rw len e
+    malformed_is (Some n) e h = let len = rw (back, e) at k.invalid_len in rw len e
 
-    pub fault_chunk : (0 < length k.later) ⊎ (utf8_error_len (invalid ++ k.later) ≢ None) → (more : List ℕ)
+    pub malformed_chunk : (0 < length k.later) ⊎ (utf8_error_len (invalid ++ k.later) ≢ None) → (more : List ℕ)
         → utf8_text (rest ++ more) ≡ (chars valid ++ 0xFFFD ∷ []) ++ utf8_text (k.later ++ more)
-    fault_chunk h more =
-        let e = fault_is (utf8_error_len (invalid ++ k.later)) refl h in
+    malformed_chunk h more =
+        let e = malformed_is (utf8_error_len (invalid ++ k.later)) refl h in
         let within : length invalid ≤ length (invalid ++ k.later) = omega (arith, length-append invalid k.later) in
         let rest_is : drop (length invalid) (invalid ++ k.later) ≡ k.later = drop_at invalid k.later _ refl in
-        let past = text_past_fault (invalid ++ k.later) more (length invalid) faulty_back e within in
+        let past = text_past_malformed (invalid ++ k.later) more (length invalid) malformed_back e within in
         cut_chunk more ∙ ap (λ l. chars valid ++ l) (past ∙ ap (λ l. 0xFFFD ∷ utf8_text (l ++ more)) rest_is)
         ∙ sym (append_assoc (chars valid) (0xFFFD ∷ []) (utf8_text (k.later ++ more)))

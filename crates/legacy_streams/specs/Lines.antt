@@ -19,6 +19,6 @@ event_lines [] = []
 event_lines (event ∷ events) = event_line event ++ event_lines events
 
 -- the events of `count` malformed sequences of one byte each, one after another from a place on
-unfoldable pub lone_faults : ℕ → ℕ → List DecodeEvent
-lone_faults place zero = []
-lone_faults place (suc count) = Bad place 1 ∷ lone_faults (place + 1) count
+unfoldable pub malformed_events : ℕ → ℕ → List DecodeEvent
+malformed_events place zero = []
+malformed_events place (suc count) = Bad place 1 ∷ malformed_events (place + 1) count

@@ -63,7 +63,7 @@ fn is_cut(invalid: &[u8]) -> bool
 fn is_held(invalid: &[u8], at_end: bool) -> bool
     requires { IsTrue at_end → IsValidUpTo invalid.now 0 }
     ensures held { IsTrue result → IsTrue at_end × (utf8_error_len invalid.now ≡ None) × (length invalid.now < 4) }
-    ensures fault { result ≡ false → (at_end ≡ false) ⊎ (utf8_error_len invalid.now ≢ None) }
+    ensures malformed_sequence { result ≡ false → (at_end ≡ false) ⊎ (utf8_error_len invalid.now ≢ None) }
 {
     at_end && is_cut(invalid)
 }

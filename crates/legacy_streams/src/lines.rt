@@ -4,7 +4,7 @@ ghost use Rattle.std.specs.Fmt.{digit_glyph};
 ghost use Rattle.std.specs.List.{range_with_len};
 ghost use Rattle.std.specs.Io.KnownBytes.{Appends};
 ghost use Rattle.legacy_text.specs.Texts.{unit_scalars};
-ghost use Rattle.legacy_streams.specs.Lines.{event_line, event_lines, lone_faults};
+ghost use Rattle.legacy_streams.specs.Lines.{event_line, event_lines, malformed_events};
 
 use crate::line_parts::{HEADS, TAILS};
 use crate::pieces::{rest_of, write_whole};
@@ -21,21 +21,21 @@ pub const SCALAR_LINE: usize = 9;
 const PLAIN_LINE: usize = 7;
 
 /// The maximum number of bytes of a malformed sequence's line.
-pub const BAD_LINE: usize = 46;
+pub const MALFORMED_LINE: usize = 46;
 
 /// The maximum number of decimal digits of a place or a length.
 const DIGITS: usize = 20;
 
 /// The maximum number of bytes of the lines of one decoder call.
-pub const CALL_LINES: usize = BATCH * SCALAR_LINE + BAD_LINE;
+pub const CALL_LINES: usize = BATCH * SCALAR_LINE + MALFORMED_LINE;
 
 /// The maximum number of malformed sequences of one byte each whose lines are made at once.
-pub const LONE_BATCH: usize = 256;
+pub const MALFORMED_BATCH: usize = 256;
 
 /// The maximum number of bytes of lines made between two writes.
 ///
-/// These are the lines of `LONE_BATCH` malformed sequences and of one call.
-pub const TURN_LINES: usize = LONE_BATCH * BAD_LINE + CALL_LINES;
+/// These are the lines of `MALFORMED_BATCH` malformed sequences and of one call.
+pub const TURN_LINES: usize = MALFORMED_BATCH * MALFORMED_LINE + CALL_LINES;
 
 /// The number of bytes of the array.
 ///
@@ -192,14 +192,14 @@ fn store_part(bytes: &mut [u8], at: usize, part: &[u8])
 /// line.
 // No place is read back from the array, so no line waits for an earlier store.
 #[inline(always)]
-fn put_lone_line(bytes: &mut [u8], at: usize, hundreds: &Decimal, rest: usize) -> usize
-    requires room { at + BAD_LINE ≤ length bytes.old }
+fn put_malformed_line(bytes: &mut [u8], at: usize, hundreds: &Decimal, rest: usize) -> usize
+    requires room { at + MALFORMED_LINE ≤ length bytes.old }
     requires some { 1 ≤ hundreds.now.number }
     requires rest { rest < 100 }
     requires place { hundreds.now.number * 100 + rest < 2 ^ 64 }
     ensures line { take result bytes.new ≡ take at bytes.old
         ++ event_line (DecodeEvent.Bad (hundreds.now.number * 100 + rest) 1) }
-    ensures end { result ≤ at + BAD_LINE }
+    ensures end { result ≤ at + MALFORMED_LINE }
 {
     store_part(bytes, at, b"bad ");
     store_digits(bytes, at + 4, hundreds.digits);
@@ -213,25 +213,25 @@ fn put_lone_line(bytes: &mut [u8], at: usize, hundreds: &Decimal, rest: usize) -
 ///
 /// The digits of their places are those of `hundreds` and two more: `rest` for the first sequence,
 /// and one more for each after it. Returns the end of the lines.
-fn put_lone_lines(
+fn put_malformed_lines(
     bytes: &mut [u8],
     start: usize,
     hundreds: &Decimal,
     rest: usize,
     count: usize,
 ) -> usize
-    requires room { start + count * BAD_LINE ≤ length bytes.old }
+    requires room { start + count * MALFORMED_LINE ≤ length bytes.old }
     requires some { 1 ≤ hundreds.now.number }
     requires rest { rest + count ≤ 100 }
     requires place { hundreds.now.number * 100 + rest + count ≤ 2 ^ 64 }
     ensures lines { take result bytes.new ≡ take start bytes.old
-        ++ event_lines (lone_faults (hundreds.now.number * 100 + rest) count) }
-    ensures end { result ≤ start + count * BAD_LINE }
+        ++ event_lines (malformed_events (hundreds.now.number * 100 + rest) count) }
+    ensures end { result ≤ start + count * MALFORMED_LINE }
 {
     let mut end = start;
     let mut done = 0;
     'lines: while done < count {
-        end = put_lone_line(bytes, end, hundreds, rest + done);
+        end = put_malformed_line(bytes, end, hundreds, rest + done);
         done += 1;
     }
     end
@@ -450,11 +450,11 @@ impl LineBuffer {
     /// Appends the line of a malformed sequence.
     #[inline]
     #[tactic(auto, using(crate::proofs::EventLines::decimal_lengths))]
-    pub fn push_bad(&mut self, place: usize, length_in_bytes: usize)
-        requires { BAD_LINE ≤ line_room self.old }
+    pub fn push_malformed(&mut self, place: usize, length_in_bytes: usize)
+        requires { MALFORMED_LINE ≤ line_room self.old }
         ensures text { line_bytes self.new ≡ line_bytes self.old
             ++ event_line (DecodeEvent.Bad place length_in_bytes) }
-        ensures room { line_room self.old ≤ line_room self.new + BAD_LINE }
+        ensures room { line_room self.old ≤ line_room self.new + MALFORMED_LINE }
     {
         self.push_all(b"bad ");
         self.push_place(place);
@@ -468,37 +468,37 @@ impl LineBuffer {
     /// Appends at most `most`: those whose places have the same digits except the last two. Returns
     /// their number.
     #[inline]
-    fn push_lone_hundred(&mut self, place: usize, most: usize) -> usize
+    fn push_malformed_hundred(&mut self, place: usize, most: usize) -> usize
         requires some { 0 < most }
         requires place { place + most ≤ 2 ^ 64 }
-        requires room { most * BAD_LINE ≤ line_room self.old }
+        requires room { most * MALFORMED_LINE ≤ line_room self.old }
         ensures count { (0 < result) × (result ≤ most) }
         ensures text { line_bytes self.new ≡ line_bytes self.old
-            ++ event_lines (lone_faults place result) }
-        ensures room { line_room self.old ≤ line_room self.new + result * BAD_LINE }
+            ++ event_lines (malformed_events place result) }
+        ensures room { line_room self.old ≤ line_room self.new + result * MALFORMED_LINE }
     {
         if place < 100 {
-            self.push_bad(place, 1);
+            self.push_malformed(place, 1);
             return 1;
         }
         self.keep_hundreds(place / 100);
         let rest = place % 100;
         let count = most.min(100 - rest);
-        self.filled = put_lone_lines(&mut self.bytes, self.filled, &self.hundreds, rest, count);
+        self.filled = put_malformed_lines(&mut self.bytes, self.filled, &self.hundreds, rest, count);
         count
     }
 
     /// Appends the lines of `count` malformed sequences of one byte each, the first at `place`.
-    pub fn push_lone(&mut self, place: usize, count: usize)
+    pub fn push_malformed_bytes(&mut self, place: usize, count: usize)
         requires place { place + count ≤ 2 ^ 64 }
-        requires room { count * BAD_LINE ≤ line_room self.old }
+        requires room { count * MALFORMED_LINE ≤ line_room self.old }
         ensures text { line_bytes self.new ≡ line_bytes self.old
-            ++ event_lines (lone_faults place count) }
-        ensures room { line_room self.old ≤ line_room self.new + count * BAD_LINE }
+            ++ event_lines (malformed_events place count) }
+        ensures room { line_room self.old ≤ line_room self.new + count * MALFORMED_LINE }
     {
         let mut done = 0;
         'hundreds: while done < count {
-            done += self.push_lone_hundred(place + done, count - done);
+            done += self.push_malformed_hundred(place + done, count - done);
         }
     }
 }

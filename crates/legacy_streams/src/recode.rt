@@ -2,13 +2,13 @@
 ghost use Rattle.std.specs.Prelude.{◌≡◌, ℕ, ◌+◌, ◌*◌, ◌-◌, ◌^◌, ◌<◌, ◌≤◌, List, [], ◌++◌, length, map, slice_index, OnOk, OnErr};
 ghost use Rattle.legacy_text.specs.EncodingForm.{Utf16};
 ghost use Rattle.legacy_text.specs.Texts.{unit_scalars};
-ghost use Rattle.legacy_base.specs.Calls.{DecoderCall, IsLoneFault};
-ghost use Rattle.legacy_streams.specs.Lines.{event_lines, lone_faults};
+ghost use Rattle.legacy_base.specs.Calls.{DecoderCall, IsMalformedByte};
+ghost use Rattle.legacy_streams.specs.Lines.{event_lines, malformed_events};
 ghost use Rattle.legacy_streams.specs.LineBuffers.{line_bytes, line_room};
 ghost use Rattle.legacy_base.specs.Calls.{reported_events};
 ghost use Rattle.legacy_streams.specs.Recoding.{RecodesPiece, RecodesFront, RecodesAll, RecodesBeginning, RecodesPartly};
 
-use crate::lines::{BAD_LINE, BATCH, CALL_LINES, LONE_BATCH, LineBuffer, SCALAR_LINE, TURN_LINES};
+use crate::lines::{MALFORMED_LINE, BATCH, CALL_LINES, MALFORMED_BATCH, LineBuffer, SCALAR_LINE, TURN_LINES};
 use crate::pieces::{PIECE, read_piece, rest_of};
 use legacy_codecs::{DecodeEvent, DecoderResult, RawDecoder};
 use std::io::{self, Read, Write};
@@ -30,7 +30,7 @@ pub enum RecodeError {
 /// `read` bytes of the input were read, this call included.
 #[inline]
 fn push_events(lines: &mut LineBuffer, units: &[u16], answer: DecoderResult, read: usize)
-    requires { length units.now * SCALAR_LINE + BAD_LINE ≤ line_room lines.old }
+    requires { length units.now * SCALAR_LINE + MALFORMED_LINE ≤ line_room lines.old }
     ensures { line_bytes lines.new ≡ line_bytes lines.old
         ++ event_lines (map DecodeEvent.Scalar (unit_scalars units.now) ++ reported_events read answer) }
 {
@@ -39,7 +39,7 @@ fn push_events(lines: &mut LineBuffer, units: &[u16], answer: DecoderResult, rea
         return;
     };
     let behind = usize::from(sequence) + usize::from(back);
-    lines.push_bad(read.saturating_sub(behind), usize::from(sequence));
+    lines.push_malformed(read.saturating_sub(behind), usize::from(sequence));
 }
 
 /// Makes one call of the decoder on the `unread` bytes, and appends the lines of its events.
@@ -69,12 +69,12 @@ fn lines_of_one_call<D: RawDecoder>(
     (answer, read)
 }
 
-/// Appends the lines of bytes at the beginning that the decoder reports as lone malformed.
+/// Appends the lines of bytes at the beginning that are each malformed by themselves.
 ///
 /// Each of them is a malformed sequence by itself. `total` bytes of the input come before them.
 /// Returns their number.
 #[inline]
-fn lines_of_lone<D: RawDecoder>(
+fn lines_of_malformed_bytes<D: RawDecoder>(
     decoder: &D,
     unread: &[u8],
     total: usize,
@@ -83,15 +83,15 @@ fn lines_of_lone<D: RawDecoder>(
     requires room { TURN_LINES ≤ line_room lines.old }
     requires total { total + length unread.now < 2 ^ 64 }
     ensures count { result ≤ length unread.now }
-    ensures lone { (k : ℕ) → k < result
-        → IsLoneFault (D.state decoder.now) (slice_index unread.now k) }
+    ensures malformed_byte { (k : ℕ) → k < result
+        → IsMalformedByte (D.state decoder.now) (slice_index unread.now k) }
     ensures text { line_bytes lines.new ≡ line_bytes lines.old
-        ++ event_lines (lone_faults total result) }
+        ++ event_lines (malformed_events total result) }
     ensures room { CALL_LINES ≤ line_room lines.new }
 {
-    let most = unread.len().min(LONE_BATCH);
-    let count = decoder.lone_malformed(&unread[..most]);
-    lines.push_lone(total, count);
+    let most = unread.len().min(MALFORMED_BATCH);
+    let count = decoder.malformed_bytes(&unread[..most]);
+    lines.push_malformed_bytes(total, count);
     count
 }
 
@@ -122,7 +122,7 @@ fn recode_piece<D: RawDecoder, W: Write>(
     let mut offset: usize = 0;
     'calls: loop {
         lines.make_room(output)?;
-        offset += lines_of_lone(decoder, rest_of(piece, offset), total + offset, lines);
+        offset += lines_of_malformed_bytes(decoder, rest_of(piece, offset), total + offset, lines);
         let unread = rest_of(piece, offset);
         let (answer, read) = lines_of_one_call(decoder, unread, last, total + offset, batch, lines);
         offset += read;

@@ -230,8 +230,8 @@ fn follow_query<D: RawDecoder>(rt: &impl Abort, place: Place, decoder: &D, row: 
             is_answer(rt, place, "the length without U+FFFD", came, *length);
         }
         Row::Lone(bytes, count) => {
-            let came = decoder.lone_malformed(bytes);
-            is_answer(rt, place, "lone_malformed", came, *count);
+            let came = decoder.malformed_bytes(bytes);
+            is_answer(rt, place, "malformed_bytes", came, *count);
         }
         _ => {}
     }

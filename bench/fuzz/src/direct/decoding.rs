@@ -216,7 +216,7 @@ impl<'a, U: Unit> Run<'a, U> {
     /// Tries the bytes that the decoder counts as malformed by themselves.
     fn skips_lone<D: RawDecoder>(&mut self, decoder: &mut D) -> Result<(), String> {
         let piece = &self.source[self.read..self.end];
-        let count = decoder.lone_malformed(piece);
+        let count = decoder.malformed_bytes(piece);
         if count > piece.len() {
             return Err(format!("{count} of {} bytes are malformed by themselves", piece.len()));
         }

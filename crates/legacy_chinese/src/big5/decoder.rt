@@ -66,7 +66,7 @@ impl LaneCodec for Big5 {
     ghost place = { big5_place };
 
     #[inline(always)]
-    fn is_rare(byte: u8) -> bool {
+    fn is_uncommon(byte: u8) -> bool {
         byte >= 0x80 && Lead::new(byte).is_none()
     }
 

@@ -15,13 +15,13 @@ use super::digit::Digit;
 use super::four_byte_blocks::{guessed_scalar, read_flat};
 use super::pair_places::TRAILS;
 use legacy_base::{DecoderResult, Destination, IndexName, RawDecoder, Tables};
-use legacy_decoder_engine::drive::{count_lone, drive_decoder};
+use legacy_decoder_engine::drive::{count_malformed_bytes, drive_decoder};
 use legacy_decoder_engine::held_lead::Lead;
 use legacy_decoder_engine::moves::{DecoderMoves, Fed, Room};
 use legacy_decoder_engine::places::{ROWS_OF_190, pair_pointer};
 use legacy_decoder_engine::read_ahead::read_ascii;
 use legacy_decoder_engine::unmapped_trail::unmapped;
-use legacy_decoder_engine::lead_and_trail::fault_through;
+use legacy_decoder_engine::lead_and_trail::malformed_through;
 use legacy_tables::DecoderTables;
 use std::cell::Cell;
 
@@ -86,7 +86,7 @@ fn read_first(byte: u8) -> (Fed, Held)
     if byte <= 0xFE {
         return (Fed::Nothing, Held::First(Lead { byte }));
     }
-    (fault_through(1), Held::Nothing)
+    (malformed_through(1), Held::Nothing)
 }
 
 /// Returns what a byte leads to after a lead.
@@ -115,7 +115,7 @@ fn read_third(first: Lead, second: Digit, byte: u8) -> (Fed, Held)
         return (Fed::Nothing, Held::Third(first, second, Lead { byte }));
     }
     (
-        Fed::Fault {
+        Fed::MalformedSequence {
             length: 1,
             back: 1,
             unread: true,
@@ -140,7 +140,7 @@ fn read_fourth(
 {
     if byte < 0x30 || byte > 0x39 {
         return (
-            Fed::Fault {
+            Fed::MalformedSequence {
                 length: 1,
                 back: 2,
                 unread: true,
@@ -154,7 +154,7 @@ fn read_fourth(
         + usize::from(byte - 0x30);
     let fed = match guessed_scalar(tables.ranges(), guess, pointer) {
         Some(scalar) => Fed::One(scalar),
-        None => fault_through(4),
+        None => malformed_through(4),
     };
     (fed, Held::Nothing)
 }
@@ -296,7 +296,7 @@ impl DecoderMoves for Gb18030Decoder<'_> {
     }
 
     #[inline(always)]
-    fn is_lone(&self, byte: u8) -> bool {
+    fn is_malformed_byte(&self, byte: u8) -> bool {
         match self.held {
             Held::Nothing => byte == 0xFF,
             _ => false,
@@ -336,8 +336,8 @@ impl RawDecoder for Gb18030Decoder<'_> {
         drive_decoder(self, src, dst, last)
     }
 
-    fn lone_malformed(&self, src: &[u8]) -> usize {
-        count_lone(self, src)
+    fn malformed_bytes(&self, src: &[u8]) -> usize {
+        count_malformed_bytes(self, src)
     }
 
     fn max_utf16_buffer_length(&self, byte_length: usize) -> Option<usize> {

@@ -101,7 +101,7 @@ impl LaneCodec for Gb18030 {
     ghost place = { gb18030_place };
 
     #[inline(always)]
-    fn is_rare(byte: u8) -> bool {
+    fn is_uncommon(byte: u8) -> bool {
         byte >= 0x80 && Lead::new(byte).is_none()
     }
 
@@ -174,7 +174,7 @@ impl Gb18030Blocks<'_, '_> {
         at
     }
 
-    /// Returns the scalar at the front of the input, and the number of its bytes, or `None` if the front is rare.
+    /// Returns the scalar at the front of the input, and the number of its bytes, or `None` if the front is uncommon.
     #[inline(always)]
     fn form_at(&self, src: &[u8]) -> Option<(char, usize)>
         requires { 0 < length src.now }
@@ -202,7 +202,7 @@ impl Gb18030Blocks<'_, '_> {
         Some((scalar, 4))
     }
 
-    /// Reads the last bytes of the input, up to a rare sequence. Returns the number of bytes read, which may be 0.
+    /// Reads the last bytes of the input, up to an uncommon sequence. Returns the number of bytes read, which may be 0.
     // A block of lanes or of ASCII is longer, so one loop reads every form.
     #[inline(always)]
     fn read_last<T: Destination>(&self, src: &[u8], dst: &mut T) -> usize

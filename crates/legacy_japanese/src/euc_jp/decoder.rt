@@ -18,13 +18,13 @@ ghost use Rattle.legacy_japanese.specs.EucJpHeld.{held_bytes};
 use super::held_lead::EucJpLead;
 use legacy_base::{DecoderResult, Destination, IndexName, RawDecoder, Tables};
 use legacy_decoder_engine::common_forms::CommonForm;
-use legacy_decoder_engine::drive::{count_lone, drive_decoder};
+use legacy_decoder_engine::drive::{count_malformed_bytes, drive_decoder};
 use legacy_decoder_engine::lanes::{LaneCodec, LaneForms, narrow_entries, read_common};
 use legacy_decoder_engine::moves::{DecoderMoves, Fed, Room};
 use legacy_decoder_engine::rows::row_pointers;
 use legacy_decoder_engine::read_ahead::read_ascii;
 use legacy_decoder_engine::unmapped_trail::unmapped;
-use legacy_decoder_engine::lead_and_trail::fault_through;
+use legacy_decoder_engine::lead_and_trail::malformed_through;
 use legacy_tables::{DecoderTables, FlatTables};
 use std::simd::prelude::*;
 
@@ -98,12 +98,12 @@ fn read_first(byte: u8) -> (Fed, Held)
     if byte >= 0xA1 && byte <= 0xFE {
         return (Fed::Nothing, Held::Lead(EucJpLead { byte }));
     }
-    (fault_through(1), Held::Nothing)
+    (malformed_through(1), Held::Nothing)
 }
 
 /// Returns whether the byte is malformed by itself at the beginning of a sequence.
 #[inline(always)]
-fn is_fault(byte: u8) -> bool
+fn is_malformed(byte: u8) -> bool
     ensures { result ≡ true → euc_jp_step [] [] [] byte ≡ finish (malformed 1) }
 {
     byte >= 0x80 && byte != 0x8E && byte != 0x8F && (byte < 0xA1 || byte > 0xFE)
@@ -286,9 +286,9 @@ impl DecoderMoves for EucJpDecoder<'_> {
     }
 
     #[inline(always)]
-    fn is_lone(&self, byte: u8) -> bool {
+    fn is_malformed_byte(&self, byte: u8) -> bool {
         match self.held {
-            Held::Nothing => is_fault(byte),
+            Held::Nothing => is_malformed(byte),
             _ => false,
         }
     }
@@ -325,7 +325,7 @@ impl LaneCodec for EucJp {
     ghost place = { row_place 0xA1 0x5D 0xA1 0x5D 94 };
 
     #[inline(always)]
-    fn is_rare(byte: u8) -> bool {
+    fn is_uncommon(byte: u8) -> bool {
         byte >= 0x80 && EucJpLead::new(byte).is_none()
     }
 
@@ -372,8 +372,8 @@ impl RawDecoder for EucJpDecoder<'_> {
         drive_decoder(self, src, dst, last)
     }
 
-    fn lone_malformed(&self, src: &[u8]) -> usize {
-        count_lone(self, src)
+    fn malformed_bytes(&self, src: &[u8]) -> usize {
+        count_malformed_bytes(self, src)
     }
 
     fn max_utf16_buffer_length(&self, byte_length: usize) -> Option<usize> {

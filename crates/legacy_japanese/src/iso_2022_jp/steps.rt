@@ -171,12 +171,12 @@ impl Outcome {
         match self.action {
             Action::Holds => Fed::Nothing,
             Action::Writes(c) => Fed::One(c),
-            Action::Reports(length) => Fed::Fault {
+            Action::Reports(length) => Fed::MalformedSequence {
                 length,
                 back: self.held.count(),
                 unread: false,
             },
-            Action::Leaves => Fed::Fault {
+            Action::Leaves => Fed::MalformedSequence {
                 length: 1,
                 back: self.held.count(),
                 unread: true,

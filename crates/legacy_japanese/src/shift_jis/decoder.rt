@@ -19,7 +19,7 @@ use legacy_decoder_engine::lead_decoder::{LeadCodec, LeadDecoder};
 use legacy_decoder_engine::moves::{Fed, Room};
 use legacy_decoder_engine::places::pair_pointer;
 use legacy_decoder_engine::split_rows::{lead_places, place_sums, trail_places};
-use legacy_decoder_engine::lead_and_trail::{fault_through, read_trail};
+use legacy_decoder_engine::lead_and_trail::{malformed_through, read_trail};
 use legacy_tables::{DecoderTables, FlatTables};
 use std::simd::prelude::*;
 
@@ -54,7 +54,7 @@ fn first_byte(byte: u8) -> (Fed, Option<ShiftJisLead>)
     }
     match ShiftJisLead::new(byte) {
         Some(lead) => (Fed::Nothing, Some(lead)),
-        None => (fault_through(1), None),
+        None => (malformed_through(1), None),
     }
 }
 
@@ -113,7 +113,7 @@ impl LaneCodec for ShiftJis {
     ghost place = { shift_jis_place };
 
     #[inline(always)]
-    fn is_rare(byte: u8) -> bool {
+    fn is_uncommon(byte: u8) -> bool {
         byte == 0xA0 || byte >= 0xFD
     }
 

@@ -60,7 +60,7 @@ impl LaneCodec for EucKr {
     ghost place = { row_place 0x81 0x7D 0x41 0xBD 190 };
 
     #[inline(always)]
-    fn is_rare(byte: u8) -> bool {
+    fn is_uncommon(byte: u8) -> bool {
         byte >= 0x80 && Lead::new(byte).is_none()
     }
 

@@ -66,7 +66,7 @@ impl DecoderMoves for ReplacementDecoder {
             return Fed::Nothing;
         }
         self.has_reported = true;
-        Fed::Fault {
+        Fed::MalformedSequence {
             length: 1,
             back: 0,
             unread: false,

@@ -50,7 +50,7 @@ fn read_second(big_endian: bool, first: OddByte, byte: u8) -> (Fed, Held)
     match char::from_u32(u32::from(unit)) {
         Some(scalar) => (Fed::One(scalar), Held::Nothing),
         None => (
-            Fed::Fault {
+            Fed::MalformedSequence {
                 length: 2,
                 back: 0,
                 unread: false,
@@ -100,7 +100,7 @@ fn read_fourth(big_endian: bool, high: HighSurrogate, third: OddByte, byte: u8) 
         return (Fed::One(pair(high, unit)), Held::Nothing);
     }
     (
-        Fed::Fault {
+        Fed::MalformedSequence {
             length: 2,
             back: 2,
             unread: false,

@@ -213,7 +213,7 @@ fn copy_last(src: &[u8], text: &mut [u8])
 
 /// Checks whether one of the first two bytes has no scalar. Such bytes are often followed by more.
 #[inline(always)]
-fn begins_rare(scalars: &ByteScalars, src: &[u8]) -> bool {
+fn begins_uncommon(scalars: &ByteScalars, src: &[u8]) -> bool {
     if src.len() < 2 {
         return true;
     }
@@ -253,7 +253,7 @@ pub fn read_text<T: Destination>(scalars: &ByteScalars, src: &[u8], dst: &mut T)
     ensures { ReadsAhead T.Destination (new_state (single_byte scalars.now.table.now.entries))
         src.now result dst.old dst.new }
 {
-    if begins_rare(scalars, src) {
+    if begins_uncommon(scalars, src) {
         return 0;
     }
     let at = read_parts(&Mixed { scalars }, src, src.len(), dst);

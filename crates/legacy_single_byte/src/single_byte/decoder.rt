@@ -32,7 +32,7 @@ fn read_byte(table: &SingleByteTable, byte: u8) -> Fed
     }
     match table.scalar(usize::from(byte - 0x80)) {
         Some(scalar) => Fed::One(scalar),
-        None => Fed::Fault {
+        None => Fed::MalformedSequence {
             length: 1,
             back: 0,
             unread: false,

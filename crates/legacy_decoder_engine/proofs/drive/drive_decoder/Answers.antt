@@ -2,14 +2,14 @@ use Rattle.std.proofs.Common.{ℕ, Bool, ◌≡◌, ◌∙◌, ◌++◌, [], ◌
 use Rattle.legacy_text.specs.EncodingForm.{code_units}
 use Rattle.legacy_text.proofs.CodeUnits.{total_unit_count-append}
 use Rattle.legacy_base.specs.Calls.{DecoderCall}
-use Rattle.legacy_decoder_engine.specs.{declared.moves.Fed.Fed, declared.moves.Fed.TheVariants.Fault, Moves.fed_scalars, Moves.IsFaulty}
+use Rattle.legacy_decoder_engine.specs.{declared.moves.Fed.Fed, declared.moves.Fed.TheVariants.MalformedSequence, Moves.fed_scalars, Moves.RevealsMalformed}
 use Rattle.legacy_decoder_engine.proofs.CallUnderWay.{going_start, going_release, going_feed, call_full_release, call_lacks, call_read, call_unread, call_end}
 use Rattle.legacy_decoder_engine.proofs.AheadRuns.{front_going, written}
 use Rattle.legacy_decoder_engine.proofs.drive.drive_decoder.Goals as goal
 use Rattle.legacy_decoder_engine.proofs.drive.drive_decoder.Goals.{then-not-rests+else-not-has_room+in-Some, else-not-rests}
 
-sound : (fed : Fed) → ((a b : ℕ) (u : Bool) → fed ≡ Fault a b u → ⊥) → IsFaulty fed → ⊥
-sound (Fault a b u) h f = h a b u refl
+sound : (fed : Fed) → ((a b : ℕ) (u : Bool) → fed ≡ MalformedSequence a b u → ⊥) → RevealsMalformed fed → ⊥
+sound (MalformedSequence a b u) h f = h a b u refl
 sound fed h f = f
 
 pub feed-fed-requires : goal.feed-fed-requires
@@ -31,13 +31,13 @@ pub returns-then-unread-clause-call : goal.returns-then-unread-clause-call
 returns-then-unread-clause-call g c =
     let i = front_going c.args.dst.now c.loop-read.invariant c.read_runs-read.ensures.runs c.hold_back-read.ensures.within c.hold_back-read.ensures.holds in
     let enough = rw (c.reading_room.ensures.units g.T.Destination.form) at (c.has_room-in-loop-read.ensures.some c.if-not-has_room-2.false) in
-    (i.0, call_unread i.1 _ i.3 (omega (arith, i.1.within, c.if-read-src.false)) enough (rw c.if-unread.true at c.in-Fault.ensures), i.2)
+    (i.0, call_unread i.1 _ i.3 (omega (arith, i.1.within, c.if-read-src.false)) enough (rw c.if-unread.true at c.in-MalformedSequence.ensures), i.2)
 
-pub returns-in-Fault-clause-call : goal.returns-in-Fault-clause-call
-returns-in-Fault-clause-call g c =
+pub returns-in-MalformedSequence-clause-call : goal.returns-in-MalformedSequence-clause-call
+returns-in-MalformedSequence-clause-call g c =
     let i = front_going c.args.dst.now c.loop-read.invariant c.read_runs-read.ensures.runs c.hold_back-read.ensures.within c.hold_back-read.ensures.holds in
     let enough = rw (c.reading_room.ensures.units g.T.Destination.form) at (c.has_room-in-loop-read.ensures.some c.if-not-has_room-2.false) in
-    (i.0, call_read i.1 _ i.3 (omega (arith, i.1.within, c.if-read-src.false)) enough (rw c.if-unread.false at c.in-Fault.ensures), i.2)
+    (i.0, call_read i.1 _ i.3 (omega (arith, i.1.within, c.if-read-src.false)) enough (rw c.if-unread.false at c.in-MalformedSequence.ensures), i.2)
 
 pub loop-read-preserved : goal.loop-read-preserved
 loop-read-preserved g c =
@@ -46,7 +46,7 @@ loop-read-preserved g c =
     let fed = c.feed-fed.result in
     let e = c.put_fed.ensures in (
       i.0 ++ fed_scalars fed,
-      going_feed i.1 i.3 fed (omega (arith, i.1.within, c.if-read-src.false)) c.feed-fed.ensures (sound fed c.in_default-fed.not-Fault) enough,
+      going_feed i.1 i.3 fed (omega (arith, i.1.within, c.if-read-src.false)) c.feed-fed.ensures (sound fed c.in_default-fed.not-MalformedSequence) enough,
       written g.T.Destination _ _ _ i.0 (fed_scalars fed) i.2 e.contents,
       omega (arith, total_unit_count-append g.T.Destination.form i.0 (fed_scalars fed), e.room, i.3),
       e.loan ∙ i.4,

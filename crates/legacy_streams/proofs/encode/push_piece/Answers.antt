@@ -2,7 +2,7 @@ use Rattle.std.proofs.Common.{◌≡◌, ◌<◌, ◌∙◌, ℕ, false, eqb, re
 use Rattle.std.proofs.lemmas.Bool.{eqb-true, eqb-false}
 use Rattle.std.proofs.lemmas.Result.{err_from_is_err_and}
 use Rattle.legacy_streams.proofs.Utf8Pieces.{replacement_chars}
-use Rattle.legacy_streams.proofs.EncodingUnderWay.{piece_start, piece_end, chunk_front, chunk_end, fault_front, fault_step, held_valid, held_nothing}
+use Rattle.legacy_streams.proofs.EncodingUnderWay.{piece_start, piece_end, chunk_front, chunk_end, malformed_front, malformed_step, held_valid, held_nothing}
 use Rattle.legacy_streams.proofs.EncodingUnderWay.{text_of_held, end_of_none_text}
 use Rattle.legacy_streams.proofs.encode.push_piece.Goals as goal
 
@@ -45,15 +45,15 @@ pub returns-in_err-push_text-2-clause-err : goal.returns-in_err-push_text-2-clau
 returns-in_err-push_text-2-clause-err g c =
     let k = rw c.rest_of.ensures at c.in-Some.ensures in
     let some = some_invalid _ (sym c.is_empty.ensures ∙ c.if-is_empty.false) in
-    let told = ⊎_elim (λ ne. inl (eqb-false _ _ ne)) (λ f. inr f) (c.is_held.ensures.fault c.if-is_held.false) in
+    let told = ⊎_elim (λ ne. inl (eqb-false _ _ ne)) (λ f. inr f) (c.is_held.ensures.malformed_sequence c.if-is_held.false) in
     let second = rw replacement_chars at c.in_err-push_text-2.ensures.err in
     rw (err_from_is_err_and c.from_residual-in_err-push_text-2.result c.from_residual-in_err-push_text-2.ensures.1).1
-    (fault_front c.chunks.invariant k some told c.in_ok-push_text.ensures.text second)
+    (malformed_front c.chunks.invariant k some told c.in_ok-push_text.ensures.text second)
 
 pub chunks-preserved : goal.chunks-preserved
 chunks-preserved g c =
     let k = rw c.rest_of.ensures at c.in-Some.ensures in
     let some = some_invalid _ (sym c.is_empty.ensures ∙ c.if-is_empty.false) in
-    let told = ⊎_elim (λ ne. inl (eqb-false _ _ ne)) (λ f. inr f) (c.is_held.ensures.fault c.if-is_held.false) in
+    let told = ⊎_elim (λ ne. inl (eqb-false _ _ ne)) (λ f. inr f) (c.is_held.ensures.malformed_sequence c.if-is_held.false) in
     let second = rw replacement_chars at c.in_ok-push_text-2.ensures.text in
-    fault_step c.chunks.invariant k some told c.in_ok-push_text.ensures.text second
+    malformed_step c.chunks.invariant k some told c.in_ok-push_text.ensures.text second

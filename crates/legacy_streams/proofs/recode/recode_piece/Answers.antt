@@ -1,6 +1,6 @@
 use Rattle.std.proofs.Common.{arith}
 use Rattle.std.proofs.lemmas.Result.{on_ok_weaker, on_err_weaker, err_from_is_err_and}
-use Rattle.legacy_streams.proofs.PieceUnderWay.{piece_start, piece_step, piece_front, piece_end, piece_less, piece_ahead, piece_lone_less}
+use Rattle.legacy_streams.proofs.PieceUnderWay.{piece_start, piece_step, piece_front, piece_end, piece_less, piece_ahead, piece_malformed_less}
 use Rattle.legacy_streams.proofs.recode.recode_piece.Goals as goal
 
 pub calls-init : goal.calls-init
@@ -14,8 +14,8 @@ returns-in_err-make_room-clause-err g c =
 pub returns-in-InputEmpty-clause-piece : goal.returns-in-InputEmpty-clause-piece
 returns-in-InputEmpty-clause-piece g c =
     let room = c.in_ok-make_room.ensures.written in
-    let lone = c.lines_of_lone-offset.ensures in
-    let ahead = piece_ahead c.lines_of_lone-offset.result c.calls.invariant room c.rest_of.ensures lone.count lone.lone lone.text in
+    let malformed_byte = c.lines_of_malformed_bytes-offset.ensures in
+    let ahead = piece_ahead c.lines_of_malformed_bytes-offset.result c.calls.invariant room c.rest_of.ensures malformed_byte.count malformed_byte.malformed_byte malformed_byte.text in
     let call = c.lines_of_one_call-answer.ensures in
     let one = rw c.rest_of-unread.ensures at call.1 in
     on_ok_weaker c.write_to.result (λ w. piece_end ahead one call.2 _ c.in-InputEmpty.is w) c.write_to.ensures.written
@@ -23,8 +23,8 @@ returns-in-InputEmpty-clause-piece g c =
 pub returns-in-InputEmpty-clause-err : goal.returns-in-InputEmpty-clause-err
 returns-in-InputEmpty-clause-err g c =
     let room = c.in_ok-make_room.ensures.written in
-    let lone = c.lines_of_lone-offset.ensures in
-    let ahead = piece_ahead c.lines_of_lone-offset.result c.calls.invariant room c.rest_of.ensures lone.count lone.lone lone.text in
+    let malformed_byte = c.lines_of_malformed_bytes-offset.ensures in
+    let ahead = piece_ahead c.lines_of_malformed_bytes-offset.result c.calls.invariant room c.rest_of.ensures malformed_byte.count malformed_byte.malformed_byte malformed_byte.text in
     let call = c.lines_of_one_call-answer.ensures in
     let one = rw c.rest_of-unread.ensures at call.1 in
     on_err_weaker c.write_to.result (λ w. piece_front (piece_step ahead one call.2) _ w.0 w.1) c.write_to.ensures.err
@@ -32,8 +32,8 @@ returns-in-InputEmpty-clause-err g c =
 pub calls-preserved : goal.calls-preserved
 calls-preserved g c =
     let room = c.in_ok-make_room.ensures.written in
-    let lone = c.lines_of_lone-offset.ensures in
-    let ahead = piece_ahead c.lines_of_lone-offset.result c.calls.invariant room c.rest_of.ensures lone.count lone.lone lone.text in
+    let malformed_byte = c.lines_of_malformed_bytes-offset.ensures in
+    let ahead = piece_ahead c.lines_of_malformed_bytes-offset.result c.calls.invariant room c.rest_of.ensures malformed_byte.count malformed_byte.malformed_byte malformed_byte.text in
     let call = c.lines_of_one_call-answer.ensures in
     let one = rw c.rest_of-unread.ensures at call.1 in
     piece_step ahead one call.2
@@ -41,10 +41,10 @@ calls-preserved g c =
 pub calls-smaller : goal.calls-smaller
 calls-smaller g c =
     let room = c.in_ok-make_room.ensures.written in
-    let lone = c.lines_of_lone-offset.ensures in
-    let ahead = piece_ahead c.lines_of_lone-offset.result c.calls.invariant room c.rest_of.ensures lone.count lone.lone lone.text in
+    let malformed_byte = c.lines_of_malformed_bytes-offset.ensures in
+    let ahead = piece_ahead c.lines_of_malformed_bytes-offset.result c.calls.invariant room c.rest_of.ensures malformed_byte.count malformed_byte.malformed_byte malformed_byte.text in
     let call = c.lines_of_one_call-answer.ensures in
     let one = rw c.rest_of-unread.ensures at call.1 in
     let less = piece_less ahead one call.2 c.in_default.not-InputEmpty in
-    let most = piece_lone_less _ (g.D.RawDecoder.state c.calls.decoder) c.args.piece.now c.calls.offset c.rest_of.ensures lone.count lone.lone in
+    let most = piece_malformed_less _ (g.D.RawDecoder.state c.calls.decoder) c.args.piece.now c.calls.offset c.rest_of.ensures malformed_byte.count malformed_byte.malformed_byte in
     omega (arith, less, most)

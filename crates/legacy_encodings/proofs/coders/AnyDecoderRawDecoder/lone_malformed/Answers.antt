@@ -1,10 +1,10 @@
-use Rattle.legacy_encodings.proofs.coders.AnyDecoderRawDecoder.lone_malformed.Goals as goal
+use Rattle.legacy_encodings.proofs.coders.AnyDecoderRawDecoder.malformed_bytes.Goals as goal
 
-pub returns-in-SingleByte-clause-lone : goal.returns-in-SingleByte-clause-lone
-returns-in-SingleByte-clause-lone c = rw c.in-SingleByte.is c.lone_malformed.ensures.lone
+pub returns-in-SingleByte-clause-malformed_byte : goal.returns-in-SingleByte-clause-malformed_byte
+returns-in-SingleByte-clause-malformed_byte c = rw c.in-SingleByte.is c.malformed_bytes.ensures.malformed_byte
 
-pub returns-in-Replacement-clause-lone : goal.returns-in-Replacement-clause-lone
-returns-in-Replacement-clause-lone c = rw c.in-Replacement.is c.lone_malformed-in-Replacement.ensures.lone
+pub returns-in-Replacement-clause-malformed_byte : goal.returns-in-Replacement-clause-malformed_byte
+returns-in-Replacement-clause-malformed_byte c = rw c.in-Replacement.is c.malformed_bytes-in-Replacement.ensures.malformed_byte
 
-pub returns-in-UserDefined-clause-lone : goal.returns-in-UserDefined-clause-lone
-returns-in-UserDefined-clause-lone c = rw c.in-UserDefined.is c.lone_malformed-in-UserDefined.ensures.lone
+pub returns-in-UserDefined-clause-malformed_byte : goal.returns-in-UserDefined-clause-malformed_byte
+returns-in-UserDefined-clause-malformed_byte c = rw c.in-UserDefined.is c.malformed_bytes-in-UserDefined.ensures.malformed_byte

@@ -1,17 +1,17 @@
 use Rattle.std.proofs.Common.{arith}
 use Rattle.legacy_streams.specs.LineBuffers.{line_bytes}
-use Rattle.legacy_streams.proofs.EventLines.{no_lone_lines, more_lone_lines}
-use Rattle.legacy_streams.proofs.lines.LineBuffer.push_lone.Goals as goal
+use Rattle.legacy_streams.proofs.EventLines.{no_malformed_lines, more_malformed_lines}
+use Rattle.legacy_streams.proofs.lines.LineBuffer.push_malformed_bytes.Goals as goal
 
 pub hundreds-init : goal.hundreds-init
-hundreds-init c = record { within = omega arith; room = omega arith; text = no_lone_lines (line_bytes c.args.self.now) c.args.place }
+hundreds-init c = record { within = omega arith; room = omega arith; text = no_malformed_lines (line_bytes c.args.self.now) c.args.place }
 
 pub hundreds-preserved : goal.hundreds-preserved
 hundreds-preserved c =
     let before = c.hundreds.invariant in
-    let more = c.push_lone_hundred-done.ensures in
+    let more = c.push_malformed_hundred-done.ensures in
     record {
       within = omega (arith, more.count.1);
       room = omega (arith, before.room, more.room);
-      text = more_lone_lines _ c.args.place c.hundreds.done c.push_lone_hundred-done.result before.text more.text;
+      text = more_malformed_lines _ c.args.place c.hundreds.done c.push_malformed_hundred-done.result before.text more.text;
     }

@@ -1,5 +1,5 @@
 use Rattle.legacy_chinese.proofs.Gb18030Held.{ascii}
-use Rattle.legacy_chinese.proofs.gb18030.four_byte_blocks.Gb18030LaneCodec.is_rare.Goals as goal
+use Rattle.legacy_chinese.proofs.gb18030.four_byte_blocks.Gb18030LaneCodec.is_uncommon.Goals as goal
 
 pub returns-then-byte-ge128 : goal.returns-then-byte-ge128
 returns-then-byte-ge128 c tables = ascii tables

@@ -1,5 +1,5 @@
 use Rattle.legacy_japanese.proofs.EucJpHeld.{ascii}
-use Rattle.legacy_japanese.proofs.euc_jp.decoder.EucJpLaneCodec.is_rare.Goals as goal
+use Rattle.legacy_japanese.proofs.euc_jp.decoder.EucJpLaneCodec.is_uncommon.Goals as goal
 
 pub returns-then-byte-ge128 : goal.returns-then-byte-ge128
 returns-then-byte-ge128 c tables = ascii tables

@@ -1,5 +1,5 @@
 use Rattle.legacy_japanese.proofs.ShiftJisLanes.{ascii}
-use Rattle.legacy_japanese.proofs.shift_jis.decoder.ShiftJisLaneCodec.is_rare.Goals as goal
+use Rattle.legacy_japanese.proofs.shift_jis.decoder.ShiftJisLaneCodec.is_uncommon.Goals as goal
 
 pub returns-then-byte-eq160 : goal.returns-then-byte-eq160
 returns-then-byte-eq160 c tables = ascii tables

@@ -1,6 +1,6 @@
 use Rattle.std.proofs.Common.{◌≡◌, ◌∙◌, ◌+◌, ◌-◌, ◌<◌, Some, [], ◌∷◌, get_or, refl, sym, ap, arith, inl, inr}
 use Rattle.std.proofs.lemmas.Bool.{cases_lt, le-ltb, ltb-true}
-use Rattle.legacy_single_byte.proofs.EncoderRuns.{code_at, code_ascii, lone_at}
+use Rattle.legacy_single_byte.proofs.EncoderRuns.{code_at, code_ascii, malformed_at}
 use Rattle.legacy_single_byte.proofs.single_byte.encoder.SingleByteEncoderPlainCodes.byte_of.Goals as goal
 
 pub returns : goal.returns
@@ -19,7 +19,7 @@ returns c = λ known.
           let is : get_or table (e.run_byte_offset + k) 0 ≡ unit = omega (arith, place.0) in
           let byte : 128 + (e.run_byte_offset + k) ≡ c.ascii_or-byte.result =
           omega (arith, c.ascii_or-byte.ensures.past high, c.run_byte.ensures within, place.1) in (
-            lone_at table e.table.now.accepted unit high (e.run_byte_offset + k) is,
+            malformed_at table e.table.now.accepted unit high (e.run_byte_offset + k) is,
             (refl, code_at table e.table.now.accepted unit high (e.run_byte_offset + k) is ∙ ap (λ b. Some (b ∷ [])) byte),
           )
     ]
