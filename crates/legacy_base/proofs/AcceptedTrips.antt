@@ -1,14 +1,12 @@
 -- Facts about accepted indexes for round trips. The jis0208 entries that Shift_JIS decodes to private use are empty.
 -- Each private-use row has a private-use scalar, a lead and a trail.
-use Rattle.std.proofs.Common.{◌≡◌, ℕ, zero, suc, ◌+◌, List, [], ◌∷◌, Bool, true, false, cond, ◌==◌, Option, Some, None, slice_index, refl, ap, arith}
-use Rattle.std.proofs.Common.{find, option_map, eqb-true}
-use Rattle.legacy_tables.specs.declared.tables.IndexName.{IndexName}
-use Rattle.legacy_tables.specs.declared.tables.IndexName.TheVariants as names
-use Rattle.legacy_tables.specs.Indexes.{FlatIndexes, gb18030_pua_of}
-use Rattle.legacy_tables.specs.TableChecks.{AreAccepted, must_be_empty, entry_fault, entries_fault, is_row_scalar, are_row_bytes, row_fault, rows_fault}
+use Rattle.std.proofs.Common.{◌≡◌, ℕ, zero, suc, ◌+◌, List, [], ◌∷◌, Bool, true, false, cond, ◌==◌, Option, Some, None, slice_index, refl, ap, arith, find}
+use Rattle.std.proofs.Common.{option_map, eqb-true}
+use Rattle.legacy_tables.specs.{declared.tables.IndexName.IndexName, Indexes.{FlatIndexes, gb18030_pua_of}, TableChecks.{AreAccepted, must_be_empty}}
+use Rattle.legacy_tables.specs.TableChecks.{entry_fault, entries_fault, is_row_scalar, are_row_bytes, row_fault, rows_fault}
 use Rattle.legacy_tables.proofs.Accepted.{or_none, parts}
-use Rattle.legacy_base.proofs.TwoByteTrips.{PrivateUseIsEmpty}
-use Rattle.legacy_base.proofs.Gb18030Trip.{AreGoodRows}
+use Rattle.legacy_base.proofs.{TwoByteTrips.PrivateUseIsEmpty, Gb18030Trip.AreGoodRows}
+use Rattle.legacy_tables.specs.declared.tables.IndexName.TheVariants as names
 
 -- ---- entries that must be empty
 

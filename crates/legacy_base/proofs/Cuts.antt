@@ -1,8 +1,7 @@
 -- How `cut` unfolds, front by front.
-use Rattle.std.proofs.lemmas.Bool.Decides.{nat_tests}
-use Rattle.std.proofs.Common.{◌≡◌, ℕ, zero, suc, pred, ◌+◌, ◌<◌, List, [], ◌∷◌, ◌++◌, drop, refl, sym, ap₂, add_assoc, add-zero, zero-add, arith}
-use Rattle.legacy_base.specs.Events.{shift}
-use Rattle.legacy_base.specs.Fronts.{Front, reads, malformed, front_length, front_events, cut}
+use Rattle.std.proofs.{lemmas.Bool.Decides.nat_tests, Common.{◌≡◌, ℕ, zero, suc, pred, ◌+◌, ◌<◌, List, [], ◌∷◌, ◌++◌, drop, refl, sym, ap₂, add_assoc}}
+use Rattle.std.proofs.Common.{add-zero, zero-add, arith}
+use Rattle.legacy_base.specs.{Events.shift, Fronts.{Front, reads, malformed, front_length, front_events, cut}}
 use Rattle.legacy_base.proofs.Shifts.{shift-append, shift-scalars}
 
 pub front_events-place : (k p : ℕ) (f : Front) → front_events (k + p) f ≡ shift k (front_events p f)

@@ -1,15 +1,11 @@
 -- Laws of each encoder's profile: the end of a text, the room that acts need, and monotonic length formulas.
 use Rattle.std.proofs.Common.{◌≡◌, ℕ, ◌-◌, ◌≤◌, List, [], length, map, arith, Option, Bool, true, IsTrue, Some}
-use Rattle.legacy_base.specs.declared.results.EncodeEvent.TheVariants.{Byte}
+use Rattle.legacy_base.specs.{declared.results.EncodeEvent.TheVariants.Byte, EncodeEvents.plain_events, EncoderProfile.{EncoderProfile, EncoderMode}}
+use Rattle.legacy_base.specs.{EncoderProfile.plain_encoder, Encoders.{Codec, single_byte, user_defined, big5, euc_kr, shift_jis, euc_jp, gb18030, gbk}}
+use Rattle.legacy_base.specs.Encoders.{iso_2022_jp, encoder_profile, EncoderState, encoded, end_bytes, encoder_need, encoder_formula, encoder_answer}
+use Rattle.legacy_base.specs.{Encoders.encoder_room, declared.results.EncoderResult.EncoderResult, EncoderCalls.tells_end, Iso2022Jp.iso_2022_jp_encoder}
+use Rattle.legacy_base.specs.{Iso2022Jp.{iso_2022_jp_text_events, mode_behind}, Lengths.{Formula, number, ◌⊕◌, ◌⊗◌, value}}
 use Rattle.legacy_text.specs.EncodingForm.{EncodingForm}
-use Rattle.legacy_base.specs.EncodeEvents.{plain_events}
-use Rattle.legacy_base.specs.EncoderProfile.{EncoderProfile, EncoderMode, plain_encoder}
-use Rattle.legacy_base.specs.Encoders.{Codec, single_byte, user_defined, big5, euc_kr, shift_jis, euc_jp, gb18030, gbk, iso_2022_jp, encoder_profile}
-use Rattle.legacy_base.specs.Encoders.{EncoderState, encoded, end_bytes, encoder_need, encoder_formula, encoder_answer, encoder_room}
-use Rattle.legacy_base.specs.declared.results.EncoderResult.{EncoderResult}
-use Rattle.legacy_base.specs.EncoderCalls.{tells_end}
-use Rattle.legacy_base.specs.Iso2022Jp.{iso_2022_jp_encoder, iso_2022_jp_text_events, mode_behind}
-use Rattle.legacy_base.specs.Lengths.{Formula, number, ◌⊕◌, ◌⊗◌, value}
 use Rattle.legacy_base.proofs.Enough.{answer-value}
 
 -- ---- the laws of a profile

@@ -1,10 +1,6 @@
 -- The result of a length query is at least the room that is needed.
-use Rattle.std.proofs.Common.{◌≡◌, ℕ, ◌≤◌, List, arith, Some}
-use Rattle.std.proofs.lemmas.Nat.{mul-le}
-use Rattle.std.proofs.lemmas.Option.{cond_some}
-use Rattle.legacy_base.specs.Formulas.{Formula, Term, to_come, weighed, paired, constant, ◌⊞◌, ◌⊠◌, halved, formula}
-use Rattle.legacy_base.specs.Grammar.{Grammar}
-use Rattle.legacy_base.specs.States.{DecoderState}
+use Rattle.std.proofs.{Common.{◌≡◌, ℕ, ◌≤◌, List, arith, Some}, lemmas.Nat.mul-le, lemmas.Option.cond_some}
+use Rattle.legacy_base.specs.{Formulas.{Formula, Term, to_come, weighed, paired, constant, ◌⊞◌, ◌⊠◌, halved, formula}, Grammar.Grammar, States.DecoderState}
 use Rattle.legacy_base.specs.Lengths.{value, has_lengths, answer, LengthQuery, state_formula, query_answer, room}
 
 -- the result is the value of the formula

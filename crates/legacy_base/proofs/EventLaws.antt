@@ -1,22 +1,15 @@
 -- Each malformed sequence in the events of a list lies inside the list and has one to four bytes. Each scalar is a
 -- Unicode scalar value.
 use Rattle.std.proofs.Common.{◌≡◌, ℕ, zero, suc, ◌+◌, ◌≤◌, List, [], ◌∷◌, ◌++◌, length, drop, map, Bool, true, false, cond, Option, Some, None, refl, arith}
-use Rattle.std.proofs.Common.{length-drop, All}
-use Rattle.std.specs.Prelude.{◌==◌, is_some}
-use Rattle.std.specs.Char.{IsScalar}
-use Rattle.std.proofs.lemmas.Bool.{eqb-true, cond_both}
-use Rattle.std.proofs.lemmas.List.Elements.{All-nil, All-cons, All-append, All-head, All-tail, All-drop}
+use Rattle.std.proofs.{Common.{length-drop, All}, lemmas.Bool.{eqb-true, cond_both}, lemmas.List.Elements.{All-nil, All-cons, All-append, All-head, All-tail}}
+use Rattle.std.proofs.lemmas.List.Elements.{All-drop}
+use Rattle.std.specs.{Prelude.{◌==◌, is_some}, Char.IsScalar}
 use Rattle.legacy_tables.specs.Unicode.{IsByte, AreBytes, AreScalars}
-use Rattle.legacy_base.specs.declared.results.DecodeEvent.{DecodeEvent}
-use Rattle.legacy_base.specs.declared.results.DecodeEvent.TheVariants.{Scalar, Bad}
-use Rattle.legacy_base.specs.Events.{shift_event, shift}
-use Rattle.legacy_base.specs.Fronts.{Front, reads, malformed, front_length, front_events, cut}
-use Rattle.legacy_base.specs.Iso2022Jp.{Mode, esc, escape_mode, part_mode, iso_2022_jp_front, iso_2022_jp_events}
-use Rattle.legacy_base.specs.Laws.{IsFrontOf, IsEventOf}
-use Rattle.legacy_base.proofs.Cuts.{cut-nil, cut-front}
-use Rattle.legacy_base.proofs.FrontLaws.{front_of-malformed, iso_2022_jp_front-of, iso_2022_jp_front-short}
-use Rattle.legacy_base.proofs.Iso2022JpParts.{first_part}
-use Rattle.legacy_base.proofs.Iso2022JpFronts.{step_end, step_one, step_two, step_escape, step_no_escape}
+use Rattle.legacy_base.specs.{declared.results.DecodeEvent.DecodeEvent, declared.results.DecodeEvent.TheVariants.{Scalar, Bad}, Events.{shift_event, shift}}
+use Rattle.legacy_base.specs.{Fronts.{Front, reads, malformed, front_length, front_events, cut}, Iso2022Jp.{Mode, esc, escape_mode, part_mode}}
+use Rattle.legacy_base.specs.{Iso2022Jp.{iso_2022_jp_front, iso_2022_jp_events}, Laws.{IsFrontOf, IsEventOf}}
+use Rattle.legacy_base.proofs.{Cuts.{cut-nil, cut-front}, FrontLaws.{front_of-malformed, iso_2022_jp_front-of, iso_2022_jp_front-short}}
+use Rattle.legacy_base.proofs.{Iso2022JpParts.first_part, Iso2022JpFronts.{step_end, step_one, step_two, step_escape, step_no_escape}}
 
 module _ (Q : Type 0) where
   -- all are events of a list of the given number of bytes

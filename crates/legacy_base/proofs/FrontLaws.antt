@@ -1,26 +1,15 @@
 -- Each front of each codec has one to four bytes of its list, so every list has events. A front gives one or two
 -- scalars, or is malformed.
 use Rattle.std.proofs.Common.{◌≡◌, ℕ, suc, ◌+◌, ◌-◌, ◌≤◌, ◌<◌, List, [], ◌∷◌, Bool, true, false, not, cond, length, ◌||◌, ◌==◌, Option, Some, None}
-use Rattle.std.proofs.Common.{option_to_list, refl, arith}
-use Rattle.std.specs.Option.{option_map_or}
-use Rattle.std.specs.Int.{is_in_range}
-use Rattle.std.specs.Char.{IsScalar, is_ascii, is_ascii_digit}
-use Rattle.std.proofs.lemmas.Bool.{cond_both}
-use Rattle.std.proofs.lemmas.Bool.Decides.{nat_tests}
-use Rattle.std.proofs.lemmas.List.Elements.{All-nil, All-cons}
-use Rattle.legacy_tables.specs.Indexes.{idx, range}
-use Rattle.legacy_tables.specs.Unicode.{IsByte, AreScalars, is_katakana_byte, katakana_of}
-use Rattle.legacy_base.specs.Fronts.{Front, reads, malformed, front_length, reads_or, trail_rule, trail_front}
-use Rattle.legacy_base.specs.Laws.{IsFrontOf}
-use Rattle.legacy_base.specs.Profile.{is_lead}
-use Rattle.legacy_base.specs.SingleByte.{single_byte_front}
-use Rattle.legacy_base.specs.UserDefined.{user_defined_front}
-use Rattle.legacy_base.specs.Big5.{big5_pointer, big5_scalars, big5_pair, big5_front}
-use Rattle.legacy_base.specs.LeadForms.{lead_pair, lead_front}
-use Rattle.legacy_base.specs.ShiftJis.{is_shift_jis_lead, shift_jis_pointer, shift_jis_scalars, shift_jis_pair, shift_jis_front}
-use Rattle.legacy_base.specs.EucJp.{is_euc_jp_lead, euc_jp_scalars, euc_jp_katakana, euc_jp_third, euc_jp_second, euc_jp_pair, euc_jp_front}
-use Rattle.legacy_base.specs.Gb18030.{gb18030_scalars, gb18030_fourth, gb18030_third, gb18030_second, gb18030_front}
-use Rattle.legacy_base.specs.Iso2022Jp.{Mode, ascii, roman, katakana, two_byte, iso_2022_jp_front}
+use Rattle.std.proofs.{Common.{option_to_list, refl, arith}, lemmas.Bool.cond_both, lemmas.Bool.Decides.nat_tests, lemmas.List.Elements.{All-nil, All-cons}}
+use Rattle.std.specs.{Option.option_map_or, Int.is_in_range, Char.{IsScalar, is_ascii, is_ascii_digit}}
+use Rattle.legacy_tables.specs.{Indexes.{idx, range}, Unicode.{IsByte, AreScalars, is_katakana_byte, katakana_of}}
+use Rattle.legacy_base.specs.{Fronts.{Front, reads, malformed, front_length, reads_or, trail_rule, trail_front}, Laws.IsFrontOf, Profile.is_lead}
+use Rattle.legacy_base.specs.{SingleByte.single_byte_front, UserDefined.user_defined_front, Big5.{big5_pointer, big5_scalars, big5_pair, big5_front}}
+use Rattle.legacy_base.specs.{LeadForms.{lead_pair, lead_front}, ShiftJis.{is_shift_jis_lead, shift_jis_pointer, shift_jis_scalars, shift_jis_pair}}
+use Rattle.legacy_base.specs.{ShiftJis.shift_jis_front, EucJp.{is_euc_jp_lead, euc_jp_scalars, euc_jp_katakana, euc_jp_third, euc_jp_second, euc_jp_pair}}
+use Rattle.legacy_base.specs.{EucJp.euc_jp_front, Gb18030.{gb18030_scalars, gb18030_fourth, gb18030_third, gb18030_second, gb18030_front}, Iso2022Jp.Mode}
+use Rattle.legacy_base.specs.Iso2022Jp.{ascii, roman, katakana, two_byte, iso_2022_jp_front}
 use Rattle.legacy_tables.proofs.Accepted.{idx-all}
 
 -- ---- scalars that depend on a test

@@ -1,23 +1,15 @@
 -- The codes of GB18030 and GBK decode to their scalars. The codes of private-use rows decode to the scalars of the
 -- rows' bytes.
 use Rattle.std.proofs.Common.{◌≡◌, ℕ, ◌+◌, ◌*◌, ◌/◌, ◌%◌, ◌<◌, ◌≤◌, List, [], ◌∷◌, length, get_or, Bool, true, false, cond, ◌==◌, nat_lt, Option, Some, None}
-use Rattle.std.proofs.Common.{option_map, refl, sym, ◌∙◌, arith, if◌then◌else◌, eqb-true}
-use Rattle.std.proofs.lemmas.Bool.{false≢true}
-use Rattle.std.proofs.lemmas.Bool.Decides.{nat_tests}
-use Rattle.std.specs.Option.{option_or, option_map_or}
-use Rattle.std.specs.Char.{is_ascii, is_ascii_digit}
-use Rattle.legacy_base.specs.Fronts.{reads}
-use Rattle.legacy_tables.specs.Indexes.{idx, range, gb18030_pua_of}
-use Rattle.legacy_base.specs.Profile.{is_empty}
-use Rattle.legacy_tables.specs.Pointers.{every_pointer, gb18030_pointer_of, range_pointer_of}
-use Rattle.legacy_tables.specs.TableChecks.{is_row_scalar, are_row_bytes}
-use Rattle.legacy_base.specs.Gb18030.{gb18030_scalars, gb18030_fourth, gb18030_third, gb18030_second, gb18030_front}
-use Rattle.legacy_base.specs.Gb18030.{gb18030_pair_bytes, gb18030_range_bytes, gb18030_pair_code, gb18030_code, gbk_code}
-use Rattle.legacy_base.specs.RoundTrips.{is_private_use_fold, private_use_scalar, has_lost_row}
+use Rattle.std.proofs.{Common.{option_map, refl, sym, ◌∙◌, arith, if◌then◌else◌, eqb-true}, lemmas.Bool.false≢true, lemmas.Bool.Decides.nat_tests}
+use Rattle.std.specs.{Option.{option_or, option_map_or}, Char.{is_ascii, is_ascii_digit}}
+use Rattle.legacy_base.specs.{Fronts.reads, Profile.is_empty, Gb18030.{gb18030_scalars, gb18030_fourth, gb18030_third, gb18030_second, gb18030_front}}
+use Rattle.legacy_base.specs.{Gb18030.{gb18030_pair_bytes, gb18030_range_bytes, gb18030_pair_code, gb18030_code, gbk_code}, RoundTrips.is_private_use_fold}
+use Rattle.legacy_base.specs.RoundTrips.{private_use_scalar, has_lost_row}
+use Rattle.legacy_tables.specs.{Indexes.{idx, range, gb18030_pua_of}, Pointers.{every_pointer, gb18030_pointer_of, range_pointer_of}, TableChecks.is_row_scalar}
+use Rattle.legacy_tables.specs.TableChecks.{are_row_bytes}
 use Rattle.legacy_tables.proofs.Pointers.{first-taken, range-taken}
-use Rattle.legacy_base.proofs.PointersBack.{LeadsBack, leads_back}
-use Rattle.legacy_base.proofs.Trips.{Decodes}
-use Rattle.legacy_base.proofs.TwoByteTrips.{mapped, one_byte, two_bytes}
+use Rattle.legacy_base.proofs.{PointersBack.{LeadsBack, leads_back}, Trips.Decodes, TwoByteTrips.{mapped, one_byte, two_bytes}}
 
 -- ---- pairs
 

@@ -1,20 +1,14 @@
 -- Laws of the events of whole lists.
-use Rattle.std.proofs.lemmas.Bool.Decides.{nat_tests}
-use Rattle.std.proofs.Common.{arith, ◌≡◌, ℕ, List, [], ◌∷◌, length, refl, true}
-use Rattle.legacy_base.specs.Fronts.{Front, cut}
-use Rattle.legacy_base.specs.Iso2022Jp.{parts_of, part_mode, escape_length, escape_events, part_events, parts_events, iso_2022_jp_events}
-use Rattle.legacy_base.specs.Utf16.{units_of, has_odd_byte, units_events, utf16_events}
-use Rattle.legacy_base.specs.Replacement.{replacement_events}
-use Rattle.legacy_base.specs.Grammar.{Grammar, single_byte, user_defined, replacement, plain, big5, shift_jis, euc_jp, gb18030, events_of}
-use Rattle.legacy_base.specs.States.{may_hold, rests}
-use Rattle.legacy_base.specs.Laws.{IsFrontOf, IsReadByFronts, AreReadByFronts, HasNoneOfNothing}
-use Rattle.legacy_tables.specs.Unicode.{IsByte}
-use Rattle.legacy_tables.specs.Tables.{index_list}
+use Rattle.std.proofs.{lemmas.Bool.Decides.nat_tests, Common.{arith, ◌≡◌, ℕ, List, [], ◌∷◌, length, refl, true}}
+use Rattle.legacy_base.specs.{Fronts.{Front, cut}, Iso2022Jp.{parts_of, part_mode, escape_length, escape_events, part_events, parts_events, iso_2022_jp_events}}
+use Rattle.legacy_base.specs.{Utf16.{units_of, has_odd_byte, units_events, utf16_events}, Replacement.replacement_events, Grammar.{Grammar, single_byte}}
+use Rattle.legacy_base.specs.{Grammar.{user_defined, replacement, plain, big5, shift_jis, euc_jp, gb18030, events_of}, States.{may_hold, rests}, Laws.IsFrontOf}
+use Rattle.legacy_base.specs.Laws.{IsReadByFronts, AreReadByFronts, HasNoneOfNothing}
+use Rattle.legacy_tables.specs.{Unicode.IsByte, Tables.index_list}
 use Rattle.legacy_tables.proofs.Accepted.{index-scalars, big5-scalars, jis0208-scalars, jis0212-scalars, gb18030-scalars, range-scalar}
 use Rattle.legacy_tables.proofs.AcceptedTable.{table-scalars}
-use Rattle.legacy_base.proofs.Cuts.{cut-front}
-use Rattle.legacy_base.proofs.FrontLaws.{single_byte_front-of, user_defined_front-of, lead_front-of, big5_front-of, shift_jis_front-of, euc_jp_front-of}
-use Rattle.legacy_base.proofs.FrontLaws.{gb18030_front-of}
+use Rattle.legacy_base.proofs.{Cuts.cut-front, FrontLaws.{single_byte_front-of, user_defined_front-of, lead_front-of, big5_front-of, shift_jis_front-of}}
+use Rattle.legacy_base.proofs.FrontLaws.{euc_jp_front-of, gb18030_front-of}
 
 read_by : (grammar : Grammar) (accepted : Type 0) (front : ℕ → List ℕ → Front) → ((bytes : List ℕ) → events_of grammar bytes ≡ cut front 0 0 bytes) →
     ((b : ℕ) (rest : List ℕ) → IsFrontOf (length (b ∷ rest)) (accepted × IsByte b) (front b rest)) → IsReadByFronts grammar accepted front

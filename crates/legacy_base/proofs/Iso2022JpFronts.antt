@@ -1,18 +1,13 @@
 -- One equation for each kind of front: the events of a list are those of its first front, and then those of the rest.
 -- With these a list is read from first to last, although the definition cuts it at escapes before any mode is known.
-use Rattle.std.proofs.Common.{◌≡◌, ℕ, suc, ◌+◌, false, cond, Option, Some, None, List, [], ◌∷◌, ◌++◌, length, refl, ap, zero-add, one-add}
-use Rattle.std.proofs.Common.{append_assoc, arith}
+use Rattle.std.proofs.Common.{◌≡◌, ℕ, suc, ◌+◌, false, cond, Option, Some, None, List, [], ◌∷◌, ◌++◌, length, refl, ap, zero-add, one-add, append_assoc, arith}
+use Rattle.std.proofs.{lemmas.Bool.{eqb-true, ne_eqb}, lemmas.Bool.Decides.nat_tests}
 use Rattle.std.specs.Prelude.{◌==◌, ◌&&◌, is_some}
-use Rattle.std.proofs.lemmas.Bool.{eqb-true, ne_eqb}
-use Rattle.std.proofs.lemmas.Bool.Decides.{nat_tests}
-use Rattle.legacy_base.specs.declared.results.DecodeEvent.TheVariants.{Bad}
-use Rattle.legacy_base.specs.Events.{shift}
-use Rattle.legacy_base.specs.Fronts.{Front, front_length, front_events, cut}
-use Rattle.legacy_base.specs.Iso2022Jp.{Mode, esc, escape_mode, parts_of, part_mode, escape_length, begins_valid, iso_2022_jp_front}
-use Rattle.legacy_base.specs.Iso2022Jp.{escape_events, part_events, parts_events, iso_2022_jp_events}
-use Rattle.legacy_base.proofs.Shifts.{shift-append, shift-shift, shift-zero}
-use Rattle.legacy_base.proofs.Cuts.{cut_from_zero}
-use Rattle.legacy_base.proofs.Iso2022JpParts.{first_part, later_parts, events-by_parts, no_escape, parts_events-at}
+use Rattle.legacy_base.specs.{declared.results.DecodeEvent.TheVariants.Bad, Events.shift, Fronts.{Front, front_length, front_events, cut}, Iso2022Jp.Mode}
+use Rattle.legacy_base.specs.Iso2022Jp.{esc, escape_mode, parts_of, part_mode, escape_length, begins_valid, iso_2022_jp_front, escape_events, part_events}
+use Rattle.legacy_base.specs.Iso2022Jp.{parts_events, iso_2022_jp_events}
+use Rattle.legacy_base.proofs.{Shifts.{shift-append, shift-shift, shift-zero}, Cuts.cut_from_zero, Iso2022JpParts.{first_part, later_parts, events-by_parts}}
+use Rattle.legacy_base.proofs.Iso2022JpParts.{no_escape, parts_events-at}
 
 -- the end of the list
 pub step_end : (jis0208 : List ℕ) (mode : Mode) → iso_2022_jp_events jis0208 mode [] ≡ []

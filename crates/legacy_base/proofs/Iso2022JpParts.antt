@@ -1,15 +1,11 @@
 -- The parts of a list that is cut before its escape bytes: the bytes up to the first escape byte, and the parts after
 -- them. The events of a list are given by these two.
-use Rattle.std.proofs.lemmas.Bool.Decides.{nat_tests}
-use Rattle.std.proofs.Common.{arith, ◌≡◌, ℕ, ◌+◌, true, false, cond, None, List, [], ◌∷◌, ◌++◌, drop, length, refl, add_assoc, zero-add, add-zero}
+use Rattle.std.proofs.{lemmas.Bool.Decides.nat_tests, Common.{arith, ◌≡◌, ℕ, ◌+◌, true, false, cond, None, List, [], ◌∷◌, ◌++◌, drop, length, refl, add_assoc}}
+use Rattle.std.proofs.{Common.{zero-add, add-zero}, lemmas.Bool.cond_both}
 use Rattle.std.specs.Prelude.{◌==◌, unwrap_or}
-use Rattle.std.proofs.lemmas.Bool.{cond_both}
-use Rattle.legacy_base.specs.Events.{shift}
-use Rattle.legacy_base.specs.Fronts.{cut}
-use Rattle.legacy_base.specs.Iso2022Jp.{Mode, esc, parts_of, part_mode, escape_length, iso_2022_jp_front, escape_events, part_events}
-use Rattle.legacy_base.specs.Iso2022Jp.{parts_events, iso_2022_jp_events}
-use Rattle.legacy_base.proofs.Shifts.{shift-append}
-use Rattle.legacy_base.proofs.Cuts.{cut-place}
+use Rattle.legacy_base.specs.{Events.shift, Fronts.cut, Iso2022Jp.{Mode, esc, parts_of, part_mode, escape_length, iso_2022_jp_front, escape_events}}
+use Rattle.legacy_base.specs.Iso2022Jp.{part_events, parts_events, iso_2022_jp_events}
+use Rattle.legacy_base.proofs.{Shifts.shift-append, Cuts.cut-place}
 
 -- the bytes before the first escape byte
 abbrev pub first_part : List ℕ → List ℕ

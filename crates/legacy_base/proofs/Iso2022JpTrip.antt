@@ -1,31 +1,22 @@
 -- The output of an ISO-2022-JP encoder decodes to its text. The escapes give no events, and each code is read in the
 -- mode in which it was written.
 use Rattle.std.proofs.Common.{◌≡◌, ℕ, ◌+◌, ◌/◌, ◌%◌, List, [], ◌∷◌, ◌++◌, map, length, Bool, true, false, cond, ◌||◌, ◌==◌, Option, Some, None, is_some, inl}
-use Rattle.std.proofs.Common.{inr, refl, sym, ap, ◌∙◌, append_assoc, length-append, arith}
-use Rattle.std.proofs.lemmas.Bool.{and_right, or_parts, cases_eq}
+use Rattle.std.proofs.{Common.{inr, refl, sym, ap, ◌∙◌, append_assoc, length-append, arith}, lemmas.Bool.{and_right, or_parts, cases_eq}}
 use Rattle.std.proofs.lemmas.Bool.Decides.{nat_tests}
 use Rattle.std.specs.Char.{is_ascii}
-use Rattle.legacy_base.specs.declared.results.DecodeEvent.{DecodeEvent}
-use Rattle.legacy_base.specs.declared.results.DecodeEvent.TheVariants.{Scalar, Bad}
-use Rattle.legacy_base.specs.declared.results.EncodeEvent.{EncodeEvent}
-use Rattle.legacy_base.specs.declared.results.EncodeEvent.TheVariants.{Byte}
-use Rattle.legacy_base.specs.Events.{shift}
-use Rattle.legacy_base.specs.Fronts.{reads}
-use Rattle.legacy_tables.specs.Pointers.{is_jis0208_pointer, euc_jp_pointer_of}
-use Rattle.legacy_base.specs.EncoderProfile.{EncoderMode, in_ascii, in_roman, in_two_byte}
-use Rattle.legacy_base.specs.Iso2022Jp.{Mode, ascii, roman, two_byte, esc, escape_mode, part_mode, iso_2022_jp_front, iso_2022_jp_events, is_whole_escape}
-use Rattle.legacy_base.specs.Iso2022Jp.{is_mode_control, iso_2022_jp_fold, iso_2022_jp_pointer_of, iso_2022_jp_pair, iso_2022_jp_code}
-use Rattle.legacy_base.specs.Iso2022Jp.{roman_or_ascii, escape_between}
-use Rattle.legacy_base.specs.Encoders.{iso_2022_jp}
+use Rattle.legacy_base.specs.{declared.results.DecodeEvent.DecodeEvent, declared.results.DecodeEvent.TheVariants.{Scalar, Bad}}
+use Rattle.legacy_base.specs.{declared.results.EncodeEvent.EncodeEvent, declared.results.EncodeEvent.TheVariants.Byte, Events.shift, Fronts.reads}
+use Rattle.legacy_base.specs.{EncoderProfile.{EncoderMode, in_ascii, in_roman, in_two_byte}, Iso2022Jp.{Mode, ascii, roman, two_byte, esc, escape_mode}}
+use Rattle.legacy_base.specs.Iso2022Jp.{part_mode, iso_2022_jp_front, iso_2022_jp_events, is_whole_escape, is_mode_control, iso_2022_jp_fold}
+use Rattle.legacy_base.specs.{Iso2022Jp.{iso_2022_jp_pointer_of, iso_2022_jp_pair, iso_2022_jp_code, roman_or_ascii, escape_between}, Encoders.iso_2022_jp}
 use Rattle.legacy_base.specs.RoundTrips.{is_fold, read_as, bytes_of, holds_adjacent_escapes}
-use Rattle.legacy_base.proofs.Shifts.{shift-zero, shift-append, shift-shift, shift-scalars}
+use Rattle.legacy_tables.specs.Pointers.{is_jis0208_pointer, euc_jp_pointer_of}
+use Rattle.legacy_base.proofs.{Shifts.{shift-zero, shift-append, shift-shift, shift-scalars}, PointersBack.{LeadsBack, leads_back}, Trips.same_byte_lists}
+use Rattle.legacy_base.proofs.{Trips.{begins_with, has_code, coded, bytes_of-behind, bytes_of-bytes, bytes_of-unmappable}, Iso2022JpParts.first_part}
+use Rattle.legacy_base.proofs.{Iso2022JpFronts.{step_one, step_two, step_escape}, Iso2022JpEncoding.{mode_for, mode_for-by, own_events, text_events}}
+use Rattle.legacy_base.proofs.Iso2022JpEncoding.{text_events-scalar, text_events-end, IsWritten, at_control, at_special, at_neutral, at_yen, at_overline}
+use Rattle.legacy_base.proofs.Iso2022JpEncoding.{at_pair, at_none}
 use Rattle.legacy_tables.proofs.Pointers.{first-taken}
-use Rattle.legacy_base.proofs.PointersBack.{LeadsBack, leads_back}
-use Rattle.legacy_base.proofs.Trips.{same_byte_lists, begins_with, has_code, coded, bytes_of-behind, bytes_of-bytes, bytes_of-unmappable}
-use Rattle.legacy_base.proofs.Iso2022JpParts.{first_part}
-use Rattle.legacy_base.proofs.Iso2022JpFronts.{step_one, step_two, step_escape}
-use Rattle.legacy_base.proofs.Iso2022JpEncoding.{mode_for, mode_for-by, own_events, text_events, text_events-scalar, text_events-end, IsWritten}
-use Rattle.legacy_base.proofs.Iso2022JpEncoding.{at_control, at_special, at_neutral, at_yen, at_overline, at_pair, at_none}
 
 -- the decoder's mode for an encoder's mode
 abbrev pub read_in : EncoderMode → Mode

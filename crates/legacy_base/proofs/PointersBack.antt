@@ -1,7 +1,5 @@
 -- The pointer that an encoder uses for a scalar decodes to that scalar.
-use Rattle.std.proofs.lemmas.Bool.Decides.{nat_tests}
-use Rattle.std.proofs.Common.{arith, ◌≡◌, ℕ, ◌<◌, List, length, Bool, true, Option, Some}
-use Rattle.std.proofs.lemmas.Bool.{ne_eqb}
+use Rattle.std.proofs.{lemmas.Bool.Decides.nat_tests, Common.{arith, ◌≡◌, ℕ, ◌<◌, List, length, Bool, true, Option, Some}, lemmas.Bool.ne_eqb}
 use Rattle.legacy_tables.specs.Indexes.{idx}
 use Rattle.legacy_tables.proofs.Pointers.{IsTaken, taken-within}
 

@@ -1,16 +1,9 @@
 -- How `Progress` of two consecutive steps combines into one.
-use Rattle.std.proofs.lemmas.Bool.Decides.{nat_tests}
-use Rattle.std.proofs.Common.{◌≡◌, ◌∙◌, ℕ, ◌+◌, List, [], ◌++◌, drop, refl, sym, ap, arith, append_assoc, length-append, Bool, false, IsTrue, inl, inr}
-use Rattle.std.proofs.lemmas.List.{drop-drop, drop-append-le}
-use Rattle.legacy_base.specs.declared.results.DecodeEvent.{DecodeEvent}
-use Rattle.legacy_base.specs.declared.results.DecoderResult.{DecoderResult}
-use Rattle.legacy_base.specs.Events.{shift}
-use Rattle.legacy_base.specs.Grammar.{events_of}
-use Rattle.legacy_base.specs.States.{DecoderState}
-use Rattle.legacy_base.specs.Beginnings.{BeginsWith}
-use Rattle.legacy_base.specs.Calls.{Progress, may_report_end}
-use Rattle.legacy_base.proofs.Beginnings.{begins_sooner, begins_later, begins_back}
-use Rattle.legacy_base.proofs.Shifts.{shift-append, shift-zero, shift-shift}
+use Rattle.std.proofs.{lemmas.Bool.Decides.nat_tests, Common.{◌≡◌, ◌∙◌, ℕ, ◌+◌, List, [], ◌++◌, drop, refl, sym, ap, arith, append_assoc, length-append, Bool}}
+use Rattle.std.proofs.{Common.{false, IsTrue, inl, inr}, lemmas.List.{drop-drop, drop-append-le}}
+use Rattle.legacy_base.specs.{declared.results.DecodeEvent.DecodeEvent, declared.results.DecoderResult.DecoderResult, Events.shift, Grammar.events_of}
+use Rattle.legacy_base.specs.{States.DecoderState, Beginnings.BeginsWith, Calls.{Progress, may_report_end}}
+use Rattle.legacy_base.proofs.{Beginnings.{begins_sooner, begins_later, begins_back}, Shifts.{shift-append, shift-zero, shift-shift}}
 
 no_end : {A : Type 0} → IsTrue false → A
 no_end f = cc

@@ -1,14 +1,10 @@
 -- Laws of the room that acts need and of the room before each scalar.
-use Rattle.std.proofs.Common.{◌≡◌, ◌≢◌, ℕ, ◌-◌, ◌≤◌, ◌<◌, List, [], ◌∷◌, ◌++◌, refl}
-use Rattle.std.proofs.Common.{subst, arith, length-append, Bool, true, false, not, ◌||◌, ◌&&◌, IsTrue, Some, None, Option}
-use Rattle.std.specs.Prelude.{MatchBool}
-use Rattle.std.specs.Char.{is_ascii}
-use Rattle.std.proofs.Math.Nat.{sub-zero}
+use Rattle.std.proofs.Common.{◌≡◌, ◌≢◌, ℕ, ◌-◌, ◌≤◌, ◌<◌, List, [], ◌∷◌, ◌++◌, refl, subst, arith, length-append, Bool, true, false, not, ◌||◌, ◌&&◌, IsTrue}
+use Rattle.std.proofs.{Common.{Some, None, Option}, Math.Nat.sub-zero}
+use Rattle.std.specs.{Prelude.MatchBool, Char.is_ascii}
 use Rattle.legacy_text.specs.EncodingForm.{EncodingForm, code_units, unit_count, all_code_units, total_unit_count, bmp_room, wide_room}
-use Rattle.legacy_base.specs.Grammar.{Grammar, events_of}
-use Rattle.legacy_base.specs.States.{DecoderState, rests}
-use Rattle.legacy_base.specs.DecoderActs.{takes, act_room, has_short_ascii, has_marks, is_mark_behind, room_needed, LacksRoom, full_room_in, release_room_in}
-use Rattle.legacy_base.specs.DecoderActs.{HadRoom, HadRoomReleased, HadRooms}
+use Rattle.legacy_base.specs.{Grammar.{Grammar, events_of}, States.{DecoderState, rests}, DecoderActs.{takes, act_room, has_short_ascii, has_marks}}
+use Rattle.legacy_base.specs.DecoderActs.{is_mark_behind, room_needed, LacksRoom, full_room_in, release_room_in, HadRoom, HadRoomReleased, HadRooms}
 
 -- ---- the room before each scalar
 

@@ -1,10 +1,8 @@
 -- Equal code units come from equal scalars.
-use Rattle.std.proofs.Common.{◌≡◌, ◌∙◌, ℕ, suc, ◌≤◌, List, [], ◌∷◌, ◌++◌, length, refl, sym, ap, arith, length-append, All}
-use Rattle.std.proofs.lemmas.Bool.Decides.{nat_tests}
-use lib.Utf8.{encode}
+use Rattle.std.proofs.{Common.{◌≡◌, ◌∙◌, ℕ, suc, ◌≤◌, List, [], ◌∷◌, ◌++◌, length, refl, sym, ap, arith, length-append, All}, lemmas.Bool.Decides.nat_tests}
 use Rattle.std.proofs.lemmas.Str.{encode_same}
-use Rattle.std.specs.Char.{IsScalar}
-use Rattle.std.specs.Char.Escape.{encode_utf16}
+use lib.Utf8.{encode}
+use Rattle.std.specs.{Char.IsScalar, Char.Escape.encode_utf16}
 use Rattle.legacy_text.specs.EncodingForm.{EncodingForm, Utf8, Utf16, code_units, all_code_units}
 
 utf16_scalar : (c d : ℕ) (r t : List ℕ) → IsScalar c → IsScalar d → encode_utf16 c ++ r ≡ encode_utf16 d ++ t → c ≡ d

@@ -1,19 +1,11 @@
 -- Codes that decode to one scalar whatever bytes follow, and texts of such codes.
-use Rattle.std.proofs.lemmas.Bool.Decides.{nat_tests}
-use Rattle.std.proofs.Common.{◌≡◌, ℕ, ◌<◌, List, [], ◌∷◌, ◌++◌, drop, length, map, filter, Option, Some, None, is_some, Bool, false, cond, refl, sym, ◌∙◌}
-use Rattle.std.proofs.Common.{ap, ap₂, arith}
-use Rattle.std.proofs.lemmas.Bool.{or_parts}
+use Rattle.std.proofs.{lemmas.Bool.Decides.nat_tests, Common.{◌≡◌, ℕ, ◌<◌, List, [], ◌∷◌, ◌++◌, drop, length, map, filter, Option, Some, None, is_some, Bool}}
+use Rattle.std.proofs.{Common.{false, cond, refl, sym, ◌∙◌, ap, ap₂, arith}, lemmas.Bool.or_parts}
 use Rattle.std.specs.List.{list_any}
-use Rattle.legacy_base.specs.declared.results.DecodeEvent.{DecodeEvent}
-use Rattle.legacy_base.specs.declared.results.DecodeEvent.TheVariants.{Scalar}
-use Rattle.legacy_base.specs.declared.results.EncodeEvent.{EncodeEvent}
-use Rattle.legacy_base.specs.declared.results.EncodeEvent.TheVariants.{Byte}
-use Rattle.legacy_base.specs.Events.{shift}
-use Rattle.legacy_base.specs.Fronts.{Front, reads, cut}
-use Rattle.legacy_base.specs.EncodeEvents.{code_events, plain_events}
-use Rattle.legacy_base.specs.RoundTrips.{bytes_of}
-use Rattle.legacy_base.proofs.Shifts.{shift-scalars}
-use Rattle.legacy_base.proofs.Cuts.{cut-nil, cut-front}
+use Rattle.legacy_base.specs.{declared.results.DecodeEvent.DecodeEvent, declared.results.DecodeEvent.TheVariants.Scalar}
+use Rattle.legacy_base.specs.{declared.results.EncodeEvent.EncodeEvent, declared.results.EncodeEvent.TheVariants.Byte, Events.shift, Fronts.{Front, reads, cut}}
+use Rattle.legacy_base.specs.{EncodeEvents.{code_events, plain_events}, RoundTrips.bytes_of}
+use Rattle.legacy_base.proofs.{Shifts.shift-scalars, Cuts.{cut-nil, cut-front}}
 
 -- the list begins with the front, whatever bytes follow
 abbrev pub HasFront : (ℕ → List ℕ → Front) → List ℕ → Front → Type 0

@@ -1,31 +1,18 @@
 -- The codes of Big5, EUC-KR, Shift_JIS, EUC-JP, the single-byte codecs and x-user-defined decode to their scalars. The
 -- codes of folds decode to other scalars (`read_as`).
-use Rattle.std.proofs.Common.{◌≡◌, ◌≢◌, ℕ, ◌+◌, ◌-◌, ◌*◌, ◌/◌, ◌%◌, ◌<◌, ◌≤◌, List, [], ◌∷◌, length, Bool, true, false, cond, ◌||◌, ◌==◌, nat_lt, Option}
-use Rattle.std.proofs.Common.{Some, None, option_map, option_to_list, position, refl, sym, arith, if◌then◌else◌}
-use Rattle.std.proofs.lemmas.Bool.{cond_both, ne_eqb, eqb-true, true≢false}
-use Rattle.std.proofs.lemmas.Bool.Decides.{nat_tests}
-use Rattle.std.proofs.lemmas.List.Quantifiers.{position-Some}
-use Rattle.std.proofs.Math.Nat.{div-add-mod}
-use Rattle.std.proofs.lemmas.Nat.{mod_below}
-use Rattle.std.specs.Int.{is_in_range}
-use Rattle.std.specs.Char.{is_ascii}
-use Rattle.legacy_base.specs.Fronts.{Front, reads}
-use Rattle.legacy_tables.specs.Indexes.{idx}
-use Rattle.legacy_base.specs.Profile.{is_lead}
-use Rattle.legacy_tables.specs.Pointers.{every_pointer, is_big5_pointer, big5_pointer_of, euc_kr_pointer_of}
-use Rattle.legacy_tables.specs.Pointers.{minus_as_hyphen, is_shift_jis_pointer, shift_jis_pointer_of, is_jis0208_pointer, euc_jp_pointer_of}
-use Rattle.legacy_base.specs.SingleByte.{single_byte_front, single_byte_code}
-use Rattle.legacy_base.specs.UserDefined.{user_defined_front, user_defined_code}
-use Rattle.legacy_base.specs.Big5.{big5_pair, big5_front, big5_bytes, big5_code}
-use Rattle.legacy_base.specs.LeadForms.{lead_front, lead_pair}
-use Rattle.legacy_base.specs.EucKr.{euc_kr_pointer, euc_kr_bytes, euc_kr_code}
-use Rattle.legacy_base.specs.ShiftJis.{is_shift_jis_lead, shift_jis_lead_part, shift_jis_pointer, shift_jis_scalars, shift_jis_pair, shift_jis_front}
-use Rattle.legacy_base.specs.ShiftJis.{shift_jis_bytes, shift_jis_code}
-use Rattle.legacy_base.specs.EucJp.{euc_jp_katakana, euc_jp_pair, euc_jp_front, euc_jp_bytes, euc_jp_code}
-use Rattle.legacy_base.specs.RoundTrips.{is_japanese_fold, japanese_scalar}
+use Rattle.std.proofs.Common.{◌≡◌, ◌≢◌, ℕ, ◌+◌, ◌-◌, ◌*◌, ◌/◌, ◌%◌, ◌<◌, ◌≤◌, List, [], ◌∷◌, length, Bool, true, false, cond, ◌||◌, ◌==◌, nat_lt, Option, Some}
+use Rattle.std.proofs.{Common.{None, option_map, option_to_list, position, refl, sym, arith, if◌then◌else◌}, lemmas.Bool.{cond_both, ne_eqb, eqb-true}}
+use Rattle.std.proofs.{lemmas.Bool.true≢false, lemmas.Bool.Decides.nat_tests, lemmas.List.Quantifiers.position-Some, Math.Nat.div-add-mod, lemmas.Nat.mod_below}
+use Rattle.std.specs.{Int.is_in_range, Char.is_ascii}
+use Rattle.legacy_base.specs.{Fronts.{Front, reads}, Profile.is_lead, SingleByte.{single_byte_front, single_byte_code}, UserDefined.user_defined_front}
+use Rattle.legacy_base.specs.{UserDefined.user_defined_code, Big5.{big5_pair, big5_front, big5_bytes, big5_code}, LeadForms.{lead_front, lead_pair}}
+use Rattle.legacy_base.specs.{EucKr.{euc_kr_pointer, euc_kr_bytes, euc_kr_code}, ShiftJis.{is_shift_jis_lead, shift_jis_lead_part, shift_jis_pointer}}
+use Rattle.legacy_base.specs.{ShiftJis.{shift_jis_scalars, shift_jis_pair, shift_jis_front, shift_jis_bytes, shift_jis_code}, EucJp.euc_jp_katakana}
+use Rattle.legacy_base.specs.{EucJp.{euc_jp_pair, euc_jp_front, euc_jp_bytes, euc_jp_code}, RoundTrips.{is_japanese_fold, japanese_scalar}}
+use Rattle.legacy_tables.specs.{Indexes.idx, Pointers.{every_pointer, is_big5_pointer, big5_pointer_of, euc_kr_pointer_of, minus_as_hyphen}}
+use Rattle.legacy_tables.specs.Pointers.{is_shift_jis_pointer, shift_jis_pointer_of, is_jis0208_pointer, euc_jp_pointer_of}
 use Rattle.legacy_tables.proofs.Pointers.{first-taken, big5-taken}
-use Rattle.legacy_base.proofs.PointersBack.{LeadsBack, leads_back}
-use Rattle.legacy_base.proofs.Trips.{Decodes}
+use Rattle.legacy_base.proofs.{PointersBack.{LeadsBack, leads_back}, Trips.Decodes}
 
 -- a code made from an optional pointer has a pointer
 pub mapped : (f : ℕ → List ℕ) (o : Option ℕ) (bytes : List ℕ) → option_map f o ≡ Some bytes → (p : ℕ) × (o ≡ Some p) × (bytes ≡ f p)

@@ -1,27 +1,16 @@
 -- The entry of index Big5 at the sum of a lead's place and a trail's place.
-use Rattle.std.proofs.Common.{◌≡◌, ◌≢◌, ◌∙◌, ℕ, ◌+◌, ◌-◌, ◌*◌, ◌≤◌, List, [], ◌∷◌, length, cond, refl, sym, ap, arith, Bool, true, false, ◌||◌, ◌==◌, Some, None}
-use Rattle.std.specs.Int.{is_in_range}
-use Rattle.std.specs.Prelude.{option_to_list}
-use Rattle.std.specs.Option.{option_map_or}
-use Rattle.std.proofs.lemmas.Bool.{ne_eqb}
-use Rattle.legacy_tables.specs.declared.tables.IndexName.TheVariants as names
-use Rattle.legacy_tables.specs.Indexes.{entry_scalar, idx}
-use Rattle.legacy_tables.specs.TableChecks.{must_be_empty}
-use Rattle.legacy_tables.specs.AcceptedTables.{AcceptedIndexes}
-use Rattle.legacy_tables.specs.Unicode.{IsByte}
+use Rattle.std.proofs.Common.{◌≡◌, ◌≢◌, ◌∙◌, ℕ, ◌+◌, ◌-◌, ◌*◌, ◌≤◌, List, [], ◌∷◌, length, cond, refl, sym, ap, arith, Bool, true, false, ◌||◌, ◌==◌, Some}
+use Rattle.std.proofs.{Common.None, lemmas.Bool.ne_eqb}
+use Rattle.std.specs.{Int.is_in_range, Prelude.option_to_list, Option.option_map_or}
+use Rattle.legacy_tables.specs.{Indexes.{entry_scalar, idx}, TableChecks.must_be_empty, AcceptedTables.AcceptedIndexes, Unicode.IsByte}
 use Rattle.legacy_tables.proofs.Accepted.{length-big5, big5-used}
-use Rattle.legacy_base.specs.Big5.{big5_scalars}
-use Rattle.legacy_base.specs.States.{is_lead}
-use Rattle.legacy_base.specs.Grammar.{big5}
-use Rattle.legacy_decoder_engine.specs.ReadAhead.{HasAscii, Runs}
-use Rattle.legacy_decoder_engine.proofs.LeadHeld.{ascii, pair}
-use Rattle.legacy_chinese.specs.Big5Shown.{big5_codec}
-use Rattle.legacy_chinese.proofs.EntryScalars.{scalar_at}
-use Rattle.legacy_chinese.specs.Big5Machine.{big5_pair_scalars}
-use Rattle.legacy_chinese.specs.Big5Places.{big5_lead_place, big5_trail_place}
+use Rattle.legacy_base.specs.{Big5.big5_scalars, States.is_lead, Grammar.big5}
+use Rattle.legacy_decoder_engine.specs.{ReadAhead.{HasAscii, Runs}, Places.IsTableOf}
+use Rattle.legacy_decoder_engine.proofs.{LeadHeld.{ascii, pair}, PairPlaces.{none_past, pair_entry, found}}
+use Rattle.legacy_chinese.specs.{Big5Shown.big5_codec, Big5Machine.big5_pair_scalars, Big5Places.{big5_lead_place, big5_trail_place}}
 use Rattle.legacy_chinese.specs.declared.big5.places.TheConstants.{ROWS_OF_157, TRAILS}
-use Rattle.legacy_decoder_engine.specs.Places.{IsTableOf}
-use Rattle.legacy_decoder_engine.proofs.PairPlaces.{none_past, pair_entry, found}
+use Rattle.legacy_chinese.proofs.EntryScalars.{scalar_at}
+use Rattle.legacy_tables.specs.declared.tables.IndexName.TheVariants as names
 
 pub big5_rows_are : IsTableOf big5_lead_place ROWS_OF_157
 unfolding big5_lead_place

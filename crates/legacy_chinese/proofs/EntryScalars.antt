@@ -1,12 +1,8 @@
 -- Each entry of an index that is not 0 is a scalar.
 use Rattle.std.proofs.Common.{◌≡◌, ◌<◌, ◌≤◌, ◌⊎◌, inl, inr, ℕ, [], ◌∷◌, length, get_or, Bool, true, false, cond, Some, None, ap, subst, ◌==◌}
 use Rattle.std.proofs.lemmas.Bool.{cases_lt}
-use Rattle.std.specs.Prelude.{option_to_list}
-use Rattle.std.specs.Char.{IsScalar}
-use Rattle.legacy_tables.specs.declared.tables.IndexName.{IndexName}
-use Rattle.legacy_tables.specs.AcceptedTables.{AcceptedIndexes}
-use Rattle.legacy_tables.specs.Indexes.{idx, entry_scalar}
-use Rattle.legacy_tables.specs.Tables.{index_list}
+use Rattle.std.specs.{Prelude.option_to_list, Char.IsScalar}
+use Rattle.legacy_tables.specs.{declared.tables.IndexName.IndexName, AcceptedTables.AcceptedIndexes, Indexes.{idx, entry_scalar}, Tables.index_list}
 use Rattle.legacy_tables.proofs.Accepted.{index-scalars}
 use Rattle.legacy_decoder_engine.proofs.PairPlaces.{idx_past}
 

@@ -1,17 +1,12 @@
 -- The tables contain the parts of the four bytes; the ranges are read at their pointer.
-use Rattle.std.proofs.Common.{◌≡◌, ◌∙◌, ℕ, ◌+◌, ◌-◌, ◌*◌, ◌≤◌, ◌<◌, List, [], ◌∷◌, get_or, Bool, true, false, cond, Some, None, ◌==◌, nat_le, refl, sym, ap, arith}
-use Rattle.std.proofs.lemmas.Bool.Decides.{nat_tests}
-use Rattle.std.specs.Int.{is_in_range}
-use Rattle.std.specs.Char.{is_ascii_digit}
-use Rattle.legacy_tables.specs.AcceptedTables.{AcceptedIndexes}
-use Rattle.legacy_tables.specs.Indexes.{range}
-use Rattle.legacy_base.specs.Gb18030.{gb18030_range_pointer}
-use Rattle.legacy_base.specs.Grammar.{gb18030}
-use Rattle.legacy_base.specs.States.{is_lead}
+use Rattle.std.proofs.Common.{◌≡◌, ◌∙◌, ℕ, ◌+◌, ◌-◌, ◌*◌, ◌≤◌, ◌<◌, List, [], ◌∷◌, get_or, Bool, true, false, cond, Some, None, ◌==◌, nat_le, refl, sym, ap}
+use Rattle.std.proofs.{Common.arith, lemmas.Bool.Decides.nat_tests}
+use Rattle.std.specs.{Int.is_in_range, Char.is_ascii_digit}
+use Rattle.legacy_tables.specs.{AcceptedTables.AcceptedIndexes, Indexes.range}
+use Rattle.legacy_base.specs.{Gb18030.gb18030_range_pointer, Grammar.gb18030, States.is_lead}
 use Rattle.legacy_decoder_engine.proofs.PairPlaces.{read}
 use Rattle.legacy_decoder_engine.specs.ReadAhead.{Runs}
-use Rattle.legacy_chinese.specs.FourPlaces.{lead_part, digit_part, four_place}
-use Rattle.legacy_chinese.specs.declared.gb18030.four_places.TheConstants.{LEADS, DIGITS}
+use Rattle.legacy_chinese.specs.{FourPlaces.{lead_part, digit_part, four_place}, declared.gb18030.four_places.TheConstants.{LEADS, DIGITS}}
 use Rattle.legacy_chinese.proofs.Gb18030Held.{four}
 
 pub lead_read : (b : ℕ) → b < 256 → get_or LEADS b 0 ≡ lead_part b

@@ -1,18 +1,11 @@
 -- The output of the steps of gb18030.
-use Rattle.std.proofs.Common.{◌≡◌, ℕ, ◌+◌, ◌-◌, ◌*◌, ◌≤◌, List, [], ◌∷◌, length, true, cond, ◌==◌, option_to_list, arith}
-use Rattle.std.proofs.lemmas.Bool.{false≢true, ltb-true}
-use Rattle.std.specs.Int.{is_in_range}
-use Rattle.std.specs.Char.{is_ascii, is_ascii_digit}
-use Rattle.legacy_base.specs.Fronts.{reads, malformed, reads_or}
+use Rattle.std.proofs.{Common.{◌≡◌, ℕ, ◌+◌, ◌-◌, ◌*◌, ◌≤◌, List, [], ◌∷◌, length, true, cond, ◌==◌, option_to_list, arith}, lemmas.Bool.{false≢true, ltb-true}}
+use Rattle.std.specs.{Int.is_in_range, Char.{is_ascii, is_ascii_digit}}
+use Rattle.legacy_base.specs.{Fronts.{reads, malformed, reads_or}, Gb18030.{gb18030_scalars, gb18030_range_pointer}, States.{is_lead, gb18030_may_hold}}
 use Rattle.legacy_tables.specs.Indexes.{range}
-use Rattle.legacy_base.specs.Gb18030.{gb18030_scalars, gb18030_range_pointer}
-use Rattle.legacy_base.specs.States.{is_lead}
-use Rattle.legacy_base.specs.States.{gb18030_may_hold}
-use Rattle.legacy_decoder_engine.specs.Steps.{hold, finish, leave, trail_step}
+use Rattle.legacy_decoder_engine.specs.{Steps.{hold, finish, leave, trail_step}, StepUnits.{units, IsWidth, Cost}}
 use Rattle.legacy_chinese.specs.Gb18030Machine.{gb18030_first, gb18030_step}
-use Rattle.legacy_decoder_engine.specs.StepUnits.{units, IsWidth, Cost}
-use Rattle.legacy_decoder_engine.proofs.Widths.{idx_units, option_units}
-use Rattle.legacy_decoder_engine.proofs.TwoByteCosts.{cost_test, units_test, trail_cost}
+use Rattle.legacy_decoder_engine.proofs.{Widths.{idx_units, option_units}, TwoByteCosts.{cost_test, units_test, trail_cost}}
 
 module _ (len : ℕ → ℕ) (narrow wide : ℕ) (w : IsWidth len narrow wide) where
   pub gb18030_first_cost : (b : ℕ) → Cost len narrow (cond (is_ascii b) 1 wide) length 6 [] b (gb18030_first b)

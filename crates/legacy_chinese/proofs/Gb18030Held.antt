@@ -1,45 +1,22 @@
 -- The gb18030 decoder holds back only what its machine may hold back, and its moves are the machine's.
-use Rattle.std.proofs.Common.{◌≡◌, ◌≢◌, ◌∙◌, ℕ, ◌+◌, ◌/◌, ◌%◌, ◌^◌, ◌<◌, ◌≤◌, List, [], ◌∷◌, length, get_or, Bool, true, false, refl, sym, ap, arith, Some, ◌==◌}
-use Rattle.std.proofs.lemmas.Bool.Decides.{nat_tests}
-use Rattle.std.proofs.lemmas.List.Elements.{All-nil, All-cons}
-use Rattle.std.specs.Prelude.{option_to_list}
-use Rattle.std.specs.Int.{is_in_range}
-use Rattle.std.specs.Char.{IsScalar, is_ascii, is_ascii_digit}
-use Rattle.legacy_tables.specs.Unicode.{IsByte, AreBytes}
-use Rattle.legacy_base.specs.Calls.{IsMalformedByte}
-use Rattle.legacy_tables.specs.declared.tables.IndexName.TheVariants as names
-use Rattle.legacy_tables.specs.Indexes.{idx, range}
-use Rattle.legacy_tables.specs.AcceptedTables.{AcceptedIndexes}
-use Rattle.legacy_base.specs.Gb18030.{gb18030_scalars, gb18030_range_pointer}
-use Rattle.legacy_base.specs.States.{is_lead}
-use Rattle.legacy_base.specs.Grammar.{Grammar, gb18030, events_of}
-use Rattle.legacy_base.specs.States.{gb18030_may_hold, is_neutral, rests}
+use Rattle.std.proofs.Common.{◌≡◌, ◌≢◌, ◌∙◌, ℕ, ◌+◌, ◌/◌, ◌%◌, ◌^◌, ◌<◌, ◌≤◌, List, [], ◌∷◌, length, get_or, Bool, true, false, refl, sym, ap, arith, Some}
+use Rattle.std.proofs.{Common.◌==◌, lemmas.Bool.Decides.nat_tests, lemmas.List.Elements.{All-nil, All-cons}}
+use Rattle.std.specs.{Prelude.option_to_list, Int.is_in_range, Char.{IsScalar, is_ascii, is_ascii_digit}}
+use Rattle.legacy_tables.specs.{Unicode.{IsByte, AreBytes}, Indexes.{idx, range}, AcceptedTables.AcceptedIndexes}
+use Rattle.legacy_base.specs.{Calls.IsMalformedByte, Gb18030.{gb18030_scalars, gb18030_range_pointer}, States.{is_lead, gb18030_may_hold, is_neutral, rests}}
+use Rattle.legacy_base.specs.{States.state_of, Grammar.{Grammar, gb18030, events_of}}
 use Rattle.legacy_tables.proofs.Accepted.{gb18030-below, gb18030-scalars, length-gb18030, range-scalar}
-use Rattle.legacy_chinese.specs.declared.gb18030.decoder.Gb18030Decoder.{Gb18030Decoder}
-use Rattle.legacy_chinese.specs.declared.gb18030.decoder.Held.{Held}
+use Rattle.legacy_chinese.specs.{declared.gb18030.decoder.Gb18030Decoder.Gb18030Decoder, declared.gb18030.decoder.Held.Held}
 use Rattle.legacy_chinese.specs.declared.gb18030.decoder.Held.TheVariants.{Nothing, First, Second, Third, Digit, DigitLead}
-use Rattle.legacy_decoder_engine.specs.declared.held_lead.Lead.{Lead}
-use Rattle.legacy_chinese.specs.declared.gb18030.digit.Digit.{Digit as HeldDigit}
-use Rattle.legacy_decoder_engine.specs.declared.moves.Fed.{Fed}
-use Rattle.legacy_decoder_engine.specs.Moves.{IsCovered, Feeds, Releases, Reports}
-use Rattle.legacy_base.specs.States.{state_of}
-use Rattle.legacy_decoder_engine.specs.ReadAhead.{Runs, HasAscii, IsIdle, IsPair}
-use Rattle.legacy_decoder_engine.specs.Feeding.{Took}
-use Rattle.legacy_chinese.specs.Gb18030Decoder.{gb18030_state}
-use Rattle.legacy_chinese.specs.Gb18030Machine.{gb18030_step, gb18030_machine}
-use Rattle.legacy_chinese.specs.Gb18030Held.{held_bytes, is_resting}
-use Rattle.legacy_decoder_engine.proofs.Feeding as moves
-use Rattle.legacy_decoder_engine.proofs.LeadHeld.{neutral_empty}
-use Rattle.legacy_decoder_engine.proofs.RunForms.{pair_runs, four_runs, has_ascii, ascii_is}
-use Rattle.legacy_decoder_engine.proofs.Widths.{idx_below}
-use Rattle.legacy_decoder_engine.proofs.LanePlaces.{entry_is}
+use Rattle.legacy_chinese.specs.{declared.gb18030.digit.Digit.Digit as HeldDigit, Gb18030Decoder.gb18030_state, Gb18030Machine.{gb18030_step, gb18030_machine}}
+use Rattle.legacy_chinese.specs.{Gb18030Held.{held_bytes, is_resting}, Gb18030Places.{gb18030_place, gb18030_trail_place}}
+use Rattle.legacy_decoder_engine.specs.{declared.held_lead.Lead.Lead, declared.moves.Fed.Fed, Moves.{IsCovered, Feeds, Releases, Reports}, ReadAhead.Runs}
+use Rattle.legacy_decoder_engine.specs.{ReadAhead.{HasAscii, IsIdle, IsPair}, Feeding.Took, Places.lead_place, Shown.IsShown}
+use Rattle.legacy_decoder_engine.proofs.{LeadHeld.neutral_empty, RunForms.{pair_runs, four_runs, has_ascii, ascii_is}, Widths.idx_below, LanePlaces.entry_is}
 use Rattle.legacy_decoder_engine.proofs.PairPlaces.{found}
-use Rattle.legacy_decoder_engine.specs.Places.{lead_place}
-use Rattle.legacy_chinese.specs.Gb18030Places.{gb18030_place, gb18030_trail_place}
-use Rattle.legacy_chinese.proofs.Gb18030Places.{gb18030_entry}
-use Rattle.legacy_chinese.proofs.EntryScalars.{scalar_at}
-use Rattle.legacy_decoder_engine.specs.Shown.{IsShown}
-use Rattle.legacy_chinese.proofs.Gb18030Shown.{gb18030_shown}
+use Rattle.legacy_chinese.proofs.{Gb18030Places.gb18030_entry, EntryScalars.scalar_at, Gb18030Shown.gb18030_shown}
+use Rattle.legacy_tables.specs.declared.tables.IndexName.TheVariants as names
+use Rattle.legacy_decoder_engine.proofs.Feeding as moves
 
 lead_is : (b : ℕ) → 0x81 ≤ b → b ≤ 0xFE → (is_lead b ≡ true) × (is_ascii_digit b ≡ false) × (b < 2 ^ 8)
 lead_is b low high = (grind (arith, nat_tests), grind (arith, nat_tests), omega arith)

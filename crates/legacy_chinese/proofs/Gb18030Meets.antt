@@ -1,18 +1,14 @@
 -- The machine of gb18030 keeps to its grammar.
-use Rattle.std.proofs.Common.{◌≡◌, ℕ, ◌≤◌, List, [], ◌∷◌, ◌++◌, drop, length, Bool, true, false, not, cond, Some, None, refl, ◌∙◌, ◌&&◌, ◌==◌, option_to_list, arith, ⊎_elim}
-use Rattle.std.proofs.lemmas.Bool.{false≢true, not-true, and_parts, and_from, or_cases, or_left, or_right, both_ways}
+use Rattle.std.proofs.Common.{◌≡◌, ℕ, ◌≤◌, List, [], ◌∷◌, ◌++◌, drop, length, Bool, true, false, not, cond, Some, None, refl, ◌∙◌, ◌&&◌, ◌==◌, option_to_list}
+use Rattle.std.proofs.{Common.{arith, ⊎_elim}, lemmas.Bool.{false≢true, not-true, and_parts, and_from, or_cases, or_left, or_right, both_ways}}
 use Rattle.std.proofs.lemmas.Bool.Decides.{nat_tests}
 use Rattle.std.specs.Char.{is_ascii, is_ascii_digit}
-use Rattle.legacy_base.specs.Fronts.{Front, reads, malformed, reads_or, cut}
+use Rattle.legacy_base.specs.{Fronts.{Front, reads, malformed, reads_or, cut}, Grammar.{gb18030, events_of}, Gb18030.{gb18030_scalars, gb18030_range_pointer}}
+use Rattle.legacy_base.specs.{Gb18030.{gb18030_fourth, gb18030_third, gb18030_second, gb18030_front}, States.{is_lead, gb18030_may_hold, rests}}
 use Rattle.legacy_tables.specs.Indexes.{range}
-use Rattle.legacy_base.specs.Grammar.{gb18030, events_of}
-use Rattle.legacy_base.specs.Gb18030.{gb18030_scalars, gb18030_range_pointer, gb18030_fourth, gb18030_third, gb18030_second, gb18030_front}
-use Rattle.legacy_base.specs.States.{is_lead}
-use Rattle.legacy_base.specs.States.{gb18030_may_hold, rests}
 use Rattle.legacy_decoder_engine.specs.Steps.{hold, finish, leave, PendingMeets, end_events, trail_step, Meets}
 use Rattle.legacy_chinese.specs.Gb18030Machine.{gb18030_pending, gb18030_first, gb18030_step, gb18030_machine}
-use Rattle.legacy_base.proofs.Cuts.{cut-nil}
-use Rattle.legacy_base.proofs.FrontLaws.{gb18030_front-of}
+use Rattle.legacy_base.proofs.{Cuts.cut-nil, FrontLaws.gb18030_front-of}
 use Rattle.legacy_decoder_engine.proofs.FrontMoves.{HasFront, Fits, fits_test, fits_trail, fits_meets, write_meets, end_meets, report_meets}
 
 lead_not_ascii : (b : ℕ) → is_lead b ≡ true → (is_ascii b ≡ false) × ((b == 0x80) ≡ false)

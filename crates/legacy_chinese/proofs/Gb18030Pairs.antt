@@ -1,14 +1,10 @@
 -- A pair that is the code of a scalar in gb18030 or in GBK.
 use Rattle.std.proofs.Common.{◌≡◌, ◌≢◌, ℕ, ◌+◌, ◌<◌, ◌≤◌, List, [], ◌∷◌, Option, Some, None, Bool, true, false, IfSome, option_map, refl, arith}
-use Rattle.std.proofs.lemmas.Bool.{ne_eqb}
-use Rattle.std.proofs.lemmas.Bool.Decides.{nat_tests}
+use Rattle.std.proofs.{lemmas.Bool.ne_eqb, lemmas.Bool.Decides.nat_tests}
 use Rattle.std.specs.Char.{is_ascii}
-use Rattle.legacy_tables.specs.Indexes.{gb18030_pua_of}
-use Rattle.legacy_tables.specs.Pointers.{gb18030_pointer_of, range_pointer_of}
-use Rattle.legacy_tables.specs.Indexes.{FlatIndexes}
+use Rattle.legacy_tables.specs.{Indexes.{gb18030_pua_of, FlatIndexes}, Pointers.{gb18030_pointer_of, range_pointer_of}}
 use Rattle.legacy_tables.proofs.PointerBounds.{range-bound}
-use Rattle.legacy_base.specs.Encoders.{encoder_profile}
-use Rattle.legacy_base.specs.Gb18030.{gb18030_code, gbk_code, gb18030_pair_bytes, gb18030_range_bytes}
+use Rattle.legacy_base.specs.{Encoders.encoder_profile, Gb18030.{gb18030_code, gbk_code, gb18030_pair_bytes, gb18030_range_bytes}}
 use Rattle.legacy_chinese.specs.Gb18030Codec.{gb18030_codec}
 
 pub pair_by : (flat : FlatIndexes) (extended : Bool) (c : ℕ) (o : Option (ℕ × ℕ))

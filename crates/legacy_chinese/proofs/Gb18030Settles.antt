@@ -1,18 +1,12 @@
 -- After each step of gb18030 the held-back bytes rest, or nothing is held back.
-use Rattle.std.proofs.Common.{◌≡◌, ℕ, List, [], ◌∷◌, true, false, not, refl, ◌==◌, option_to_list, arith}
-use Rattle.std.proofs.lemmas.Bool.{false≢true}
+use Rattle.std.proofs.{Common.{◌≡◌, ℕ, List, [], ◌∷◌, true, false, not, refl, ◌==◌, option_to_list, arith}, lemmas.Bool.false≢true}
 use Rattle.std.proofs.lemmas.Bool.Decides.{nat_tests}
-use Rattle.std.specs.Int.{is_in_range}
-use Rattle.std.specs.Char.{is_ascii, is_ascii_digit}
-use Rattle.legacy_base.specs.Fronts.{reads, malformed}
-use Rattle.legacy_tables.specs.Indexes.{range}
-use Rattle.legacy_base.specs.Gb18030.{gb18030_scalars, gb18030_range_pointer}
-use Rattle.legacy_base.specs.States.{is_lead}
+use Rattle.std.specs.{Int.is_in_range, Char.{is_ascii, is_ascii_digit}}
+use Rattle.legacy_base.specs.{Fronts.{reads, malformed}, Gb18030.{gb18030_scalars, gb18030_range_pointer}, States.{is_lead, gb18030_may_hold, rests}}
 use Rattle.legacy_base.specs.Grammar.{gb18030}
-use Rattle.legacy_base.specs.States.{gb18030_may_hold, rests}
-use Rattle.legacy_decoder_engine.specs.Steps.{hold, finish, leave, trail_step}
+use Rattle.legacy_tables.specs.Indexes.{range}
+use Rattle.legacy_decoder_engine.specs.{Steps.{hold, finish, leave, trail_step}, StatesAfterSteps.{IsOneOrMarked, Settles}}
 use Rattle.legacy_chinese.specs.Gb18030Machine.{gb18030_step}
-use Rattle.legacy_decoder_engine.specs.StatesAfterSteps.{IsOneOrMarked, Settles}
 use Rattle.legacy_decoder_engine.proofs.SettledSteps.{settles_test, one_test, one_option, trail_settles, or_settles}
 
 gb18030_one : (index : List ℕ) (a b : ℕ) → IsOneOrMarked false (gb18030_scalars index a b)

@@ -3,22 +3,15 @@ use Rattle.std.proofs.Common.{◌≡◌, ℕ, ◌+◌, ◌<◌, ◌≤◌, List,
 use Rattle.std.proofs.lemmas.Bool.Decides.{nat_tests}
 use Rattle.std.specs.Char.{is_ascii, is_ascii_digit}
 use Rattle.legacy_tables.specs.Unicode.{IsByte, AreBytes}
-use Rattle.legacy_base.specs.Grammar.{gb18030}
-use Rattle.legacy_base.specs.States.{DecoderState, gb18030_may_hold, rests}
-use Rattle.legacy_base.specs.DecoderActs.{act_room, takes}
-use Rattle.legacy_base.specs.Lengths.{LengthQuery, to_utf16, query_form, room}
+use Rattle.legacy_base.specs.{Grammar.gb18030, States.{DecoderState, gb18030_may_hold, rests, state_of}, DecoderActs.{act_room, takes}, Lengths.LengthQuery}
+use Rattle.legacy_base.specs.Lengths.{to_utf16, query_form, room}
 use Rattle.legacy_text.specs.EncodingForm.{unit_count, bmp_room, wide_room}
-use Rattle.legacy_decoder_engine.specs.StepUnits.{IsWidth, Cost, WritePays}
-use Rattle.legacy_base.specs.States.{state_of}
+use Rattle.legacy_decoder_engine.specs.{StepUnits.{IsWidth, Cost, WritePays}, Shown.{IsShown, WriteSettles}}
 use Rattle.legacy_chinese.specs.Gb18030Machine.{gb18030_machine, gb18030_pending}
-use Rattle.legacy_decoder_engine.proofs.Widths.{width_of}
-use Rattle.legacy_decoder_engine.specs.Shown.{IsShown, WriteSettles}
-use Rattle.legacy_decoder_engine.proofs.CallUnderWay.{same_rooms}
-use Rattle.legacy_decoder_engine.proofs.RoomMoves.{first_room, held_room_is, HasCosts, IsSloped, sloped_rooms}
-use Rattle.legacy_chinese.proofs.Gb18030Meets.{gb18030_meets}
-use Rattle.legacy_chinese.proofs.Gb18030Costs.{gb18030_first_cost, gb18030_held_cost}
-use Rattle.legacy_chinese.proofs.Gb18030Settles.{gb18030_settles, gb18030_write}
+use Rattle.legacy_decoder_engine.proofs.{Widths.width_of, CallUnderWay.same_rooms, RoomMoves.{first_room, held_room_is, HasCosts, IsSloped, sloped_rooms}}
 use Rattle.legacy_decoder_engine.proofs.SettledSteps.{write_test}
+use Rattle.legacy_chinese.proofs.{Gb18030Meets.gb18030_meets, Gb18030Costs.{gb18030_first_cost, gb18030_held_cost}, Gb18030Settles.gb18030_settles}
+use Rattle.legacy_chinese.proofs.Gb18030Settles.{gb18030_write}
 
 digit_below : (b : ℕ) → is_ascii_digit b ≡ true → b < 0x80
 digit_below b h = grind (arith, nat_tests)

@@ -1,23 +1,15 @@
 -- A walk over the pointers of index gb18030 lists the codes of the scalars that have the code of their pointer. The
 -- other scalars of gb18030 and GBK are looked up one by one.
-use Rattle.std.proofs.Common.{◌≡◌, ◌∙◌, ℕ, ◌+◌, ◌/◌, ◌<◌, List, [], ◌∷◌, slice_index, Some, None, Option, Bool, true, false}
-use Rattle.std.proofs.Common.{find, ◌||◌, ◌==◌, refl, ap, sym, subst, arith, option_map, inl, inr}
-use Rattle.std.proofs.lemmas.Bool.{le-ltb, cases_Bool}
+use Rattle.std.proofs.Common.{◌≡◌, ◌∙◌, ℕ, ◌+◌, ◌/◌, ◌<◌, List, [], ◌∷◌, slice_index, Some, None, Option, Bool, true, false, find, ◌||◌, ◌==◌, refl, ap, sym}
+use Rattle.std.proofs.{Common.{subst, arith, option_map, inl, inr}, lemmas.Bool.{le-ltb, cases_Bool}}
 use Rattle.std.specs.Option.{IfSome}
-use Rattle.legacy_tables.specs.Indexes.{FlatIndexes, gb18030_pua_of}
-use Rattle.legacy_tables.specs.TableChecks.{AreAccepted}
-use Rattle.legacy_tables.specs.Pointers.{gb18030_pointer_of, range_pointer_of}
+use Rattle.legacy_tables.specs.{Indexes.{FlatIndexes, gb18030_pua_of}, TableChecks.AreAccepted, Pointers.{gb18030_pointer_of, range_pointer_of}}
+use Rattle.legacy_tables.proofs.{Accepted.gb18030-scalars, PointerBounds.gb18030-bound}
+use Rattle.legacy_base.specs.{Gb18030.{gb18030_code, gbk_code, gb18030_pair_code, gb18030_pair_bytes, gb18030_range_bytes}, Encoders.encoder_profile}
+use Rattle.legacy_encoder_engine.specs.{UnitTurns.two_bytes, CachedPairs.IsNoPair}
+use Rattle.legacy_encoder_engine.proofs.{CachedPairs.{outside-one, outside-first}, WalkedPairs.{GoesByPointers, halves}}
+use Rattle.legacy_chinese.specs.{Gb18030Codec.gb18030_codec, Gb18030List.{GoesByPointer, is_in_rows, gb18030_mark, gb18030_mark-some}}
 use Rattle.legacy_tables.specs.declared.tables.packed.PackedPart.TheVariants as parts
-use Rattle.legacy_tables.proofs.Accepted.{gb18030-scalars}
-use Rattle.legacy_tables.proofs.PointerBounds.{gb18030-bound}
-use Rattle.legacy_base.specs.Gb18030.{gb18030_code, gbk_code, gb18030_pair_code, gb18030_pair_bytes, gb18030_range_bytes}
-use Rattle.legacy_base.specs.Encoders.{encoder_profile}
-use Rattle.legacy_encoder_engine.specs.UnitTurns.{two_bytes}
-use Rattle.legacy_encoder_engine.specs.CachedPairs.{IsNoPair}
-use Rattle.legacy_encoder_engine.proofs.CachedPairs.{outside-one, outside-first}
-use Rattle.legacy_encoder_engine.proofs.WalkedPairs.{GoesByPointers, halves}
-use Rattle.legacy_chinese.specs.Gb18030Codec.{gb18030_codec}
-use Rattle.legacy_chinese.specs.Gb18030List.{GoesByPointer, is_in_rows, gb18030_mark, gb18030_mark-some}
 
 find_none : (rows : List (ℕ × ℕ × ℕ)) (c : ℕ) → is_in_rows rows c ≡ false → find (λ r. r.0 == c) rows ≡ None
 find_none [] c e = refl

@@ -1,23 +1,15 @@
 -- A run is finished if its outputs are wide and many enough.
 use Rattle.std.proofs.Common.{◌≡◌, ◌∙◌, ℕ, ◌+◌, ◌-◌, ◌≤◌, List, [], ◌∷◌, length, map, refl, sym, ap, arith, length-append, All, Bool, true, false, IsTrue}
-use Rattle.std.proofs.lemmas.List.{length-map}
-use Rattle.std.proofs.lemmas.List.Elements.{All-get_or}
-use Rattle.std.proofs.lemmas.Option.{slice_get_within, get_or_from_slice_get}
-use Rattle.legacy_base.specs.declared.results.DecodeEvent.{DecodeEvent}
-use Rattle.legacy_base.specs.declared.results.DecodeEvent.TheVariants.{Scalar}
-use Rattle.legacy_base.specs.declared.results.DecoderResult.{DecoderResult}
-use Rattle.legacy_base.specs.declared.results.DecoderResult.TheVariants.{InputEmpty, OutputFull, Malformed}
+use Rattle.std.proofs.{lemmas.List.length-map, lemmas.List.Elements.All-get_or, lemmas.Option.{slice_get_within, get_or_from_slice_get}}
+use Rattle.legacy_base.specs.{declared.results.DecodeEvent.DecodeEvent, declared.results.DecodeEvent.TheVariants.Scalar}
+use Rattle.legacy_base.specs.{declared.results.DecoderResult.DecoderResult, declared.results.DecoderResult.TheVariants.{InputEmpty, OutputFull, Malformed}}
+use Rattle.legacy_base.specs.{Events.shift, States.DecoderState, Calls.{DecoderCall, reported_events, out_events}}
 use Rattle.legacy_text.specs.EncodingForm.{EncodingForm, wide_room, total_unit_count}
-use Rattle.legacy_base.specs.Events.{shift}
-use Rattle.legacy_base.specs.States.{DecoderState}
-use Rattle.legacy_base.specs.Calls.{DecoderCall, reported_events, out_events}
 use Rattle.legacy_base.proofs.Rooms.{lacks_small}
-use Rattle.legacy_codecs.specs.Pieces.{RunPlace, is_none, place_before, ends_run}
-use Rattle.legacy_codecs.specs.Runs.{is_input_empty, Reaches, IsRun, HasAmpleLengths}
-use Rattle.legacy_codecs.specs.Runs.Reaches.{begun, called}
-use Rattle.legacy_codecs.proofs.Places.{later_less, calls_are_fewer}
-use Rattle.legacy_codecs.proofs.Replaced.{length-shift}
-use Rattle.legacy_codecs.proofs.RunEvents.{behind, events_ahead, place_before-ahead, Reaches-events}
+use Rattle.legacy_codecs.specs.{Pieces.{RunPlace, is_none, place_before, ends_run}, Runs.{is_input_empty, Reaches, IsRun, HasAmpleLengths}, Runs.Reaches.begun}
+use Rattle.legacy_codecs.specs.Runs.Reaches.{called}
+use Rattle.legacy_codecs.proofs.{Places.{later_less, calls_are_fewer}, Replaced.length-shift, RunEvents.{behind, events_ahead, place_before-ahead}}
+use Rattle.legacy_codecs.proofs.RunEvents.{Reaches-events}
 
 -- a call's report adds its events after those of its scalars
 out-some : (seen : ℕ) (scalars : List ℕ) (answer : DecoderResult) →

@@ -1,20 +1,13 @@
 -- A run of an encoder is finished if its outputs are wide and many enough.
 use Rattle.std.proofs.Common.{◌≡◌, ◌∙◌, ℕ, ◌+◌, ◌≤◌, List, ◌++◌, length, map, refl, sym, ap, arith, length-append, All, Bool, true, false, IsTrue}
-use Rattle.std.proofs.lemmas.List.{length-map}
-use Rattle.std.proofs.lemmas.List.Elements.{All-get_or}
-use Rattle.std.proofs.lemmas.Option.{slice_get_within, get_or_from_slice_get}
-use Rattle.legacy_base.specs.declared.results.EncodeEvent.{EncodeEvent}
-use Rattle.legacy_base.specs.declared.results.EncodeEvent.TheVariants.{Byte}
-use Rattle.legacy_base.specs.declared.results.EncoderResult.{EncoderResult}
-use Rattle.legacy_base.specs.declared.results.EncoderResult.TheVariants.{InputEmpty, OutputFull, Unmappable}
-use Rattle.legacy_base.specs.Encoders.{EncoderState}
-use Rattle.legacy_base.specs.EncoderCalls.{EncoderCall, reported}
+use Rattle.std.proofs.{lemmas.List.length-map, lemmas.List.Elements.All-get_or, lemmas.Option.{slice_get_within, get_or_from_slice_get}}
+use Rattle.legacy_base.specs.{declared.results.EncodeEvent.EncodeEvent, declared.results.EncodeEvent.TheVariants.Byte}
+use Rattle.legacy_base.specs.{declared.results.EncoderResult.EncoderResult, declared.results.EncoderResult.TheVariants.{InputEmpty, OutputFull, Unmappable}}
+use Rattle.legacy_base.specs.{Encoders.EncoderState, EncoderCalls.{EncoderCall, reported}}
 use Rattle.legacy_base.proofs.EncoderLaws.{encoder_need-small}
-use Rattle.legacy_codecs.specs.Pieces.{RunPlace, is_none, place_before, place_behind, ends_run}
-use Rattle.legacy_codecs.specs.EncodeRuns.{is_input_empty, EncodeReaches, IsEncodeRun, HasAmpleOutputs}
-use Rattle.legacy_codecs.specs.EncodeRuns.EncodeReaches.{begun, called}
-use Rattle.legacy_codecs.proofs.Places.{later_less, calls_are_fewer}
-use Rattle.legacy_codecs.proofs.EncodeRunEvents.{encoded_ahead, place_before-encoded, reaches-encoded}
+use Rattle.legacy_codecs.specs.{Pieces.{RunPlace, is_none, place_before, place_behind, ends_run}, EncodeRuns.{is_input_empty, EncodeReaches, IsEncodeRun}}
+use Rattle.legacy_codecs.specs.{EncodeRuns.HasAmpleOutputs, EncodeRuns.EncodeReaches.{begun, called}}
+use Rattle.legacy_codecs.proofs.{Places.{later_less, calls_are_fewer}, EncodeRunEvents.{encoded_ahead, place_before-encoded, reaches-encoded}}
 
 -- a call's report adds its events after those of its bytes
 out-length : (bytes : List ℕ) (answer : EncoderResult) → length (map Byte bytes ++ reported answer) ≡ length bytes + length (reported answer)

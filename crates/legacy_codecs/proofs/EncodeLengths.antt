@@ -1,13 +1,10 @@
 -- Calls of an encoder that fill one output leave the room that the rest of the text needs.
 use Rattle.std.proofs.Common.{◌≡◌, ◌≢◌, ℕ, ◌+◌, ◌-◌, ◌≤◌, List, length, refl, arith, Bool, false}
-use Rattle.legacy_base.specs.declared.results.EncoderResult.{EncoderResult}
-use Rattle.legacy_base.specs.declared.results.EncoderResult.TheVariants.{InputEmpty, OutputFull, Unmappable}
+use Rattle.legacy_base.specs.{declared.results.EncoderResult.EncoderResult, declared.results.EncoderResult.TheVariants.{InputEmpty, OutputFull, Unmappable}}
+use Rattle.legacy_base.specs.{Encoders.{EncoderState, encoder_room}, EncoderCalls.GoesOn}
 use Rattle.legacy_text.specs.EncodingForm.{EncodingForm, total_unit_count}
-use Rattle.legacy_base.specs.Encoders.{EncoderState, encoder_room}
-use Rattle.legacy_base.specs.EncoderCalls.{GoesOn}
 use Rattle.legacy_base.proofs.EncoderLaws.{encoder_room-rises, encoder_room-answer}
-use Rattle.legacy_codecs.specs.EncodeFilling.{NextEncodeCall, EncodeFills, EncodeQueriedLengthSuffices}
-use Rattle.legacy_codecs.specs.EncodeFilling.EncodeFills.{begun, called}
+use Rattle.legacy_codecs.specs.{EncodeFilling.{NextEncodeCall, EncodeFills, EncodeQueriedLengthSuffices}, EncodeFilling.EncodeFills.{begun, called}}
 
 -- calls go on after a call that returns neither OutputFull nor, at the end of a text, InputEmpty
 goes_on : (last : Bool) (answer : EncoderResult) → answer ≢ OutputFull → (answer ≡ InputEmpty → last ≡ false) → GoesOn last answer

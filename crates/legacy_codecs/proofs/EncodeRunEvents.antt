@@ -2,16 +2,13 @@
 use Rattle.std.proofs.Common.{◌≡◌, ◌∙◌, ℕ, ◌+◌, List, [], ◌∷◌, ◌++◌, map, refl, sym, ap, append_assoc, append-nil, subst, Bool, true, false, IsTrue, Some, inl}
 use Rattle.std.proofs.lemmas.Bool.{false≢true}
 use Rattle.std.specs.Prelude.{slice_get}
-use Rattle.legacy_base.specs.declared.results.EncodeEvent.{EncodeEvent}
-use Rattle.legacy_base.specs.declared.results.EncodeEvent.TheVariants.{Byte}
-use Rattle.legacy_base.specs.declared.results.EncoderResult.{EncoderResult}
-use Rattle.legacy_base.specs.declared.results.EncoderResult.TheVariants.{InputEmpty, OutputFull, Unmappable}
-use Rattle.legacy_base.specs.Encoders.{EncoderState, encoded}
-use Rattle.legacy_base.specs.EncoderCalls.{EncoderCall, reported}
+use Rattle.legacy_base.specs.{declared.results.EncodeEvent.EncodeEvent, declared.results.EncodeEvent.TheVariants.Byte}
+use Rattle.legacy_base.specs.{declared.results.EncoderResult.EncoderResult, declared.results.EncoderResult.TheVariants.{InputEmpty, OutputFull, Unmappable}}
+use Rattle.legacy_base.specs.{Encoders.{EncoderState, encoded}, EncoderCalls.{EncoderCall, reported}}
 use Rattle.legacy_base.proofs.EncoderLaws.{end-encoded, told_end-last}
-use Rattle.legacy_codecs.specs.Pieces.{joined, RunPlace, is_none, place_before, place_behind, ends_run}
-use Rattle.legacy_codecs.specs.EncodeRuns.{is_input_empty, EncodeReaches, IsEncodeRun, IsEncodeBeginning, HasNoEnd, FinishedEncodeRun, EncodeCutsDoNotMatter}
-use Rattle.legacy_codecs.specs.EncodeRuns.EncodeReaches.{begun, called}
+use Rattle.legacy_codecs.specs.{Pieces.{joined, RunPlace, is_none, place_before, place_behind, ends_run}, EncodeRuns.{is_input_empty, EncodeReaches}}
+use Rattle.legacy_codecs.specs.{EncodeRuns.{IsEncodeRun, IsEncodeBeginning, HasNoEnd, FinishedEncodeRun, EncodeCutsDoNotMatter}, EncodeRuns.EncodeReaches.begun}
+use Rattle.legacy_codecs.specs.EncodeRuns.EncodeReaches.{called}
 use Rattle.legacy_codecs.proofs.Places.{last_empty, place_before-state}
 
 -- one more call, with its inputs and outputs given by equations

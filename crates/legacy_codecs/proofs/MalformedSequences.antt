@@ -1,20 +1,13 @@
 -- The search for malformed sequences under way.
-use Rattle.std.proofs.Common.{◌≡◌, ◌∙◌, ℕ, ◌+◌, ◌-◌, ◌≤◌, List, [], ◌∷◌, ◌++◌, length, drop, map, refl, sym, ap, ap₂, arith, append-nil, add-zero}
-use Rattle.std.proofs.Common.{length-drop, true, inl}
-use Rattle.std.proofs.lemmas.List.{drop_all}
-use Rattle.legacy_base.specs.declared.results.DecodeEvent.{DecodeEvent}
-use Rattle.legacy_base.specs.declared.results.DecodeEvent.TheVariants.{Scalar, Bad}
-use Rattle.legacy_base.specs.declared.results.DecoderResult.{DecoderResult}
-use Rattle.legacy_base.specs.declared.results.DecoderResult.TheVariants.{InputEmpty, OutputFull, Malformed}
+use Rattle.std.proofs.Common.{◌≡◌, ◌∙◌, ℕ, ◌+◌, ◌-◌, ◌≤◌, List, [], ◌∷◌, ◌++◌, length, drop, map, refl, sym, ap, ap₂, arith, append-nil, add-zero, length-drop}
+use Rattle.std.proofs.{Common.{true, inl}, lemmas.List.drop_all}
+use Rattle.legacy_base.specs.{declared.results.DecodeEvent.DecodeEvent, declared.results.DecodeEvent.TheVariants.{Scalar, Bad}}
+use Rattle.legacy_base.specs.{declared.results.DecoderResult.DecoderResult, declared.results.DecoderResult.TheVariants.{InputEmpty, OutputFull, Malformed}}
+use Rattle.legacy_base.specs.{Events.shift, Grammar.events_of, States.DecoderState, Lengths.{to_utf8_without_replacement, room}, Calls.{Progress, DecoderCall}}
+use Rattle.legacy_base.specs.Calls.{may_report_end, out_events}
 use Rattle.legacy_text.specs.EncodingForm.{Utf8}
-use Rattle.legacy_base.specs.Events.{shift}
-use Rattle.legacy_base.specs.Grammar.{events_of}
-use Rattle.legacy_base.specs.States.{DecoderState}
-use Rattle.legacy_base.specs.Lengths.{to_utf8_without_replacement, room}
-use Rattle.legacy_base.specs.Calls.{Progress, DecoderCall, may_report_end, out_events}
 use Rattle.legacy_base.proofs.Progress.{stay, at_less, after_that}
-use Rattle.legacy_codecs.specs.declared.malformed.MalformedSequence.{MalformedSequence}
-use Rattle.legacy_codecs.specs.MalformedSequences.{malformed_of}
+use Rattle.legacy_codecs.specs.{declared.malformed.MalformedSequence.MalformedSequence, MalformedSequences.malformed_of}
 
 -- a sequence is its place and its length
 pub sequence_is : (s : MalformedSequence) (p n : ℕ) → s.place ≡ p → s.length ≡ n → s ≡ record { place = p; length = n }

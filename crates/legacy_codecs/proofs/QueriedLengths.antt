@@ -1,13 +1,10 @@
 -- Calls that fill one output leave the room that the rest of the bytes needs.
 use Rattle.std.proofs.Common.{◌≡◌, ◌≢◌, ℕ, ◌+◌, ◌-◌, ◌≤◌, List, length, drop, length-drop, refl, arith, IsTrue}
-use Rattle.legacy_base.specs.declared.results.DecoderResult.{DecoderResult}
-use Rattle.legacy_base.specs.declared.results.DecoderResult.TheVariants.{OutputFull}
-use Rattle.legacy_text.specs.EncodingForm.{total_unit_count}
-use Rattle.legacy_base.specs.States.{DecoderState}
+use Rattle.legacy_base.specs.{declared.results.DecoderResult.DecoderResult, declared.results.DecoderResult.TheVariants.OutputFull, States.DecoderState}
 use Rattle.legacy_base.specs.Lengths.{LengthQuery, query_form, answer_units, room}
+use Rattle.legacy_text.specs.EncodingForm.{total_unit_count}
 use Rattle.legacy_base.proofs.Enough.{room-rises, room-answer}
-use Rattle.legacy_codecs.specs.QueriedOutput.{NextCall, Fills, QueriedLengthSuffices}
-use Rattle.legacy_codecs.specs.QueriedOutput.Fills.{begun, called}
+use Rattle.legacy_codecs.specs.{QueriedOutput.{NextCall, Fills, QueriedLengthSuffices}, QueriedOutput.Fills.{begun, called}}
 
 module _ (query : LengthQuery) (before : DecoderState) (bytes free : ℕ) (after : DecoderState) (answer : DecoderResult) (read : ℕ) (scalars : List ℕ)
     (n : NextCall query before bytes free after answer read scalars) where

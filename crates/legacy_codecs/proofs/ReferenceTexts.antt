@@ -1,16 +1,10 @@
 -- Laws of the text that is written for the events of an encoder, and of how a reference is made.
-use Rattle.std.proofs.Common.{◌≡◌, ◌∙◌, ℕ, ◌+◌, ◌-◌, ◌/◌, ◌%◌, ◌^◌, ◌≤◌, ◌<◌, List, [], ◌∷◌, ◌++◌, length, drop, take, set, map}
-use Rattle.std.proofs.Common.{decimal, refl, sym, ap, subst, arith, append_assoc, length-append, length-set, false, ◌||◌}
-use Rattle.std.proofs.Math.ListN.{drop_of_length-le}
-use Rattle.std.proofs.Math.Seq.{take-append-add}
-use Rattle.std.proofs.lemmas.Slice.{take-put_mid}
+use Rattle.std.proofs.Common.{◌≡◌, ◌∙◌, ℕ, ◌+◌, ◌-◌, ◌/◌, ◌%◌, ◌^◌, ◌≤◌, ◌<◌, List, [], ◌∷◌, ◌++◌, length, drop, take, set, map, decimal, refl, sym, ap, subst}
+use Rattle.std.proofs.{Common.{arith, append_assoc, length-append, length-set, false, ◌||◌}, Math.ListN.drop_of_length-le, Math.Seq.take-append-add}
+use Rattle.std.proofs.{lemmas.Slice.take-put_mid, lemmas.Fmt.{decimal_step, decimal_digit, length-decimal-le}, lemmas.List.{drop-set, take-take}}
+use Rattle.std.proofs.{lemmas.List.length-take-le, lemmas.List.Concat.flat_map-append, lemmas.List.Folds.list_any-append}
 use borrow.Rule.Slice.PartMut.{put_mid}
-use Rattle.std.proofs.lemmas.Fmt.{decimal_step, decimal_digit, length-decimal-le}
-use Rattle.std.proofs.lemmas.List.{drop-set, take-take, length-take-le}
-use Rattle.std.proofs.lemmas.List.Concat.{flat_map-append}
-use Rattle.std.proofs.lemmas.List.Folds.{list_any-append}
-use Rattle.legacy_base.specs.declared.results.EncodeEvent.{EncodeEvent}
-use Rattle.legacy_base.specs.declared.results.EncodeEvent.TheVariants.{Byte}
+use Rattle.legacy_base.specs.{declared.results.EncodeEvent.EncodeEvent, declared.results.EncodeEvent.TheVariants.Byte}
 use Rattle.legacy_codecs.specs.References.{event_bytes, referenced_bytes, is_unmappable, has_unmappable}
 
 -- ---- the text of events

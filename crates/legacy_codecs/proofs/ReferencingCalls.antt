@@ -1,25 +1,18 @@
 -- A call that writes references, in progress.
 use Rattle.std.proofs.Common.{◌≡◌, ◌∙◌, ℕ, ◌+◌, ◌-◌, ◌≤◌, ◌<◌, List, [], ◌∷◌, ◌++◌, length, map, slice_get, refl, sym, ap, subst, arith, append_assoc}
-use Rattle.std.proofs.Common.{append-nil, length-append, Bool, true, false, ◌||◌, IsTrue, Some, inl, inr}
+use Rattle.std.proofs.{Common.{append-nil, length-append, Bool, true, false, ◌||◌, IsTrue, Some, inl, inr}, lemmas.Bool.true≢false, lemmas.List.nil_from_length}
+use Rattle.std.proofs.{Math.Bool.{or-false, or-true}, Math.Nat.sub-zero}
 use Rattle.std.specs.Prelude.{is_some}
-use Rattle.std.proofs.lemmas.Bool.{true≢false}
-use Rattle.std.proofs.lemmas.List.{nil_from_length}
-use Rattle.std.proofs.Math.Bool.{or-false, or-true}
-use Rattle.std.proofs.Math.Nat.{sub-zero}
-use Rattle.legacy_base.specs.declared.results.EncodeEvent.{EncodeEvent}
-use Rattle.legacy_base.specs.declared.results.EncodeEvent.TheVariants.{Byte}
-use Rattle.legacy_base.specs.declared.results.EncodeEvent.TheVariants as event
-use Rattle.legacy_base.specs.declared.results.EncoderResult.{EncoderResult}
-use Rattle.legacy_base.specs.declared.results.EncoderResult.TheVariants.{InputEmpty, OutputFull, Unmappable}
+use Rattle.legacy_base.specs.{declared.results.EncodeEvent.EncodeEvent, declared.results.EncodeEvent.TheVariants.Byte}
+use Rattle.legacy_base.specs.{declared.results.EncoderResult.EncoderResult, declared.results.EncoderResult.TheVariants.{InputEmpty, OutputFull, Unmappable}}
+use Rattle.legacy_base.specs.{Encoders.{EncoderState, encoded, end_bytes, encoder_need, encoder_answer}, EncoderCalls.{EncoderCall, tells_end, reported}}
 use Rattle.legacy_text.specs.EncodingForm.{EncodingForm, total_unit_count}
-use Rattle.legacy_base.specs.Encoders.{EncoderState, encoded, end_bytes, encoder_need, encoder_answer}
-use Rattle.legacy_base.specs.EncoderCalls.{EncoderCall, tells_end, reported}
-use Rattle.legacy_base.proofs.Beginnings.{begins_later}
-use Rattle.legacy_base.proofs.EncoderLaws.{end-encoded, encoder_need-small}
-use Rattle.legacy_codecs.specs.declared.results.CoderResult.TheVariants as coder
+use Rattle.legacy_base.proofs.{Beginnings.begins_later, EncoderLaws.{end-encoded, encoder_need-small}}
 use Rattle.legacy_codecs.specs.References.{reference, reference_room, referenced_bytes, has_unmappable, Gives, KeepsReserve, LacksReferenceRoom}
 use Rattle.legacy_codecs.specs.References.{ReplacingEncoderCall}
 use Rattle.legacy_codecs.proofs.ReferenceTexts.{referenced-append, referenced-of_bytes, has_unmappable-append, has_unmappable-of_bytes}
+use Rattle.legacy_base.specs.declared.results.EncodeEvent.TheVariants as event
+use Rattle.legacy_codecs.specs.declared.results.CoderResult.TheVariants as coder
 
 -- ---- what one call adds
 

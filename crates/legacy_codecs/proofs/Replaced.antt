@@ -1,16 +1,9 @@
 -- Laws of the text of events, and of places.
 use Rattle.std.proofs.Common.{◌≡◌, ◌∙◌, ℕ, suc, ◌+◌, ◌-◌, ◌<◌, List, [], ◌∷◌, ◌++◌, length, drop, map, refl, ap, arith, append-nil, length-append, Bool, false}
-use Rattle.std.proofs.Common.{◌||◌, inl}
-use Rattle.std.proofs.lemmas.List.{map-append}
-use Rattle.std.proofs.lemmas.List.Folds.{list_any-append}
-use Rattle.legacy_base.specs.declared.results.DecodeEvent.{DecodeEvent}
-use Rattle.legacy_base.specs.declared.results.DecodeEvent.TheVariants.{Scalar, Bad}
-use Rattle.legacy_base.specs.declared.results.DecoderResult.TheVariants.{Malformed}
+use Rattle.std.proofs.{Common.{◌||◌, inl}, lemmas.List.map-append, lemmas.List.Folds.list_any-append}
+use Rattle.legacy_base.specs.{declared.results.DecodeEvent.DecodeEvent, declared.results.DecodeEvent.TheVariants.{Scalar, Bad}}
+use Rattle.legacy_base.specs.{declared.results.DecoderResult.TheVariants.Malformed, Events.shift, Grammar.events_of, States.DecoderState, Calls.DecoderCall}
 use Rattle.legacy_text.specs.EncodingForm.{EncodingForm}
-use Rattle.legacy_base.specs.Events.{shift}
-use Rattle.legacy_base.specs.Grammar.{events_of}
-use Rattle.legacy_base.specs.States.{DecoderState}
-use Rattle.legacy_base.specs.Calls.{DecoderCall}
 use Rattle.legacy_codecs.specs.Replacing.{replaced_scalar, replaced_scalars, is_bad, has_bad}
 
 pub replaced-append : (xs ys : List DecodeEvent) → replaced_scalars (xs ++ ys) ≡ replaced_scalars xs ++ replaced_scalars ys

@@ -1,30 +1,19 @@
 -- A call with replacement, in progress.
-use Rattle.std.proofs.Common.{◌≡◌, ◌∙◌, ℕ, ◌+◌, ◌-◌, ◌≤◌, ◌<◌, List, [], ◌∷◌, ◌++◌, length, drop, map, refl, sym, ap, arith, append_assoc}
-use Rattle.std.proofs.Common.{append-nil, length-append, length-drop, add-zero, Bool, true, false, ◌||◌, IsTrue, All, cond, nat_eq}
+use Rattle.std.proofs.Common.{◌≡◌, ◌∙◌, ℕ, ◌+◌, ◌-◌, ◌≤◌, ◌<◌, List, [], ◌∷◌, ◌++◌, length, drop, map, refl, sym, ap, arith, append_assoc, append-nil}
+use Rattle.std.proofs.{Common.{length-append, length-drop, add-zero, Bool, true, false, ◌||◌, IsTrue, All, cond, nat_eq}, Math.Bool.{or-false, or-true}}
+use Rattle.std.proofs.{lemmas.List.drop-drop, Math.Seq.drop-nil, lemmas.List.Elements.{All-append, All-nil, All-cons}}
 use Rattle.std.specs.Char.{IsScalar}
-use Rattle.std.proofs.Math.Bool.{or-false, or-true}
-use Rattle.std.proofs.lemmas.List.{drop-drop}
-use Rattle.std.proofs.Math.Seq.{drop-nil}
-use Rattle.std.proofs.lemmas.List.Elements.{All-append, All-nil, All-cons}
-use Rattle.legacy_base.specs.declared.results.DecodeEvent.{DecodeEvent}
-use Rattle.legacy_base.specs.declared.results.DecodeEvent.TheVariants.{Scalar}
-use Rattle.legacy_base.specs.declared.results.DecoderResult.{DecoderResult}
-use Rattle.legacy_base.specs.declared.results.DecoderResult.TheVariants.{InputEmpty, OutputFull, Malformed}
-use Rattle.legacy_text.specs.EncodingForm.{EncodingForm, Utf8, Utf16, code_units, all_code_units, total_unit_count, bmp_room, wide_room}
-use Rattle.legacy_base.specs.Events.{shift}
-use Rattle.legacy_base.specs.Grammar.{Grammar, profile, events_of}
-use Rattle.legacy_base.specs.States.{DecoderState}
-use Rattle.legacy_base.specs.DecoderActs.{LacksRoom, reading_room, writing_room, full_room_in, release_room_in}
-use Rattle.legacy_base.specs.Profile.{Rooms}
-use Rattle.legacy_base.specs.Lengths.{query_form, replacement_units, answer_units, room}
+use Rattle.legacy_base.specs.{declared.results.DecodeEvent.DecodeEvent, declared.results.DecodeEvent.TheVariants.Scalar}
+use Rattle.legacy_base.specs.{declared.results.DecoderResult.DecoderResult, declared.results.DecoderResult.TheVariants.{InputEmpty, OutputFull, Malformed}}
+use Rattle.legacy_base.specs.{Events.shift, Grammar.{Grammar, profile, events_of}, States.DecoderState, DecoderActs.{LacksRoom, reading_room, writing_room}}
+use Rattle.legacy_base.specs.{DecoderActs.{full_room_in, release_room_in}, Profile.Rooms, Lengths.{query_form, replacement_units, answer_units, room}}
 use Rattle.legacy_base.specs.Calls.{Progress, DecoderCall, may_report_end, reported_events, out_events}
-use Rattle.legacy_text.proofs.CodeUnits.{encode_3}
-use Rattle.legacy_base.proofs.Enough.{room-answer}
-use Rattle.legacy_base.proofs.Progress.{stay, at_less, after_that}
-use Rattle.legacy_text.proofs.CodeUnits.{all_code_units-append}
-use Rattle.legacy_codecs.specs.declared.results.CoderResult.TheVariants as coder
+use Rattle.legacy_text.specs.EncodingForm.{EncodingForm, Utf8, Utf16, code_units, all_code_units, total_unit_count, bmp_room, wide_room}
+use Rattle.legacy_text.proofs.CodeUnits.{encode_3, all_code_units-append}
+use Rattle.legacy_base.proofs.{Enough.room-answer, Progress.{stay, at_less, after_that}}
 use Rattle.legacy_codecs.specs.Replacing.{replaced_scalars, has_bad, replacing_query, may_replace_end, ReplacingDecoderCall}
 use Rattle.legacy_codecs.proofs.Replaced.{replaced-append, replaced-shift, replaced-of_scalars, has_bad-append, has_bad-shift, has_bad-of_scalars, fault_less}
+use Rattle.legacy_codecs.specs.declared.results.CoderResult.TheVariants as coder
 
 -- ---- what one call adds
 

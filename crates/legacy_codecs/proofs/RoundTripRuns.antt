@@ -1,18 +1,12 @@
 -- Runs of an encoder, and of a decoder over its output.
 use Rattle.std.proofs.Common.{◌≡◌, ◌∙◌, List, ℕ, ◌++◌, Bool, true, map, sym, ap, append-nil}
-use Rattle.legacy_base.specs.declared.results.DecodeEvent.TheVariants.{Scalar}
-use Rattle.legacy_base.specs.declared.results.EncodeEvent.{EncodeEvent}
-use Rattle.legacy_base.specs.Grammar.{events_of}
-use Rattle.legacy_base.specs.Encoders.{Codec, single_byte, user_defined, big5, euc_kr, shift_jis, euc_jp, gb18030, gbk, iso_2022_jp}
-use Rattle.legacy_base.specs.Encoders.{EncoderState, new_encoder, encoded}
-use Rattle.legacy_base.specs.RoundTrips.{grammar_of, IsEncodedAs, bytes_of}
+use Rattle.legacy_base.specs.{declared.results.DecodeEvent.TheVariants.Scalar, declared.results.EncodeEvent.EncodeEvent, Grammar.events_of, Encoders.Codec}
+use Rattle.legacy_base.specs.Encoders.{single_byte, user_defined, big5, euc_kr, shift_jis, euc_jp, gb18030, gbk, iso_2022_jp, EncoderState, new_encoder}
+use Rattle.legacy_base.specs.{Encoders.encoded, RoundTrips.{grammar_of, IsEncodedAs, bytes_of}}
 use Rattle.legacy_base.proofs.RoundTrips.{round_trips, same_scalars, encodes_well_formed, escapes_are_in_place}
-use Rattle.legacy_codecs.specs.Pieces.{place_before, joined}
-use Rattle.legacy_codecs.specs.Runs.{placed}
-use Rattle.legacy_codecs.specs.EncodeRuns.{IsEncodeRun}
-use Rattle.legacy_codecs.specs.RoundTripRuns.{RunsEncode, RunsRoundTrip, RunsReencodeToTheSame, RunsEncodeWellFormed, HasEscapesInPlace, RunComesBack}
-use Rattle.legacy_codecs.proofs.RunEvents.{placed-scalars, finished_gives}
-use Rattle.legacy_codecs.proofs.EncodeRunEvents.{is_encode_beginning, finished_encodes}
+use Rattle.legacy_codecs.specs.{Pieces.{place_before, joined}, Runs.placed, EncodeRuns.IsEncodeRun, RoundTripRuns.{RunsEncode, RunsRoundTrip}}
+use Rattle.legacy_codecs.specs.RoundTripRuns.{RunsReencodeToTheSame, RunsEncodeWellFormed, HasEscapesInPlace, RunComesBack}
+use Rattle.legacy_codecs.proofs.{RunEvents.{placed-scalars, finished_gives}, EncodeRunEvents.{is_encode_beginning, finished_encodes}}
 
 pub runs_encode : RunsEncode
 runs_encode codec text bytes w = record { whole = finished_encodes w.run; unfolded = w.unfolded }

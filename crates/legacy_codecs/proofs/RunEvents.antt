@@ -1,22 +1,13 @@
 -- What the calls of a run give together.
 use Rattle.std.proofs.Common.{◌≡◌, ◌∙◌, ℕ, ◌+◌, List, [], ◌∷◌, ◌++◌, length, drop, map, refl, sym, ap, arith, append_assoc, append-nil, subst, Bool, true}
-use Rattle.std.proofs.Common.{IsTrue, inl}
-use Rattle.std.proofs.lemmas.Bool.{false≢true}
-use Rattle.std.proofs.Math.ListN.{drop_of_length-le}
-use Rattle.legacy_base.specs.declared.results.DecodeEvent.{DecodeEvent}
-use Rattle.legacy_base.specs.declared.results.DecodeEvent.TheVariants.{Scalar}
-use Rattle.legacy_base.specs.declared.results.DecoderResult.{DecoderResult}
-use Rattle.legacy_base.specs.declared.results.DecoderResult.TheVariants.{InputEmpty, OutputFull, Malformed}
+use Rattle.std.proofs.{Common.{IsTrue, inl}, lemmas.Bool.false≢true, Math.ListN.drop_of_length-le}
+use Rattle.legacy_base.specs.{declared.results.DecodeEvent.DecodeEvent, declared.results.DecodeEvent.TheVariants.Scalar}
+use Rattle.legacy_base.specs.{declared.results.DecoderResult.DecoderResult, declared.results.DecoderResult.TheVariants.{InputEmpty, OutputFull, Malformed}}
+use Rattle.legacy_base.specs.{Events.shift, Grammar.events_of, States.DecoderState, Calls.out_events}
 use Rattle.legacy_text.specs.EncodingForm.{EncodingForm}
-use Rattle.legacy_base.specs.Events.{shift}
-use Rattle.legacy_base.specs.Grammar.{events_of}
-use Rattle.legacy_base.specs.States.{DecoderState}
-use Rattle.legacy_base.specs.Calls.{out_events}
-use Rattle.legacy_base.proofs.Shifts.{shift-append, shift-shift, shift-zero}
-use Rattle.legacy_base.proofs.Progress.{end_report-last}
-use Rattle.legacy_codecs.specs.Pieces.{joined, RunPlace, is_none, place_before, place_behind}
-use Rattle.legacy_codecs.specs.Runs.{is_input_empty, Reaches, placed_event, placed, IsRun, IsBeginning, HasNoneLeft, FinishedRun, CutsDoNotMatter}
-use Rattle.legacy_codecs.specs.Runs.Reaches.{begun, called}
+use Rattle.legacy_base.proofs.{Shifts.{shift-append, shift-shift, shift-zero}, Progress.end_report-last}
+use Rattle.legacy_codecs.specs.{Pieces.{joined, RunPlace, is_none, place_before, place_behind}, Runs.{is_input_empty, Reaches, placed_event, placed, IsRun}}
+use Rattle.legacy_codecs.specs.{Runs.{IsBeginning, HasNoneLeft, FinishedRun, CutsDoNotMatter}, Runs.Reaches.{begun, called}}
 use Rattle.legacy_codecs.proofs.Places.{last_empty, place_before-state, place_behind-state}
 
 pub placed-append : (h : ℕ) (a b : List DecodeEvent) → placed h (a ++ b) ≡ placed h a ++ placed h b

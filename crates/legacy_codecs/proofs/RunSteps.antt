@@ -1,22 +1,14 @@
 -- A run in progress, call by call.
-use Rattle.std.proofs.Common.{◌≡◌, ℕ, ◌+◌, ◌-◌, ◌≤◌, List, [], ◌∷◌, ◌++◌, length, drop, map, Bool, false, Some}
-use Rattle.std.proofs.Common.{refl, ap, arith, append_assoc, length-drop}
+use Rattle.std.proofs.Common.{◌≡◌, ℕ, ◌+◌, ◌-◌, ◌≤◌, List, [], ◌∷◌, ◌++◌, length, drop, map, Bool, false, Some, refl, ap, arith, append_assoc, length-drop}
 use Rattle.std.proofs.lemmas.List.{drop-drop}
 use Rattle.std.specs.Prelude.{slice_get, slice_index_or, sum_by}
-use Rattle.legacy_base.specs.declared.results.DecodeEvent.{DecodeEvent}
-use Rattle.legacy_base.specs.declared.results.DecodeEvent.TheVariants.{Scalar, Bad}
-use Rattle.legacy_base.specs.declared.results.DecoderResult.{DecoderResult}
-use Rattle.legacy_base.specs.declared.results.DecoderResult.TheVariants.{InputEmpty, OutputFull, Malformed}
+use Rattle.legacy_base.specs.{declared.results.DecodeEvent.DecodeEvent, declared.results.DecodeEvent.TheVariants.{Scalar, Bad}}
+use Rattle.legacy_base.specs.{declared.results.DecoderResult.DecoderResult, declared.results.DecoderResult.TheVariants.{InputEmpty, OutputFull, Malformed}}
+use Rattle.legacy_base.specs.{Events.shift, States.DecoderState, Calls.{DecoderCall, HoldsBack, reported_events, out_events}}
 use Rattle.legacy_text.specs.EncodingForm.{EncodingForm}
-use Rattle.legacy_base.specs.Events.{shift}
-use Rattle.legacy_base.specs.States.{DecoderState}
-use Rattle.legacy_base.specs.Calls.{DecoderCall, HoldsBack, reported_events, out_events}
 use Rattle.legacy_base.proofs.Shifts.{shift-append, shift-scalars}
-use Rattle.legacy_codecs.specs.Pieces.{RunPlace, is_none, ends_run}
-use Rattle.legacy_codecs.specs.Runs.{is_input_empty, Reaches, IsRun, placed}
-use Rattle.legacy_codecs.specs.Runs.Reaches.{begun, called}
-use Rattle.legacy_codecs.proofs.Places.{place_behind-state, pieces-length, place_at}
-use Rattle.legacy_codecs.proofs.RunEvents.{behind, placed-append, placed-scalars}
+use Rattle.legacy_codecs.specs.{Pieces.{RunPlace, is_none, ends_run}, Runs.{is_input_empty, Reaches, IsRun, placed}, Runs.Reaches.{begun, called}}
+use Rattle.legacy_codecs.proofs.{Places.{place_behind-state, pieces-length, place_at}, RunEvents.{behind, placed-append, placed-scalars}}
 
 -- A run in progress: its calls lead to the place `p`, gave these events, and read `total` bytes.
 pub record Running (form : EncodingForm) (from : RunPlace DecoderState) (lengths : List ℕ) (calls : ℕ) (items : List DecodeEvent) (total : ℕ) (finished : Bool)

@@ -1,23 +1,15 @@
 -- Finished runs give what the Standard's decoders and encoders give.
 use Rattle.std.proofs.Common.{◌≡◌, ◌∙◌, ℕ, ◌-◌, Bool, true, List, [], ◌∷◌, ◌++◌, length, append-nil, refl, sym, ap, subst, arith}
-use Rattle.legacy_base.specs.declared.results.DecodeEvent.{DecodeEvent}
-use Rattle.legacy_base.specs.declared.results.DecodeEvent.TheVariants.{Scalar, Bad}
-use Rattle.legacy_base.specs.declared.results.EncodeEvent.{EncodeEvent}
-use Rattle.legacy_base.specs.Grammar.{events_of}
-use Rattle.legacy_base.specs.States.{DecoderState}
-use Rattle.legacy_base.specs.Encoders.{EncoderState, new_encoder, encoded}
+use Rattle.legacy_base.specs.{declared.results.DecodeEvent.DecodeEvent, declared.results.DecodeEvent.TheVariants.{Scalar, Bad}}
+use Rattle.legacy_base.specs.{declared.results.EncodeEvent.EncodeEvent, Grammar.events_of, States.DecoderState, Encoders.{EncoderState, new_encoder, encoded}}
 use Rattle.legacy_base.specs.Encoders.{Codec, single_byte, user_defined, big5, euc_kr, shift_jis, euc_jp, gb18030, gbk, iso_2022_jp}
 use Rattle.legacy_base.specs.RoundTrips.{HasAcceptedLists}
 use Rattle.legacy_tables.proofs.Accepted.{parts}
-use Rattle.legacy_standard.specs.DecoderLaw.{grammar_of, HandlerDecodes}
-use Rattle.legacy_standard.specs.EncoderLaw.{HasAcceptedRanges, AreAcceptedRanges, HandlerEncodes}
+use Rattle.legacy_standard.specs.{DecoderLaw.{grammar_of, HandlerDecodes}, EncoderLaw.{HasAcceptedRanges, AreAcceptedRanges, HandlerEncodes}}
 use Rattle.legacy_standard.proofs.AllCodecs.{all_decoders, all_encoders}
-use Rattle.legacy_codecs.specs.Pieces.{joined}
-use Rattle.legacy_codecs.specs.Runs.{placed_event, placed, IsBeginning}
-use Rattle.legacy_codecs.specs.EncodeRuns.{IsEncodeBeginning}
-use Rattle.legacy_codecs.specs.StandardRuns.{RunIsDecodedByHandler, RunIsEncodedByHandler, RunsAreDecodedByHandlers, RunsAreEncodedByHandlers}
-use Rattle.legacy_codecs.proofs.RunEvents.{finished_gives}
-use Rattle.legacy_codecs.proofs.EncodeRunEvents.{finished_encodes}
+use Rattle.legacy_codecs.specs.{Pieces.joined, Runs.{placed_event, placed, IsBeginning}, EncodeRuns.IsEncodeBeginning, StandardRuns.RunIsDecodedByHandler}
+use Rattle.legacy_codecs.specs.StandardRuns.{RunIsEncodedByHandler, RunsAreDecodedByHandlers, RunsAreEncodedByHandlers}
+use Rattle.legacy_codecs.proofs.{RunEvents.finished_gives, EncodeRunEvents.finished_encodes}
 
 -- for a decoder that holds nothing back, places do not change
 placed_event-zero : (event : DecodeEvent) → placed_event 0 event ≡ event

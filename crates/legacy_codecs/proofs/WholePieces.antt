@@ -1,22 +1,14 @@
 -- A call with replacement that read its whole source gave the text of it.
 use Rattle.std.proofs.Common.{◌≡◌, ◌∙◌, ℕ, List, [], ◌∷◌, ◌++◌, length, drop, refl, sym, ap, arith, take, ◌≤◌, Bool, true, IsTrue, All, append-nil, inl}
-use Rattle.std.proofs.lemmas.List.{drop_all, take-take, take-append-le}
-use Rattle.std.proofs.lemmas.List.Elements.{All-head, All-tail}
-use Rattle.std.proofs.lemmas.Str.{chars_from_encodes}
-use Rattle.std.specs.Char.{IsScalar}
-use Rattle.std.specs.Str.{chars, IsUtf8}
+use Rattle.std.proofs.{lemmas.List.{drop_all, take-take, take-append-le}, lemmas.List.Elements.{All-head, All-tail}, lemmas.Str.chars_from_encodes}
+use Rattle.std.specs.{Char.IsScalar, Str.{chars, IsUtf8}}
 use lib.Utf8.{encode, encodes, scalars}
 use Rattle.legacy_text.specs.EncodingForm.{EncodingForm, Utf8, all_code_units}
-use Rattle.legacy_base.specs.Events.{shift}
-use Rattle.legacy_base.specs.Grammar.{events_of}
-use Rattle.legacy_base.specs.States.{DecoderState}
+use Rattle.legacy_base.specs.{Events.shift, Grammar.events_of, States.DecoderState}
 use Rattle.legacy_text.proofs.CodeUnits.{all_code_units-append}
-use Rattle.legacy_codecs.specs.declared.results.CoderResult.{CoderResult}
-use Rattle.legacy_codecs.specs.declared.results.CoderResult.TheVariants.{InputEmpty}
-use Rattle.legacy_codecs.specs.Replacing.{replaced_scalars, ReplacingDecoderCall}
-use Rattle.legacy_codecs.proofs.Replacements.{end_found-last}
-use Rattle.legacy_codecs.proofs.Replaced.{replaced-append, replaced-shift}
-use Rattle.legacy_codecs.specs.WholeTexts.{text_of, TextGoesOn}
+use Rattle.legacy_codecs.specs.{declared.results.CoderResult.CoderResult, declared.results.CoderResult.TheVariants.InputEmpty, Replacing.replaced_scalars}
+use Rattle.legacy_codecs.specs.{Replacing.ReplacingDecoderCall, WholeTexts.{text_of, TextGoesOn}}
+use Rattle.legacy_codecs.proofs.{Replacements.end_found-last, Replaced.{replaced-append, replaced-shift}}
 
 -- ---- scalars in UTF-8
 

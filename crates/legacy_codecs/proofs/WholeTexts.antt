@@ -1,12 +1,9 @@
 -- Calls of an encoder with references, over a whole text.
 use Rattle.std.proofs.Common.{◌≡◌, ◌∙◌, ℕ, ◌≤◌, ◌<◌, List, [], ◌++◌, length, refl, sym, ap, arith, append-nil, append_assoc, length-append, Bool, true, false}
-use Rattle.std.proofs.Common.{IsTrue, map, inl}
-use Rattle.std.proofs.lemmas.Grind.{flat_map-append}
-use Rattle.legacy_base.specs.declared.results.EncodeEvent.TheVariants.{Byte}
-use Rattle.legacy_base.specs.Encoders.{EncoderState, encoded}
+use Rattle.std.proofs.{Common.{IsTrue, map, inl}, lemmas.Grind.flat_map-append}
+use Rattle.legacy_base.specs.{declared.results.EncodeEvent.TheVariants.Byte, Encoders.{EncoderState, encoded}}
 use Rattle.legacy_base.proofs.EncoderLaws.{end-encoded}
-use Rattle.legacy_codecs.specs.declared.results.CoderResult.{CoderResult}
-use Rattle.legacy_codecs.specs.declared.results.CoderResult.TheVariants.{InputEmpty, OutputFull}
+use Rattle.legacy_codecs.specs.{declared.results.CoderResult.CoderResult, declared.results.CoderResult.TheVariants.{InputEmpty, OutputFull}}
 use Rattle.legacy_codecs.specs.References.{event_bytes, referenced_bytes, tells_text_end, ReplacingEncoderCall}
 
 -- the end was written on a last call

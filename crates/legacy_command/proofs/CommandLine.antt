@@ -1,6 +1,5 @@
 -- Laws of the words of the command line.
-use Rattle.std.proofs.Math.Seq.{take_all}
-use Rattle.std.proofs.Common.{◌≡◌, ap, ℕ, ◌-◌, take, drop, IsTrue, ◌≤◌, ◌<◌, List, [], ◌∷◌, length, refl, arith, Bool, true, false, ◌&&◌}
+use Rattle.std.proofs.{Math.Seq.take_all, Common.{◌≡◌, ap, ℕ, ◌-◌, take, drop, IsTrue, ◌≤◌, ◌<◌, List, [], ◌∷◌, length, refl, arith, Bool, true, false, ◌&&◌}}
 use Rattle.std.specs.Borrow.{Bor}
 use Rattle.legacy_command.specs.Words.{texts_of, are_indexes}
 

@@ -1,14 +1,9 @@
 -- Laws of the index files that the program is given.
 use Rattle.std.proofs.Common.{◌≡◌, ℕ, drop, ◌≤◌, ◌<◌, List, [], ◌∷◌, length, arith, Option, Some, None, sym, ap, subst, if◌then◌else◌}
 use Rattle.std.specs.Borrow.{Bor}
-use Rattle.legacy_index_files.specs.declared.index_file.FileIndex.{FileIndex}
-use Rattle.legacy_index_files.specs.declared.owned_indexes.OwnedIndexes.{OwnedIndexes}
-use Rattle.legacy_command.specs.Words.{texts_of, first_index_named}
-use Rattle.legacy_index_files.specs.IndexLine.{lines}
-use Rattle.legacy_index_files.specs.IndexTable.{first_malformed}
-use Rattle.legacy_index_files.specs.IndexTexts.{is_index, no_text, with_text}
-use Rattle.legacy_index_files.specs.OwnedIndexes.{HoldsTexts}
-use Rattle.legacy_command.specs.IndexTexts.{text_given, contents_of, IsWellFormed, AreWellFormed}
+use Rattle.legacy_index_files.specs.{declared.index_file.FileIndex.FileIndex, declared.owned_indexes.OwnedIndexes.OwnedIndexes, IndexLine.lines}
+use Rattle.legacy_index_files.specs.{IndexTable.first_malformed, IndexTexts.{is_index, no_text, with_text}, OwnedIndexes.HoldsTexts}
+use Rattle.legacy_command.specs.{Words.{texts_of, first_index_named}, IndexTexts.{text_given, contents_of, IsWellFormed, AreWellFormed}}
 
 -- with no INDEX and FILE every text is empty
 pub few_words : (tables : OwnedIndexes) (words : List (Bor (List ℕ))) (files : List (Option (Bor (List ℕ)))) → length words < 2

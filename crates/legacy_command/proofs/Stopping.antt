@@ -1,19 +1,13 @@
 -- What was written if a read, a write or a flush failed.
-use Rattle.std.proofs.Common.{◌≡◌, List, ℕ, Bool, Option, ◌⊎◌, inl, inr, refl, Result, Ok, Err, OnErr, OnOk}
+use Rattle.std.proofs.{Common.{◌≡◌, List, ℕ, Bool, Option, ◌⊎◌, inl, inr, refl, Result, Ok, Err, OnErr, OnOk}, KnownBytes.Appends-kept}
 use Rattle.std.specs.Io.KnownBytes.{Keeps}
-use Rattle.std.proofs.KnownBytes.{Appends-kept}
-use Rattle.legacy_base.specs.declared.results.DecodeEvent.{DecodeEvent}
-use Rattle.legacy_base.specs.{Encoders.EncoderState, States.DecoderState}
-use Rattle.legacy_streams.specs.declared.recode.RecodeError.{RecodeError}
-use Rattle.legacy_streams.specs.declared.recode.RecodeError.TheVariants.{Read, Write}
-use Rattle.legacy_streams.specs.Streams.{AppendsFront, DecodesAll, DecodesBeginning, DecodesPartly}
-use Rattle.legacy_streams.specs.{Recoding.RecodesBeginning, Recoding.RecodesPartly, Text.WritesBeginning, Text.WritesPartly}
-use Rattle.legacy_streams.specs.{Encoding.EncodesAll, Encoding.EncodesBeginning, Encoding.EncodesPartly, Encoding.EncodesUpTo}
-use Rattle.legacy_command.specs.declared.words.OutputKind.{OutputKind}
-use Rattle.legacy_command.specs.declared.words.OutputKind.TheVariants.{Lines, Text}
-use Rattle.legacy_command.specs.declared.host.Program.{Program}
-use Rattle.legacy_command.specs.declared.host.Program.TheVariants.{Recode, Encode}
-use Rattle.legacy_command.specs.{Host.IsStoppedBy, Program.Untouched, Program.RecodesInput, Program.RecodesSome, Program.EncodesSome}
+use Rattle.legacy_base.specs.{declared.results.DecodeEvent.DecodeEvent, Encoders.EncoderState, States.DecoderState}
+use Rattle.legacy_streams.specs.{declared.recode.RecodeError.RecodeError, declared.recode.RecodeError.TheVariants.{Read, Write}, Streams.AppendsFront}
+use Rattle.legacy_streams.specs.{Streams.{DecodesAll, DecodesBeginning, DecodesPartly}, Recoding.{RecodesBeginning, RecodesPartly}, Text.WritesBeginning}
+use Rattle.legacy_streams.specs.{Text.WritesPartly, Encoding.{EncodesAll, EncodesBeginning, EncodesPartly, EncodesUpTo}}
+use Rattle.legacy_command.specs.{declared.words.OutputKind.OutputKind, declared.words.OutputKind.TheVariants.{Lines, Text}, declared.host.Program.Program}
+use Rattle.legacy_command.specs.{declared.host.Program.TheVariants.{Recode, Encode}, Host.IsStoppedBy, Program.{Untouched, RecodesInput, RecodesSome}}
+use Rattle.legacy_command.specs.Program.{EncodesSome}
 
 -- ---- after a failed read or write
 

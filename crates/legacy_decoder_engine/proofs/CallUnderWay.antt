@@ -1,26 +1,20 @@
 -- The moves of a decoder make a call.
 use Rattle.std.proofs.Common.{◌≡◌, ◌≢◌, ◌∙◌, ℕ, zero, suc, ◌+◌, ◌-◌, ◌≤◌, ◌<◌, List, [], ◌∷◌, ◌++◌, length, map, get_or, take, drop, refl, sym, ap, subst}
 use Rattle.std.proofs.Common.{arith, add-zero, add-one, append-nil, drop-cons, drop_of_length-le, length-append, length-drop, Bool, true, false, IsTrue, Some}
-use Rattle.std.proofs.Common.{None, Option, ◌⊎◌, inl, inr, All}
-use Rattle.std.proofs.{lemmas.List.map-append, lemmas.List.drop-drop, lemmas.List.Elements.All-append, lemmas.List.Elements.All-nil}
-use Rattle.std.proofs.{lemmas.List.Elements.All-cons, Math.Nat.sub-zero, lemmas.Bool.true≢false, lemmas.Bool.cases_lt, lemmas.Bool.Decides.nat_tests}
+use Rattle.std.proofs.{Common.{None, Option, ◌⊎◌, inl, inr, All}, lemmas.List.{map-append, drop-drop}, lemmas.List.Elements.{All-append, All-nil, All-cons}}
+use Rattle.std.proofs.{Math.Nat.sub-zero, lemmas.Bool.{true≢false, cases_lt}, lemmas.Bool.Decides.nat_tests}
 use Rattle.std.specs.Char.{IsScalar}
 use Rattle.legacy_text.specs.EncodingForm.{EncodingForm, unit_count, total_unit_count}
 use Rattle.legacy_text.proofs.CodeUnits.{total_unit_count-append}
-use Rattle.legacy_base.specs.declared.results.DecoderResult.TheVariants.{InputEmpty, OutputFull, Malformed}
-use Rattle.legacy_base.specs.States.{DecoderState, may_hold, rests}
-use Rattle.legacy_base.specs.DecoderActs.{LacksRoom, HadRoom, HadRooms, malformed_room, full_room_in, release_room_in}
-use Rattle.legacy_base.specs.Lengths.{LengthQuery, query_form, replacement_units, room}
-use Rattle.legacy_base.specs.Calls.{Progress, DecoderCall, IsMalformedSequence, IsMalformed, HoldsBack, reported_events, may_report_end}
-use Rattle.legacy_base.specs.{declared.results.DecodeEvent.TheVariants.Scalar, declared.results.DecodeEvent.TheVariants.Bad}
-use Rattle.legacy_base.specs.{declared.results.DecoderResult.DecoderResult, Events.shift, Grammar.Grammar, Grammar.events_of}
-use Rattle.legacy_base.proofs.Progress.{stay, at_last, behind, after_that}
-use Rattle.legacy_base.proofs.Rooms.{HadRooms-append, HadRooms-none, HadRooms-released, room_needed-release, room_needed-read, room_needed-report}
-use Rattle.legacy_base.proofs.Rooms.{room_needed-none}
-use Rattle.legacy_base.proofs.{Enough.room-answer, Shifts.shift-scalars}
-use Rattle.legacy_decoder_engine.specs.declared.moves.Fed.TheVariants.{Nothing, One, Two, MalformedSequence}
-use Rattle.legacy_decoder_engine.specs.Moves.{SameRooms, Feeds, Releases, Reports, Finishes, IsCovered, HoldsBytes, RevealsMalformed, read_room, fed_scalars, fed_units}
-use Rattle.legacy_decoder_engine.specs.Moves.{unread_byte}
+use Rattle.legacy_base.specs.{declared.results.DecoderResult.TheVariants.{InputEmpty, OutputFull, Malformed}, States.{DecoderState, may_hold, rests}}
+use Rattle.legacy_base.specs.{DecoderActs.{LacksRoom, HadRoom, HadRooms, malformed_room, full_room_in, release_room_in}, Lengths.{LengthQuery, query_form}}
+use Rattle.legacy_base.specs.{Lengths.{replacement_units, room}, Calls.{Progress, DecoderCall, IsMalformedSequence, IsMalformed, HoldsBack, reported_events}}
+use Rattle.legacy_base.specs.{Calls.may_report_end, declared.results.DecodeEvent.TheVariants.{Scalar, Bad}, declared.results.DecoderResult.DecoderResult}
+use Rattle.legacy_base.specs.{Events.shift, Grammar.{Grammar, events_of}}
+use Rattle.legacy_base.proofs.{Progress.{stay, at_last, behind, after_that}, Rooms.{HadRooms-append, HadRooms-none, HadRooms-released, room_needed-release}}
+use Rattle.legacy_base.proofs.{Rooms.{room_needed-read, room_needed-report, room_needed-none}, Enough.room-answer, Shifts.shift-scalars}
+use Rattle.legacy_decoder_engine.specs.{declared.moves.Fed.TheVariants.{Nothing, One, Two, MalformedSequence}, Moves.{SameRooms, Feeds, Releases, Reports}}
+use Rattle.legacy_decoder_engine.specs.Moves.{Finishes, IsCovered, HoldsBytes, RevealsMalformed, read_room, fed_scalars, fed_units, unread_byte}
 use Rattle.legacy_decoder_engine.specs.declared.moves.Fed.{Fed}
 
 pub same_rooms : (g : Grammar) → SameRooms g g

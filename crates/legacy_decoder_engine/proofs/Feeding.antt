@@ -1,23 +1,21 @@
 -- A machine that agrees with its grammar and keeps its rooms makes the moves that the loop requires.
 use Rattle.std.proofs.Common.{◌≡◌, ◌≢◌, ◌∙◌, ℕ, suc, ◌+◌, ◌-◌, ◌≤◌, List, [], ◌∷◌, ◌++◌, length, drop, refl, sym, ap, subst, arith, append-nil, length-append}
 use Rattle.std.proofs.Common.{length-drop, drop_of_length-le, Bool, true, false, cond, not, ◌&&◌, ◌||◌, ◌⊎◌, map, IsTrue, Option, Some, None, inl, inr, All}
-use Rattle.std.proofs.{lemmas.List.drop-append-le, lemmas.List.nil_from_length, lemmas.List.Elements.All-nil, lemmas.List.Elements.All-cons}
-use Rattle.std.proofs.{lemmas.Bool.Decides.nat_tests, Math.Seq.drop-length}
+use Rattle.std.proofs.{lemmas.List.{drop-append-le, nil_from_length}, lemmas.List.Elements.{All-nil, All-cons}, lemmas.Bool.Decides.nat_tests}
+use Rattle.std.proofs.Math.Seq.{drop-length}
 use Rattle.std.specs.Char.{IsScalar, is_ascii}
 use Rattle.legacy_text.specs.EncodingForm.{EncodingForm, Utf8, Utf16, code_units, unit_count, all_code_units, total_unit_count, bmp_room, wide_room}
 use Rattle.legacy_tables.specs.Unicode.{IsByte, AreBytes}
-use Rattle.legacy_base.specs.States.{DecoderState, rests, may_hold, state_of}
-use Rattle.legacy_base.specs.DecoderActs.{act_room, takes, full_room, has_short_ascii, has_reported, has_marks, is_mark_behind, full_room_in, release_room_in, HadRoom}
-use Rattle.legacy_base.specs.Lengths.{LengthQuery, to_utf16, to_utf8, query_form, replacement_units, room}
-use Rattle.legacy_base.specs.{Fronts.reads, Fronts.malformed, Events.shift, declared.results.DecodeEvent.TheVariants.Scalar}
-use Rattle.legacy_base.specs.{declared.results.DecodeEvent.TheVariants.Bad, Grammar.Grammar, Grammar.events_of, Calls.IsMalformedByte}
+use Rattle.legacy_base.specs.{States.{DecoderState, rests, may_hold, state_of}, DecoderActs.{act_room, takes, full_room, has_short_ascii, has_reported}}
+use Rattle.legacy_base.specs.{DecoderActs.{has_marks, is_mark_behind, full_room_in, release_room_in, HadRoom}, Lengths.{LengthQuery, to_utf16, to_utf8}}
+use Rattle.legacy_base.specs.{Lengths.{query_form, replacement_units, room}, Fronts.{reads, malformed}, Events.shift}
+use Rattle.legacy_base.specs.{declared.results.DecodeEvent.TheVariants.{Scalar, Bad}, Grammar.{Grammar, events_of}, Calls.IsMalformedByte}
 use Rattle.legacy_decoder_engine.specs.Moves.{IsCovered, read_room, fed_scalars, fed_malformed, FedHolds, RevealsMalformed, Feeds, Releases, Reports}
 use Rattle.legacy_decoder_engine.specs.Steps.{Step, hold, finish, leave, step_held, step_length, step_unread, step_events, StepMeets, PendingMeets, end_events}
-use Rattle.legacy_decoder_engine.specs.Steps.{DecoderMachine}
-use Rattle.legacy_decoder_engine.specs.Feeding.{fed_form, fed_of, HasScalars, Took}
-use Rattle.legacy_decoder_engine.specs.{declared.moves.Fed.TheVariants.One, declared.moves.Fed.TheVariants.Two, StepUnits.units, StepUnits.step_units, StepUnits.step_left}
-use Rattle.legacy_decoder_engine.specs.{declared.moves.Fed.Fed, StatesAfterSteps.IsOneOrMarked, StatesAfterSteps.Settles, Shown.IsShown}
-use Rattle.legacy_base.proofs.{Rooms.release-full, GrammarLaws.may_none, GrammarLaws.rests-none}
+use Rattle.legacy_decoder_engine.specs.{Steps.DecoderMachine, Feeding.{fed_form, fed_of, HasScalars, Took}, declared.moves.Fed.TheVariants.{One, Two}}
+use Rattle.legacy_decoder_engine.specs.{StepUnits.{units, step_units, step_left}, declared.moves.Fed.Fed, StatesAfterSteps.{IsOneOrMarked, Settles}}
+use Rattle.legacy_decoder_engine.specs.Shown.{IsShown}
+use Rattle.legacy_base.proofs.{Rooms.release-full, GrammarLaws.{may_none, rests-none}}
 use Rattle.legacy_decoder_engine.proofs.RoomMoves.{all_needs}
 
 -- ---- rooms of all three queries

@@ -1,9 +1,8 @@
 -- The forms that are picked at their starts are the front of the block.
 use Rattle.std.proofs.Common.{◌≡◌, ◌∙◌, ℕ, zero, suc, ◌+◌, ◌-◌, ◌/◌, ◌%◌, ◌^◌, ◌<◌, ◌≤◌, ◌==◌, min, List, [], ◌∷◌, ◌++◌, Bool, true, false, cond, ltb, leb}
 use Rattle.std.proofs.Common.{length, map, take, get_or, replicate, w8, bit_and, bit_or, bit_xor, refl, sym, ap, subst, arith, append_assoc, append-nil}
-use Rattle.std.proofs.lemmas.List.{take_more, length-take-le, get_or-map, length-map}
-use Rattle.std.proofs.lemmas.Nat.Bits.{bit_at_lowest, bit_at-suc, bit_at-lt, bit_at_and, bit_at_xor, bit_at_or, bit_at_ones}
-use Rattle.std.proofs.lemmas.Simd.{bit_mask_l, tops_compared, mask_l-mod, get_or-chunk}
+use Rattle.std.proofs.{lemmas.List.{take_more, length-take-le, get_or-map, length-map}, lemmas.Nat.Bits.{bit_at_lowest, bit_at-suc, bit_at-lt, bit_at_and}}
+use Rattle.std.proofs.{lemmas.Nat.Bits.{bit_at_xor, bit_at_or, bit_at_ones}, lemmas.Simd.{bit_mask_l, tops_compared, mask_l-mod, get_or-chunk}}
 use Rattle.std.proofs.lemmas.Bool.Decides.{nat_tests}
 use Rattle.std.specs.Int.{bit_at}
 use lib.Lanes.{mask_l, zip2, top, chunk}

@@ -1,13 +1,12 @@
 -- The front of a list gives the move of a decoder, for every continuation.
 use Rattle.std.proofs.Common.{◌≡◌, ℕ, suc, ◌+◌, ◌<◌, ◌≤◌, List, [], ◌∷◌, ◌++◌, drop, length, Bool, true, false, cond, ◌-◌, refl, sym, ap, ◌∙◌, append_assoc}
-use Rattle.std.proofs.Common.{length-append, length-drop, drop_of_length-le, le_refl, arith, subst}
-use Rattle.std.proofs.{Math.Seq.drop-length, Math.Seq.drop-append_seam, lemmas.List.drop-append-le, lemmas.Bool.cond_both}
+use Rattle.std.proofs.{Common.{length-append, length-drop, drop_of_length-le, le_refl, arith, subst}, Math.Seq.{drop-length, drop-append_seam}}
+use Rattle.std.proofs.{lemmas.List.drop-append-le, lemmas.Bool.cond_both}
 use Rattle.std.specs.Char.{is_ascii}
-use Rattle.legacy_base.specs.Fronts.{Front, reads, malformed, front_length, front_events, reads_or, trail_rule, cut}
-use Rattle.legacy_base.specs.Grammar.{Grammar, events_of}
+use Rattle.legacy_base.specs.{Fronts.{Front, reads, malformed, front_length, front_events, reads_or, trail_rule, cut}, Grammar.{Grammar, events_of}}
 use Rattle.legacy_base.specs.{declared.results.DecodeEvent.TheVariants.Bad, Beginnings.BeginsWith, Events.shift, States.may_hold}
 use Rattle.legacy_decoder_engine.specs.Steps.{Step, hold, finish, leave, HasMalformedLength, StepMeets, WriteMeets, end_events, ReportMeets, trail_step}
-use Rattle.legacy_base.proofs.{Shifts.shift-zero, Cuts.cut-nil, Cuts.cut-front, Beginnings.no_sooner}
+use Rattle.legacy_base.proofs.{Shifts.shift-zero, Cuts.{cut-nil, cut-front}, Beginnings.no_sooner}
 
 -- the list begins with the front
 abbrev pub HasFront : (ℕ → List ℕ → Front) → List ℕ → Front → Type 0

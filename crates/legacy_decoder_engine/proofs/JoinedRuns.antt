@@ -1,11 +1,10 @@
 -- Runs that are read one after another.
 use Rattle.std.proofs.Common.{◌≡◌, ◌∙◌, ℕ, ◌+◌, ◌-◌, ◌<◌, ◌≤◌, List, ◌++◌, length, take, drop, refl, sym, ap, subst, arith, inl, inr, IsAscii}
-use Rattle.std.proofs.{lemmas.Bool.cases_lt, lemmas.List.take-take, lemmas.List.length-take, lemmas.List.length-take-le, lemmas.List.length-drop, Math.Seq.take-add}
+use Rattle.std.proofs.{lemmas.Bool.cases_lt, lemmas.List.{take-take, length-take, length-take-le, length-drop}, Math.Seq.take-add}
 use Rattle.legacy_text.specs.{declared.destination.Destination.Ghosts, EncodingForm.total_unit_count}
-use Rattle.legacy_base.specs.{Grammar.Grammar, States.DecoderState, States.new_state}
+use Rattle.legacy_base.specs.{Grammar.Grammar, States.{DecoderState, new_state}}
 use Rattle.legacy_decoder_engine.specs.ReadAhead.{HasAscii, IsIdle, Writes, WritesTo, ReadsTo, ReadsAhead}
-use Rattle.legacy_decoder_engine.proofs.{AheadRuns.reads_nothing, AheadRuns.with_empty, CallUnderWay.same_rooms, CallUnderWay.both_rooms}
-use Rattle.legacy_decoder_engine.proofs.WrittenRuns.{writes_then, writes_ascii}
+use Rattle.legacy_decoder_engine.proofs.{AheadRuns.{reads_nothing, with_empty}, CallUnderWay.{same_rooms, both_rooms}, WrittenRuns.{writes_then, writes_ascii}}
 
 module _ {D : Type 0} {T : Ghosts D} {source : List ℕ} {old mid new : D} {r s : ℕ} where
   -- a run, and then a run after it

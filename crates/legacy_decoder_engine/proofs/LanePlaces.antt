@@ -1,11 +1,11 @@
 -- The places of eight codes lane by lane, and the entries at them.
 use Rattle.std.proofs.Common.{◌≡◌, ◌≢◌, ℕ, ◌+◌, ◌-◌, ◌*◌, ◌/◌, ◌%◌, ◌^◌, ◌<◌, ◌≤◌, min, Bool, cond, leb, ltb, List, [], ◌∷◌, length, map, replicate, bit_and}
-use Rattle.std.proofs.Common.{refl, ap₂, subst, arith, w16, Fits, option_to_list}
-use Rattle.std.proofs.{Math.Nat.mul-le-mul_right, lemmas.Bool.Decides.nat_tests, lemmas.Nat.and_mask}
+use Rattle.std.proofs.{Common.{refl, ap₂, subst, arith, w16, Fits, option_to_list}, Math.Nat.mul-le-mul_right, lemmas.Bool.Decides.nat_tests}
+use Rattle.std.proofs.lemmas.Nat.{and_mask}
 use lib.Lanes.{Each1, zip2, sel_l, top}
 use Rattle.legacy_tables.specs.Indexes.{entry_scalar}
 use Rattle.legacy_text.proofs.UnitLanes.{of_eight}
-use Rattle.legacy_decoder_engine.specs.{LaneRows.row_place, SplitRows.lead_place_of, SplitRows.trail_place_of}
+use Rattle.legacy_decoder_engine.specs.{LaneRows.row_place, SplitRows.{lead_place_of, trail_place_of}}
 
 -- all bits of a lane, or none
 abbrev pub mask_if : Bool → ℕ

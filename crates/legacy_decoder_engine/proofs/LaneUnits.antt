@@ -1,33 +1,20 @@
 -- The units of eight codes, lane by lane, are the scalars of their forms.
-use Rattle.std.proofs.Common.{◌≡◌, ◌≢◌, ◌∙◌, ℕ, zero, suc, ◌+◌, ◌-◌, ◌*◌, ◌/◌, ◌%◌, ◌^◌, ◌<◌, ◌≤◌, min, Bool, true, false, cond, ltb, leb, eqb, All}
-use Rattle.std.proofs.Common.{List, [], ◌∷◌, ◌++◌, length, get_or, map, take, drop, replicate, bit_and, bit_or, refl, sym, ap, subst, arith, w16, Fits}
-use Rattle.std.proofs.Common.{length-append, ◌⊎◌, inl, inr}
-use Rattle.std.proofs.lemmas.Bool.{ltb-true, ltb-false, cases_lt}
-use Rattle.std.proofs.lemmas.Bool.Decides.{nat_tests}
-use Rattle.std.proofs.lemmas.Nat.{and_mask}
+use Rattle.std.proofs.Common.{◌≡◌, ◌≢◌, ◌∙◌, ℕ, zero, suc, ◌+◌, ◌-◌, ◌*◌, ◌/◌, ◌%◌, ◌^◌, ◌<◌, ◌≤◌, min, Bool, true, false, cond, ltb, leb, eqb, All, List, []}
+use Rattle.std.proofs.Common.{◌∷◌, ◌++◌, length, get_or, map, take, drop, replicate, bit_and, bit_or, refl, sym, ap, subst, arith, w16, Fits, length-append}
+use Rattle.std.proofs.{Common.{◌⊎◌, inl, inr}, lemmas.Bool.{ltb-true, ltb-false, cases_lt}, lemmas.Bool.Decides.nat_tests, lemmas.Nat.and_mask}
 use Rattle.std.proofs.lemmas.List.{take-take, take-append-drop, length-take-le, length-map, get_or-take, get_or-drop, get_or-map}
-use Rattle.std.proofs.lemmas.List.Sums.{sum_by-cons, sum_by-append, count_by-le-length}
-use Rattle.std.proofs.lemmas.List.Folds.{sum_by-replicate}
-use Rattle.std.proofs.lemmas.Grind.{flat_map-append}
-use Rattle.std.proofs.Math.Seq.{take-append_seam, take-add}
-use Rattle.std.proofs.lemmas.Simd.{tops_compared, length-zip2, get_or-zip2, get_or-sel_l, get_or-replicate, bitmask_splat, bit_mask_l, ones-mask_l}
-use Rattle.std.proofs.lemmas.Simd.{length-chunk, get_or-chunk, get_or-put_chunk_below, get_or-put_chunk_at}
-use Rattle.std.specs.Char.{IsScalar}
-use Rattle.std.specs.List.{count_by}
+use Rattle.std.proofs.{lemmas.List.Sums.{sum_by-cons, sum_by-append, count_by-le-length}, lemmas.List.Folds.sum_by-replicate, lemmas.Grind.flat_map-append}
+use Rattle.std.proofs.{Math.Seq.{take-append_seam, take-add}, lemmas.Simd.{tops_compared, length-zip2, get_or-zip2, get_or-sel_l, get_or-replicate}}
+use Rattle.std.proofs.lemmas.Simd.{bitmask_splat, bit_mask_l, ones-mask_l, length-chunk, get_or-chunk, get_or-put_chunk_below, get_or-put_chunk_at}
 use Rattle.std.proofs.lemmas.List.Elements.{All-from_get_or}
-use Rattle.std.specs.Int.{bit_at}
-use Rattle.std.specs.Int.RustNames.{count_ones}
+use Rattle.std.specs.{Char.IsScalar, List.count_by, Int.bit_at, Int.RustNames.count_ones}
 use lib.Lanes.{Each1, zip2, sel_l, top, mask_l, chunk, put_chunk}
-use Rattle.legacy_text.specs.declared.destination.Destination.{Ghosts}
-use Rattle.legacy_text.specs.EncodingForm.{EncodingForm, all_code_units, total_unit_count}
-use Rattle.legacy_text.proofs.UnitLanes.{of_eight}
-use Rattle.legacy_text.proofs.VectorUnits.{unit-below}
+use Rattle.legacy_text.specs.{declared.destination.Destination.Ghosts, EncodingForm.{EncodingForm, all_code_units, total_unit_count}}
+use Rattle.legacy_text.proofs.{UnitLanes.of_eight, VectorUnits.unit-below}
 use Rattle.legacy_base.specs.Grammar.{Grammar}
-use Rattle.legacy_decoder_engine.proofs.LanePlaces.{mask_if}
-use Rattle.legacy_decoder_engine.specs.ReadAhead.{HasAscii, Runs, Writes}
-use Rattle.legacy_decoder_engine.specs.LaneCodes.{kept_of, place_of, unit_at, ArePairs, IsLane, IsForm}
+use Rattle.legacy_decoder_engine.proofs.{LanePlaces.mask_if, WrittenRuns.{runs_none, runs_more, writes_then, all_short}}
+use Rattle.legacy_decoder_engine.specs.{ReadAhead.{HasAscii, Runs, Writes}, LaneCodes.{kept_of, place_of, unit_at, ArePairs, IsLane, IsForm}}
 use Rattle.legacy_decoder_engine.specs.PickedForms.{form_of, forms_of, IsFront}
-use Rattle.legacy_decoder_engine.proofs.WrittenRuns.{runs_none, runs_more, writes_then, all_short}
 
 -- ---- one lane
 

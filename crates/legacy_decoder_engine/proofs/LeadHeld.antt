@@ -1,13 +1,12 @@
 -- The moves of a decoder with leads, by the lead that it holds back.
-use Rattle.std.proofs.Common.{◌≡◌, ◌≢◌, ◌∙◌, ℕ, List, [], ◌∷◌, Bool, Option, Some, None, is_some, ◌&&◌, true, false, refl}
-use Rattle.std.proofs.lemmas.List.Elements.{All-nil, All-cons}
+use Rattle.std.proofs.{Common.{◌≡◌, ◌≢◌, ◌∙◌, ℕ, List, [], ◌∷◌, Bool, Option, Some, None, is_some, ◌&&◌, true, false, refl}, lemmas.List.Elements.All-nil}
+use Rattle.std.proofs.lemmas.List.Elements.{All-cons}
 use Rattle.std.specs.Char.{IsScalar}
-use Rattle.legacy_tables.specs.{Unicode.IsByte, Unicode.AreBytes, AcceptedTables.AcceptedIndexes, Indexes.FlatIndexes}
-use Rattle.legacy_base.specs.States.{may_hold, single_lead_may_hold, is_empty}
-use Rattle.legacy_base.specs.{Grammar.Grammar, Grammar.events_of, Calls.IsMalformedByte, Fronts.malformed}
-use Rattle.legacy_decoder_engine.specs.{declared.moves.Fed.Fed, Steps.Step, Steps.finish, Moves.IsCovered, Moves.Feeds, Moves.Reports}
-use Rattle.legacy_decoder_engine.specs.{LeadMachines.two_byte_step, LeadMachines.two_byte_machine, Shown.IsShown, Feeding.Took, ReadAhead.Runs, ReadAhead.HasAscii}
-use Rattle.legacy_decoder_engine.specs.{ReadAhead.IsIdle, LeadCodecs.IsLeadCodec, LeadCodecs.held_bytes, LeadCodecs.lead_state}
+use Rattle.legacy_tables.specs.{Unicode.{IsByte, AreBytes}, AcceptedTables.AcceptedIndexes, Indexes.FlatIndexes}
+use Rattle.legacy_base.specs.{States.{may_hold, single_lead_may_hold, is_empty}, Grammar.{Grammar, events_of}, Calls.IsMalformedByte, Fronts.malformed}
+use Rattle.legacy_decoder_engine.specs.{declared.moves.Fed.Fed, Steps.{Step, finish}, Moves.{IsCovered, Feeds, Reports}, LeadMachines.two_byte_step}
+use Rattle.legacy_decoder_engine.specs.{LeadMachines.two_byte_machine, Shown.IsShown, Feeding.Took, ReadAhead.{Runs, HasAscii, IsIdle}, LeadCodecs.IsLeadCodec}
+use Rattle.legacy_decoder_engine.specs.LeadCodecs.{held_bytes, lead_state}
 use Rattle.legacy_decoder_engine.proofs.RunForms.{has_ascii, pair_runs, ascii_is}
 use Rattle.legacy_decoder_engine.proofs.Feeding as feeding
 

@@ -1,7 +1,6 @@
 -- Machines that hold nothing back.
-use Rattle.std.proofs.Common.{◌≡◌, ℕ, ◌≤◌, List, [], ◌∷◌, length, true, refl, arith}
-use Rattle.std.proofs.lemmas.Bool.{false≢true}
-use Rattle.legacy_base.specs.{Fronts.Front, Fronts.malformed, Fronts.reads_or, Grammar.Grammar, States.is_empty}
+use Rattle.std.proofs.{Common.{◌≡◌, ℕ, ◌≤◌, List, [], ◌∷◌, length, true, refl, arith}, lemmas.Bool.false≢true}
+use Rattle.legacy_base.specs.{Fronts.{Front, malformed, reads_or}, Grammar.Grammar, States.is_empty}
 use Rattle.legacy_decoder_engine.specs.Steps.{finish, ReportMeets}
 use Rattle.legacy_decoder_engine.proofs.FrontMoves.{Fits}
 

@@ -3,22 +3,14 @@ use Rattle.std.proofs.Common.{◌≡◌, ℕ, ◌<◌, ◌&&◌, List, [], ◌�
 use Rattle.std.proofs.lemmas.Bool.{cond_both, false≢true, ltb-true}
 use Rattle.std.specs.{Char.is_ascii, Option.IfSome}
 use Rattle.legacy_tables.specs.Unicode.{IsByte}
-use Rattle.legacy_base.specs.Fronts.{Front, reads, malformed, reads_or, cut}
-use Rattle.legacy_base.specs.Profile.{Profile, narrow_acts, is_empty, always_rests, weightless}
-use Rattle.legacy_base.specs.Formulas.{to_come, constant, ◌⊠◌}
-use Rattle.legacy_base.specs.Grammar.{Grammar, profile, events_of}
-use Rattle.legacy_base.specs.States.{may_hold, state_of}
-use Rattle.legacy_base.specs.DecoderActs.{act_room, takes, has_marks}
-use Rattle.legacy_base.specs.Lengths.{to_utf16}
+use Rattle.legacy_base.specs.{Fronts.{Front, reads, malformed, reads_or, cut}, Profile.{Profile, narrow_acts, is_empty, always_rests, weightless}}
+use Rattle.legacy_base.specs.{Formulas.{to_come, constant, ◌⊠◌}, Grammar.{Grammar, profile, events_of}, States.{may_hold, state_of}, DecoderActs.act_room}
+use Rattle.legacy_base.specs.{DecoderActs.{takes, has_marks}, Lengths.to_utf16}
 use Rattle.legacy_base.proofs.Cuts.{cut-nil}
-use Rattle.legacy_decoder_engine.specs.Steps.{Step, finish, no_pending, end_events, StepMeets, DecoderMachine, Meets}
-use Rattle.legacy_decoder_engine.specs.StepUnits.{IsWidth, Cost}
+use Rattle.legacy_decoder_engine.specs.{Steps.{Step, finish, no_pending, end_events, StepMeets, DecoderMachine, Meets}, StepUnits.{IsWidth, Cost}}
 use Rattle.legacy_decoder_engine.specs.{StatesAfterSteps.Settles, Shown.IsShown}
-use Rattle.legacy_decoder_engine.proofs.CallUnderWay.{same_rooms}
-use Rattle.legacy_decoder_engine.proofs.FrontMoves.{Fits, fits_meets}
-use Rattle.legacy_decoder_engine.proofs.OneByteMeets.{few_held, no_report, one_fits}
-use Rattle.legacy_decoder_engine.proofs.RoomMoves.{HasCosts, IsSloped, sloped_rooms}
-use Rattle.legacy_decoder_engine.proofs.SettledSteps.{one_option, or_settles}
+use Rattle.legacy_decoder_engine.proofs.{CallUnderWay.same_rooms, FrontMoves.{Fits, fits_meets}, OneByteMeets.{few_held, no_report, one_fits}}
+use Rattle.legacy_decoder_engine.proofs.{RoomMoves.{HasCosts, IsSloped, sloped_rooms}, SettledSteps.{one_option, or_settles}}
 
 -- the profile of such a decoder
 abbrev pub one_byte_profile : (ℕ → List ℕ → Front) → Bool → Profile

@@ -1,15 +1,12 @@
 -- Codes of two bytes at places, by a shuffle from a table.
 use Rattle.std.proofs.Common.{◌≡◌, ℕ, zero, suc, ◌+◌, ◌*◌, ◌/◌, ◌%◌, ◌<◌, ◌≤◌, true, false, cond, leb, eqb, List, [], ◌∷◌, ◌++◌, length, get_or, map, take}
-use Rattle.std.proofs.Common.{replicate, refl, sym, ap, ap₂, ◌∙◌, arith, w8, Fits, ◌-◌, ◌^◌, ◌==◌, drop, inl, inr}
-use Rattle.std.proofs.lemmas.Bool.{ltb-true, leb-true, eqb-true, lt-leb, and_parts, agree_below_at, cases_lt}
-use Rattle.std.proofs.lemmas.List.{take-take, take-map, get_or_past, length-take-le, take-append-le, map-append, append_assoc, append-nil}
-use Rattle.std.proofs.lemmas.Simd.{swz_l, Each1-get_or, below_from_Fits, get_or-chunk, put_chunk_is}
-use Rattle.std.proofs.{lemmas.Bool.Decides.nat_tests, lemmas.Grind.common_steps, Math.Seq.take-append_seam, Math.Seq.take-append-add}
+use Rattle.std.proofs.{Common.{replicate, refl, sym, ap, ap₂, ◌∙◌, arith, w8, Fits, ◌-◌, ◌^◌, ◌==◌, drop, inl, inr}, lemmas.Bool.{ltb-true, leb-true, eqb-true}}
+use Rattle.std.proofs.{lemmas.Bool.{lt-leb, and_parts, agree_below_at, cases_lt}, lemmas.List.{take-take, take-map, get_or_past, length-take-le}}
+use Rattle.std.proofs.{lemmas.List.{take-append-le, map-append, append_assoc, append-nil}, lemmas.Simd.{swz_l, Each1-get_or, below_from_Fits, get_or-chunk}}
+use Rattle.std.proofs.{lemmas.Simd.put_chunk_is, lemmas.Bool.Decides.nat_tests, lemmas.Grind.common_steps, Math.Seq.{take-append_seam, take-append-add}}
 use Rattle.std.specs.{List.range_with_len, Int.RustNames.count_ones}
-use lib.Lanes.{Each1, number_l, digits_l, all_below, chunk, put_chunk}
-use lib.Pow.{field, mod-mod-pow, shr-shr}
-use Rattle.legacy_decoder_engine.specs.PickedForms.{places, pairs, row, code_at}
-use Rattle.legacy_decoder_engine.specs.declared.pick_rows.TheConstants.{PICKED}
+use lib.{Lanes.{Each1, number_l, digits_l, all_below, chunk, put_chunk}, Pow.{field, mod-mod-pow, shr-shr}}
+use Rattle.legacy_decoder_engine.specs.{PickedForms.{places, pairs, row, code_at}, declared.pick_rows.TheConstants.PICKED}
 
 abbrev pub eight_places : ℕ → List ℕ
 eight_places x = take 8 (places 0 8 x ++ replicate 8 0)

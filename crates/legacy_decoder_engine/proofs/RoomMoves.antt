@@ -1,17 +1,15 @@
 -- From the code units that a decoder's steps write to the lengths that its queries return.
 use Rattle.std.proofs.Common.{◌≡◌, ℕ, ◌+◌, ◌*◌, ◌<◌, ◌≤◌, List, [], ◌∷◌, length, Bool, true, false, cond, Some, sym, ◌∙◌, ◌&&◌, mul-add, arith}
-use Rattle.std.proofs.{lemmas.Bool.false≢true, lemmas.Bool.cond_both, lemmas.Bool.Decides.nat_tests, Math.Nat.mul-le-mul_left}
+use Rattle.std.proofs.{lemmas.Bool.{false≢true, cond_both}, lemmas.Bool.Decides.nat_tests, Math.Nat.mul-le-mul_left}
 use Rattle.legacy_tables.specs.Unicode.{IsByte, AreBytes}
-use Rattle.legacy_base.specs.States.{DecoderState, may_hold, rests, is_empty, state_of}
-use Rattle.legacy_base.specs.DecoderActs.{takes, writes, reports, act_at_end, act_at_rest, act_room, room_of_act, need, has_reported, has_short_ascii, full_room}
-use Rattle.legacy_base.specs.DecoderActs.{reading_room, full_room_in, release_room_in}
-use Rattle.legacy_base.specs.Lengths.{LengthQuery, to_utf16, to_utf8, to_utf8_without_replacement, query_form, replacement_units, room}
-use Rattle.legacy_base.specs.{Grammar.Grammar, Grammar.profile, Profile.narrow_acts, Profile.wide_reads, Profile.wide_acts}
+use Rattle.legacy_base.specs.{States.{DecoderState, may_hold, rests, is_empty, state_of}, DecoderActs.{takes, writes, reports, act_at_end, act_at_rest}}
+use Rattle.legacy_base.specs.DecoderActs.{act_room, room_of_act, need, has_reported, has_short_ascii, full_room, reading_room, full_room_in, release_room_in}
+use Rattle.legacy_base.specs.{Lengths.{LengthQuery, to_utf16, to_utf8, to_utf8_without_replacement, query_form, replacement_units, room}, Grammar.Grammar}
+use Rattle.legacy_base.specs.{Grammar.profile, Profile.{narrow_acts, wide_reads, wide_acts}}
 use Rattle.legacy_text.specs.EncodingForm.{unit_count, bmp_room, wide_room}
 use Rattle.legacy_base.proofs.Enough.{room-rises}
 use Rattle.std.specs.Char.{is_ascii}
-use Rattle.legacy_decoder_engine.specs.Steps.{Step, step_held, end_events, DecoderMachine, Meets}
-use Rattle.legacy_decoder_engine.specs.StepUnits.{step_units, step_left, IsWidth, Cost, WritePays}
+use Rattle.legacy_decoder_engine.specs.{Steps.{Step, step_held, end_events, DecoderMachine, Meets}, StepUnits.{step_units, step_left, IsWidth, Cost, WritePays}}
 use Rattle.legacy_decoder_engine.specs.Shown.{KeepsRooms}
 use Rattle.legacy_decoder_engine.proofs.Widths.{width_of}
 

@@ -1,14 +1,13 @@
 -- The sequences of a machine as runs, which a loop may read ahead.
 use Rattle.std.proofs.Common.{rules, ◌≡◌, ◌∙◌, ℕ, suc, ◌+◌, ◌≤◌, ◌<◌, List, [], ◌∷◌, ◌++◌, length, append_assoc, length-append, ap, refl, sym, arith, true}
-use Rattle.std.proofs.Common.{false}
-use Rattle.std.proofs.{lemmas.List.Elements.All-nil, lemmas.List.Elements.All-cons, lemmas.List.Elements.All-append, lemmas.Bool.Decides.nat_tests}
+use Rattle.std.proofs.{Common.false, lemmas.List.Elements.{All-nil, All-cons, All-append}, lemmas.Bool.Decides.nat_tests}
 use Rattle.std.specs.Char.{IsScalar, is_ascii}
 use Rattle.legacy_tables.specs.Unicode.{IsByte, AreBytes}
 use Rattle.legacy_text.specs.EncodingForm.{total_unit_count}
-use Rattle.legacy_base.specs.{declared.results.DecodeEvent.TheVariants.Scalar, Events.shift, Fronts.reads, Grammar.Grammar, Grammar.events_of, States.rests}
-use Rattle.legacy_base.specs.{States.may_hold, States.state_of, Lengths.LengthQuery, Lengths.query_form, Lengths.room}
+use Rattle.legacy_base.specs.{declared.results.DecodeEvent.TheVariants.Scalar, Events.shift, Fronts.reads, Grammar.{Grammar, events_of}, States.rests}
+use Rattle.legacy_base.specs.{States.{may_hold, state_of}, Lengths.{LengthQuery, query_form, room}}
 use Rattle.legacy_base.proofs.GrammarLaws.{may_none, rests-none}
-use Rattle.legacy_decoder_engine.specs.{ReadAhead.Runs, ReadAhead.HasAscii, Shown.IsShown, Steps.hold, Steps.finish, Steps.DecoderMachine}
+use Rattle.legacy_decoder_engine.specs.{ReadAhead.{Runs, HasAscii}, Shown.IsShown, Steps.{hold, finish, DecoderMachine}}
 use Rattle.legacy_decoder_engine.proofs.Feeding.{units-total, all_dropped}
 
 pub ascii_is : (b : ℕ) → b < 0x80 → is_ascii b ≡ true

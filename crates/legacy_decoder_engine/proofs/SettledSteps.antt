@@ -1,9 +1,8 @@
 -- The states after steps.
 use Rattle.std.proofs.Common.{◌≡◌, ℕ, suc, ◌+◌, List, [], ◌∷◌, length, Bool, true, false, cond, Option, Some, None, refl, option_to_list, arith}
 use Rattle.std.specs.Char.{is_ascii}
-use Rattle.legacy_base.specs.{Fronts.malformed, Fronts.reads_or, Grammar.Grammar, DecoderActs.has_marks}
-use Rattle.legacy_decoder_engine.specs.Steps.{Step, finish, leave, trail_step}
-use Rattle.legacy_decoder_engine.specs.{StatesAfterSteps.IsOneOrMarked, StatesAfterSteps.Settles, Shown.WriteSettles}
+use Rattle.legacy_base.specs.{Fronts.{malformed, reads_or}, Grammar.Grammar, DecoderActs.has_marks}
+use Rattle.legacy_decoder_engine.specs.{Steps.{Step, finish, leave, trail_step}, StatesAfterSteps.{IsOneOrMarked, Settles}, Shown.WriteSettles}
 
 pub settles_test : (g : Grammar) (held : List ℕ) (b : ℕ) (t : Bool) (s₁ s₂ : Step) → (t ≡ true → Settles g held b s₁) → (t ≡ false → Settles g held b s₂)
     → Settles g held b (cond t s₁ s₂)

@@ -1,6 +1,5 @@
 -- The turns of a loop that takes four at a time.
-use Rattle.std.proofs.Common.{◌≡◌, ℕ, ◌+◌, ◌-◌, ◌*◌, ◌/◌, ◌%◌, ◌<◌, ◌≤◌, refl, arith}
-use Rattle.std.proofs.lemmas.Bool.Decides.{nat_tests}
+use Rattle.std.proofs.{Common.{◌≡◌, ℕ, ◌+◌, ◌-◌, ◌*◌, ◌/◌, ◌%◌, ◌<◌, ◌≤◌, refl, arith}, lemmas.Bool.Decides.nat_tests}
 
 -- all turns, before the first
 pub all_turns : (size turns : ℕ) → size * (4 * (turns / 4) + turns % 4) ≡ size * turns

@@ -1,13 +1,11 @@
 -- The machines of codecs with sequences of one and two bytes agree with their grammars.
-use Rattle.std.proofs.Common.{◌≡◌, ◌∙◌, ℕ, ◌<◌, ◌≤◌, List, [], ◌∷◌, length, Bool, true, false, cond, refl, ap, arith}
-use Rattle.std.proofs.{lemmas.Bool.false≢true, lemmas.Bool.Decides.nat_tests}
+use Rattle.std.proofs.{Common.{◌≡◌, ◌∙◌, ℕ, ◌<◌, ◌≤◌, List, [], ◌∷◌, length, Bool, true, false, cond, refl, ap, arith}, lemmas.Bool.false≢true}
+use Rattle.std.proofs.lemmas.Bool.Decides.{nat_tests}
 use Rattle.std.specs.{Int.is_in_range, Char.is_ascii}
-use Rattle.legacy_base.specs.Fronts.{Front, reads, malformed, reads_or, trail_rule, front_length, cut}
-use Rattle.legacy_base.specs.States.{is_lead, single_lead_may_hold, may_hold, rests}
-use Rattle.legacy_base.specs.{Profile.Profile, Profile.always_rests, Grammar.Grammar, Grammar.profile, Grammar.events_of, DecoderActs.has_marks}
-use Rattle.legacy_decoder_engine.specs.Steps.{Step, hold, finish, end_events, ReportMeets, Meets}
-use Rattle.legacy_decoder_engine.specs.LeadMachines.{two_byte_step, two_byte_machine, lead_first}
-use Rattle.legacy_decoder_engine.specs.{LeadCodecs.IsPastAscii, StatesAfterSteps.IsOneOrMarked, StatesAfterSteps.Settles}
+use Rattle.legacy_base.specs.{Fronts.{Front, reads, malformed, reads_or, trail_rule, front_length, cut}, States.{is_lead, single_lead_may_hold, may_hold}}
+use Rattle.legacy_base.specs.{States.rests, Profile.{Profile, always_rests}, Grammar.{Grammar, profile, events_of}, DecoderActs.has_marks}
+use Rattle.legacy_decoder_engine.specs.{Steps.{Step, hold, finish, end_events, ReportMeets, Meets}, LeadMachines.{two_byte_step, two_byte_machine, lead_first}}
+use Rattle.legacy_decoder_engine.specs.{LeadCodecs.IsPastAscii, StatesAfterSteps.{IsOneOrMarked, Settles}}
 use Rattle.legacy_base.proofs.Cuts.{cut-nil}
 use Rattle.legacy_decoder_engine.proofs.FrontMoves.{Fits, fits_trail, fits_meets, end_meets, report_meets, some_reads_or, some_trail_rule}
 

@@ -1,29 +1,16 @@
 -- The events of a list in each codec: malformed sequences are inside it, and scalars are Unicode scalar values.
-use Rattle.std.proofs.Common.{◌≡◌, ℕ, ◌+◌, ◌<◌, ◌≤◌, List, [], ◌∷◌, Bool, true, false, length, sym, subst, arith, ◌||◌, ◌&&◌, Some}
-use Rattle.std.proofs.lemmas.Bool.{cond_both, and_parts}
-use Rattle.std.proofs.lemmas.Bool.Decides.{nat_tests}
-use Rattle.std.proofs.lemmas.List.Elements.{All-nil, All-cons, All-head, All-tail}
-use Rattle.std.specs.Char.{IsScalar}
-use Rattle.std.specs.Char.Utf16.{is_high_surrogate, is_low_surrogate, surrogate_pair_char}
-use Rattle.legacy_tables.specs.Unicode.{IsByte, AreBytes, AreScalars}
-use Rattle.legacy_tables.specs.Indexes.{range}
+use Rattle.std.proofs.{Common.{◌≡◌, ℕ, ◌+◌, ◌<◌, ◌≤◌, List, [], ◌∷◌, Bool, true, false, length, sym, subst, arith, ◌||◌, ◌&&◌, Some}, lemmas.Bool.cond_both}
+use Rattle.std.proofs.{lemmas.Bool.and_parts, lemmas.Bool.Decides.nat_tests, lemmas.List.Elements.{All-nil, All-cons, All-head, All-tail}}
+use Rattle.std.specs.{Char.IsScalar, Char.Utf16.{is_high_surrogate, is_low_surrogate, surrogate_pair_char}}
+use Rattle.legacy_tables.specs.{Unicode.{IsByte, AreBytes, AreScalars}, Indexes.range}
 use Rattle.legacy_tables.proofs.Accepted.{index-scalars, big5-scalars, jis0208-scalars, jis0212-scalars, gb18030-scalars, range-scalar}
 use Rattle.legacy_tables.proofs.AcceptedTable.{table-scalars}
-use Rattle.legacy_base.specs.Fronts.{reads, malformed}
-use Rattle.legacy_base.specs.SingleByte.{single_byte_front}
-use Rattle.legacy_base.specs.UserDefined.{user_defined_front}
-use Rattle.legacy_base.specs.Big5.{big5_front}
-use Rattle.legacy_base.specs.LeadForms.{lead_front}
-use Rattle.legacy_base.specs.ShiftJis.{shift_jis_front}
-use Rattle.legacy_base.specs.EucJp.{euc_jp_front}
-use Rattle.legacy_base.specs.Gb18030.{gb18030_front}
-use Rattle.legacy_base.specs.Replacement.{replacement_events}
-use Rattle.legacy_base.specs.Utf16.{unit_of, utf16_events}
-use Rattle.legacy_base.specs.Grammar.{single_byte, user_defined, replacement, utf16, plain, big5, shift_jis, euc_jp, gb18030, iso_2022_jp, events_of}
-use Rattle.legacy_base.specs.Laws.{IsFrontOf, IsOfAcceptedTables, HasSoundEvents}
-use Rattle.legacy_base.proofs.FrontLaws.{front_of-malformed, single_byte_front-of, user_defined_front-of, lead_front-of, big5_front-of}
-use Rattle.legacy_base.proofs.FrontLaws.{shift_jis_front-of, euc_jp_front-of, gb18030_front-of}
-use Rattle.legacy_base.proofs.EventLaws.{none_of, bad_of, cut_sound, iso_2022_jp_sound}
+use Rattle.legacy_base.specs.{Fronts.{reads, malformed}, SingleByte.single_byte_front, UserDefined.user_defined_front, Big5.big5_front, LeadForms.lead_front}
+use Rattle.legacy_base.specs.{ShiftJis.shift_jis_front, EucJp.euc_jp_front, Gb18030.gb18030_front, Replacement.replacement_events, Utf16.unit_of}
+use Rattle.legacy_base.specs.{Utf16.utf16_events, Grammar.{single_byte, user_defined, replacement, utf16, plain, big5, shift_jis, euc_jp, gb18030, iso_2022_jp}}
+use Rattle.legacy_base.specs.{Grammar.events_of, Laws.{IsFrontOf, IsOfAcceptedTables, HasSoundEvents}}
+use Rattle.legacy_base.proofs.FrontLaws.{front_of-malformed, single_byte_front-of, user_defined_front-of, lead_front-of, big5_front-of, shift_jis_front-of}
+use Rattle.legacy_base.proofs.{FrontLaws.{euc_jp_front-of, gb18030_front-of}, EventLaws.{none_of, bad_of, cut_sound, iso_2022_jp_sound}}
 use Rattle.legacy_miscellaneous.specs.Utf16Fronts.{single_unit_front, unit_front, utf16_front}
 use Rattle.legacy_miscellaneous.proofs.Utf16Cut.{utf16_cut}
 

@@ -1,19 +1,16 @@
 -- The moves of an encoder make a call.
 use Rattle.std.proofs.Common.{◌≡◌, ◌∙◌, ℕ, ◌+◌, ◌-◌, ◌≤◌, ◌<◌, List, [], ◌∷◌, ◌++◌, length, get_or, take, drop, map, refl, sym, ap, subst, arith, append_assoc}
-use Rattle.std.proofs.Common.{append-nil, length-append, add-zero, inl, inr, Bool, true, false, IsTrue, Some, not, ◌⊎◌}
-use Rattle.std.proofs.Math.Nat.{sub-zero}
-use Rattle.std.proofs.lemmas.{Bool.cases_lt, List.map-append, List.take-append-drop, Grind.common_steps}
-use Rattle.legacy_base.specs.declared.results.EncoderResult.TheVariants.{InputEmpty, OutputFull, Unmappable}
-use Rattle.legacy_base.specs.declared.results.{EncodeEvent.EncodeEvent, EncodeEvent.TheVariants.Byte}
+use Rattle.std.proofs.{Common.{append-nil, length-append, add-zero, inl, inr, Bool, true, false, IsTrue, Some, not, ◌⊎◌}, Math.Nat.sub-zero}
+use Rattle.std.proofs.{lemmas.Bool.cases_lt, lemmas.List.{map-append, take-append-drop}, lemmas.Grind.common_steps}
+use Rattle.legacy_base.specs.{declared.results.EncoderResult.TheVariants.{InputEmpty, OutputFull, Unmappable}, declared.results.EncodeEvent.EncodeEvent}
+use Rattle.legacy_base.specs.{declared.results.EncodeEvent.TheVariants.Byte, Encoders.{EncoderState, encoder_profile, code, encoded, end_bytes, is_pending}}
+use Rattle.legacy_base.specs.{Encoders.{scalar_room, encoder_need, encoder_formula, encoder_answer, encoder_room}, Beginnings.BeginsWith}
+use Rattle.legacy_base.specs.{EncodeEvents.{byte_count, code_length}, Profile.is_empty, EncoderProfile.EncoderMode, EncoderCalls.EncoderCall}
+use Rattle.legacy_base.specs.EncoderCalls.{EncoderLacksRoom, bytes_before}
 use Rattle.legacy_text.specs.EncodingForm.{EncodingForm, code_units, unit_count, all_code_units, total_unit_count}
-use Rattle.legacy_base.specs.Encoders.{EncoderState, encoder_profile, code, encoded, end_bytes, is_pending, scalar_room, encoder_need, encoder_formula}
-use Rattle.legacy_base.specs.Encoders.{encoder_answer, encoder_room}
-use Rattle.legacy_base.specs.{Beginnings.BeginsWith, EncodeEvents.byte_count, EncodeEvents.code_length, Profile.is_empty, EncoderProfile.EncoderMode}
-use Rattle.legacy_base.specs.EncoderCalls.{EncoderCall, EncoderLacksRoom, bytes_before}
 use Rattle.legacy_base.proofs.{Enough.answer-value, Beginnings.begins_later}
-use Rattle.legacy_encoder_engine.specs.declared.moves.EncoderMove.{EncoderMove}
-use Rattle.legacy_encoder_engine.specs.Moves.{Moves, Finishes, move_bytes, move_report, unread_scalar, is_escape, differs, wants_escape, state_for}
-use Rattle.legacy_encoder_engine.specs.{UnfinishedCall.LowersEscaped, UnfinishedCall.Underway, ProfileSuffices.Serves}
+use Rattle.legacy_encoder_engine.specs.{declared.moves.EncoderMove.EncoderMove, Moves.{Moves, Finishes, move_bytes, move_report, unread_scalar, is_escape}}
+use Rattle.legacy_encoder_engine.specs.{Moves.{differs, wants_escape, state_for}, UnfinishedCall.{LowersEscaped, Underway}, ProfileSuffices.Serves}
 use Rattle.legacy_base.specs.declared.results.EncodeEvent.TheVariants as events
 use Rattle.legacy_encoder_engine.specs.declared.moves.EncoderMove.TheVariants as moves
 

@@ -1,19 +1,16 @@
 -- The codecs without modes: their rooms are enough for their scalars, and each move writes the code of its scalar.
 use Rattle.std.proofs.Common.{◌/◌, ◌%◌, ◌≡◌, ◌∙◌, ℕ, ◌+◌, ◌-◌, ◌≤◌, ◌<◌, List, [], ◌∷◌, ◌++◌, length, refl, sym, ap, subst, arith, Bool, true, false, Some}
-use Rattle.std.proofs.Common.{Option, cond, option_map, ltb, inl, inr}
-use Rattle.std.proofs.lemmas.{Bool.cases_lt, Bool.lt-ltb, Bool.le-ltb, Bool.Decides.nat_tests}
+use Rattle.std.proofs.{Common.{Option, cond, option_map, ltb, inl, inr}, lemmas.Bool.{cases_lt, lt-ltb, le-ltb}, lemmas.Bool.Decides.nat_tests}
 use Rattle.std.specs.Option.{option_or}
-use Rattle.legacy_text.specs.EncodingForm.{EncodingForm, Utf8, Utf16, unit_count}
-use Rattle.legacy_text.specs.UnitCodes.{IsNoSurrogate}
-use Rattle.legacy_base.specs.Encoders.{Codec, encoder_profile, EncoderState, new_encoder, code, encoded, scalar_room}
-use Rattle.legacy_base.specs.EncoderProfile.{EncoderMode, in_ascii, EncoderProfile, plain_encoder}
-use Rattle.legacy_base.specs.{EncodeEvents.code_events, EncodeEvents.code_length, EncodeEvents.plain_events, Lengths.Formula, Lengths.number, Lengths.value}
+use Rattle.legacy_text.specs.{EncodingForm.{EncodingForm, Utf8, Utf16, unit_count}, UnitCodes.IsNoSurrogate}
+use Rattle.legacy_base.specs.{Encoders.{Codec, encoder_profile, EncoderState, new_encoder, code, encoded, scalar_room}, EncoderProfile.{EncoderMode, in_ascii}}
+use Rattle.legacy_base.specs.{EncoderProfile.{EncoderProfile, plain_encoder}, EncodeEvents.{code_events, code_length, plain_events}, Lengths.{Formula, number}}
+use Rattle.legacy_base.specs.Lengths.{value}
 use Rattle.legacy_text.proofs.CodeUnits.{encoding}
 use Rattle.legacy_base.proofs.SameUnits.{some_unit}
-use Rattle.legacy_encoder_engine.specs.declared.moves.EncoderMove.TheVariants.{One, Two, Four, Escape, Unmappable}
-use Rattle.legacy_encoder_engine.specs.declared.moves.EncoderMove.{EncoderMove}
+use Rattle.legacy_encoder_engine.specs.{declared.moves.EncoderMove.TheVariants.{One, Two, Four, Escape, Unmappable}, declared.moves.EncoderMove.EncoderMove}
 use Rattle.legacy_encoder_engine.specs.Moves.{differs, Moves, IsCode, is_escape, move_bytes, move_report, unread_scalar, wants_escape}
-use Rattle.legacy_encoder_engine.specs.{ProfileSuffices.mode_room, ProfileSuffices.Serves, UnfinishedCall.PutsCode, UnfinishedCall.ReadsByte, UnitTurns.HasUnitCode, UnitTurns.ReadsUnit}
+use Rattle.legacy_encoder_engine.specs.{ProfileSuffices.{mode_room, Serves}, UnfinishedCall.{PutsCode, ReadsByte}, UnitTurns.{HasUnitCode, ReadsUnit}}
 use Rattle.legacy_encoder_engine.specs.PlainCodecs.{HasPlainLengths, IsPlainCodec, HasByte}
 use Rattle.legacy_encoder_engine.proofs.{ReadingAhead.IsSame, CallUnderWay.state_stays}
 

@@ -1,15 +1,12 @@
 -- Reading ahead of the moves.
 use Rattle.std.proofs.Common.{◌≡◌, ◌∙◌, ℕ, suc, ◌+◌, ◌-◌, ◌≤◌, ◌<◌, List, [], ◌∷◌, ◌++◌, length, get_or, take, drop, refl, sym, ap, subst, arith, append_assoc}
-use Rattle.std.proofs.Common.{append-nil, length-append, false, IsAscii}
-use Rattle.std.proofs.lemmas.{Grind.common_steps, List.get_or-take, List.length-take-le, List.take-append-drop}
-use Rattle.legacy_text.specs.EncodingForm.{EncodingForm, code_units, all_code_units, unit_count, total_unit_count}
-use Rattle.legacy_text.specs.{NextScalars.IsFirst, UnitCodes.WritesCodes}
+use Rattle.std.proofs.{Common.{append-nil, length-append, false, IsAscii}, lemmas.Grind.common_steps, lemmas.List.{get_or-take, length-take-le}}
+use Rattle.std.proofs.lemmas.List.{take-append-drop}
+use Rattle.legacy_text.specs.{EncodingForm.{EncodingForm, code_units, all_code_units, unit_count, total_unit_count}, NextScalars.IsFirst, UnitCodes.WritesCodes}
 use Rattle.legacy_text.proofs.CodeUnits.{length-code_units-ascii, total_unit_count-append}
 use Rattle.legacy_base.specs.Encoders.{EncoderState, encoder_profile, scalar_room}
-use Rattle.legacy_encoder_engine.specs.declared.moves.EncoderMove.{EncoderMove}
-use Rattle.legacy_encoder_engine.specs.Moves.{Moves, move_bytes, move_report, is_escape}
-use Rattle.legacy_encoder_engine.specs.UnfinishedCall.{KeepsOn, Encodes, PutsCode, ReadsByte}
-use Rattle.legacy_encoder_engine.specs.ProfileSuffices.{Serves}
+use Rattle.legacy_encoder_engine.specs.{declared.moves.EncoderMove.EncoderMove, Moves.{Moves, move_bytes, move_report, is_escape}, UnfinishedCall.KeepsOn}
+use Rattle.legacy_encoder_engine.specs.{UnfinishedCall.{Encodes, PutsCode, ReadsByte}, ProfileSuffices.Serves}
 use Rattle.legacy_encoder_engine.proofs.CallUnderWay.{underway_read, first_units}
 use Rattle.legacy_encoder_engine.specs.declared.moves.EncoderMove.TheVariants as moves
 

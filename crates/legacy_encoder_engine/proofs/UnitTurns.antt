@@ -1,10 +1,10 @@
 -- Writing the codes of several UTF-16 code units at a time.
 use Rattle.std.proofs.Common.{◌≡◌, ◌∙◌, ℕ, suc, ◌+◌, ◌<◌, ◌≤◌, List, [], ◌∷◌, ◌++◌, length, take, get_or, refl, sym, ap, subst, arith, append_assoc, inl, inr}
-use Rattle.std.proofs.Math.Seq.{take-suc, take-append-add}
-use Rattle.std.proofs.lemmas.{Bool.cases_lt, List.get_or-take, List.length-take-le, List.take-take, Grind.common_steps}
+use Rattle.std.proofs.{Math.Seq.{take-suc, take-append-add}, lemmas.Bool.cases_lt, lemmas.List.{get_or-take, length-take-le, take-take}}
+use Rattle.std.proofs.lemmas.Grind.{common_steps}
 use Rattle.legacy_base.specs.Encoders.{EncoderState, encoder_profile, scalar_room}
 use Rattle.legacy_text.specs.UnitCodes.{IsNoSurrogate}
-use Rattle.legacy_encoder_engine.specs.{ProfileSuffices.Serves, UnitTurns.PutsUnits, UnitTurns.ReadsUnit, UnitTurns.two_bytes}
+use Rattle.legacy_encoder_engine.specs.{ProfileSuffices.Serves, UnitTurns.{PutsUnits, ReadsUnit, two_bytes}}
 use Rattle.legacy_encoder_engine.proofs.ReadingAhead.{keeps_none, keeps_then, keeps_move}
 
 -- two bytes were written after the old bytes, and the first `count` of them are kept

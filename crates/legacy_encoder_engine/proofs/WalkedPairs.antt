@@ -1,14 +1,12 @@
 -- The list of codes after a walk over an index.
 use Rattle.std.proofs.Common.{◌≡◌, ◌≢◌, ◌∙◌, ℕ, ◌+◌, ◌*◌, ◌<◌, ◌≤◌, List, [], ◌∷◌, length, slice_index, Option, Some, None, option_map, ap, sym, refl, subst}
-use Rattle.std.proofs.Common.{arith}
-use Rattle.std.proofs.lemmas.Bool.Decides.{nat_tests}
+use Rattle.std.proofs.{Common.arith, lemmas.Bool.Decides.nat_tests}
 use Rattle.std.specs.{Char.IsScalar, Option.IfSome}
-use Rattle.legacy_tables.specs.declared.tables.packed.PackedPart.{PackedPart}
-use Rattle.legacy_tables.specs.{Packed.pointer_of, Unicode.AreScalars, Walks.marked, Walks.IsFilled}
+use Rattle.legacy_tables.specs.{declared.tables.packed.PackedPart.PackedPart, Packed.pointer_of, Unicode.AreScalars, Walks.{marked, IsFilled}}
 use Rattle.legacy_tables.proofs.{PackedAccepted.entry-scalar, PackedPointers.pointer-taken}
 use Rattle.legacy_text.specs.UnitCodes.{IsNoSurrogate}
 use Rattle.legacy_base.specs.Encoders.{Codec, encoder_profile}
-use Rattle.legacy_encoder_engine.specs.{UnitTurns.two_bytes, CachedPairs.IsNoPair, CachedPairs.IsRightEntry}
+use Rattle.legacy_encoder_engine.specs.{UnitTurns.two_bytes, CachedPairs.{IsNoPair, IsRightEntry}}
 
 -- a scalar value is not a surrogate
 no-surrogate : (c : ℕ) → IsScalar c → IsNoSurrogate c

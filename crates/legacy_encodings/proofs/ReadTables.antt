@@ -1,18 +1,12 @@
 -- What is known of a single-byte table that was read of a file.
 use Rattle.std.proofs.Common.{◌≡◌, ◌↔◌, ℕ, List, Some, Result, Ok, Err}
-use Rattle.legacy_index_files.specs.declared.index_file.FileIndex.TheVariants.{SingleByte}
-use Rattle.legacy_index_files.specs.declared.index_file.EncoderIndex.TheVariants.{Of}
-use Rattle.legacy_index_files.specs.declared.index_file.IndexFileError.{IndexFileError}
-use Rattle.legacy_index_files.specs.declared.index_file.IndexFileError.TheVariants.{Line, Memory}
-use Rattle.legacy_index_files.specs.declared.index_file.FileTable.{FileTable}
-use Rattle.legacy_index_files.specs.declared.index_file.FileTable.TheVariants.{Wide, Narrow, Ranges, Bytes}
-use Rattle.legacy_index_files.specs.declared.owned_indexes.OwnedIndexes.{OwnedIndexes}
-use Rattle.legacy_index_files.specs.IndexLine.{lines}
-use Rattle.legacy_index_files.specs.IndexTable.{entries_of, first_malformed, IsTableOf, IsSingleByteIndexOf}
-use Rattle.legacy_index_files.specs.OwnedIndexes.{HoldsFile, with_table}
+use Rattle.legacy_index_files.specs.{declared.index_file.FileIndex.TheVariants.SingleByte, declared.index_file.EncoderIndex.TheVariants.Of}
+use Rattle.legacy_index_files.specs.{declared.index_file.IndexFileError.IndexFileError, declared.index_file.IndexFileError.TheVariants.{Line, Memory}}
+use Rattle.legacy_index_files.specs.{declared.index_file.FileTable.FileTable, declared.index_file.FileTable.TheVariants.{Wide, Narrow, Ranges, Bytes}}
+use Rattle.legacy_index_files.specs.{declared.owned_indexes.OwnedIndexes.OwnedIndexes, IndexLine.lines, IndexTable.{entries_of, first_malformed, IsTableOf}}
+use Rattle.legacy_index_files.specs.{IndexTable.IsSingleByteIndexOf, OwnedIndexes.{HoldsFile, with_table}}
 use Rattle.legacy_index_files.proofs.WellFormed.{well_formed_ok, well_formed_memory}
-use Rattle.legacy_encodings.specs.declared.registry.RegistryError.TheVariants.{File}
-use Rattle.legacy_encodings.specs.SingleByteFiles.{IsSingleByteFile, IsSingleByteFault}
+use Rattle.legacy_encodings.specs.{declared.registry.RegistryError.TheVariants.File, SingleByteFiles.{IsSingleByteFile, IsSingleByteFault}}
 
 -- the set has what the file of the single-byte index says
 read_values : (text : List ℕ) (before after : OwnedIndexes) → HoldsFile SingleByte text before after →

@@ -1,6 +1,5 @@
 -- The tables of an index file without lines.
-use Rattle.std.proofs.Common.{◌≡◌, ℕ, List, [], length, refl, arith, replicate}
-use Rattle.std.proofs.lemmas.List.{get_or-replicate, length-replicate}
+use Rattle.std.proofs.{Common.{◌≡◌, ℕ, List, [], length, refl, arith, replicate}, lemmas.List.{get_or-replicate, length-replicate}}
 use Rattle.legacy_index_files.specs.IndexTable.{IsIndexOf, IsSingleByteIndexOf}
 
 pub empty_index : (values : List ℕ) → values ≡ [] → IsIndexOf [] values

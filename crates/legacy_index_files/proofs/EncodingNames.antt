@@ -1,10 +1,7 @@
 -- Each encoding is found by its name.
-use Rattle.std.proofs.Common.{◌≡◌, ◌↔◌, ◌∙◌, ℕ, List, [], ◌∷◌, Bool, true, false, Option, Some, cond, refl, sym, subst, find}
-use Rattle.std.proofs.Common.{bytes_eq, arith}
+use Rattle.std.proofs.Common.{◌≡◌, ◌↔◌, ◌∙◌, ℕ, List, [], ◌∷◌, Bool, true, false, Option, Some, cond, refl, sym, subst, find, bytes_eq, arith}
 use Rattle.std.proofs.lemmas.Slice.Eq.{bytes_eq-Decides}
-use Rattle.legacy_index_files.specs.declared.encodings.Encoding.{Encoding}
-use Rattle.legacy_index_files.specs.declared.encodings.TheConstants.{ENCODINGS}
-use Rattle.legacy_index_files.specs.Encodings.{encoding_name}
+use Rattle.legacy_index_files.specs.{declared.encodings.Encoding.Encoding, declared.encodings.TheConstants.ENCODINGS, Encodings.encoding_name}
 
 -- the encoding has this name
 abbrev has_name : List ℕ → Encoding → Bool

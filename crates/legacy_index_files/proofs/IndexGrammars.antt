@@ -1,14 +1,11 @@
 -- The parser of lines agrees with the grammar.
-use Rattle.std.proofs.Common.{◌≡◌, ℕ, ◌≤◌, Bool, true, false, cond, ◌&&◌, List, [], ◌∷◌, ◌++◌, length, Option, Some, None}
-use Rattle.std.proofs.Common.{nat_eq, nat_le, refl, sym, ◌∙◌, ap, subst, inl, inr, arith}
-use Rattle.std.proofs.lemmas.Bool.{and_parts, cond_both, false_from_ne_true, or_cases, eqb-true, leb-true, le-leb}
+use Rattle.std.proofs.Common.{◌≡◌, ℕ, ◌≤◌, Bool, true, false, cond, ◌&&◌, List, [], ◌∷◌, ◌++◌, length, Option, Some, None, nat_eq, nat_le, refl, sym, ◌∙◌, ap}
+use Rattle.std.proofs.{Common.{subst, inl, inr, arith}, lemmas.Bool.{and_parts, cond_both, false_from_ne_true, or_cases, eqb-true, leb-true, le-leb}}
 use Rattle.std.proofs.lemmas.Option.{cond_some}
-use Rattle.legacy_index_files.specs.declared.index_line.LineKind.{LineKind}
-use Rattle.legacy_index_files.specs.declared.index_line.LineKind.TheVariants.{Skipped, Entry}
-use Rattle.legacy_index_files.specs.IndexLine.{run_of, behind_run, is_blank, past_blanks, says_nothing, is_digit, digits_at, past_digits, number_behind}
-use Rattle.legacy_index_files.specs.IndexLine.{number_at, past_mark, value_digits}
-use Rattle.legacy_index_files.specs.IndexLine.{entry_with, entry_behind, entry_at, kind_of_entry, line_kind}
-use Rattle.legacy_index_files.specs.IndexGrammar.{Passes, EndsRun, IsNumber, HasValue, HasEntry, IsEntryLine, SaysNothing, IsSkippedLine, IsOfKind}
+use Rattle.legacy_index_files.specs.{declared.index_line.LineKind.LineKind, declared.index_line.LineKind.TheVariants.{Skipped, Entry}, IndexLine.run_of}
+use Rattle.legacy_index_files.specs.IndexLine.{behind_run, is_blank, past_blanks, says_nothing, is_digit, digits_at, past_digits, number_behind, number_at}
+use Rattle.legacy_index_files.specs.{IndexLine.{past_mark, value_digits, entry_with, entry_behind, entry_at, kind_of_entry, line_kind}, IndexGrammar.Passes}
+use Rattle.legacy_index_files.specs.IndexGrammar.{EndsRun, IsNumber, HasValue, HasEntry, IsEntryLine, SaysNothing, IsSkippedLine, IsOfKind}
 
 -- ---- tests
 

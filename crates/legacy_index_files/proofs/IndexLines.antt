@@ -1,8 +1,6 @@
 -- The lines of a text, by the position of its first 0A.
-use Rattle.std.proofs.Common.{◌≡◌, ℕ, ◌+◌, ◌-◌, ◌<◌, ◌≤◌, Bool, true, false, cond, not, List, [], ◌∷◌, length, take, drop, Some}
-use Rattle.std.proofs.Common.{None, nat_eq, nat_lt, refl, ap, add-one, one-add, arith}
-use Rattle.std.proofs.lemmas.Grind.{common_steps}
-use Rattle.std.proofs.lemmas.Bool.Decides.{nat_tests}
+use Rattle.std.proofs.Common.{◌≡◌, ℕ, ◌+◌, ◌-◌, ◌<◌, ◌≤◌, Bool, true, false, cond, not, List, [], ◌∷◌, length, take, drop, Some, None, nat_eq, nat_lt, refl, ap}
+use Rattle.std.proofs.{Common.{add-one, one-add, arith}, lemmas.Grind.common_steps, lemmas.Bool.Decides.nat_tests}
 use Rattle.std.specs.List.{position, prefix_len}
 use Rattle.legacy_index_files.specs.IndexLine.{lines, before_first_line}
 

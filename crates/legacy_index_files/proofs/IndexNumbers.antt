@@ -1,9 +1,8 @@
 -- The steps and bounds of numbers with at most six digits.
-use Rattle.std.proofs.Common.{◌≡◌, ℕ, ◌+◌, ◌*◌, ◌^◌, ◌<◌, ◌≤◌, cond, List, [], ◌∷◌, length, ◌∙◌, ap, add-one, lt-ltb}
-use Rattle.std.proofs.Common.{arith}
+use Rattle.std.proofs.{Common.{◌≡◌, ℕ, ◌+◌, ◌*◌, ◌^◌, ◌<◌, ◌≤◌, cond, List, [], ◌∷◌, length, ◌∙◌, ap, add-one, lt-ltb, arith}, Math.Nat.mul-le-mul_left}
+use Rattle.std.proofs.Math.Nat.{pow-le-pow_right, pow-suc}
 use Rattle.std.specs.Char.{digit_value}
 use Rattle.legacy_index_files.specs.IndexLine.{digits_at, past_digits, number_behind}
-use Rattle.std.proofs.Math.Nat.{mul-le-mul_left, pow-le-pow_right, pow-suc}
 
 -- the bound for one more digit
 pub below_power : (value radix digit count : ℕ) → value < 16 ^ count → radix ≤ 16 → digit < radix

@@ -1,12 +1,8 @@
 -- The steps of filling a table.
-use Rattle.std.proofs.Common.{◌≡◌, ℕ, ◌<◌, ◌≤◌, cond, List, ◌∷◌, length, set, get_or, nat_eq, Option, Some, None, refl, sym, ◌∙◌}
-use Rattle.std.proofs.Common.{ap, arith}
-use Rattle.std.proofs.lemmas.Grind.{common_steps}
-use Rattle.std.proofs.lemmas.Bool.Decides.{nat_tests}
+use Rattle.std.proofs.Common.{◌≡◌, ℕ, ◌<◌, ◌≤◌, cond, List, ◌∷◌, length, set, get_or, nat_eq, Option, Some, None, refl, sym, ◌∙◌, ap, arith}
+use Rattle.std.proofs.{lemmas.Grind.common_steps, lemmas.Bool.Decides.nat_tests}
 use Rattle.std.specs.Option.{option_or, unwrap_or}
-use Rattle.legacy_index_files.specs.declared.index_line.LineKind.TheVariants.{Entry}
-use Rattle.legacy_index_files.specs.declared.index_file.EncoderIndex.{EncoderIndex}
-use Rattle.legacy_index_files.specs.IndexLine.{lines}
+use Rattle.legacy_index_files.specs.{declared.index_line.LineKind.TheVariants.Entry, declared.index_file.EncoderIndex.EncoderIndex, IndexLine.lines}
 use Rattle.legacy_index_files.specs.IndexTable.{says, file_entries, with_entry, table_length, last_value}
 
 -- the value of a pointer after one write to the table

@@ -1,22 +1,14 @@
 -- The packed parts of accepted indexes are accepted.
-use Rattle.std.proofs.Common.{◌≡◌, ℕ, ◌≤◌, ◌<◌, List, length, refl, arith, Some, None, Option, true, ◌||◌}
-use Rattle.std.proofs.lemmas.Bool.Decides.{nat_tests}
-use Rattle.std.specs.Int.{is_in_range}
-use Rattle.std.specs.Option.{option_or}
-use Rattle.legacy_tables.specs.declared.tables.IndexName.TheVariants as names
-use Rattle.legacy_tables.specs.declared.tables.packed.Packed.{Packed}
-use Rattle.legacy_tables.specs.declared.tables.packed.PackedPart.{PackedPart}
-use Rattle.legacy_tables.specs.declared.tables.packed.Run.{Run}
-use Rattle.legacy_tables.specs.declared.tables.packed.PackedPart.TheVariants as parts
-use Rattle.legacy_tables.specs.declared.tables.TableError.{TableError}
-use Rattle.legacy_tables.specs.Indexes.{FlatIndexes}
-use Rattle.legacy_tables.specs.TableChecks.{AreAccepted, is_narrow_entry, table_fault}
-use Rattle.legacy_tables.specs.Packed.{all_runs_fault, all_orders_fault, runs_fault}
-use Rattle.legacy_tables.specs.Walks.{order_index}
+use Rattle.std.proofs.{Common.{◌≡◌, ℕ, ◌≤◌, ◌<◌, List, length, refl, arith, Some, None, Option, true, ◌||◌}, lemmas.Bool.Decides.nat_tests}
+use Rattle.std.specs.{Int.is_in_range, Option.option_or}
+use Rattle.legacy_tables.specs.{declared.tables.packed.Packed.Packed, declared.tables.packed.PackedPart.PackedPart, declared.tables.packed.Run.Run}
+use Rattle.legacy_tables.specs.{declared.tables.TableError.TableError, Indexes.FlatIndexes, TableChecks.{AreAccepted, is_narrow_entry, table_fault}}
+use Rattle.legacy_tables.specs.{Packed.{all_runs_fault, all_orders_fault, runs_fault}, Walks.order_index}
 use Rattle.legacy_tables.proofs.Accepted.{parts, all_entries, order_index-short, euc_kr-below, jis0208-below, jis0212-below, gb18030-below}
 use Rattle.legacy_tables.proofs.PackedAccepted.{entry_all, entry-narrow}
-use Rattle.legacy_index_files.specs.declared.packing.OwnedPacked.{OwnedPacked}
-use Rattle.legacy_index_files.specs.Packing.{AreBelow, GivesIndex, GiveRuns, IsOrderOf, HasParts, IsPackOf}
+use Rattle.legacy_index_files.specs.{declared.packing.OwnedPacked.OwnedPacked, Packing.{AreBelow, GivesIndex, GiveRuns, IsOrderOf, HasParts, IsPackOf}}
+use Rattle.legacy_tables.specs.declared.tables.IndexName.TheVariants as names
+use Rattle.legacy_tables.specs.declared.tables.packed.PackedPart.TheVariants as parts
 
 -- ---- the entries of accepted indexes
 

@@ -1,18 +1,12 @@
 -- The runs of the first pointers of an index. At the end of the index they are accepted.
-use Rattle.std.proofs.Common.{◌≡◌, ◌≢◌, ◌∙◌, ℕ, ◌+◌, ◌-◌, ◌≤◌, ◌<◌, List, [], ◌∷◌, ◌++◌, length, get_or, refl}
-use Rattle.std.proofs.Common.{sym, ap, arith, Some, None, Option, true, false, not, ◌==◌, inl, inr}
-use Rattle.std.proofs.lemmas.Bool.{cases_lt, ne_eqb}
-use Rattle.std.proofs.lemmas.List.{get_or_past, get_or_append_left, get_or_push, length_push}
-use Rattle.std.proofs.Common.{eq-eqb}
+use Rattle.std.proofs.Common.{◌≡◌, ◌≢◌, ◌∙◌, ℕ, ◌+◌, ◌-◌, ◌≤◌, ◌<◌, List, [], ◌∷◌, ◌++◌, length, get_or, refl, sym, ap, arith, Some, None, Option, true, false}
+use Rattle.std.proofs.{Common.{not, ◌==◌, inl, inr, eq-eqb}, lemmas.Bool.{cases_lt, ne_eqb}, lemmas.List.{get_or_past, get_or_append_left, get_or_push}}
+use Rattle.std.proofs.lemmas.List.{length_push}
 use Rattle.std.specs.Option.{option_or, option_eq}
 use borrow.Author.Tests.{le-leb, lt-ltb}
-use Rattle.legacy_tables.specs.declared.tables.packed.PackedPart.{PackedPart}
-use Rattle.legacy_tables.specs.declared.tables.packed.Run.{Run}
-use Rattle.legacy_tables.specs.Indexes.{idx}
-use Rattle.legacy_tables.specs.Runs.{run_end, run_scalar, runs_scalar, is_run_in_order, run_fault_from, run_fault}
-use Rattle.legacy_tables.specs.Packed.{differs_at, run_difference, runs_fault}
-use Rattle.legacy_tables.proofs.FirstPlaces.{taken, find-none}
-use Rattle.legacy_tables.proofs.PackedRuns.{outside-before, outside-behind}
+use Rattle.legacy_tables.specs.{declared.tables.packed.PackedPart.PackedPart, declared.tables.packed.Run.Run, Indexes.idx, Runs.{run_end, run_scalar}}
+use Rattle.legacy_tables.specs.{Runs.{runs_scalar, is_run_in_order, run_fault_from, run_fault}, Packed.{differs_at, run_difference, runs_fault}}
+use Rattle.legacy_tables.proofs.{FirstPlaces.{taken, find-none}, PackedRuns.{outside-before, outside-behind}}
 use Rattle.legacy_index_files.specs.Packing.{AreBelow, AreLongest}
 
 -- ---- one more run

@@ -1,10 +1,7 @@
 -- If the reader reports no line, the text has no malformed line.
 use Rattle.std.proofs.Common.{◌≡◌, ◌↔◌, ℕ, List, Option, Some, None, Result, Ok, Err, refl}
-use Rattle.legacy_index_files.specs.declared.index_file.EncoderIndex.{EncoderIndex}
-use Rattle.legacy_index_files.specs.declared.index_file.IndexFileError.{IndexFileError}
-use Rattle.legacy_index_files.specs.declared.index_file.IndexFileError.TheVariants.{Line, Memory}
-use Rattle.legacy_index_files.specs.IndexLine.{lines}
-use Rattle.legacy_index_files.specs.IndexTable.{malformed_line}
+use Rattle.legacy_index_files.specs.{declared.index_file.EncoderIndex.EncoderIndex, declared.index_file.IndexFileError.IndexFileError}
+use Rattle.legacy_index_files.specs.{declared.index_file.IndexFileError.TheVariants.{Line, Memory}, IndexLine.lines, IndexTable.malformed_line}
 
 none_of : (o : Option ℕ) → ((n : ℕ) → o ≡ Some n → ⊥) → o ≡ None
 none_of None h = refl

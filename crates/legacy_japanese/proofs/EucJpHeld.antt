@@ -1,18 +1,16 @@
 -- The EUC-JP decoder holds back only what its machine may hold back, and its moves are the machine's.
 use Rattle.std.proofs.Common.{◌≡◌, ◌≢◌, ℕ, ◌+◌, ◌-◌, ◌*◌, ◌/◌, ◌%◌, ◌^◌, ◌<◌, List, [], ◌∷◌, length, get_or, true, false, ◌==◌, refl, arith}
-use Rattle.std.proofs.lemmas.{Bool.cond_both, Bool.Decides.nat_tests, List.nil_from_length, List.Elements.All-nil, List.Elements.All-cons}
-use Rattle.std.specs.{Int.is_in_range, Char.IsScalar, Char.is_ascii}
-use Rattle.legacy_base.specs.{EucJp.euc_jp_scalars, Fronts.malformed, Calls.IsMalformedByte, Grammar.Grammar, Grammar.euc_jp, Grammar.events_of}
-use Rattle.legacy_base.specs.States.{is_euc_jp_lead, euc_jp_may_hold, state_of}
-use Rattle.legacy_tables.specs.{AcceptedTables.AcceptedIndexes, Unicode.IsByte, Unicode.AreBytes}
-use Rattle.legacy_decoder_engine.specs.{Steps.finish, Moves.IsCovered, Moves.Feeds, Moves.Reports, StepUnits.IsNarrowIndex, Feeding.Took, Shown.IsShown}
-use Rattle.legacy_decoder_engine.specs.{ReadAhead.Runs, ReadAhead.HasAscii, ReadAhead.IsPair, LaneRows.row_place}
+use Rattle.std.proofs.{lemmas.Bool.cond_both, lemmas.Bool.Decides.nat_tests, lemmas.List.nil_from_length, lemmas.List.Elements.{All-nil, All-cons}}
+use Rattle.std.specs.{Int.is_in_range, Char.{IsScalar, is_ascii}}
+use Rattle.legacy_base.specs.{EucJp.euc_jp_scalars, Fronts.malformed, Calls.IsMalformedByte, Grammar.{Grammar, euc_jp, events_of}, States.is_euc_jp_lead}
+use Rattle.legacy_base.specs.States.{euc_jp_may_hold, state_of}
+use Rattle.legacy_tables.specs.{AcceptedTables.AcceptedIndexes, Unicode.{IsByte, AreBytes}}
+use Rattle.legacy_decoder_engine.specs.{Steps.finish, Moves.{IsCovered, Feeds, Reports}, StepUnits.IsNarrowIndex, Feeding.Took, Shown.IsShown, ReadAhead.Runs}
+use Rattle.legacy_decoder_engine.specs.{ReadAhead.{HasAscii, IsPair}, LaneRows.row_place, declared.moves.Fed.Fed}
 use Rattle.legacy_tables.proofs.Accepted.{jis0208-below, jis0212-below, jis0208-scalars, length-jis0208}
-use Rattle.legacy_decoder_engine.specs.declared.moves.Fed.{Fed}
-use Rattle.legacy_decoder_engine.proofs.{RunForms.pair_runs, RunForms.has_ascii, RunForms.ascii_is, Widths.idx_below, LanePlaces.entry_is}
-use Rattle.legacy_japanese.specs.declared.euc_jp.decoder.Held.TheVariants.{Nothing, Katakana, Jis0212, Lead, Jis0212Lead}
-use Rattle.legacy_japanese.specs.declared.euc_jp.{decoder.Held.Held, lead.EucJpLead.EucJpLead}
-use Rattle.legacy_japanese.specs.{EucJpHeld.held_bytes, EucJpMachine.euc_jp_first, EucJpMachine.euc_jp_step, EucJpMachine.euc_jp_machine}
+use Rattle.legacy_decoder_engine.proofs.{RunForms.{pair_runs, has_ascii, ascii_is}, Widths.idx_below, LanePlaces.entry_is}
+use Rattle.legacy_japanese.specs.{declared.euc_jp.decoder.Held.TheVariants.{Nothing, Katakana, Jis0212, Lead, Jis0212Lead}, declared.euc_jp.decoder.Held.Held}
+use Rattle.legacy_japanese.specs.{declared.euc_jp.lead.EucJpLead.EucJpLead, EucJpHeld.held_bytes, EucJpMachine.{euc_jp_first, euc_jp_step, euc_jp_machine}}
 use Rattle.legacy_japanese.proofs.EucJpShown.{euc_jp_shown}
 use Rattle.legacy_decoder_engine.proofs.Feeding as moves
 

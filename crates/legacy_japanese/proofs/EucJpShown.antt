@@ -1,20 +1,16 @@
 -- The steps of EUC-JP agree with its grammar.
-use Rattle.std.proofs.Common.{◌≡◌, ℕ, ◌+◌, ◌-◌, ◌*◌, ◌≤◌, List, [], ◌∷◌, length, true, false, cond, refl, inl, ◌∙◌, ◌||◌, ◌==◌, arith}
-use Rattle.std.proofs.lemmas.Bool.{false≢true, eqb-true, and_parts, or_parts, ltb-true, cond_both}
-use Rattle.std.proofs.lemmas.Bool.Decides.{nat_tests}
+use Rattle.std.proofs.{Common.{◌≡◌, ℕ, ◌+◌, ◌-◌, ◌*◌, ◌≤◌, List, [], ◌∷◌, length, true, false, cond, refl, inl, ◌∙◌, ◌||◌, ◌==◌, arith}, lemmas.Bool.false≢true}
+use Rattle.std.proofs.{lemmas.Bool.{eqb-true, and_parts, or_parts, ltb-true, cond_both}, lemmas.Bool.Decides.nat_tests}
 use Rattle.std.specs.{Int.is_in_range, Char.is_ascii}
-use Rattle.legacy_base.specs.EucJp.{euc_jp_front, euc_jp_katakana, euc_jp_second, euc_jp_third, euc_jp_pair, euc_jp_scalars, euc_jp_weight}
-use Rattle.legacy_base.specs.Fronts.{malformed, reads_or, trail_rule, cut}
-use Rattle.legacy_base.specs.{Grammar.euc_jp, Grammar.events_of, DecoderActs.act_room, DecoderActs.takes, Lengths.to_utf16}
+use Rattle.legacy_base.specs.{EucJp.{euc_jp_front, euc_jp_katakana, euc_jp_second, euc_jp_third, euc_jp_pair, euc_jp_scalars, euc_jp_weight}, Fronts.malformed}
+use Rattle.legacy_base.specs.{Fronts.{reads_or, trail_rule, cut}, Grammar.{euc_jp, events_of}, DecoderActs.{act_room, takes}, Lengths.to_utf16}
 use Rattle.legacy_base.specs.States.{is_euc_jp_lead, euc_jp_may_hold, state_of}
 use Rattle.legacy_tables.specs.Unicode.{is_katakana_byte, katakana_of}
 use Rattle.legacy_base.proofs.{Cuts.cut-nil, FrontLaws.euc_jp_front-of}
-use Rattle.legacy_decoder_engine.specs.Steps.{Step, end_events, trail_step, Meets}
-use Rattle.legacy_decoder_engine.specs.StepUnits.{units, IsWidth, IsNarrowIndex, Cost}
-use Rattle.legacy_decoder_engine.specs.{StatesAfterSteps.IsOneOrMarked, StatesAfterSteps.Settles, Shown.IsShown}
-use Rattle.legacy_decoder_engine.proofs.FrontMoves.{Fits, fits_trail, fits_meets, end_meets, report_meets}
-use Rattle.legacy_decoder_engine.proofs.RoomMoves.{first_room, held_room_is, HasCosts, IsSloped, sloped_rooms}
-use Rattle.legacy_decoder_engine.proofs.{CallUnderWay.same_rooms, Widths.narrow_idx_units, TwoByteCosts.katakana_below}
+use Rattle.legacy_decoder_engine.specs.{Steps.{Step, end_events, trail_step, Meets}, StepUnits.{units, IsWidth, IsNarrowIndex, Cost}}
+use Rattle.legacy_decoder_engine.specs.{StatesAfterSteps.{IsOneOrMarked, Settles}, Shown.IsShown}
+use Rattle.legacy_decoder_engine.proofs.{FrontMoves.{Fits, fits_trail, fits_meets, end_meets, report_meets}, RoomMoves.{first_room, held_room_is, HasCosts}}
+use Rattle.legacy_decoder_engine.proofs.{RoomMoves.{IsSloped, sloped_rooms}, CallUnderWay.same_rooms, Widths.narrow_idx_units, TwoByteCosts.katakana_below}
 use Rattle.legacy_decoder_engine.proofs.SettledSteps.{one_option, trail_settles}
 use Rattle.legacy_japanese.specs.EucJpMachine.{euc_jp_first, euc_jp_second_step, euc_jp_step, euc_jp_machine}
 

@@ -1,20 +1,16 @@
 -- The moves of the ISO-2022-JP encoder, by its tables and by a list of pairs.
 use Rattle.std.proofs.Common.{◌≡◌, ◌∙◌, ℕ, ◌+◌, List, [], ◌∷◌, ◌++◌, refl, sym, ap, arith, Bool, true, false, IsTrue, ◌||◌, Option, Some, eqb, map, ◌⊎◌, inl}
-use Rattle.std.proofs.Common.{inr, ◌/◌, ◌%◌}
-use Rattle.std.proofs.lemmas.{Bool.lt-ltb, Bool.cases_Bool, Bool.false≢true, Bool.Decides.nat_tests}
-use Rattle.legacy_base.specs.declared.results.EncodeEvent.{EncodeEvent}
-use Rattle.legacy_base.specs.Iso2022Jp.{iso_2022_jp_code, iso_2022_jp_reported, escape_to, escape_between, mode_behind}
-use Rattle.legacy_base.specs.EncoderProfile.{EncoderMode, in_ascii, in_roman, in_two_byte}
-use Rattle.legacy_base.specs.{Beginnings.BeginsWith, EncodeEvents.code_events, Encoders.encoder_profile, Encoders.iso_2022_jp, Encoders.is_pending}
+use Rattle.std.proofs.{Common.{inr, ◌/◌, ◌%◌}, lemmas.Bool.{lt-ltb, cases_Bool, false≢true}, lemmas.Bool.Decides.nat_tests}
+use Rattle.legacy_base.specs.{declared.results.EncodeEvent.EncodeEvent, Iso2022Jp.{iso_2022_jp_code, iso_2022_jp_reported, escape_to, escape_between}}
+use Rattle.legacy_base.specs.{Iso2022Jp.mode_behind, EncoderProfile.{EncoderMode, in_ascii, in_roman, in_two_byte}, Beginnings.BeginsWith}
+use Rattle.legacy_base.specs.{EncodeEvents.code_events, Encoders.{encoder_profile, iso_2022_jp, is_pending}}
 use Rattle.legacy_base.proofs.Iso2022JpEncoding.{text_events, text_events-here, text_events-escape, text_events-end, text_events-open, mode_for, mode_for-twice}
 use Rattle.legacy_base.proofs.Iso2022JpEncoding.{code-short, at_special, at_neutral, IsWritten}
-use Rattle.legacy_encoder_engine.specs.Moves.{Moves, Finishes, IsCode, differs}
-use Rattle.legacy_encoder_engine.specs.{ProfileSuffices.Serves, UnfinishedCall.ReadsByte, UnitTurns.ReadsUnit}
-use Rattle.legacy_encoder_engine.specs.declared.moves.{EncoderMove.EncoderMove, EncoderMove.TheVariants.One, EncoderMove.TheVariants.Two}
+use Rattle.legacy_encoder_engine.specs.{Moves.{Moves, Finishes, IsCode, differs}, ProfileSuffices.Serves, UnfinishedCall.ReadsByte, UnitTurns.ReadsUnit}
+use Rattle.legacy_encoder_engine.specs.{declared.moves.EncoderMove.EncoderMove, declared.moves.EncoderMove.TheVariants.{One, Two}}
 use Rattle.legacy_encoder_engine.proofs.PlainServes.{differs-same, here_moves}
-use Rattle.legacy_japanese.specs.declared.iso_2022_jp.encoder.Mode.{Mode}
-use Rattle.legacy_japanese.specs.Iso2022JpPairs.{IsPairOf}
-use Rattle.legacy_japanese.specs.Iso2022JpEncoder.{mode_of, state_in, is_same_mode, escape_move, Asks, IsOwnByte}
+use Rattle.legacy_japanese.specs.{declared.iso_2022_jp.encoder.Mode.Mode, Iso2022JpPairs.IsPairOf, Iso2022JpEncoder.{mode_of, state_in, is_same_mode}}
+use Rattle.legacy_japanese.specs.Iso2022JpEncoder.{escape_move, Asks, IsOwnByte}
 use Rattle.legacy_japanese.proofs.Iso2022JpEncoderRooms.{scalar_low, scalar_enough, escape_low, escape_enough, end_enough, formula_rises}
 use Rattle.legacy_base.specs.declared.results.EncodeEvent.TheVariants as events
 use Rattle.legacy_japanese.specs.declared.iso_2022_jp.encoder.Mode.TheVariants as modes

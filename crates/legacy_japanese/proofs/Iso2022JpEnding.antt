@@ -1,28 +1,24 @@
 -- Writing a held-back scalar and ending the input, as the decoders' loop sees them.
-use Rattle.std.specs.Prelude.{◌==◌, is_some}
-use Rattle.std.specs.Int.{is_in_range}
+use Rattle.std.specs.{Prelude.{◌==◌, is_some}, Int.is_in_range}
 use Rattle.std.proofs.Common.{◌≡◌, ◌≢◌, ◌∙◌, ℕ, ◌++◌, ◌⊎◌, cond, Bool, true, false, Option, Some, None, List, [], ◌∷◌, inl, inr, length, refl, sym, ap, arith}
-use Rattle.std.proofs.Common.{append-nil}
-use Rattle.std.proofs.lemmas.{Bool.cases_Bool, Bool.cond_both, Bool.Decides.nat_tests}
-use Rattle.legacy_base.specs.declared.results.{DecodeEvent.DecodeEvent, DecodeEvent.TheVariants.Scalar, DecodeEvent.TheVariants.Bad}
-use Rattle.legacy_base.specs.Fronts.{Front, reads, malformed, front_length, front_events}
-use Rattle.legacy_base.specs.Iso2022Jp.{esc, escape_mode, part_mode, iso_2022_jp_events}
-use Rattle.legacy_base.specs.{Beginnings.BeginsWith, Events.shift, Grammar.iso_2022_jp, Grammar.events_of, Lengths.query_form, Lengths.replacement_units}
+use Rattle.std.proofs.{Common.append-nil, lemmas.Bool.{cases_Bool, cond_both}, lemmas.Bool.Decides.nat_tests}
+use Rattle.legacy_base.specs.{declared.results.DecodeEvent.DecodeEvent, declared.results.DecodeEvent.TheVariants.{Scalar, Bad}, Fronts.{Front, reads}}
+use Rattle.legacy_base.specs.{Fronts.{malformed, front_length, front_events}, Iso2022Jp.{esc, escape_mode, part_mode, iso_2022_jp_events}}
+use Rattle.legacy_base.specs.{Beginnings.BeginsWith, Events.shift, Grammar.{iso_2022_jp, events_of}, Lengths.{query_form, replacement_units}}
 use Rattle.legacy_base.specs.States.{is_two_byte_mode, rests}
 use Rattle.legacy_text.specs.EncodingForm.{unit_count}
 use Rattle.legacy_text.proofs.CodeUnits.{length-code_units-bmp}
-use Rattle.legacy_base.proofs.Iso2022JpFronts.{step_end, step_one, step_two, step_escape, step_no_escape}
-use Rattle.legacy_base.proofs.{Shifts.shift-shift, Iso2022JpParts.first_part, Beginnings.no_sooner}
+use Rattle.legacy_base.proofs.{Iso2022JpFronts.{step_end, step_one, step_two, step_escape, step_no_escape}, Shifts.shift-shift, Iso2022JpParts.first_part}
+use Rattle.legacy_base.proofs.Beginnings.{no_sooner}
 use Rattle.legacy_decoder_engine.specs.Moves.{Releases, Reports}
-use Rattle.legacy_japanese.specs.declared.iso_2022_jp.steps.Start.TheVariants.{Nothing, EscapeByte, Dollar, Paren}
-use Rattle.legacy_japanese.specs.declared.iso_2022_jp.{steps.Mode.Mode, steps.Mode.TheVariants.TwoByte, steps.Escape.Escape, steps.Start.Start, steps.Held.Held}
-use Rattle.legacy_japanese.specs.declared.iso_2022_jp.steps.Held.TheVariants.{Byte, Begun, Whole}
-use Rattle.legacy_japanese.specs.Iso2022JpMachine.{mode_meaning, bytes_of, finish, finish_start, is_held, is_resting, mode_of, pending, second_of, single}
-use Rattle.legacy_japanese.specs.Iso2022JpMachine.{start_bytes, third_of}
+use Rattle.legacy_japanese.specs.{declared.iso_2022_jp.steps.Start.TheVariants.{Nothing, EscapeByte, Dollar, Paren}, declared.iso_2022_jp.steps.Mode.Mode}
+use Rattle.legacy_japanese.specs.{declared.iso_2022_jp.steps.Mode.TheVariants.TwoByte, declared.iso_2022_jp.steps.Escape.Escape}
+use Rattle.legacy_japanese.specs.{declared.iso_2022_jp.steps.Start.Start, declared.iso_2022_jp.steps.Held.Held}
+use Rattle.legacy_japanese.specs.{declared.iso_2022_jp.steps.Held.TheVariants.{Byte, Begun, Whole}, Iso2022JpMachine.{mode_meaning, bytes_of, finish}}
+use Rattle.legacy_japanese.specs.Iso2022JpMachine.{finish_start, is_held, is_resting, mode_of, pending, second_of, single, start_bytes, third_of}
 use Rattle.legacy_japanese.specs.Iso2022JpMoves.{state_in, IsNarrowScalar}
 use Rattle.legacy_japanese.proofs.Iso2022JpStep.{front-malformed_byte, front-single, front-trail, front_of, escape_alone, in_range_plain, valid}
-use Rattle.legacy_japanese.proofs.Iso2022JpRooms.{same_rooms, room-falls, replacement_fits, times_one}
-use Rattle.legacy_japanese.proofs.Iso2022JpLaw.{MeetsEnd, ended, events_in, front_in}
+use Rattle.legacy_japanese.proofs.{Iso2022JpRooms.{same_rooms, room-falls, replacement_fits, times_one}, Iso2022JpLaw.{MeetsEnd, ended, events_in, front_in}}
 use Rattle.legacy_japanese.proofs.Iso2022JpHeld.{held_allowed, held_rests, finish_sound, EndsSound}
 use Rattle.legacy_base.specs.Iso2022Jp as iso
 

@@ -1,19 +1,16 @@
 -- The runs of ISO-2022-JP before and after an escape.
 use Rattle.std.proofs.Common.{◌≡◌, ◌≢◌, ◌∙◌, ℕ, suc, ◌+◌, ◌-◌, ◌<◌, List, ◌∷◌, ◌++◌, length, map, take, drop, get_or, refl, sym, ap, subst, arith, append-nil}
-use Rattle.std.proofs.Common.{length-drop}
-use Rattle.std.proofs.Math.Seq.{drop-cons, take-add}
-use Rattle.std.proofs.lemmas.{Grind.common_steps, Bool.ne_eqb, List.drop-drop}
-use Rattle.legacy_text.specs.declared.destination.Destination.{Ghosts}
-use Rattle.legacy_base.specs.declared.results.DecodeEvent.TheVariants.{Scalar}
-use Rattle.legacy_text.specs.EncodingForm.{all_code_units}
-use Rattle.legacy_base.specs.{States.DecoderState, Events.shift, Grammar.iso_2022_jp, Grammar.events_of, Iso2022Jp.esc}
-use Rattle.legacy_base.proofs.{Iso2022JpParts.no_escape, Shifts.shift-append, Shifts.shift-shift, Shifts.shift-scalars}
+use Rattle.std.proofs.{Common.length-drop, Math.Seq.{drop-cons, take-add}, lemmas.Grind.common_steps, lemmas.Bool.ne_eqb, lemmas.List.drop-drop}
+use Rattle.legacy_text.specs.{declared.destination.Destination.Ghosts, EncodingForm.all_code_units}
+use Rattle.legacy_base.specs.{declared.results.DecodeEvent.TheVariants.Scalar, States.DecoderState, Events.shift, Grammar.{iso_2022_jp, events_of}}
+use Rattle.legacy_base.specs.Iso2022Jp.{esc}
+use Rattle.legacy_base.proofs.{Iso2022JpParts.no_escape, Shifts.{shift-append, shift-shift, shift-scalars}}
 use Rattle.legacy_decoder_engine.specs.ReadAhead.{RunsTo, Runs, ReadsTo, ReadsAhead}
 use Rattle.legacy_decoder_engine.proofs.{AheadRuns.reads_nothing, JoinedRuns.reads_then, WrittenRuns.rest_of}
-use Rattle.legacy_japanese.specs.declared.iso_2022_jp.{steps.Mode.Mode, steps.Escape.Escape, steps.Start.TheVariants.Nothing, steps.Held.TheVariants.Begun}
-use Rattle.legacy_japanese.specs.Iso2022JpMachine.{mode_meaning, mode_of, second_of, third_of}
-use Rattle.legacy_japanese.specs.Iso2022JpRuns.{run_state, HasEscape}
-use Rattle.legacy_japanese.proofs.{Iso2022JpRooms.same_rooms, Iso2022JpRooms.room-falls, Iso2022JpLaw.events_in, Iso2022JpStep.escape_alone}
+use Rattle.legacy_japanese.specs.{declared.iso_2022_jp.steps.Mode.Mode, declared.iso_2022_jp.steps.Escape.Escape}
+use Rattle.legacy_japanese.specs.{declared.iso_2022_jp.steps.Start.TheVariants.Nothing, declared.iso_2022_jp.steps.Held.TheVariants.Begun}
+use Rattle.legacy_japanese.specs.{Iso2022JpMachine.{mode_meaning, mode_of, second_of, third_of}, Iso2022JpRuns.{run_state, HasEscape}}
+use Rattle.legacy_japanese.proofs.{Iso2022JpRooms.{same_rooms, room-falls}, Iso2022JpLaw.events_in, Iso2022JpStep.escape_alone}
 
 -- an escape before a run of its mode; the run does not begin with an escape byte
 escape_runs : (jis0208 : List ℕ) (mode : Mode) (e : Escape) (x : ℕ) (bytes ds : List ℕ) → x ≢ esc →

@@ -1,19 +1,17 @@
 -- The machine's steps, as the decoders' loop sees them.
-use Rattle.std.specs.Prelude.{if◌then◌else◌}
-use Rattle.std.specs.Char.{IsScalar}
+use Rattle.std.specs.{Prelude.if◌then◌else◌, Char.IsScalar}
 use Rattle.std.proofs.Common.{◌≡◌, ◌≢◌, ◌∙◌, ℕ, ◌+◌, ◌*◌, ◌≤◌, true, All, None, List, [], ◌∷◌, ◌++◌, length, map, refl, sym, ap, arith, append-nil}
 use Rattle.std.proofs.lemmas.List.Elements.{All-cons, All-nil}
-use Rattle.legacy_base.specs.declared.results.DecodeEvent.TheVariants.{Scalar}
-use Rattle.legacy_base.specs.{DecoderActs.HadRoom, States.rests, Grammar.iso_2022_jp, Grammar.events_of, Lengths.LengthQuery, Lengths.query_form}
+use Rattle.legacy_base.specs.{declared.results.DecodeEvent.TheVariants.Scalar, DecoderActs.HadRoom, States.rests, Grammar.{iso_2022_jp, events_of}}
+use Rattle.legacy_base.specs.Lengths.{LengthQuery, query_form}
 use Rattle.legacy_text.specs.EncodingForm.{EncodingForm, bmp_room, total_unit_count}
 use Rattle.legacy_decoder_engine.specs.Moves.{fed_scalars, fed_malformed, fed_units, unread_byte, FedHolds, Feeds}
-use Rattle.legacy_japanese.specs.declared.iso_2022_jp.{steps.Mode.Mode, steps.Held.Held, steps.Action.Action, steps.Outcome.Outcome}
-use Rattle.legacy_japanese.specs.declared.iso_2022_jp.steps.Action.TheVariants.{Holds, Writes}
-use Rattle.legacy_japanese.specs.Iso2022JpMoves.{state_in, is_left, move_events, rooms_of, fed_by, fed_of, IsNarrow}
-use Rattle.legacy_japanese.specs.Iso2022JpMachine.{mode_meaning, bytes_of, is_held, read}
-use Rattle.legacy_japanese.proofs.Iso2022JpRooms.{same_rooms, read_room-is, one_fits, room-falls, replacement_fits, times_one}
-use Rattle.legacy_japanese.proofs.{Iso2022JpLaw.HasSizes, Iso2022JpLaw.RestsAfter, Iso2022JpLaw.done, Iso2022JpStep.IsStep, Iso2022JpStep.read_step}
-use Rattle.legacy_japanese.proofs.Iso2022JpHeld.{held_allowed, held_rests}
+use Rattle.legacy_japanese.specs.{declared.iso_2022_jp.steps.Mode.Mode, declared.iso_2022_jp.steps.Held.Held, declared.iso_2022_jp.steps.Action.Action}
+use Rattle.legacy_japanese.specs.{declared.iso_2022_jp.steps.Outcome.Outcome, declared.iso_2022_jp.steps.Action.TheVariants.{Holds, Writes}}
+use Rattle.legacy_japanese.specs.{Iso2022JpMoves.{state_in, is_left, move_events, rooms_of, fed_by, fed_of, IsNarrow}, Iso2022JpMachine.mode_meaning}
+use Rattle.legacy_japanese.specs.Iso2022JpMachine.{bytes_of, is_held, read}
+use Rattle.legacy_japanese.proofs.{Iso2022JpRooms.{same_rooms, read_room-is, one_fits, room-falls, replacement_fits, times_one}, Iso2022JpLaw.HasSizes}
+use Rattle.legacy_japanese.proofs.{Iso2022JpLaw.{RestsAfter, done}, Iso2022JpStep.{IsStep, read_step}, Iso2022JpHeld.{held_allowed, held_rests}}
 
 -- ---- a move, and what the loop gets from it
 

@@ -1,10 +1,9 @@
 -- The machine holds back only bytes that the grammar may hold back, with the same weight.
 use Rattle.std.proofs.Common.{◌≡◌, ℕ, ◌+◌, ◌≤◌, true, Option, Some, None, List, length, drop, refl, arith, lit≤}
-use Rattle.legacy_base.specs.{Grammar.iso_2022_jp, Lengths.weight, States.may_hold, States.rests}
-use Rattle.legacy_japanese.specs.declared.iso_2022_jp.{steps.Mode.Mode, steps.Start.TheVariants.Nothing, steps.Held.Held}
-use Rattle.legacy_japanese.specs.declared.iso_2022_jp.steps.Held.TheVariants.{Begun, Whole}
-use Rattle.legacy_japanese.specs.Iso2022JpMachine.{mode_meaning, bytes_of, finish, is_held, is_resting, mode_of}
-use Rattle.legacy_japanese.specs.Iso2022JpMoves.{weight_of}
+use Rattle.legacy_base.specs.{Grammar.iso_2022_jp, Lengths.weight, States.{may_hold, rests}}
+use Rattle.legacy_japanese.specs.{declared.iso_2022_jp.steps.Mode.Mode, declared.iso_2022_jp.steps.Start.TheVariants.Nothing}
+use Rattle.legacy_japanese.specs.{declared.iso_2022_jp.steps.Held.Held, declared.iso_2022_jp.steps.Held.TheVariants.{Begun, Whole}}
+use Rattle.legacy_japanese.specs.{Iso2022JpMachine.{mode_meaning, bytes_of, finish, is_held, is_resting, mode_of}, Iso2022JpMoves.weight_of}
 use Rattle.legacy_japanese.proofs.{Iso2022JpLaw.ended, Iso2022JpStep.second_kept}
 
 -- ---- the held-back bytes

@@ -3,12 +3,11 @@ use Rattle.std.proofs.Common.{◌≡◌, ℕ, ◌≤◌, List, [], ◌∷◌, ta
 use Rattle.legacy_text.specs.EncodingForm.{EncodingForm, bmp_room}
 use Rattle.legacy_base.specs.Iso2022Jp.{esc}
 use Rattle.legacy_decoder_engine.specs.Moves.{HoldsBytes}
-use Rattle.legacy_japanese.specs.declared.iso_2022_jp.steps.Escape.TheVariants.{ToJis1978, ToJis1983}
-use Rattle.legacy_japanese.specs.declared.iso_2022_jp.steps.Start.TheVariants.{Nothing, EscapeByte, Dollar, Paren}
-use Rattle.legacy_japanese.specs.declared.iso_2022_jp.{steps.Mode.Mode, steps.Escape.Escape, steps.Start.Start, steps.Held.Held, steps.Action.TheVariants.Holds}
-use Rattle.legacy_japanese.specs.declared.iso_2022_jp.steps.Held.TheVariants.{Begun, Whole}
-use Rattle.legacy_japanese.specs.Iso2022JpMachine.{moves, read, second_of, third_of}
-use Rattle.legacy_japanese.specs.{Iso2022JpMoves.state_in, Iso2022JpRuns.run_state, Iso2022JpRuns.HasEscape}
+use Rattle.legacy_japanese.specs.{declared.iso_2022_jp.steps.Escape.TheVariants.{ToJis1978, ToJis1983}, declared.iso_2022_jp.steps.Start.TheVariants.Nothing}
+use Rattle.legacy_japanese.specs.{declared.iso_2022_jp.steps.Start.TheVariants.{EscapeByte, Dollar, Paren}, declared.iso_2022_jp.steps.Mode.Mode}
+use Rattle.legacy_japanese.specs.{declared.iso_2022_jp.steps.Escape.Escape, declared.iso_2022_jp.steps.Start.Start, declared.iso_2022_jp.steps.Held.Held}
+use Rattle.legacy_japanese.specs.{declared.iso_2022_jp.steps.Action.TheVariants.Holds, declared.iso_2022_jp.steps.Held.TheVariants.{Begun, Whole}}
+use Rattle.legacy_japanese.specs.{Iso2022JpMachine.{moves, read, second_of, third_of}, Iso2022JpMoves.state_in, Iso2022JpRuns.{run_state, HasEscape}}
 use Rattle.legacy_japanese.proofs.{Iso2022JpFeeding.feeds, Iso2022JpHeld.held_rests, Iso2022JpRooms.read_room-is}
 
 -- the start of an escape: its first two bytes

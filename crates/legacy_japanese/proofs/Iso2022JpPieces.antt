@@ -1,7 +1,6 @@
 -- Copying a piece of ASCII: the output after it, and the scalars written as themselves.
-use Rattle.std.proofs.Common.{◌≡◌, ℕ, ◌+◌, ◌-◌, ◌≤◌, ◌<◌, List, ◌++◌, length, take, drop, slice_index, get_or-take, refl, arith}
-use Rattle.std.proofs.Math.Seq.{take-append_seam, drop-append_seam}
-use Rattle.std.proofs.lemmas.{List.take-take, List.length-take-le, List.drop-take, Grind.common_steps}
+use Rattle.std.proofs.{Common.{◌≡◌, ℕ, ◌+◌, ◌-◌, ◌≤◌, ◌<◌, List, ◌++◌, length, take, drop, slice_index, get_or-take, refl, arith}, Math.Seq.take-append_seam}
+use Rattle.std.proofs.{Math.Seq.drop-append_seam, lemmas.List.{take-take, length-take-le, drop-take}, lemmas.Grind.common_steps}
 use Rattle.legacy_text.specs.UnitCodes.{WritesCodes}
 use Rattle.legacy_japanese.specs.Iso2022JpEncoder.{HasNoControl, IsOwnByte}
 

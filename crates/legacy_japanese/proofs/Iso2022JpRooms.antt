@@ -1,16 +1,15 @@
 -- The room that an ISO-2022-JP decoder needs, and how it decreases.
 use Rattle.std.proofs.Common.{◌≡◌, ℕ, ◌+◌, ◌*◌, ◌<◌, ◌≤◌, Bool, true, false, cond, Some, List, [], ◌∷◌, length, refl, arith, length-append, ◌&&◌}
 use Rattle.std.specs.Char.{is_ascii}
-use Rattle.legacy_base.specs.declared.results.DecodeEvent.{DecodeEvent}
+use Rattle.legacy_base.specs.{declared.results.DecodeEvent.DecodeEvent, DecoderActs.{writes, act_at_end, act_at_rest, room_of_act}, Lengths.LengthQuery}
+use Rattle.legacy_base.specs.{Lengths.{to_utf16, query_form, replacement_units, room}, Grammar.{iso_2022_jp, events_of}, States.{rests, is_empty}}
 use Rattle.legacy_text.specs.EncodingForm.{EncodingForm, bmp_room, wide_room, code_units, total_unit_count}
-use Rattle.legacy_base.specs.DecoderActs.{writes, act_at_end, act_at_rest, room_of_act}
-use Rattle.legacy_base.specs.Lengths.{LengthQuery, to_utf16, query_form, replacement_units, room}
-use Rattle.legacy_base.specs.{Grammar.iso_2022_jp, Grammar.events_of, States.rests, States.is_empty}
 use Rattle.legacy_text.proofs.CodeUnits.{length-code_units-bmp}
 use Rattle.legacy_base.proofs.Iso2022JpFronts.{step_end}
 use Rattle.legacy_decoder_engine.specs.Moves.{IsCovered, SameRooms, read_room}
-use Rattle.legacy_japanese.specs.declared.iso_2022_jp.{steps.Mode.Mode, steps.Start.TheVariants.Nothing, steps.Held.Held, steps.Held.TheVariants.Begun}
-use Rattle.legacy_japanese.specs.{Iso2022JpMachine.mode_meaning, Iso2022JpMachine.bytes_of, Iso2022JpMoves.state_in, Iso2022JpMoves.weight_of}
+use Rattle.legacy_japanese.specs.{declared.iso_2022_jp.steps.Mode.Mode, declared.iso_2022_jp.steps.Start.TheVariants.Nothing}
+use Rattle.legacy_japanese.specs.{declared.iso_2022_jp.steps.Held.Held, declared.iso_2022_jp.steps.Held.TheVariants.Begun, Iso2022JpMachine.mode_meaning}
+use Rattle.legacy_japanese.specs.{Iso2022JpMachine.bytes_of, Iso2022JpMoves.{state_in, weight_of}}
 use Rattle.legacy_decoder_engine.proofs.RoomMoves.{no_short_room}
 use Rattle.legacy_japanese.proofs.Iso2022JpHeld.{held_weight}
 

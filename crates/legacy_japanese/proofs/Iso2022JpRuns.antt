@@ -1,22 +1,17 @@
 -- The runs of ISO-2022-JP.
 use Rattle.std.proofs.Common.{inl, inr, ◌≡◌, ◌∙◌, ℕ, suc, ◌+◌, ◌-◌, ◌*◌, ◌<◌, ◌≤◌, true, Option, Some, None, List, [], ◌∷◌, ◌++◌, length, take, get_or, refl}
-use Rattle.std.proofs.Common.{sym, ap, arith}
-use Rattle.std.specs.{Prelude.All, Prelude.IsAscii, Prelude.IfSome, Char.IsScalar, Char.is_ascii, Int.is_in_range}
-use Rattle.std.proofs.lemmas.{Bool.cases_lt, Bool.ne_eqb, Bool.Decides.nat_tests, List.length-take, List.length-take-le, List.get_or-take}
-use Rattle.std.proofs.lemmas.{List.Elements.All-nil, List.Elements.All-cons, List.Elements.All-from_get_or, Str.Ascii.IsAscii-from_all}
-use Rattle.legacy_text.specs.declared.destination.Destination.{Ghosts}
-use Rattle.legacy_text.specs.EncodingForm.{EncodingForm, code_units, total_unit_count}
-use Rattle.legacy_base.specs.Iso2022Jp.{esc, ascii, two_byte, iso_2022_jp_front}
-use Rattle.legacy_base.specs.{Fronts.reads, Grammar.iso_2022_jp, Grammar.events_of, Lengths.query_form}
+use Rattle.std.proofs.{Common.{sym, ap, arith}, lemmas.Bool.{cases_lt, ne_eqb}, lemmas.Bool.Decides.nat_tests, lemmas.List.{length-take, length-take-le}}
+use Rattle.std.proofs.{lemmas.List.get_or-take, lemmas.List.Elements.{All-nil, All-cons, All-from_get_or}, lemmas.Str.Ascii.IsAscii-from_all}
+use Rattle.std.specs.{Prelude.{All, IsAscii, IfSome}, Char.{IsScalar, is_ascii}, Int.is_in_range}
+use Rattle.legacy_text.specs.{declared.destination.Destination.Ghosts, EncodingForm.{EncodingForm, code_units, total_unit_count}}
+use Rattle.legacy_base.specs.{Iso2022Jp.{esc, ascii, two_byte, iso_2022_jp_front}, Fronts.reads, Grammar.{iso_2022_jp, events_of}, Lengths.query_form}
 use Rattle.legacy_tables.specs.Indexes.{idx}
 use Rattle.legacy_base.proofs.Iso2022JpFronts.{step_one, step_two}
-use Rattle.legacy_japanese.specs.declared.iso_2022_jp.{steps.Mode.TheVariants.Ascii, steps.Mode.TheVariants.TwoByte, steps.Start.TheVariants.Nothing}
-use Rattle.legacy_japanese.specs.declared.iso_2022_jp.{steps.Held.TheVariants.Begun, places.TheConstants.LEADS, places.TheConstants.TRAILS}
-use Rattle.legacy_decoder_engine.specs.{ReadAhead.Runs, ReadAhead.IsPair, ReadAhead.ReadsAhead, Places.IsTableOf}
-use Rattle.legacy_japanese.specs.{Iso2022JpMoves.IsNarrowScalar, Iso2022JpRuns.ArePlain, Iso2022JpRuns.IsPlain, Iso2022JpRuns.run_state}
-use Rattle.legacy_japanese.specs.Jis0208Places.{jis_lead_place, jis_trail_place}
-use Rattle.legacy_decoder_engine.proofs.WrittenRuns.{runs_none, runs_more, code_units_ascii, all_code_units_ascii}
-use Rattle.legacy_decoder_engine.proofs.PairPlaces.{idx_past}
+use Rattle.legacy_japanese.specs.{declared.iso_2022_jp.steps.Mode.TheVariants.{Ascii, TwoByte}, declared.iso_2022_jp.steps.Start.TheVariants.Nothing}
+use Rattle.legacy_japanese.specs.{declared.iso_2022_jp.steps.Held.TheVariants.Begun, declared.iso_2022_jp.places.TheConstants.{LEADS, TRAILS}}
+use Rattle.legacy_japanese.specs.{Iso2022JpMoves.IsNarrowScalar, Iso2022JpRuns.{ArePlain, IsPlain, run_state}, Jis0208Places.{jis_lead_place, jis_trail_place}}
+use Rattle.legacy_decoder_engine.specs.{ReadAhead.{Runs, IsPair, ReadsAhead}, Places.IsTableOf}
+use Rattle.legacy_decoder_engine.proofs.{WrittenRuns.{runs_none, runs_more, code_units_ascii, all_code_units_ascii}, PairPlaces.idx_past}
 use Rattle.legacy_japanese.proofs.Iso2022JpRooms.{same_rooms, one_fits, room-falls, times_one}
 
 -- ---- the places of leads and trails in two-byte mode

@@ -1,26 +1,21 @@
 -- Each step of the machine meets its law, and leaves only what may be held back.
-use Rattle.std.specs.Prelude.{◌==◌, if◌then◌else◌, option_to_list}
-use Rattle.std.specs.Int.{is_in_range}
+use Rattle.std.specs.{Prelude.{◌==◌, if◌then◌else◌, option_to_list}, Int.is_in_range}
 use Rattle.std.proofs.Common.{◌≡◌, ℕ, suc, ◌+◌, ◌-◌, ◌*◌, ◌≤◌, true, false, leb, Option, Some, None, List, [], ◌∷◌, ◌++◌, length, refl, sym, ap, ◌∙◌}
-use Rattle.std.proofs.Common.{append_assoc, length-append, arith, lit≤}
-use Rattle.std.proofs.lemmas.Bool.{eqb-true, ne_eqb, leb-true, and_parts, cond_both}
+use Rattle.std.proofs.{Common.{append_assoc, length-append, arith, lit≤}, lemmas.Bool.{eqb-true, ne_eqb, leb-true, and_parts, cond_both}}
 use Rattle.std.proofs.lemmas.Bool.Decides.{nat_tests}
-use Rattle.legacy_base.specs.declared.results.DecodeEvent.TheVariants.{Bad}
-use Rattle.legacy_base.specs.Fronts.{Front, reads, malformed, reads_or}
-use Rattle.legacy_base.specs.Iso2022Jp.{esc, escape_mode, part_mode, iso_2022_jp_front}
-use Rattle.legacy_base.specs.{Events.shift, States.is_two_byte_mode}
+use Rattle.legacy_base.specs.{declared.results.DecodeEvent.TheVariants.Bad, Fronts.{Front, reads, malformed, reads_or}, Iso2022Jp.{esc, escape_mode, part_mode}}
+use Rattle.legacy_base.specs.{Iso2022Jp.iso_2022_jp_front, Events.shift, States.is_two_byte_mode}
 use Rattle.legacy_tables.specs.Indexes.{idx}
-use Rattle.legacy_base.proofs.Iso2022JpFronts.{step_one, step_two, step_no_escape, step_escape, escape_ahead}
-use Rattle.legacy_base.proofs.{Shifts.shift-append, Shifts.shift-shift, Shifts.shift-zero, Iso2022JpParts.first_part, Iso2022JpParts.no_escape}
+use Rattle.legacy_base.proofs.{Iso2022JpFronts.{step_one, step_two, step_no_escape, step_escape, escape_ahead}, Shifts.{shift-append, shift-shift, shift-zero}}
+use Rattle.legacy_base.proofs.Iso2022JpParts.{first_part, no_escape}
 use Rattle.legacy_japanese.specs.declared.iso_2022_jp.steps.Start.TheVariants.{Nothing, EscapeByte, Dollar, Paren}
-use Rattle.legacy_japanese.specs.declared.iso_2022_jp.steps.Action.TheVariants.{Holds, Reports, Leaves}
-use Rattle.legacy_japanese.specs.declared.iso_2022_jp.{steps.Mode.Mode, steps.Escape.Escape, steps.Start.Start, steps.Held.Held, steps.Action.Action}
-use Rattle.legacy_japanese.specs.declared.iso_2022_jp.{steps.Outcome.Outcome, steps.Mode.TheVariants.TwoByte}
-use Rattle.legacy_japanese.specs.declared.iso_2022_jp.steps.Held.TheVariants.{Byte, Begun, Whole}
+use Rattle.legacy_japanese.specs.{declared.iso_2022_jp.steps.Action.TheVariants.{Holds, Reports, Leaves}, declared.iso_2022_jp.steps.Mode.Mode}
+use Rattle.legacy_japanese.specs.{declared.iso_2022_jp.steps.Escape.Escape, declared.iso_2022_jp.steps.Start.Start, declared.iso_2022_jp.steps.Held.Held}
+use Rattle.legacy_japanese.specs.{declared.iso_2022_jp.steps.Action.Action, declared.iso_2022_jp.steps.Outcome.Outcome}
+use Rattle.legacy_japanese.specs.{declared.iso_2022_jp.steps.Mode.TheVariants.TwoByte, declared.iso_2022_jp.steps.Held.TheVariants.{Byte, Begun, Whole}}
 use Rattle.legacy_japanese.specs.Iso2022JpMachine.{mode_meaning, bytes_of, completes, is_held, is_resting, mode_of, moves, read, read_next_third, read_pair}
 use Rattle.legacy_japanese.specs.Iso2022JpMachine.{read_plain, read_single, read_start, read_third, read_trail, read_whole, second_of, single, start_bytes}
-use Rattle.legacy_japanese.specs.Iso2022JpMachine.{third_of}
-use Rattle.legacy_japanese.specs.Iso2022JpMoves.{move_events, weight_of}
+use Rattle.legacy_japanese.specs.{Iso2022JpMachine.third_of, Iso2022JpMoves.{move_events, weight_of}}
 use Rattle.legacy_japanese.proofs.Iso2022JpLaw.{HasSizes, MeetsLaw, Sound, done, events_in, front_in}
 
 pub valid : (e : Escape) → escape_mode (second_of e) (third_of e) ≡ Some (mode_meaning (mode_of e))

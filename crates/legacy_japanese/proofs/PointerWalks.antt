@@ -2,18 +2,15 @@
 -- scalars are looked up one by one.
 use Rattle.std.proofs.Common.{◌∙◌, ◌≡◌, ℕ, ◌+◌, ◌/◌, ◌<◌, Bool, cond, nat_lt, List, length, slice_index, refl, arith, option_map}
 use Rattle.std.proofs.lemmas.Bool.Decides.{nat_tests}
-use Rattle.legacy_tables.specs.{Indexes.FlatIndexes, TableChecks.AreAccepted, Walks.IsFilled, Pointers.euc_jp_pointer_of, Pointers.shift_jis_pointer_of}
-use Rattle.legacy_tables.specs.declared.tables.packed.PackedPart.TheVariants.{EucJpOrder, ShiftJisOrder}
-use Rattle.legacy_tables.proofs.{Accepted.jis0208-scalars, PointerBounds.euc-jp-bound, PointerBounds.shift-jis-bound}
-use Rattle.legacy_base.specs.{EucJp.euc_jp_code, EucJp.euc_jp_bytes, ShiftJis.shift_jis_code, ShiftJis.shift_jis_bytes}
-use Rattle.legacy_base.specs.{Iso2022Jp.iso_2022_jp_code, Iso2022Jp.iso_2022_jp_pair, Encoders.Codec, Encoders.euc_jp, Encoders.shift_jis, Encoders.iso_2022_jp}
-use Rattle.legacy_encoder_engine.proofs.WalkedPairs.{GoesByPointers, by-pairs, halves, walked-right}
-use Rattle.legacy_encoder_engine.proofs.CachedPairs.{all-right}
+use Rattle.legacy_tables.specs.{Indexes.FlatIndexes, TableChecks.AreAccepted, Walks.IsFilled, Pointers.{euc_jp_pointer_of, shift_jis_pointer_of}}
+use Rattle.legacy_tables.specs.{declared.tables.packed.PackedPart.TheVariants.{EucJpOrder, ShiftJisOrder}, declared.tables.packed.PackedPart.PackedPart}
+use Rattle.legacy_tables.proofs.{Accepted.jis0208-scalars, PointerBounds.{euc-jp-bound, shift-jis-bound}}
+use Rattle.legacy_base.specs.{EucJp.{euc_jp_code, euc_jp_bytes}, ShiftJis.{shift_jis_code, shift_jis_bytes}, Iso2022Jp.{iso_2022_jp_code, iso_2022_jp_pair}}
+use Rattle.legacy_base.specs.Encoders.{Codec, euc_jp, shift_jis, iso_2022_jp}
+use Rattle.legacy_encoder_engine.proofs.{WalkedPairs.{GoesByPointers, by-pairs, halves, walked-right}, CachedPairs.all-right}
 use Rattle.legacy_encoder_engine.specs.CachedPairs.{AreAllPairsOf, IsRightEntry}
-use Rattle.legacy_tables.specs.declared.tables.packed.PackedPart.{PackedPart}
-use Rattle.legacy_japanese.specs.Iso2022JpPairs.{IsListedEntry, iso_2022_jp_mark, iso_2022_jp_mark-some}
-use Rattle.legacy_japanese.specs.{ByPointer.GoesByPointer, EucJpCodes.euc_jp_mark, EucJpCodes.euc_jp_mark-some}
-use Rattle.legacy_japanese.specs.ShiftJisCodes.{shift_jis_mark, shift_jis_mark-some}
+use Rattle.legacy_japanese.specs.{Iso2022JpPairs.{IsListedEntry, iso_2022_jp_mark, iso_2022_jp_mark-some}, ByPointer.GoesByPointer, EucJpCodes.euc_jp_mark}
+use Rattle.legacy_japanese.specs.{EucJpCodes.euc_jp_mark-some, ShiftJisCodes.{shift_jis_mark, shift_jis_mark-some}}
 
 -- a list that was filled by pointers has all pairs after the other scalars were looked up
 pub all-listed : {codec : Codec} {part : PackedPart} {mark : ℕ → ℕ} {index : List ℕ} → GoesByPointers codec part mark index GoesByPointer

@@ -1,14 +1,14 @@
 -- Eight codes of Shift_JIS, lane by lane, and the pairs of those that have an entry.
 use Rattle.std.proofs.Common.{◌≡◌, ◌≢◌, ◌∙◌, ℕ, ◌+◌, ◌-◌, ◌*◌, ◌/◌, ◌%◌, ◌<◌, ◌≤◌, ◌||◌, ◌&&◌, ◌==◌, min, Bool, true, false, cond, leb, List, [], ◌∷◌, length}
-use Rattle.std.proofs.Common.{get_or, map, replicate, refl, sym, ap, arith, w16, Fits}
-use Rattle.std.proofs.lemmas.{Bool.agree_below_at, Bool.Decides.nat_tests, Nat.xor_mod}
+use Rattle.std.proofs.{Common.{get_or, map, replicate, refl, sym, ap, arith, w16, Fits}, lemmas.Bool.agree_below_at, lemmas.Bool.Decides.nat_tests}
+use Rattle.std.proofs.lemmas.Nat.{xor_mod}
 use Rattle.std.specs.{Char.IsScalar, Int.is_in_range, Int.Bits.bit_xor}
 use lib.Lanes.{Each1, zip2}
 use Rattle.legacy_text.proofs.UnitLanes.{of_eight}
 use Rattle.legacy_tables.specs.AcceptedTables.{AcceptedIndexes}
 use Rattle.legacy_tables.proofs.Accepted.{jis0208-scalars, length-jis0208}
-use Rattle.legacy_base.specs.{Grammar.shift_jis, ShiftJis.is_shift_jis_lead, ShiftJis.shift_jis_scalars}
-use Rattle.legacy_decoder_engine.specs.{ReadAhead.HasAscii, ReadAhead.IsPair, SplitRows.lead_place_of, SplitRows.trail_place_of}
+use Rattle.legacy_base.specs.{Grammar.shift_jis, ShiftJis.{is_shift_jis_lead, shift_jis_scalars}}
+use Rattle.legacy_decoder_engine.specs.{ReadAhead.{HasAscii, IsPair}, SplitRows.{lead_place_of, trail_place_of}}
 use Rattle.legacy_decoder_engine.proofs.LanePlaces.{entry_is}
 use Rattle.legacy_japanese.specs.{ShiftJisLanes.shift_jis_place, ShiftJisMachine.shift_jis_pair_scalars, ShiftJisShown.shift_jis_codec}
 use Rattle.legacy_japanese.specs.ShiftJisPlaces.{shift_jis_lead_place, shift_jis_trail_place}

@@ -4,7 +4,7 @@ use Rattle.std.proofs.lemmas.Bool.Decides.{nat_tests}
 use Rattle.std.specs.{Int.is_in_range, Option.option_map_or}
 use Rattle.legacy_base.specs.ShiftJis.{is_shift_jis_lead, shift_jis_lead_part, shift_jis_scalars}
 use Rattle.legacy_decoder_engine.specs.Places.{IsTableOf}
-use Rattle.legacy_japanese.specs.{ShiftJisPlaces.shift_jis_lead_place, ShiftJisPlaces.shift_jis_trail_place, ShiftJisMachine.shift_jis_pair_scalars}
+use Rattle.legacy_japanese.specs.{ShiftJisPlaces.{shift_jis_lead_place, shift_jis_trail_place}, ShiftJisMachine.shift_jis_pair_scalars}
 use Rattle.legacy_japanese.specs.declared.shift_jis.places.TheConstants.{LEADS, TRAILS}
 use Rattle.legacy_decoder_engine.proofs.PairPlaces.{none_past, pair_entry}
 

@@ -1,9 +1,9 @@
 -- Byte sequences of Shift_JIS that give one scalar.
-use Rattle.std.proofs.Common.{◌≡◌, ◌≤◌, ◌<◌, ◌^◌, ◌+◌, ◌-◌, ◌==◌, ℕ, List, [], ◌∷◌, Option, Some, None, false, true, cond, refl, arith}
-use Rattle.std.proofs.lemmas.{Bool.cond_both, Bool.Decides.nat_tests}
-use Rattle.std.specs.{Char.IsScalar, Char.is_ascii, Int.is_in_range, Option.option_map_or, Prelude.option_to_list}
-use Rattle.legacy_tables.specs.{AcceptedTables.AcceptedIndexes, Indexes.idx, Unicode.is_katakana_byte, Unicode.katakana_of}
-use Rattle.legacy_base.specs.{Grammar.shift_jis, ShiftJis.is_shift_jis_lead, ShiftJis.shift_jis_pointer, ShiftJis.shift_jis_scalars}
+use Rattle.std.proofs.{Common.{◌≡◌, ◌≤◌, ◌<◌, ◌^◌, ◌+◌, ◌-◌, ◌==◌, ℕ, List, [], ◌∷◌, Option, Some, None, false, true, cond, refl, arith}, lemmas.Bool.cond_both}
+use Rattle.std.proofs.lemmas.Bool.Decides.{nat_tests}
+use Rattle.std.specs.{Char.{IsScalar, is_ascii}, Int.is_in_range, Option.option_map_or, Prelude.option_to_list}
+use Rattle.legacy_tables.specs.{AcceptedTables.AcceptedIndexes, Indexes.idx, Unicode.{is_katakana_byte, katakana_of}}
+use Rattle.legacy_base.specs.{Grammar.shift_jis, ShiftJis.{is_shift_jis_lead, shift_jis_pointer, shift_jis_scalars}}
 use Rattle.legacy_tables.proofs.Accepted.{jis0208-below}
 use Rattle.legacy_decoder_engine.specs.{ReadAhead.Runs, StepUnits.IsNarrowIndex}
 use Rattle.legacy_decoder_engine.proofs.{LeadHeld.pair, PairPlaces.found, RunForms.single_runs, Widths.idx_below}

@@ -1,13 +1,12 @@
 -- The entry of index EUC-KR at the place of a lead and a trail.
-use Rattle.std.proofs.Common.{◌≡◌, ◌≢◌, ◌∙◌, ℕ, ◌+◌, ◌-◌, ◌*◌, ◌/◌, ◌%◌, ◌<◌, ◌≤◌, ◌&&◌, List, [], ◌∷◌, Bool, true, false, cond}
-use Rattle.std.proofs.Common.{Option, Some, None, if◌then◌else◌, length, get_or, option_to_list, refl, sym, arith}
+use Rattle.std.proofs.Common.{◌≡◌, ◌≢◌, ◌∙◌, ℕ, ◌+◌, ◌-◌, ◌*◌, ◌/◌, ◌%◌, ◌<◌, ◌≤◌, ◌&&◌, List, [], ◌∷◌, Bool, true, false, cond, Option, Some, None}
+use Rattle.std.proofs.Common.{if◌then◌else◌, length, get_or, option_to_list, refl, sym, arith}
 use Rattle.std.specs.{Char.IsScalar, Int.is_in_range}
-use Rattle.legacy_tables.specs.declared.tables.IndexName.TheVariants.{EucKr}
-use Rattle.legacy_tables.specs.{AcceptedTables.AcceptedIndexes, Indexes.idx, Unicode.IsByte}
+use Rattle.legacy_tables.specs.{declared.tables.IndexName.TheVariants.EucKr, AcceptedTables.AcceptedIndexes, Indexes.idx, Unicode.IsByte}
 use Rattle.legacy_tables.proofs.Accepted.{narrow_index, index-scalars}
-use Rattle.legacy_base.specs.{EucKr.euc_kr, EucKr.euc_kr_pointer, LeadForms.pair_scalars, LeadForms.pointer_scalars, Profile.is_lead}
-use Rattle.legacy_decoder_engine.specs.{ReadAhead.IsPair, StepUnits.IsNarrowIndex, LaneCodes.ArePairs, LaneRows.row_place, Places.IsTableOf, Places.lead_place}
-use Rattle.legacy_decoder_engine.proofs.{LanePlaces.entry_is, LeadHeld.pair, PairPlaces.found, PairPlaces.none_past, Widths.idx_below}
+use Rattle.legacy_base.specs.{EucKr.{euc_kr, euc_kr_pointer}, LeadForms.{pair_scalars, pointer_scalars}, Profile.is_lead}
+use Rattle.legacy_decoder_engine.specs.{ReadAhead.IsPair, StepUnits.IsNarrowIndex, LaneCodes.ArePairs, LaneRows.row_place, Places.{IsTableOf, lead_place}}
+use Rattle.legacy_decoder_engine.proofs.{LanePlaces.entry_is, LeadHeld.pair, PairPlaces.{found, none_past}, Widths.idx_below}
 use Rattle.legacy_korean.specs.{EucKrShown.euc_kr_codec, declared.euc_kr.places.TheConstants.TRAILS}
 
 -- the place of a trail in its row; a number past the end of the index if the byte is not a trail

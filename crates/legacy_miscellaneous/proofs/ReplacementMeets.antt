@@ -1,10 +1,6 @@
 -- The machine of the replacement decoder keeps to its grammar.
-use Rattle.std.proofs.Common.{◌≡◌, ℕ, List, [], ◌∷◌, Bool, true, false, cond, refl, arith}
-use Rattle.std.proofs.lemmas.Bool.{false≢true}
-use Rattle.legacy_base.specs.Fronts.{reads, malformed}
-use Rattle.legacy_base.specs.Grammar.{replacement, events_of}
-use Rattle.legacy_base.specs.Replacement.{replacement_events}
-use Rattle.legacy_base.specs.States.{is_empty}
+use Rattle.std.proofs.{Common.{◌≡◌, ℕ, List, [], ◌∷◌, Bool, true, false, cond, refl, arith}, lemmas.Bool.false≢true}
+use Rattle.legacy_base.specs.{Fronts.{reads, malformed}, Grammar.{replacement, events_of}, Replacement.replacement_events, States.is_empty}
 use Rattle.legacy_decoder_engine.specs.Steps.{finish, StepMeets, end_events, Meets}
 use Rattle.legacy_miscellaneous.specs.ReplacementMachine.{replacement_machine}
 use Rattle.legacy_decoder_engine.proofs.OneByteMeets.{few_held, no_report}

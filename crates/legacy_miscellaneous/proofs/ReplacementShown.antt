@@ -1,19 +1,12 @@
 -- The steps of the replacement decoder agree with its grammar.
-use Rattle.std.proofs.Common.{◌≡◌, ◌≤◌, ◌+◌, ℕ, List, [], ◌∷◌, length, Bool, true, false, refl, ◌⊎◌, inl, inr, arith}
-use Rattle.std.proofs.lemmas.Bool.{false≢true}
-use Rattle.legacy_base.specs.Grammar.{replacement}
-use Rattle.legacy_base.specs.States.{is_empty}
+use Rattle.std.proofs.{Common.{◌≡◌, ◌≤◌, ◌+◌, ℕ, List, [], ◌∷◌, length, Bool, true, false, refl, ◌⊎◌, inl, inr, arith}, lemmas.Bool.false≢true}
+use Rattle.legacy_base.specs.{Grammar.replacement, States.{is_empty, state_of}, Lengths.{LengthQuery, to_utf16, query_form, replacement_units, room}}
+use Rattle.legacy_base.specs.Fronts.{reads}
 use Rattle.legacy_miscellaneous.specs.ReplacementMachine.{replacement_machine}
 use Rattle.legacy_text.specs.EncodingForm.{bmp_room}
-use Rattle.legacy_base.specs.States.{state_of}
-use Rattle.legacy_base.specs.Lengths.{LengthQuery, to_utf16, query_form, replacement_units, room}
-use Rattle.legacy_base.specs.Fronts.{reads}
-use Rattle.legacy_decoder_engine.specs.Steps.{finish}
-use Rattle.legacy_decoder_engine.specs.StatesAfterSteps.{Settles}
-use Rattle.legacy_decoder_engine.specs.Shown.{KeepsRooms, IsShown}
+use Rattle.legacy_decoder_engine.specs.{Steps.finish, StatesAfterSteps.Settles, Shown.{KeepsRooms, IsShown}}
 use Rattle.legacy_miscellaneous.proofs.ReplacementMeets.{replacement_meets}
-use Rattle.legacy_decoder_engine.proofs.RoomMoves.{no_short_room, cond_most}
-use Rattle.legacy_decoder_engine.proofs.Widths.{width_of}
+use Rattle.legacy_decoder_engine.proofs.{RoomMoves.{no_short_room, cond_most}, Widths.width_of}
 
 none_held : (held : List ℕ) → is_empty held ≡ true → length held ≡ 0
 none_held [] h = refl

@@ -1,13 +1,10 @@
 -- The moves of the replacement decoder, which holds nothing back.
-use Rattle.std.proofs.Common.{◌≡◌, ℕ, [], Bool, true, false, refl}
-use Rattle.std.proofs.lemmas.List.Elements.{All-nil}
+use Rattle.std.proofs.{Common.{◌≡◌, ℕ, [], Bool, true, false, refl}, lemmas.List.Elements.All-nil}
 use Rattle.legacy_tables.specs.Unicode.{IsByte}
-use Rattle.legacy_base.specs.Grammar.{replacement, events_of}
-use Rattle.legacy_decoder_engine.specs.declared.moves.Fed.TheVariants.{Nothing, MalformedSequence}
-use Rattle.legacy_decoder_engine.specs.Moves.{IsCovered, Feeds}
-use Rattle.legacy_base.specs.States.{state_of}
-use Rattle.legacy_decoder_engine.proofs.Feeding as moves
+use Rattle.legacy_base.specs.{Grammar.{replacement, events_of}, States.state_of}
+use Rattle.legacy_decoder_engine.specs.{declared.moves.Fed.TheVariants.{Nothing, MalformedSequence}, Moves.{IsCovered, Feeds}}
 use Rattle.legacy_miscellaneous.proofs.ReplacementShown.{replacement_shown}
+use Rattle.legacy_decoder_engine.proofs.Feeding as moves
 
 -- the first byte is reported as malformed
 pub feeds_first : (reported : Bool) (b : ℕ) → IsByte b → reported ≡ false →

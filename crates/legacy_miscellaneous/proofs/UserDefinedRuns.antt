@@ -1,21 +1,13 @@
 -- The runs of x-user-defined.
 use Rattle.std.proofs.Common.{◌≡◌, ◌∙◌, Bool, true, false, cond, ℕ, ◌+◌, ◌-◌, ◌%◌, ◌<◌, ◌^◌, ◌==◌, [], ◌∷◌, bit_and, bit_xor, refl, ap, arith}
-use Rattle.std.proofs.lemmas.Bool.{agree_below_at, eqb-true}
-use Rattle.std.proofs.lemmas.Bool.Decides.{nat_tests}
-use Rattle.std.proofs.lemmas.List.Elements.{All-nil}
+use Rattle.std.proofs.{lemmas.Bool.{agree_below_at, eqb-true}, lemmas.Bool.Decides.nat_tests, lemmas.List.Elements.All-nil}
 use Rattle.legacy_tables.specs.Unicode.{IsByte}
-use Rattle.legacy_base.specs.States.{new_state}
+use Rattle.legacy_base.specs.{States.new_state, Grammar.user_defined, Fronts.reads}
 use Rattle.std.specs.Char.{IsScalar, is_ascii}
-use Rattle.legacy_base.specs.Grammar.{user_defined}
-use Rattle.legacy_base.specs.Fronts.{reads}
-use Rattle.legacy_decoder_engine.specs.declared.moves.Fed.TheVariants.{One}
-use Rattle.legacy_decoder_engine.specs.ReadAhead.{IsSingle, HasAscii}
-use Rattle.legacy_decoder_engine.specs.Steps.{finish}
-use Rattle.legacy_decoder_engine.specs.Moves.{Feeds}
-use Rattle.legacy_decoder_engine.proofs.Feeding as moves
-use Rattle.legacy_decoder_engine.specs.Feeding.{Took}
+use Rattle.legacy_decoder_engine.specs.{declared.moves.Fed.TheVariants.One, ReadAhead.{IsSingle, HasAscii}, Steps.finish, Moves.Feeds, Feeding.Took}
 use Rattle.legacy_decoder_engine.proofs.RunForms.{ascii_is, single_runs, has_ascii}
 use Rattle.legacy_miscellaneous.proofs.UserDefinedShown.{user_defined_shown}
+use Rattle.legacy_decoder_engine.proofs.Feeding as moves
 
 pub user_defined_ascii : HasAscii user_defined
 user_defined_ascii = has_ascii user_defined_shown (λ b. refl) (λ b h. let a = ascii_is b h in rw a refl)

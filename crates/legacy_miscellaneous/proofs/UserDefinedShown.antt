@@ -1,15 +1,11 @@
 -- The steps of x-user-defined agree with its grammar, and its moves hold nothing back.
-use Rattle.std.proofs.Common.{◌≡◌, ◌+◌, ◌-◌, [], false, Some, refl, arith}
-use Rattle.std.proofs.lemmas.List.Elements.{All-nil}
+use Rattle.std.proofs.{Common.{◌≡◌, ◌+◌, ◌-◌, [], false, Some, refl, arith}, lemmas.List.Elements.All-nil}
 use Rattle.legacy_tables.specs.Unicode.{IsByte}
-use Rattle.legacy_base.specs.UserDefined.{user_defined_front}
-use Rattle.legacy_base.specs.Grammar.{user_defined, events_of}
-use Rattle.legacy_base.specs.States.{new_state}
-use Rattle.legacy_decoder_engine.specs.Moves.{IsCovered}
-use Rattle.legacy_decoder_engine.specs.Shown.{IsShown}
+use Rattle.legacy_base.specs.{UserDefined.user_defined_front, Grammar.{user_defined, events_of}, States.new_state}
+use Rattle.legacy_decoder_engine.specs.{Moves.IsCovered, Shown.IsShown}
 use Rattle.legacy_decoder_engine.proofs.OneByteShown.{one_byte_shown}
-use Rattle.legacy_decoder_engine.proofs.Feeding as moves
 use Rattle.legacy_miscellaneous.specs.UserDefinedMachine.{user_defined_machine}
+use Rattle.legacy_decoder_engine.proofs.Feeding as moves
 
 pub user_defined_shown : IsShown user_defined user_defined_machine
 unfolding user_defined_front

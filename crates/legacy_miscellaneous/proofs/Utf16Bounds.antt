@@ -1,6 +1,6 @@
 -- Units of vectors that are below a bound.
-use Rattle.std.proofs.Common.{◌≡◌, ℕ, zero, suc, ◌-◌, ◌^◌, ◌<◌, Bool, true, false, cond, ltb, List, [], ◌∷◌, length, map, refl, arith}
-use Rattle.std.proofs.lemmas.Bool.{ltb-true, ltb-false}
+use Rattle.std.proofs.{Common.{◌≡◌, ℕ, zero, suc, ◌-◌, ◌^◌, ◌<◌, Bool, true, false, cond, ltb, List, [], ◌∷◌, length, map, refl, arith}, lemmas.Bool.ltb-true}
+use Rattle.std.proofs.lemmas.Bool.{ltb-false}
 use lib.Lanes.{zip2, sel_l, top}
 use Rattle.legacy_miscellaneous.specs.Utf16Decoder.{AreBelow}
 

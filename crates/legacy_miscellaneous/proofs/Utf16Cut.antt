@@ -1,10 +1,8 @@
 -- The units of UTF-16 give the same events as its fronts.
-use Rattle.std.proofs.Common.{◌≡◌, ℕ, ◌+◌, ◌*◌, List, [], ◌∷◌, ◌++◌, Bool, true, false, inl, inr, refl, sym, ap, ◌∙◌, ◌||◌, ◌&&◌, arith}
-use Rattle.std.proofs.lemmas.Bool.{and_left, and_right, cases_Bool, cond_both}
+use Rattle.std.proofs.{Common.{◌≡◌, ℕ, ◌+◌, ◌*◌, List, [], ◌∷◌, ◌++◌, Bool, true, false, inl, inr, refl, sym, ap, ◌∙◌, ◌||◌, ◌&&◌, arith}, lemmas.Bool.and_left}
+use Rattle.std.proofs.lemmas.Bool.{and_right, cases_Bool, cond_both}
 use Rattle.std.specs.Char.Utf16.{is_high_surrogate, is_low_surrogate, surrogate_pair_char}
-use Rattle.legacy_base.specs.declared.results.DecodeEvent.{DecodeEvent}
-use Rattle.legacy_base.specs.declared.results.DecodeEvent.TheVariants.{Scalar}
-use Rattle.legacy_base.specs.Fronts.{Front, reads, malformed, cut}
+use Rattle.legacy_base.specs.{declared.results.DecodeEvent.DecodeEvent, declared.results.DecodeEvent.TheVariants.Scalar, Fronts.{Front, reads, malformed, cut}}
 use Rattle.legacy_base.specs.Utf16.{unit_of, units_of, has_odd_byte, single_unit_events, units_events}
 use Rattle.legacy_miscellaneous.specs.Utf16Fronts.{single_unit_front, utf16_front}
 use Rattle.legacy_base.proofs.Cuts.{cut_at}

@@ -1,24 +1,15 @@
 -- The UTF-16 decoders hold back only what their machine may hold back.
-use Rattle.std.proofs.Common.{◌≡◌, ◌≢◌, ℕ, ◌<◌, List, [], ◌∷◌, length, Bool, true, false, refl, arith, Some}
-use Rattle.std.proofs.lemmas.Bool.Decides.{nat_tests}
+use Rattle.std.proofs.{Common.{◌≡◌, ◌≢◌, ℕ, ◌<◌, List, [], ◌∷◌, length, Bool, true, false, refl, arith, Some}, lemmas.Bool.Decides.nat_tests}
 use Rattle.std.proofs.lemmas.List.Elements.{All-nil, All-cons}
-use Rattle.std.specs.Char.{IsScalar}
-use Rattle.std.specs.Char.Utf16.{is_high_surrogate, is_low_surrogate}
+use Rattle.std.specs.{Char.IsScalar, Char.Utf16.{is_high_surrogate, is_low_surrogate}}
 use Rattle.legacy_tables.specs.Unicode.{IsByte, AreBytes}
-use Rattle.legacy_base.specs.Grammar.{utf16, events_of}
-use Rattle.legacy_base.specs.States.{utf16_may_hold, rests}
-use Rattle.legacy_base.specs.Utf16.{unit_of}
-use Rattle.legacy_miscellaneous.specs.declared.utf16.held_bytes.Held.{Held}
-use Rattle.legacy_miscellaneous.specs.declared.utf16.held_bytes.Held.TheVariants.{Nothing, Odd, High, HighOdd, Pending}
-use Rattle.legacy_miscellaneous.specs.declared.utf16.held_bytes.UnitScalar.{UnitScalar}
-use Rattle.legacy_decoder_engine.specs.declared.moves.Fed.{Fed}
-use Rattle.legacy_decoder_engine.specs.Moves.{IsCovered, Feeds, Releases, Reports}
-use Rattle.legacy_base.specs.States.{state_of}
-use Rattle.legacy_decoder_engine.specs.Feeding.{Took}
-use Rattle.legacy_miscellaneous.specs.Utf16Machine.{utf16_step, utf16_pending}
-use Rattle.legacy_miscellaneous.specs.Utf16Decoder.{first_byte, second_byte, held_bytes}
-use Rattle.legacy_decoder_engine.proofs.Feeding as moves
+use Rattle.legacy_base.specs.{Grammar.{utf16, events_of}, States.{utf16_may_hold, rests, state_of}, Utf16.unit_of}
+use Rattle.legacy_miscellaneous.specs.{declared.utf16.held_bytes.Held.Held, declared.utf16.held_bytes.Held.TheVariants.{Nothing, Odd, High, HighOdd, Pending}}
+use Rattle.legacy_miscellaneous.specs.{declared.utf16.held_bytes.UnitScalar.UnitScalar, Utf16Machine.{utf16_step, utf16_pending}, Utf16Decoder.first_byte}
+use Rattle.legacy_miscellaneous.specs.Utf16Decoder.{second_byte, held_bytes}
+use Rattle.legacy_decoder_engine.specs.{declared.moves.Fed.Fed, Moves.{IsCovered, Feeds, Releases, Reports}, Feeding.Took}
 use Rattle.legacy_miscellaneous.proofs.{Utf16Meets.high_not_low, Utf16Shown.utf16_shown}
+use Rattle.legacy_decoder_engine.proofs.Feeding as moves
 
 -- the two bytes of a unit give the unit
 pub unit_of-bytes : (be : Bool) (u : ℕ) → unit_of be (first_byte be u) (second_byte be u) ≡ u

@@ -1,15 +1,10 @@
 -- The machine of UTF-16 keeps to its grammar.
-use Rattle.std.proofs.Common.{◌≡◌, ℕ, ◌≤◌, ◌<◌, List, [], ◌∷◌, length, Bool, true, false, refl, ◌∙◌, arith}
-use Rattle.std.proofs.lemmas.Bool.{cond_both, false≢true, not-true, not_from_false, or_left}
-use Rattle.std.proofs.lemmas.Bool.Decides.{nat_tests}
+use Rattle.std.proofs.{Common.{◌≡◌, ℕ, ◌≤◌, ◌<◌, List, [], ◌∷◌, length, Bool, true, false, refl, ◌∙◌, arith}, lemmas.Bool.{cond_both, false≢true, not-true}}
+use Rattle.std.proofs.{lemmas.Bool.{not_from_false, or_left}, lemmas.Bool.Decides.nat_tests}
 use Rattle.std.specs.Char.Utf16.{is_high_surrogate, is_low_surrogate}
-use Rattle.legacy_base.specs.Fronts.{front_length, cut}
-use Rattle.legacy_base.specs.Grammar.{utf16, events_of}
-use Rattle.legacy_base.specs.Utf16.{unit_of, utf16_events}
-use Rattle.legacy_miscellaneous.specs.Utf16Fronts.{single_unit_front, utf16_front}
-use Rattle.legacy_base.specs.States.{utf16_may_hold, rests}
+use Rattle.legacy_base.specs.{Fronts.{front_length, cut}, Grammar.{utf16, events_of}, Utf16.{unit_of, utf16_events}, States.{utf16_may_hold, rests}}
+use Rattle.legacy_miscellaneous.specs.{Utf16Fronts.{single_unit_front, utf16_front}, Utf16Machine.{utf16_pending, utf16_step, utf16_machine}}
 use Rattle.legacy_decoder_engine.specs.Steps.{PendingMeets, end_events, Meets}
-use Rattle.legacy_miscellaneous.specs.Utf16Machine.{utf16_pending, utf16_step, utf16_machine}
 use Rattle.legacy_base.proofs.Cuts.{cut-nil}
 use Rattle.legacy_decoder_engine.proofs.FrontMoves.{Fits, fits_meets, write_meets, end_meets, report_meets}
 use Rattle.legacy_miscellaneous.proofs.Utf16Cut.{utf16_cut}

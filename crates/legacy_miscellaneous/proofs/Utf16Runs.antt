@@ -1,25 +1,15 @@
 -- The runs of UTF-16.
-use Rattle.std.proofs.Common.{rules, ◌≡◌, ◌∙◌, ℕ, zero, suc, ◌+◌, ◌-◌, ◌*◌, ◌<◌, ◌≤◌, List, [], ◌∷◌, ◌++◌, Bool, false, Option, Some, None, length, take}
-use Rattle.std.proofs.Common.{drop, get_or, sym, ap, subst, arith, refl}
-use Rattle.std.specs.Prelude.{IfSome, IsAscii}
-use Rattle.std.specs.Option.{SomeIff}
-use Rattle.std.specs.Char.{IsScalar}
-use Rattle.std.proofs.lemmas.Bool.Decides.{nat_tests}
-use Rattle.std.proofs.lemmas.List.{take_more, length-take-le, length-drop, get_or-take, get_or-drop, take_all}
-use Rattle.std.proofs.lemmas.List.Elements.{All-get_or}
-use Rattle.std.proofs.lemmas.Str.Ascii.{All-from_ascii}
-use Rattle.std.specs.Char.Utf16.{is_high_surrogate, is_low_surrogate}
-use Rattle.legacy_text.specs.declared.destination.Destination.{Ghosts}
-use Rattle.legacy_text.specs.EncodingForm.{EncodingForm, code_units, all_code_units, total_unit_count}
+use Rattle.std.proofs.Common.{rules, ◌≡◌, ◌∙◌, ℕ, zero, suc, ◌+◌, ◌-◌, ◌*◌, ◌<◌, ◌≤◌, List, [], ◌∷◌, ◌++◌, Bool, false, Option, Some, None, length, take, drop}
+use Rattle.std.proofs.{Common.{get_or, sym, ap, subst, arith, refl}, lemmas.Bool.Decides.nat_tests, lemmas.List.{take_more, length-take-le, length-drop}}
+use Rattle.std.proofs.{lemmas.List.{get_or-take, get_or-drop, take_all}, lemmas.List.Elements.All-get_or, lemmas.Str.Ascii.All-from_ascii}
+use Rattle.std.specs.{Prelude.{IfSome, IsAscii}, Option.SomeIff, Char.IsScalar, Char.Utf16.{is_high_surrogate, is_low_surrogate}}
+use Rattle.legacy_text.specs.{declared.destination.Destination.Ghosts, EncodingForm.{EncodingForm, code_units, all_code_units, total_unit_count}}
 use Rattle.legacy_tables.specs.Unicode.{IsByte}
-use Rattle.legacy_base.specs.Grammar.{utf16}
-use Rattle.legacy_base.specs.Utf16.{unit_of}
+use Rattle.legacy_base.specs.{Grammar.utf16, Utf16.unit_of, States.new_state}
 use Rattle.legacy_decoder_engine.specs.ReadAhead.{Runs, IsPair, Writes, ReadsAhead}
-use Rattle.legacy_base.specs.States.{new_state}
 use Rattle.legacy_miscellaneous.specs.Utf16Decoder.{HasAsciiUnits, AreUnitsBelow, unit_at}
-use Rattle.legacy_decoder_engine.proofs.RunForms.{pair_runs}
-use Rattle.legacy_decoder_engine.proofs.JoinedRuns.{reads_written}
-use Rattle.legacy_decoder_engine.proofs.WrittenRuns.{runs_none, runs_more, take_two, writes_two, rest_of, writes_run, all_code_units_ascii, all_short}
+use Rattle.legacy_decoder_engine.proofs.{RunForms.pair_runs, JoinedRuns.reads_written, WrittenRuns.{runs_none, runs_more, take_two, writes_two, rest_of}}
+use Rattle.legacy_decoder_engine.proofs.WrittenRuns.{writes_run, all_code_units_ascii, all_short}
 use Rattle.legacy_miscellaneous.proofs.Utf16Shown.{unit_below, utf16_shown}
 
 -- a unit that is not a surrogate is a run of its own

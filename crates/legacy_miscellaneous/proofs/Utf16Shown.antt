@@ -1,25 +1,16 @@
 -- The steps of UTF-16 agree with its grammar.
-use Rattle.std.proofs.Common.{◌≡◌, ℕ, ◌+◌, ◌*◌, ◌<◌, ◌≤◌, List, [], ◌∷◌, length, get_or, Bool, true, false, refl, inl, arith}
-use Rattle.std.proofs.lemmas.Bool.{cond_both, false≢true}
+use Rattle.std.proofs.{Common.{◌≡◌, ℕ, ◌+◌, ◌*◌, ◌<◌, ◌≤◌, List, [], ◌∷◌, length, get_or, Bool, true, false, refl, inl, arith}, lemmas.Bool.cond_both}
+use Rattle.std.proofs.lemmas.Bool.{false≢true}
 use Rattle.std.specs.Char.Utf16.{is_high_surrogate, is_low_surrogate, surrogate_pair_char}
 use Rattle.legacy_tables.specs.Unicode.{IsByte, AreBytes}
-use Rattle.legacy_base.specs.Fronts.{malformed}
-use Rattle.legacy_base.specs.Grammar.{utf16}
-use Rattle.legacy_base.specs.Utf16.{unit_of}
-use Rattle.legacy_base.specs.States.{DecoderState, utf16_may_hold, rests}
-use Rattle.legacy_base.specs.DecoderActs.{act_room, takes}
+use Rattle.legacy_base.specs.{Fronts.malformed, Grammar.utf16, Utf16.unit_of, States.{DecoderState, utf16_may_hold, rests, state_of}, DecoderActs.act_room}
+use Rattle.legacy_base.specs.{DecoderActs.takes, Lengths.{LengthQuery, to_utf16, to_utf8, to_utf8_without_replacement, query_form, replacement_units, room}}
 use Rattle.legacy_text.specs.EncodingForm.{unit_count, bmp_room, wide_room}
-use Rattle.legacy_decoder_engine.specs.Steps.{Step, hold, finish, step_held}
-use Rattle.legacy_miscellaneous.specs.Utf16Machine.{utf16_machine, utf16_pending, utf16_step}
-use Rattle.legacy_decoder_engine.specs.StepUnits.{step_units, step_left, IsWidth, WritePays}
-use Rattle.legacy_base.specs.States.{state_of}
-use Rattle.legacy_miscellaneous.proofs.Utf16Meets.{utf16_meets}
-use Rattle.legacy_base.specs.Lengths.{LengthQuery, to_utf16, to_utf8, to_utf8_without_replacement, query_form, replacement_units, room}
-use Rattle.legacy_decoder_engine.specs.StatesAfterSteps.{Settles}
+use Rattle.legacy_decoder_engine.specs.{Steps.{Step, hold, finish, step_held}, StepUnits.{step_units, step_left, IsWidth, WritePays}, StatesAfterSteps.Settles}
 use Rattle.legacy_decoder_engine.specs.Shown.{KeepsRooms, IsShown, WriteSettles}
-use Rattle.legacy_decoder_engine.proofs.CallUnderWay.{same_rooms}
-use Rattle.legacy_decoder_engine.proofs.Widths.{width_of}
-use Rattle.legacy_decoder_engine.proofs.RoomMoves.{no_short_room, cond_most}
+use Rattle.legacy_miscellaneous.specs.Utf16Machine.{utf16_machine, utf16_pending, utf16_step}
+use Rattle.legacy_miscellaneous.proofs.Utf16Meets.{utf16_meets}
+use Rattle.legacy_decoder_engine.proofs.{CallUnderWay.same_rooms, Widths.width_of, RoomMoves.{no_short_room, cond_most}}
 
 -- A step writes at most `narrow` code units for each two bytes by which the input and the held-back bytes decrease.
 record Halved (len : ℕ → ℕ) (narrow wide : ℕ) (held : List ℕ) (b : ℕ) (s : Step) : Type 0 where

@@ -1,10 +1,8 @@
 -- The units of a vector of bytes.
-use Rattle.std.proofs.Common.{◌≡◌, ◌∙◌, ℕ, ◌+◌, ◌-◌, ◌*◌, ◌%◌, ◌<◌, ◌≤◌, List, ◌∷◌, ◌++◌, true, false, length, map, take, drop, get_or, refl, sym, subst}
-use Rattle.std.proofs.Common.{arith}
-use Rattle.std.proofs.lemmas.List.{get_or-take, get_or_append_left, get_or-drop, length-take-le, length-drop}
-use Rattle.std.proofs.lemmas.List.FromFn.{get_or-map-range_with_len, length-map-range_with_len}
-use Rattle.std.proofs.lemmas.Simd.{get_or_wider, Each1-from_get_or}
-use Rattle.std.specs.{List.range_with_len, Simd.Lanes.number_l, Simd.Lanes.digits_l}
+use Rattle.std.proofs.Common.{◌≡◌, ◌∙◌, ℕ, ◌+◌, ◌-◌, ◌*◌, ◌%◌, ◌<◌, ◌≤◌, List, ◌∷◌, ◌++◌, true, false, length, map, take, drop, get_or, refl, sym, subst, arith}
+use Rattle.std.proofs.{lemmas.List.{get_or-take, get_or_append_left, get_or-drop, length-take-le, length-drop}, lemmas.List.FromFn.get_or-map-range_with_len}
+use Rattle.std.proofs.{lemmas.List.FromFn.length-map-range_with_len, lemmas.Simd.{get_or_wider, Each1-from_get_or}}
+use Rattle.std.specs.{List.range_with_len, Simd.Lanes.{number_l, digits_l}}
 use Rattle.legacy_tables.specs.Unicode.{IsByte}
 use Rattle.legacy_miscellaneous.specs.Utf16Decoder.{unit_at}
 

@@ -1,18 +1,13 @@
 -- The facts that the check of an encoder's run proves, and the codes that follow from a table's places.
-use Rattle.std.proofs.Common.{◌≡◌, ◌↔◌, ◌∙◌, IfSome, ℕ, ◌+◌, ◌-◌, ◌≤◌, ◌<◌, ◌==◌, List, ◌∷◌, [], length, get_or, refl}
-use Rattle.std.proofs.Common.{sym, ap, subst, arith, Some, None, Option, Bool, true, false, not, position, inl, inr}
-use Rattle.std.proofs.lemmas.Bool.{ne_eqb, lt-ltb, le-ltb, eqb-true, cases_lt}
-use Rattle.std.proofs.lemmas.Bool.Decides.{nat_tests}
-use Rattle.std.proofs.lemmas.List.{get_or_past}
-use Rattle.std.proofs.lemmas.List.Elements.{All-get_or}
+use Rattle.std.proofs.Common.{◌≡◌, ◌↔◌, ◌∙◌, IfSome, ℕ, ◌+◌, ◌-◌, ◌≤◌, ◌<◌, ◌==◌, List, ◌∷◌, [], length, get_or, refl, sym, ap, subst, arith, Some, None}
+use Rattle.std.proofs.{Common.{Option, Bool, true, false, not, position, inl, inr}, lemmas.Bool.{ne_eqb, lt-ltb, le-ltb, eqb-true, cases_lt}}
+use Rattle.std.proofs.{lemmas.Bool.Decides.nat_tests, lemmas.List.get_or_past, lemmas.List.Elements.All-get_or}
 use Rattle.std.specs.Char.{IsScalar}
 use Rattle.legacy_text.specs.UnitCodes.{IsNoSurrogate}
-use Rattle.legacy_tables.specs.Indexes.{entry_scalar, idx}
+use Rattle.legacy_tables.specs.{Indexes.{entry_scalar, idx}, TableChecks.IsAcceptedTable}
 use Rattle.legacy_base.specs.SingleByte.{single_byte_code}
-use Rattle.legacy_tables.specs.TableChecks.{IsAcceptedTable}
-use Rattle.legacy_tables.proofs.Accepted.{entry_scalar-is}
-use Rattle.legacy_tables.proofs.AcceptedTable.{position-idx, within, table-scalars, table-below}
-use Rattle.legacy_tables.proofs.FirstPlaces.{find-first, find-none-at}
+use Rattle.legacy_tables.proofs.{Accepted.entry_scalar-is, AcceptedTable.{position-idx, within, table-scalars, table-below}, FirstPlaces.find-first}
+use Rattle.legacy_tables.proofs.FirstPlaces.{find-none-at}
 use Rattle.legacy_single_byte.specs.SingleByteRun.{IsRun, first_mismatch}
 
 not_false : (b : Bool) → not b ≡ false → b ≡ true

@@ -1,9 +1,7 @@
 -- The length of the front of Latin-1 bytes.
 use Rattle.std.proofs.Common.{◌≡◌, ◌∙◌, ℕ, ◌<◌, ◌≤◌, List, length, get_or, take, true, false, refl, sym, arith, get_or-take, IsAscii}
-use Rattle.std.proofs.lemmas.Bool.Decides.{nat_tests}
+use Rattle.std.proofs.{lemmas.Bool.Decides.nat_tests, lemmas.List.Folds.length-prefix_len, lemmas.List.Sums.prefix_len_is}
 use Rattle.std.specs.Char.{is_ascii}
-use Rattle.std.proofs.lemmas.List.Folds.{length-prefix_len}
-use Rattle.std.proofs.lemmas.List.Sums.{prefix_len_is}
 use Rattle.legacy_base.specs.Latin1.{is_latin1_byte, latin1_front}
 
 pub latin1_front-length : (table bytes : List ℕ) (n : ℕ) → n ≤ length bytes →

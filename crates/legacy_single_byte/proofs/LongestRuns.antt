@@ -1,11 +1,8 @@
 -- The longest run of letters: how one more place changes it, and that the encoder accepts it.
-use Rattle.std.proofs.Common.{◌≡◌, ◌≢◌, ℕ, zero, suc, ◌+◌, ◌-◌, ◌<◌, ◌≤◌, ◌==◌, List, get_or, refl, sym, subst, arith, inl, inr, None}
-use Rattle.std.proofs.Common.{not}
-use Rattle.std.proofs.lemmas.Bool.{cases_lt, le-ltb}
-use Rattle.std.proofs.lemmas.Bool.Decides.{nat_tests}
+use Rattle.std.proofs.Common.{◌≡◌, ◌≢◌, ℕ, zero, suc, ◌+◌, ◌-◌, ◌<◌, ◌≤◌, ◌==◌, List, get_or, refl, sym, subst, arith, inl, inr, None, not}
+use Rattle.std.proofs.{lemmas.Bool.{cases_lt, le-ltb}, lemmas.Bool.Decides.nat_tests}
 use Rattle.legacy_tables.proofs.FirstPlaces.{find-none}
-use Rattle.legacy_single_byte.specs.SingleByteRun.{IsRun, first_mismatch, single_byte_run_fault}
-use Rattle.legacy_single_byte.specs.LongestRun.{IsLetterRun, LongestToThe, LongestUpTo}
+use Rattle.legacy_single_byte.specs.{SingleByteRun.{IsRun, first_mismatch, single_byte_run_fault}, LongestRun.{IsLetterRun, LongestToThe, LongestUpTo}}
 use Rattle.legacy_single_byte.proofs.EncoderRuns.{run_holds}
 
 -- ---- runs that the encoder accepts

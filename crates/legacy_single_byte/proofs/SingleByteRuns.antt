@@ -1,26 +1,17 @@
 -- The runs of the single-byte decoders.
 use Rattle.std.proofs.Common.{rules, ap, IsAscii, ◌≡◌, ℕ, List, ◌+◌, ◌-◌, ◌≤◌, ◌<◌, ◌^◌, [], ◌∷◌, ◌++◌, zero, suc, length, take, get_or, Some, refl, sym, subst}
-use Rattle.std.proofs.Common.{◌∙◌, arith, inl, inr, All}
-use Rattle.std.proofs.lemmas.Bool.{ne_eqb, cases_lt}
-use Rattle.std.proofs.Math.ListN.{set}
-use Rattle.std.proofs.lemmas.List.{get_or_past, get_or-set_same, get_or-set_other, take_all, take_more, take-take, length-take-le}
-use Rattle.std.proofs.lemmas.List.Elements.{All-from_get_or}
+use Rattle.std.proofs.{Common.{◌∙◌, arith, inl, inr, All}, lemmas.Bool.{ne_eqb, cases_lt}, Math.ListN.set, lemmas.List.{get_or_past, get_or-set_same}}
+use Rattle.std.proofs.{lemmas.List.{get_or-set_other, take_all, take_more, take-take, length-take-le}, lemmas.List.Elements.All-from_get_or}
 use Rattle.std.specs.Char.{IsScalar}
-use Rattle.legacy_text.specs.declared.destination.Destination.{Ghosts}
-use Rattle.legacy_text.specs.EncodingForm.{code_units, all_code_units, total_unit_count}
-use Rattle.legacy_base.specs.States.{DecoderState, new_state}
-use Rattle.legacy_tables.specs.Indexes.{entry_scalar, idx}
-use Rattle.legacy_tables.specs.AcceptedTables.{AcceptedTable}
-use Rattle.legacy_base.specs.Grammar.{single_byte}
+use Rattle.legacy_text.specs.{declared.destination.Destination.Ghosts, EncodingForm.{code_units, all_code_units, total_unit_count}}
+use Rattle.legacy_base.specs.{States.{DecoderState, new_state}, Grammar.single_byte}
+use Rattle.legacy_tables.specs.{Indexes.{entry_scalar, idx}, AcceptedTables.AcceptedTable}
 use Rattle.legacy_tables.proofs.AcceptedTable.{table-below, table-scalars}
-use Rattle.legacy_decoder_engine.specs.ReadAhead.{Runs, IsSingle, HasAscii, Writes, ReadsAhead}
-use Rattle.legacy_single_byte.specs.ByteEntries.{IsByteEntry}
-use Rattle.legacy_decoder_engine.proofs.RunForms.{single_runs, has_ascii, ascii_is, past_ascii}
-use Rattle.legacy_decoder_engine.proofs.JoinedRuns.{reads_written}
-use Rattle.legacy_decoder_engine.proofs.WrittenRuns.{all_short, short, runs_none, runs_more, writes_ascii, writes_one}
+use Rattle.legacy_decoder_engine.specs.{ReadAhead.{Runs, IsSingle, HasAscii, Writes, ReadsAhead}, Shown.IsShown}
+use Rattle.legacy_single_byte.specs.{ByteEntries.IsByteEntry, SingleByteMachine.single_byte_machine}
+use Rattle.legacy_decoder_engine.proofs.{RunForms.{single_runs, has_ascii, ascii_is, past_ascii}, JoinedRuns.reads_written, WrittenRuns.{all_short, short}}
+use Rattle.legacy_decoder_engine.proofs.WrittenRuns.{runs_none, runs_more, writes_ascii, writes_one}
 use Rattle.legacy_single_byte.proofs.SingleByteShown.{single_byte_shown}
-use Rattle.legacy_single_byte.specs.SingleByteMachine.{single_byte_machine}
-use Rattle.legacy_decoder_engine.specs.Shown.{IsShown}
 
 -- an entry that is a scalar is that scalar
 pub entry_is : (e c : ℕ) → entry_scalar e ≡ Some c → e ≡ c

@@ -1,12 +1,9 @@
 -- The steps of the single-byte decoders agree with their grammar.
-use Rattle.std.proofs.Common.{ℕ, ◌-◌, ◌<◌, ◌==◌, List, true, Some, None, get_or, refl}
-use Rattle.std.proofs.lemmas.Bool.{cond_both}
+use Rattle.std.proofs.{Common.{ℕ, ◌-◌, ◌<◌, ◌==◌, List, true, Some, None, get_or, refl}, lemmas.Bool.cond_both}
 use Rattle.std.specs.Option.{IfSome}
-use Rattle.legacy_base.specs.SingleByte.{single_byte_front}
-use Rattle.legacy_base.specs.Grammar.{single_byte}
+use Rattle.legacy_base.specs.{SingleByte.single_byte_front, Grammar.single_byte}
 use Rattle.legacy_tables.specs.Indexes.{idx}
-use Rattle.legacy_decoder_engine.specs.StepUnits.{IsNarrowIndex}
-use Rattle.legacy_decoder_engine.specs.Shown.{IsShown}
+use Rattle.legacy_decoder_engine.specs.{StepUnits.IsNarrowIndex, Shown.IsShown}
 use Rattle.legacy_decoder_engine.proofs.{OneByteShown.one_byte_shown, Widths.narrow_entry}
 use Rattle.legacy_single_byte.specs.SingleByteMachine.{single_byte_machine}
 

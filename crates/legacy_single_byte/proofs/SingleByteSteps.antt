@@ -1,16 +1,11 @@
 -- The moves of a single-byte decoder, which holds nothing back.
-use Rattle.std.proofs.Common.{◌≡◌, ℕ, [], refl}
-use Rattle.std.proofs.lemmas.List.Elements.{All-nil}
-use Rattle.legacy_tables.specs.Unicode.{IsByte}
-use Rattle.legacy_tables.specs.AcceptedTables.{AcceptedTable}
-use Rattle.legacy_base.specs.Grammar.{single_byte, events_of}
-use Rattle.legacy_base.specs.States.{state_of}
-use Rattle.legacy_decoder_engine.specs.declared.moves.Fed.{Fed}
-use Rattle.legacy_decoder_engine.specs.Moves.{IsCovered, Feeds}
-use Rattle.legacy_decoder_engine.specs.Feeding.{Took}
-use Rattle.legacy_decoder_engine.proofs.Feeding as moves
+use Rattle.std.proofs.{Common.{◌≡◌, ℕ, [], refl}, lemmas.List.Elements.All-nil}
+use Rattle.legacy_tables.specs.{Unicode.IsByte, AcceptedTables.AcceptedTable}
+use Rattle.legacy_base.specs.{Grammar.{single_byte, events_of}, States.state_of}
+use Rattle.legacy_decoder_engine.specs.{declared.moves.Fed.Fed, Moves.{IsCovered, Feeds}, Feeding.Took}
 use Rattle.legacy_single_byte.specs.SingleByteMachine.{single_byte_first}
 use Rattle.legacy_single_byte.proofs.SingleByteRuns.{shown}
+use Rattle.legacy_decoder_engine.proofs.Feeding as moves
 
 pub covered : (table : AcceptedTable) → IsCovered (state_of (single_byte table.entries) [])
 covered table = moves.covered (shown table) [] refl (All-nil IsByte)

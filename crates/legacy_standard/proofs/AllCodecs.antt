@@ -1,17 +1,11 @@
 -- Both laws of this crate, codec by codec.
-use Rattle.legacy_standard.proofs.SingleByteHandled.{single_byte_handled, user_defined_handled}
-use Rattle.legacy_standard.proofs.LeadHandled.{euc_kr_handled, big5_handled, shift_jis_handled}
-use Rattle.legacy_standard.proofs.EucJpHandled.{euc_jp_handled}
-use Rattle.legacy_standard.proofs.Gb18030Handled.{gb18030_handled}
-use Rattle.legacy_standard.proofs.ReplacementHandled.{replacement_handled}
-use Rattle.legacy_standard.proofs.Utf16Handled.{utf16_handled}
-use Rattle.legacy_standard.proofs.Iso2022JpHandled.{iso_2022_jp_handled}
-use Rattle.legacy_standard.specs.DecoderLaw as decoders
-use Rattle.legacy_standard.specs.DecoderLaw.{AreDecodedByHandlers}
-use Rattle.legacy_standard.proofs.Iso2022JpEncoded.{iso_2022_jp_encoded}
+use Rattle.legacy_standard.proofs.{SingleByteHandled.{single_byte_handled, user_defined_handled}, LeadHandled.{euc_kr_handled, big5_handled, shift_jis_handled}}
+use Rattle.legacy_standard.proofs.{EucJpHandled.euc_jp_handled, Gb18030Handled.gb18030_handled, ReplacementHandled.replacement_handled}
+use Rattle.legacy_standard.proofs.{Utf16Handled.utf16_handled, Iso2022JpHandled.iso_2022_jp_handled, Iso2022JpEncoded.iso_2022_jp_encoded}
 use Rattle.legacy_standard.proofs.PlainEncoded.{single_byte_encoded, user_defined_encoded, euc_kr_encoded, big5_encoded, shift_jis_encoded, euc_jp_encoded}
 use Rattle.legacy_standard.proofs.PlainEncoded.{gb18030_encoded, gbk_encoded}
-use Rattle.legacy_standard.specs.EncoderLaw.{AreEncodedByHandlers}
+use Rattle.legacy_standard.specs.{DecoderLaw.AreDecodedByHandlers, EncoderLaw.AreEncodedByHandlers}
+use Rattle.legacy_standard.specs.DecoderLaw as decoders
 use Rattle.legacy_base.specs.Encoders as codecs
 
 pub all_decoders : AreDecodedByHandlers

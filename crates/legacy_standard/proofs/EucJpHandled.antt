@@ -1,23 +1,13 @@
 -- The EUC-JP decoder's handler gives the events of its grammar.
-use Rattle.std.proofs.Common.{◌≡◌, ℕ, ◌+◌, ◌-◌, ◌*◌, cond, List, [], ◌∷◌, None, refl, true, false, arith}
-use Rattle.std.specs.Prelude.{◌==◌, ◌&&◌}
-use Rattle.std.specs.Int.{is_in_range}
-use Rattle.std.specs.Char.{is_ascii}
-use Rattle.std.proofs.lemmas.Bool.{eqb-true}
-use Rattle.std.proofs.lemmas.Bool.Decides.{nat_tests}
-use Rattle.legacy_base.specs.declared.results.DecodeEvent.{DecodeEvent}
-use Rattle.legacy_base.specs.Fronts.{Front}
-use Rattle.legacy_base.specs.EucJp.{is_euc_jp_lead, euc_jp_scalars, euc_jp_katakana, euc_jp_third, euc_jp_second, euc_jp_pair, euc_jp_front}
-use Rattle.legacy_base.specs.Grammar.{euc_jp, events_of}
+use Rattle.std.proofs.{Common.{◌≡◌, ℕ, ◌+◌, ◌-◌, ◌*◌, cond, List, [], ◌∷◌, None, refl, true, false, arith}, lemmas.Bool.eqb-true, lemmas.Bool.Decides.nat_tests}
+use Rattle.std.specs.{Prelude.{◌==◌, ◌&&◌}, Int.is_in_range, Char.is_ascii}
+use Rattle.legacy_base.specs.{declared.results.DecodeEvent.DecodeEvent, Fronts.Front, EucJp.{is_euc_jp_lead, euc_jp_scalars, euc_jp_katakana, euc_jp_third}}
+use Rattle.legacy_base.specs.{EucJp.{euc_jp_second, euc_jp_pair, euc_jp_front}, Grammar.{euc_jp, events_of}}
 use Rattle.legacy_base.proofs.FrontLaws.{euc_jp_front-of}
-use Rattle.legacy_tables.specs.Indexes.{idx}
-use Rattle.legacy_tables.specs.Unicode.{is_katakana_byte, katakana_of}
-use Rattle.legacy_standard.specs.Queue.{return_or_error}
-use Rattle.legacy_standard.specs.Processing.{process}
-use Rattle.legacy_standard.specs.EucJp.{euc_jp_state, euc_jp_initial, euc_jp_handler}
-use Rattle.legacy_standard.proofs.Turns.{goes_on, error_at_end}
-use Rattle.legacy_standard.proofs.Fronts.{Reads, whole, by_test, one, bad_one, returns_scalars, trailing, third_trailing, lead_alone, pair}
-use Rattle.legacy_standard.proofs.OneResult.{Runs, IsDecodedBy}
+use Rattle.legacy_tables.specs.{Indexes.idx, Unicode.{is_katakana_byte, katakana_of}}
+use Rattle.legacy_standard.specs.{Queue.return_or_error, Processing.process, EucJp.{euc_jp_state, euc_jp_initial, euc_jp_handler}}
+use Rattle.legacy_standard.proofs.{Turns.{goes_on, error_at_end}, Fronts.{Reads, whole, by_test, one, bad_one, returns_scalars, trailing, third_trailing}}
+use Rattle.legacy_standard.proofs.{Fronts.{lead_alone, pair}, OneResult.{Runs, IsDecodedBy}}
 
 lead-some : (b : ℕ) → is_euc_jp_lead b ≡ true → (b == 0) ≡ false
 lead-some b h = grind (arith, nat_tests)

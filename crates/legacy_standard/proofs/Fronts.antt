@@ -1,16 +1,13 @@
 -- A handler that reads each front of a list gives the events of the list.
 use Rattle.std.proofs.Common.{◌≡◌, ℕ, zero, suc, ◌+◌, ◌≤◌, Bool, true, false, cond, List, [], ◌∷◌, ◌++◌, drop, length, None, refl, arith}
+use Rattle.std.proofs.{lemmas.Bool.cond_both, lemmas.List.length-drop}
 use Rattle.std.specs.Char.{is_ascii}
-use Rattle.std.proofs.lemmas.Bool.{cond_both}
-use Rattle.std.proofs.lemmas.List.{length-drop}
-use Rattle.legacy_base.specs.declared.results.DecodeEvent.{DecodeEvent}
-use Rattle.legacy_base.specs.Fronts.{Front, reads, malformed, front_length, front_events, reads_or, trail_rule, trail_front, cut}
-use Rattle.legacy_base.specs.Laws.{IsFrontOf}
+use Rattle.legacy_base.specs.{declared.results.DecodeEvent.DecodeEvent, Fronts.{Front, reads, malformed, front_length, front_events, reads_or, trail_rule}}
+use Rattle.legacy_base.specs.{Fronts.{trail_front, cut}, Laws.IsFrontOf}
 use Rattle.legacy_base.proofs.Cuts.{cut_at}
 use Rattle.legacy_standard.specs.Queue.{Item, byte, end_of_queue, Handled, continue, finished, error, code_points, code_point, returns, return_or_error}
 use Rattle.legacy_standard.specs.Processing.{Processes}
-use Rattle.legacy_standard.proofs.Turns.{at_end, error_at_end, goes_on, error_at, gives}
-use Rattle.legacy_standard.proofs.OneResult.{Runs, steady}
+use Rattle.legacy_standard.proofs.{Turns.{at_end, error_at_end, goes_on, error_at, gives}, OneResult.{Runs, steady}}
 
 -- the handler's result for a leading byte and a trailing byte, by their scalars
 abbrev pub returns_scalars : {S : Type 0} → S → List ℕ → ℕ → Handled S

@@ -1,21 +1,14 @@
 -- The gb18030 decoder's handler gives the events of its grammar.
-use Rattle.std.proofs.Common.{◌≡◌, ℕ, List, [], ◌∷◌, Option, Some, None, refl, true, false, arith}
-use Rattle.std.specs.Prelude.{option_to_list, ◌==◌}
-use Rattle.std.specs.Char.{is_ascii, is_ascii_digit}
-use Rattle.std.proofs.lemmas.Bool.Decides.{nat_tests}
-use Rattle.legacy_base.specs.declared.results.DecodeEvent.{DecodeEvent}
-use Rattle.legacy_base.specs.Fronts.{Front, malformed, reads_or}
-use Rattle.legacy_base.specs.Profile.{is_lead}
-use Rattle.legacy_base.specs.Gb18030.{gb18030_scalars, gb18030_range_pointer, gb18030_fourth, gb18030_third, gb18030_second, gb18030_front}
-use Rattle.legacy_base.specs.Grammar.{gb18030, events_of}
+use Rattle.std.proofs.{Common.{◌≡◌, ℕ, List, [], ◌∷◌, Option, Some, None, refl, true, false, arith}, lemmas.Bool.Decides.nat_tests}
+use Rattle.std.specs.{Prelude.{option_to_list, ◌==◌}, Char.{is_ascii, is_ascii_digit}}
+use Rattle.legacy_base.specs.{declared.results.DecodeEvent.DecodeEvent, Fronts.{Front, malformed, reads_or}, Profile.is_lead, Gb18030.gb18030_scalars}
+use Rattle.legacy_base.specs.{Gb18030.{gb18030_range_pointer, gb18030_fourth, gb18030_third, gb18030_second, gb18030_front}, Grammar.{gb18030, events_of}}
 use Rattle.legacy_base.proofs.FrontLaws.{gb18030_front-of}
 use Rattle.legacy_tables.specs.Indexes.{range}
-use Rattle.legacy_standard.specs.Queue.{Item, byte, end_of_queue, Handled, returns, restores, continue, error, code_point_or_error}
-use Rattle.legacy_standard.specs.Gb18030.{Gb18030, gb18030_state, gb18030_initial, gb18030_handler}
-use Rattle.legacy_standard.proofs.LeadHandled.{lead-some}
-use Rattle.legacy_standard.proofs.Turns.{goes_on, gives, error_at, error_at_end}
-use Rattle.legacy_standard.proofs.Fronts.{Reads, whole, by_test, one, bad_one, returns_scalars, trailing, lead_alone}
-use Rattle.legacy_standard.proofs.OneResult.{Runs, IsDecodedBy}
+use Rattle.legacy_standard.specs.{Queue.{Item, byte, end_of_queue, Handled, returns, restores, continue, error, code_point_or_error}, Gb18030.Gb18030}
+use Rattle.legacy_standard.specs.Gb18030.{gb18030_state, gb18030_initial, gb18030_handler}
+use Rattle.legacy_standard.proofs.{LeadHandled.lead-some, Turns.{goes_on, gives, error_at, error_at_end}, Fronts.{Reads, whole, by_test, one, bad_one}}
+use Rattle.legacy_standard.proofs.{Fronts.{returns_scalars, trailing, lead_alone}, OneResult.{Runs, IsDecodedBy}}
 
 digit-some : (b : ℕ) → is_ascii_digit b ≡ true → (b == 0) ≡ false
 digit-some b h = grind (arith, nat_tests)

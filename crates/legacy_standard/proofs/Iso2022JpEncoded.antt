@@ -1,21 +1,16 @@
 -- The ISO-2022-JP encoder's handler gives the events of its definition.
 use Rattle.std.proofs.Common.{◌≡◌, ◌∙◌, ℕ, ◌+◌, ◌/◌, ◌%◌, Bool, cond, List, [], ◌∷◌, Option, Some, None, inl, inr, refl, sym, ap, subst, true, false, arith}
-use Rattle.std.specs.Prelude.{◌==◌, ◌||◌}
-use Rattle.std.specs.Int.{is_in_range}
-use Rattle.std.specs.Char.{is_ascii}
-use Rattle.std.proofs.lemmas.Bool.{cases_Bool, false≢true, eqb-true, eqb-false}
-use Rattle.std.proofs.lemmas.Bool.Decides.{nat_tests}
-use Rattle.legacy_base.specs.declared.results.EncodeEvent.{EncodeEvent}
-use Rattle.legacy_base.specs.EncoderProfile.{EncoderMode, in_ascii, in_roman, in_two_byte}
+use Rattle.std.proofs.{lemmas.Bool.{cases_Bool, false≢true, eqb-true, eqb-false}, lemmas.Bool.Decides.nat_tests}
+use Rattle.std.specs.{Prelude.{◌==◌, ◌||◌}, Int.is_in_range, Char.is_ascii}
+use Rattle.legacy_base.specs.{declared.results.EncodeEvent.EncodeEvent, EncoderProfile.{EncoderMode, in_ascii, in_roman, in_two_byte}}
 use Rattle.legacy_base.specs.Iso2022Jp.{is_mode_control, iso_2022_jp_pointer_of, iso_2022_jp_reported, roman_or_ascii, escape_to}
-use Rattle.legacy_base.specs.Encoders as codecs
-use Rattle.legacy_base.proofs.Iso2022JpEncoding.{text_events, text_events-here, text_events-escape, text_events-end, IsWritten, at_control}
-use Rattle.legacy_base.proofs.Iso2022JpEncoding.{at_special, at_neutral, at_yen, at_overline, at_pair, at_none}
+use Rattle.legacy_base.proofs.Iso2022JpEncoding.{text_events, text_events-here, text_events-escape, text_events-end, IsWritten, at_control, at_special}
+use Rattle.legacy_base.proofs.Iso2022JpEncoding.{at_neutral, at_yen, at_overline, at_pair, at_none}
 use Rattle.legacy_tables.specs.Pointers.{euc_jp_pointer_of}
-use Rattle.legacy_standard.specs.TextQueue.{TextItem, scalar, TextHandled, bytes, error_with, returns, restores}
-use Rattle.legacy_standard.specs.Iso2022JpEncoder.{EncoderState, ascii, roman, jis0208, set_scalar, at_pointer, at_set, iso_2022_jp_encodes}
-use Rattle.legacy_standard.specs.EncoderLaw.{HasRows, HasFolds}
+use Rattle.legacy_standard.specs.{TextQueue.{TextItem, scalar, TextHandled, bytes, error_with, returns, restores}, Iso2022JpEncoder.{EncoderState, ascii}}
+use Rattle.legacy_standard.specs.{Iso2022JpEncoder.{roman, jis0208, set_scalar, at_pointer, at_set, iso_2022_jp_encodes}, EncoderLaw.{HasRows, HasFolds}}
 use Rattle.legacy_standard.proofs.TextTurns.{IsEncodedBy, Writes, steady, ends, end_bytes, gives_bytes, gives_error, gives_escape}
+use Rattle.legacy_base.specs.Encoders as codecs
 
 -- the handler's state for a mode
 abbrev state_of : EncoderMode → EncoderState

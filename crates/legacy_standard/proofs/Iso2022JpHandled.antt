@@ -1,32 +1,22 @@
 -- The ISO-2022-JP decoder's handler reads a list from first to last, as the laws of the grammar do. Its errors end as
 -- late as `lateness` says.
-use Rattle.std.proofs.Common.{◌≡◌, ℕ, zero, suc, ◌+◌, ◌-◌, ◌*◌, ◌≤◌, Bool, cond, List, [], ◌∷◌, ◌++◌, length, Option, Some, None, refl, ap, subst, ◌∙◌}
-use Rattle.std.proofs.Common.{take, drop, add-zero, zero-add, true, false, inl, inr, arith}
-use Rattle.std.specs.Prelude.{option_to_list, option_map, is_some, ◌==◌, ◌||◌, not}
-use Rattle.std.specs.Int.{is_in_range}
-use Rattle.std.specs.Char.{is_ascii}
-use Rattle.std.proofs.lemmas.Bool.{cond_both, or_parts, cases_Bool, cases_eq, ne_eqb, false≢true}
-use Rattle.std.proofs.lemmas.Bool.Decides.{nat_tests}
-use Rattle.legacy_base.specs.declared.results.DecodeEvent.{DecodeEvent}
-use Rattle.legacy_base.specs.declared.results.DecodeEvent.TheVariants.{Scalar, Bad}
-use Rattle.legacy_base.specs.Events.{shift}
-use Rattle.legacy_base.specs.Fronts.{Front, reads, malformed, reads_or}
-use Rattle.legacy_base.specs.Iso2022Jp as iso
-use Rattle.legacy_base.specs.Iso2022Jp.{Mode, esc, escape_mode, part_mode, iso_2022_jp_front, iso_2022_jp_events}
-use Rattle.legacy_base.proofs.Shifts.{shift-append, shift-shift, shift-zero}
+use Rattle.std.proofs.Common.{◌≡◌, ℕ, zero, suc, ◌+◌, ◌-◌, ◌*◌, ◌≤◌, Bool, cond, List, [], ◌∷◌, ◌++◌, length, Option, Some, None, refl, ap, subst, ◌∙◌, take}
+use Rattle.std.proofs.{Common.{drop, add-zero, zero-add, true, false, inl, inr, arith}, lemmas.Bool.{cond_both, or_parts, cases_Bool, cases_eq, ne_eqb}}
+use Rattle.std.proofs.{lemmas.Bool.false≢true, lemmas.Bool.Decides.nat_tests}
+use Rattle.std.specs.{Prelude.{option_to_list, option_map, is_some, ◌==◌, ◌||◌, not}, Int.is_in_range, Char.is_ascii}
+use Rattle.legacy_base.specs.{declared.results.DecodeEvent.DecodeEvent, declared.results.DecodeEvent.TheVariants.{Scalar, Bad}, Events.shift, Fronts.Front}
+use Rattle.legacy_base.specs.{Fronts.{reads, malformed, reads_or}, Iso2022Jp.{Mode, esc, escape_mode, part_mode, iso_2022_jp_front, iso_2022_jp_events}}
 use Rattle.legacy_base.specs.Grammar.{iso_2022_jp, events_of}
-use Rattle.legacy_tables.specs.Unicode.{AreBytes}
-use Rattle.legacy_base.proofs.Iso2022JpParts.{first_part, no_escape}
-use Rattle.legacy_base.proofs.Iso2022JpFronts.{step_end, step_one, step_two, step_no_escape, step_escape, escape_ahead}
-use Rattle.legacy_tables.specs.Indexes.{idx}
+use Rattle.legacy_base.proofs.{Shifts.{shift-append, shift-shift, shift-zero}, Iso2022JpParts.{first_part, no_escape}, Iso2022JpFronts.{step_end, step_one}}
+use Rattle.legacy_base.proofs.Iso2022JpFronts.{step_two, step_no_escape, step_escape, escape_ahead}
+use Rattle.legacy_tables.specs.{Unicode.AreBytes, Indexes.idx}
 use Rattle.legacy_standard.specs.Queue.{Item, byte, end_of_queue, Handled, continue, finished, error, code_point, returns, restores, code_point_or_error}
-use Rattle.legacy_standard.specs.Processing.{process}
-use Rattle.legacy_standard.specs.Iso2022JpPlaces.{mode_after, bytes_after, lateness, AreLate}
-use Rattle.legacy_standard.specs.Iso2022Jp.{DecoderState, ascii, roman, katakana, leading_byte, trailing_byte, escape_start, escape, Iso2022Jp}
-use Rattle.legacy_standard.specs.Iso2022Jp.{iso_2022_jp_handler, iso_2022_jp_initial, escape_state}
+use Rattle.legacy_standard.specs.{Processing.process, Iso2022JpPlaces.{mode_after, bytes_after, lateness, AreLate}, Iso2022Jp.{DecoderState, ascii, roman}}
+use Rattle.legacy_standard.specs.Iso2022Jp.{katakana, leading_byte, trailing_byte, escape_start, escape, Iso2022Jp, iso_2022_jp_handler, iso_2022_jp_initial}
+use Rattle.legacy_standard.specs.{Iso2022Jp.escape_state, DecoderLaw.HandlerDecodes}
 use Rattle.legacy_standard.proofs.OneResult.{steady}
+use Rattle.legacy_base.specs.Iso2022Jp as iso
 use Rattle.legacy_standard.specs.DecoderLaw as decoders
-use Rattle.legacy_standard.specs.DecoderLaw.{HandlerDecodes}
 
 -- ---- turns, by the number of bytes read
 

@@ -1,26 +1,15 @@
 -- The handlers of EUC-KR, Big5 and Shift_JIS, with a leading byte and a trailing byte, give the events of their
 -- grammars.
-use Rattle.std.proofs.Common.{◌≡◌, ℕ, ◌+◌, ◌-◌, ◌*◌, cond, List, [], ◌∷◌, Option, Some, None, refl, true, false, arith}
-use Rattle.std.specs.Prelude.{◌==◌, ◌||◌, nat_lt}
-use Rattle.std.specs.Int.{is_in_range}
-use Rattle.std.specs.Char.{is_ascii}
-use Rattle.std.specs.Option.{option_map_or, option_and_then}
-use Rattle.std.proofs.lemmas.Bool.Decides.{nat_tests}
-use Rattle.legacy_base.specs.LeadForms.{lead_front, lead_pair, pair_scalars, pointer_scalars}
-use Rattle.legacy_base.specs.EucKr.{euc_kr, euc_kr_pointer}
-use Rattle.legacy_base.specs.Profile.{is_lead}
-use Rattle.legacy_base.specs.Big5.{big5_front, big5_pair, big5_pointer, big5_scalars}
-use Rattle.legacy_base.specs.ShiftJis.{shift_jis_front, shift_jis_pair, shift_jis_pointer, shift_jis_scalars, is_shift_jis_lead}
-use Rattle.legacy_base.specs.Grammar.{big5, shift_jis, events_of}
+use Rattle.std.proofs.{Common.{◌≡◌, ℕ, ◌+◌, ◌-◌, ◌*◌, cond, List, [], ◌∷◌, Option, Some, None, refl, true, false, arith}, lemmas.Bool.Decides.nat_tests}
+use Rattle.std.specs.{Prelude.{◌==◌, ◌||◌, nat_lt}, Int.is_in_range, Char.is_ascii, Option.{option_map_or, option_and_then}}
+use Rattle.legacy_base.specs.{LeadForms.{lead_front, lead_pair, pair_scalars, pointer_scalars}, EucKr.{euc_kr, euc_kr_pointer}, Profile.is_lead}
+use Rattle.legacy_base.specs.{Big5.{big5_front, big5_pair, big5_pointer, big5_scalars}, ShiftJis.{shift_jis_front, shift_jis_pair, shift_jis_pointer}}
+use Rattle.legacy_base.specs.{ShiftJis.{shift_jis_scalars, is_shift_jis_lead}, Grammar.{big5, shift_jis, events_of}}
 use Rattle.legacy_base.proofs.FrontLaws.{lead_front-of, big5_front-of, shift_jis_front-of}
-use Rattle.legacy_tables.specs.Indexes.{idx}
-use Rattle.legacy_tables.specs.Unicode.{is_katakana_byte}
-use Rattle.legacy_standard.specs.Queue.{return_or_error}
-use Rattle.legacy_standard.specs.EucKr.{euc_kr_handler}
-use Rattle.legacy_standard.specs.Big5.{big5_handler, big5_pointer_returns}
-use Rattle.legacy_standard.specs.ShiftJis.{shift_jis_handler, shift_jis_pointer_returns}
-use Rattle.legacy_standard.proofs.Fronts.{Reads, whole, by_test, one, bad_one, returns_scalars, pair}
-use Rattle.legacy_standard.proofs.OneResult.{IsDecodedBy}
+use Rattle.legacy_tables.specs.{Indexes.idx, Unicode.is_katakana_byte}
+use Rattle.legacy_standard.specs.{Queue.return_or_error, EucKr.euc_kr_handler, Big5.{big5_handler, big5_pointer_returns}, ShiftJis.shift_jis_handler}
+use Rattle.legacy_standard.specs.ShiftJis.{shift_jis_pointer_returns}
+use Rattle.legacy_standard.proofs.{Fronts.{Reads, whole, by_test, one, bad_one, returns_scalars, pair}, OneResult.IsDecodedBy}
 
 -- ---- EUC-KR
 

@@ -1,10 +1,8 @@
 -- More turns do not change the result of a run that has finished.
 use Rattle.std.proofs.Common.{◌≡◌, ℕ, zero, suc, ◌+◌, ◌-◌, ◌≤◌, List, [], ◌∷◌, ◌++◌, length, Option, Some, None, refl, arith}
 use Rattle.std.specs.Prelude.{option_map}
-use Rattle.legacy_base.specs.declared.results.DecodeEvent.{DecodeEvent}
-use Rattle.legacy_standard.specs.Queue.{Item, byte, end_of_queue, Handled, Outcome}
-use Rattle.legacy_standard.specs.Processing.{act_on, process, Processes}
-use Rattle.legacy_base.specs.Grammar.{Grammar, events_of}
+use Rattle.legacy_base.specs.{declared.results.DecodeEvent.DecodeEvent, Grammar.{Grammar, events_of}}
+use Rattle.legacy_standard.specs.{Queue.{Item, byte, end_of_queue, Handled, Outcome}, Processing.{act_on, process, Processes}}
 use Rattle.legacy_tables.specs.Unicode.{AreBytes}
 
 -- the first result is none, or both are the same

@@ -1,38 +1,19 @@
 -- The handlers of the encoders without a state give the events of their definitions.
-use Rattle.std.proofs.lemmas.Bool.Decides.{nat_tests}
-use Rattle.std.proofs.Common.{◌≡◌, ◌≢◌, ◌∙◌, ◌≤◌, ◌<◌, length, inl, inr, sym, ℕ, List, [], ◌∷◌, ◌++◌, Option, Some, None, refl, true, false, arith}
-use Rattle.std.specs.Prelude.{is_some, ◌==◌, position, slice_index}
-use Rattle.std.specs.Char.{IsScalar}
-use Rattle.std.proofs.lemmas.List.Elements.{All-head, All-tail}
-use Rattle.legacy_base.specs.EncodeEvents.{code_events, plain_events}
-use Rattle.legacy_base.specs.SingleByte.{single_byte_code}
-use Rattle.legacy_base.specs.UserDefined.{user_defined_code}
-use Rattle.legacy_base.specs.EucKr.{euc_kr_code}
-use Rattle.legacy_base.specs.Big5.{big5_code}
-use Rattle.legacy_base.specs.ShiftJis.{shift_jis_code}
-use Rattle.legacy_base.specs.EucJp.{euc_jp_code}
-use Rattle.legacy_base.specs.Gb18030.{gb18030_code, gbk_code}
-use Rattle.legacy_base.specs.Encoders as codecs
-use Rattle.legacy_tables.specs.Unicode.{AreScalars}
-use Rattle.std.specs.List.{position_or_len}
-use Rattle.std.proofs.lemmas.List.{get_or_past}
-use Rattle.std.proofs.lemmas.List.Sums.{position_or_len_is}
+use Rattle.std.proofs.{lemmas.Bool.Decides.nat_tests, Common.{◌≡◌, ◌≢◌, ◌∙◌, ◌≤◌, ◌<◌, length, inl, inr, sym, ℕ, List, [], ◌∷◌, ◌++◌, Option, Some, None, refl}}
+use Rattle.std.proofs.{Common.{true, false, arith}, lemmas.List.Elements.{All-head, All-tail}, lemmas.List.get_or_past, lemmas.List.Sums.position_or_len_is}
 use Rattle.std.proofs.lemmas.Bool.{cases_eq, cases_lt, eq-eqb, ne_eqb}
+use Rattle.std.specs.{Prelude.{is_some, ◌==◌, position, slice_index}, Char.IsScalar, List.position_or_len}
+use Rattle.legacy_base.specs.{EncodeEvents.{code_events, plain_events}, SingleByte.single_byte_code, UserDefined.user_defined_code, EucKr.euc_kr_code}
+use Rattle.legacy_base.specs.{Big5.big5_code, ShiftJis.shift_jis_code, EucJp.euc_jp_code, Gb18030.{gb18030_code, gbk_code}}
+use Rattle.legacy_tables.specs.{Unicode.AreScalars, Pointers.{every_pointer, shift_jis_pointer_of}}
 use borrow.Author.Tests.{lt-ltb, le-ltb}
 use Rattle.legacy_tables.proofs.Pointers.{IsTaken, first-taken, first-least}
-use Rattle.legacy_tables.specs.Pointers.{every_pointer, shift_jis_pointer_of}
-use Rattle.legacy_standard.specs.TextQueue.{TextOutcome, bytes, error_with, by_scalar, Encodes}
-use Rattle.legacy_standard.specs.IndexPointers.{index_pointer}
-use Rattle.legacy_standard.specs.SingleByteEncoder.{single_byte_encodes}
-use Rattle.legacy_standard.specs.UserDefinedEncoder.{user_defined_encodes}
-use Rattle.legacy_standard.specs.EucKrEncoder.{euc_kr_encodes}
-use Rattle.legacy_standard.specs.Big5Encoder.{big5_encodes}
-use Rattle.legacy_standard.specs.ShiftJisEncoder.{minus_set, shift_jis_encodes}
-use Rattle.legacy_standard.specs.EucJpEncoder.{euc_jp_encodes}
-use Rattle.legacy_standard.specs.Gb18030Encoder.{gb18030_encodes}
-use Rattle.legacy_standard.specs.EncoderLaw.{HasRows, AreAcceptedRanges, HasRangePointers}
-use Rattle.legacy_standard.proofs.RangePointers.{ranged_pointer}
-use Rattle.legacy_standard.proofs.TextTurns.{IsEncodedBy, Writes, steady, ends, gives_bytes, gives_error}
+use Rattle.legacy_standard.specs.{TextQueue.{TextOutcome, bytes, error_with, by_scalar, Encodes}, IndexPointers.index_pointer}
+use Rattle.legacy_standard.specs.{SingleByteEncoder.single_byte_encodes, UserDefinedEncoder.user_defined_encodes, EucKrEncoder.euc_kr_encodes}
+use Rattle.legacy_standard.specs.{Big5Encoder.big5_encodes, ShiftJisEncoder.{minus_set, shift_jis_encodes}, EucJpEncoder.euc_jp_encodes}
+use Rattle.legacy_standard.specs.{Gb18030Encoder.gb18030_encodes, EncoderLaw.{HasRows, AreAcceptedRanges, HasRangePointers}}
+use Rattle.legacy_standard.proofs.{RangePointers.ranged_pointer, TextTurns.{IsEncodedBy, Writes, steady, ends, gives_bytes, gives_error}}
+use Rattle.legacy_base.specs.Encoders as codecs
 
 -- the result of a handler, by the code of the scalar
 abbrev by_code : ℕ → Option (List ℕ) → TextOutcome

@@ -1,18 +1,12 @@
 -- In accepted ranges the last range at or before a scalar gives the pointer that the encoder takes.
-use Rattle.std.proofs.lemmas.Bool.Decides.{nat_tests}
-use Rattle.std.proofs.Common.{◌≡◌, ◌≢◌, ◌∙◌, ℕ, zero, suc, ◌+◌, ◌-◌, ◌≤◌, ◌<◌, Bool, true, false, cond, List, [], ◌∷◌, length, get_or, drop, Option, Some}
-use Rattle.std.proofs.Common.{None, nat_le, inl, inr, refl, ap, arith}
-use Rattle.std.specs.Prelude.{is_some}
-use Rattle.std.specs.Option.{option_or}
-use Rattle.std.specs.Char.{IsScalar}
-use Rattle.std.proofs.lemmas.Bool.{cases_eq, cases_lt, eq-eqb, ne_eqb, false≢true}
+use Rattle.std.proofs.{lemmas.Bool.Decides.nat_tests, Common.{◌≡◌, ◌≢◌, ◌∙◌, ℕ, zero, suc, ◌+◌, ◌-◌, ◌≤◌, ◌<◌, Bool, true, false, cond, List, [], ◌∷◌, length}}
+use Rattle.std.proofs.{Common.{get_or, drop, Option, Some, None, nat_le, inl, inr, refl, ap, arith}, lemmas.Bool.{cases_eq, cases_lt, eq-eqb, ne_eqb}}
+use Rattle.std.proofs.lemmas.Bool.{false≢true}
+use Rattle.std.specs.{Prelude.is_some, Option.option_or, Char.IsScalar}
 use borrow.Author.Tests.{leb-true, leb-false}
-use Rattle.legacy_tables.specs.Pointers.{range_pointer_of}
-use Rattle.legacy_tables.specs.TableChecks.{next_pointer}
-use Rattle.legacy_tables.proofs.Pointers.{range-fixed}
-use Rattle.legacy_tables.proofs.RangePointers.{wide-pointer, pointer-before, pointer-past, pointer-fixed, pointer-found}
-use Rattle.legacy_standard.specs.IndexPointers.{offset_pointer, ranges_pointer}
-use Rattle.legacy_standard.specs.EncoderLaw.{AreAcceptedRanges}
+use Rattle.legacy_tables.specs.{Pointers.range_pointer_of, TableChecks.next_pointer}
+use Rattle.legacy_tables.proofs.{Pointers.range-fixed, RangePointers.{wide-pointer, pointer-before, pointer-past, pointer-fixed, pointer-found}}
+use Rattle.legacy_standard.specs.{IndexPointers.{offset_pointer, ranges_pointer}, EncoderLaw.AreAcceptedRanges}
 
 -- the range of a place is the last that begins at or before c, and gives it the pointer p
 record IsTaken (ranges : List (ℕ × ℕ)) (c p place : ℕ) : Type 0 where

@@ -1,9 +1,7 @@
 -- The replacement decoder's handler gives the events of its grammar.
 use Rattle.std.proofs.Common.{[], ◌∷◌, refl, false}
-use Rattle.legacy_base.specs.Replacement.{replacement_events}
-use Rattle.legacy_base.specs.Grammar.{replacement, events_of}
-use Rattle.legacy_standard.specs.Processing.{process}
-use Rattle.legacy_standard.specs.Replacement.{replacement_handler}
+use Rattle.legacy_base.specs.{Replacement.replacement_events, Grammar.{replacement, events_of}}
+use Rattle.legacy_standard.specs.{Processing.process, Replacement.replacement_handler}
 use Rattle.legacy_standard.proofs.OneResult.{Runs, steady, IsDecodedBy}
 
 pub replacement_handled : IsDecodedBy (replacement false) replacement_handler false

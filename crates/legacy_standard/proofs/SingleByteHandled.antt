@@ -1,18 +1,12 @@
 -- The handlers of the single-byte decoder and of x-user-defined give the events of their grammars.
 use Rattle.std.proofs.Common.{◌≡◌, ℕ, ◌-◌, List, ◌∷◌, Option, Some, None, refl}
-use Rattle.std.specs.Char.{is_ascii}
-use Rattle.std.specs.Prelude.{option_to_list}
-use Rattle.legacy_base.specs.Fronts.{malformed, reads_or}
-use Rattle.legacy_base.specs.SingleByte.{single_byte_front}
-use Rattle.legacy_base.specs.UserDefined.{user_defined_front}
-use Rattle.legacy_base.specs.Grammar.{single_byte, user_defined, events_of}
+use Rattle.std.specs.{Char.is_ascii, Prelude.option_to_list}
+use Rattle.legacy_base.specs.{Fronts.{malformed, reads_or}, SingleByte.single_byte_front, UserDefined.user_defined_front, Grammar.{single_byte, user_defined}}
+use Rattle.legacy_base.specs.Grammar.{events_of}
 use Rattle.legacy_base.proofs.FrontLaws.{single_byte_front-of, user_defined_front-of}
 use Rattle.legacy_tables.specs.Indexes.{idx}
-use Rattle.legacy_standard.specs.Queue.{byte, returns, code_point_or_error}
-use Rattle.legacy_standard.specs.SingleByte.{single_byte_handler}
-use Rattle.legacy_standard.specs.UserDefined.{user_defined_handler}
-use Rattle.legacy_standard.proofs.Fronts.{Reads, whole, by_test, one, bad_one}
-use Rattle.legacy_standard.proofs.OneResult.{IsDecodedBy}
+use Rattle.legacy_standard.specs.{Queue.{byte, returns, code_point_or_error}, SingleByte.single_byte_handler, UserDefined.user_defined_handler}
+use Rattle.legacy_standard.proofs.{Fronts.{Reads, whole, by_test, one, bad_one}, OneResult.IsDecodedBy}
 
 module _ (table : List ℕ) where
   past_ascii : {b : ℕ} {rest : List ℕ} (o : Option ℕ) → single_byte_handler table tt (byte b) ≡ returns (code_point_or_error o) tt →

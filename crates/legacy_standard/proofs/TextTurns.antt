@@ -1,10 +1,9 @@
 -- One turn of the run over a queue of scalar values. More turns do not change the result.
 use Rattle.std.proofs.Common.{◌≡◌, ℕ, zero, suc, ◌+◌, ◌≤◌, List, [], ◌∷◌, ◌++◌, map, Option, Some, refl, arith, true}
-use Rattle.legacy_base.specs.declared.results.EncodeEvent.{EncodeEvent}
-use Rattle.legacy_base.specs.declared.results.EncodeEvent.TheVariants.{Byte, Unmappable}
-use Rattle.legacy_standard.specs.TextQueue.{TextItem, scalar, end_of_queue, TextOutcome, TextHandled, finished, bytes, error_with, returns, restores}
-use Rattle.legacy_standard.specs.TextQueue.{act_on, process, Encodes}
-use Rattle.legacy_base.specs.Encoders.{Codec, new_encoder, encoded}
+use Rattle.legacy_base.specs.{declared.results.EncodeEvent.EncodeEvent, declared.results.EncodeEvent.TheVariants.{Byte, Unmappable}, Encoders.Codec}
+use Rattle.legacy_base.specs.Encoders.{new_encoder, encoded}
+use Rattle.legacy_standard.specs.TextQueue.{TextItem, scalar, end_of_queue, TextOutcome, TextHandled, finished, bytes, error_with, returns, restores, act_on}
+use Rattle.legacy_standard.specs.TextQueue.{process, Encodes}
 use Rattle.legacy_tables.specs.Unicode.{AreScalars}
 use Rattle.legacy_standard.proofs.OneResult.{Agrees}
 

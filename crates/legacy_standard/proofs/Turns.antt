@@ -1,9 +1,7 @@
 -- One turn of the run over a queue, by the handler's result for the item.
 use Rattle.std.proofs.Common.{◌≡◌, ℕ, suc, ◌+◌, ◌-◌, List, [], ◌∷◌, ◌++◌, length, map, refl}
-use Rattle.legacy_base.specs.declared.results.DecodeEvent.{DecodeEvent}
-use Rattle.legacy_base.specs.declared.results.DecodeEvent.TheVariants.{Scalar, Bad}
-use Rattle.legacy_standard.specs.Queue.{Item, byte, end_of_queue, Handled, continue, finished, error, code_points, returns, restores}
-use Rattle.legacy_standard.specs.Processing.{process}
+use Rattle.legacy_base.specs.{declared.results.DecodeEvent.DecodeEvent, declared.results.DecodeEvent.TheVariants.{Scalar, Bad}}
+use Rattle.legacy_standard.specs.{Queue.{Item, byte, end_of_queue, Handled, continue, finished, error, code_points, returns, restores}, Processing.process}
 use Rattle.legacy_standard.proofs.OneResult.{Runs}
 
 module _ {S : Type 0} {handler : S → Item → Handled S} where

@@ -1,18 +1,12 @@
 -- The UTF-16 decoders' handlers give the events of their grammars.
 use Rattle.std.proofs.Common.{◌≡◌, ℕ, zero, suc, ◌+◌, ◌*◌, ◌≤◌, Bool, List, [], ◌∷◌, ◌++◌, length, Some, None, inl, inr, refl, true, false, arith}
-use Rattle.std.specs.Prelude.{◌&&◌}
-use Rattle.std.specs.Char.Utf16.{is_high_surrogate, is_low_surrogate, surrogate_pair_char}
-use Rattle.std.proofs.lemmas.Bool.{cases_Bool, cond_both, and_left, and_right}
-use Rattle.std.proofs.lemmas.List.Elements.{All-head, All-tail}
-use Rattle.legacy_base.specs.declared.results.DecodeEvent.{DecodeEvent}
-use Rattle.legacy_base.specs.declared.results.DecodeEvent.TheVariants.{Scalar, Bad}
-use Rattle.legacy_base.specs.Utf16.{unit_of, units_of, has_odd_byte, single_unit_events, units_events, utf16_events}
-use Rattle.legacy_base.specs.Grammar.{utf16, events_of}
+use Rattle.std.proofs.{lemmas.Bool.{cases_Bool, cond_both, and_left, and_right}, lemmas.List.Elements.{All-head, All-tail}}
+use Rattle.std.specs.{Prelude.◌&&◌, Char.Utf16.{is_high_surrogate, is_low_surrogate, surrogate_pair_char}}
+use Rattle.legacy_base.specs.{declared.results.DecodeEvent.DecodeEvent, declared.results.DecodeEvent.TheVariants.{Scalar, Bad}, Utf16.{unit_of, units_of}}
+use Rattle.legacy_base.specs.{Utf16.{has_odd_byte, single_unit_events, units_events, utf16_events}, Grammar.{utf16, events_of}}
 use Rattle.legacy_tables.specs.Unicode.{IsByte, AreBytes}
-use Rattle.legacy_standard.specs.Queue.{Item, Handled}
-use Rattle.legacy_standard.specs.Utf16.{Utf16, utf16_state, utf16_initial, unit_bytes, utf16_handler}
-use Rattle.legacy_standard.proofs.Turns.{at_end, goes_on, gives, error_at, error_at_end}
-use Rattle.legacy_standard.proofs.OneResult.{Runs, steady, IsDecodedBy}
+use Rattle.legacy_standard.specs.{Queue.{Item, Handled}, Utf16.{Utf16, utf16_state, utf16_initial, unit_bytes, utf16_handler}}
+use Rattle.legacy_standard.proofs.{Turns.{at_end, goes_on, gives, error_at, error_at_end}, OneResult.{Runs, steady, IsDecodedBy}}
 
 -- the bytes of a code unit are those that it was made from
 bytes-back : (is_utf16be : Bool) (a b : ℕ) → IsByte a → IsByte b → unit_bytes is_utf16be (unit_of is_utf16be a b) ≡ a ∷ b ∷ []

@@ -1,30 +1,18 @@
 -- The encoding of an input in UTF-8 under way.
 use Rattle.std.proofs.Common.{◌≡◌, ◌≢◌, ◌⊎◌, ◌∙◌, ℕ, zero, suc, ◌+◌, ◌-◌, ◌≤◌, ◌<◌, List, [], ◌∷◌, ◌++◌, length, take, drop, take-append-drop, refl, sym, ap}
-use Rattle.std.proofs.Common.{subst, arith, append_assoc, append-nil}
-use Rattle.std.proofs.Common.{length-append, length-drop, Bool, true, false, Option, Some, None, IsUtf8, inl, inr, ⊎_elim, drop-drop, map, take_all, not}
-use Rattle.std.proofs.Common.{is_some, zero-add}
-use Rattle.std.specs.Str.{chars, IsValidUpTo, IsErrorLen}
-use Rattle.std.proofs.lemmas.Str.{utf8_valid_len-IsValidUpTo}
-use Rattle.std.specs.Str.Lossy.{utf8_valid_len, utf8_error_len}
-use Rattle.std.specs.Io.KnownBytes.{Appends, Consumes, IsAtEnd}
-use Rattle.std.proofs.KnownBytes.{Appends-nil, Appends-trans, Consumes-nil, Consumes-trans}
-use Rattle.std.proofs.lemmas.Grind.{flat_map-append}
+use Rattle.std.proofs.Common.{subst, arith, append_assoc, append-nil, length-append, length-drop, Bool, true, false, Option, Some, None, IsUtf8, inl, inr}
+use Rattle.std.proofs.{Common.{⊎_elim, drop-drop, map, take_all, not, is_some, zero-add}, lemmas.Str.{utf8_valid_len-IsValidUpTo, chars-nil}}
+use Rattle.std.proofs.{KnownBytes.{Appends-nil, Appends-trans, Consumes-nil, Consumes-trans}, lemmas.Grind.flat_map-append, lemmas.Bool.cases_lt}
+use Rattle.std.proofs.{lemmas.List.{drop_at, length-take-le, length-take, drop-take, nil_from_length}, lemmas.List.Edits.take-paste, Math.Seq.paste}
+use Rattle.std.specs.{Str.{chars, IsValidUpTo, IsErrorLen}, Str.Lossy.{utf8_valid_len, utf8_error_len}, Io.KnownBytes.{Appends, Consumes, IsAtEnd}}
 use Rattle.std.specs.Option.{IfSome}
-use Rattle.std.proofs.lemmas.Bool.{cases_lt}
-use Rattle.std.proofs.lemmas.List.{drop_at, length-take-le, length-take, drop-take, nil_from_length}
-use Rattle.std.proofs.lemmas.List.Edits.{take-paste}
-use Rattle.std.proofs.Math.Seq.{paste}
-use Rattle.std.proofs.lemmas.Str.{chars-nil}
-use Rattle.legacy_base.specs.declared.results.EncodeEvent.TheVariants.{Byte}
-use Rattle.legacy_base.specs.Encoders.{EncoderState, encoded}
+use Rattle.legacy_base.specs.{declared.results.EncodeEvent.TheVariants.Byte, Encoders.{EncoderState, encoded}}
 use Rattle.legacy_base.proofs.EncoderLaws.{end-encoded}
-use Rattle.legacy_codecs.specs.declared.results.CoderResult.{CoderResult}
-use Rattle.legacy_codecs.specs.declared.results.CoderResult.TheVariants.{InputEmpty}
-use Rattle.legacy_codecs.specs.References.{event_bytes, referenced_bytes, ReplacingEncoderCall}
+use Rattle.legacy_codecs.specs.{declared.results.CoderResult.CoderResult, declared.results.CoderResult.TheVariants.InputEmpty, References.event_bytes}
+use Rattle.legacy_codecs.specs.References.{referenced_bytes, ReplacingEncoderCall}
 use Rattle.legacy_codecs.proofs.WholeTexts.{wrote_last}
-use Rattle.legacy_streams.specs.Utf8Texts.{utf8_text, IsChunk}
-use Rattle.legacy_streams.specs.Encoding.{EncodesUpTo, EncodesText, EncodesFront, EncodesPiece, EncodesPieceFront, EncodesAll, EncodesPartly}
-use Rattle.legacy_streams.specs.Encoding.{DecodesTo, EncodesBytes, Sends, end_scalars}
+use Rattle.legacy_streams.specs.{Utf8Texts.{utf8_text, IsChunk}, Encoding.{EncodesUpTo, EncodesText, EncodesFront, EncodesPiece, EncodesPieceFront, EncodesAll}}
+use Rattle.legacy_streams.specs.Encoding.{EncodesPartly, DecodesTo, EncodesBytes, Sends, end_scalars}
 use Rattle.legacy_streams.proofs.Utf8Pieces.{cut_chunk, malformed_chunk, malformed_back, text_of_cut, text_of_none}
 
 -- ---- bytes that wait

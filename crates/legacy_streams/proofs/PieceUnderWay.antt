@@ -1,31 +1,18 @@
 -- Decoding one piece: what holds after each step.
-use Rattle.std.proofs.Common.{◌≡◌, ◌∙◌, ℕ, zero, suc, ◌+◌, ◌-◌, ◌≤◌, ◌<◌, List, [], ◌∷◌, ◌++◌, length, take, drop, refl, sym, ap, arith}
-use Rattle.std.proofs.Common.{append_assoc, append-nil, length-append}
-use Rattle.std.proofs.Common.{length-drop, map, get_or, Bool, true, false, Option, inl}
-use Rattle.std.proofs.lemmas.List.{drop-drop}
-use Rattle.std.proofs.Math.ListN.{drop_of_length-le}
-use Rattle.std.proofs.KnownBytes.{Appends-nil, Appends-trans}
+use Rattle.std.proofs.Common.{◌≡◌, ◌∙◌, ℕ, zero, suc, ◌+◌, ◌-◌, ◌≤◌, ◌<◌, List, [], ◌∷◌, ◌++◌, length, take, drop, refl, sym, ap, arith, append_assoc}
+use Rattle.std.proofs.{Common.{append-nil, length-append, length-drop, map, get_or, Bool, true, false, Option, inl}, lemmas.List.drop-drop}
+use Rattle.std.proofs.{Math.ListN.drop_of_length-le, KnownBytes.{Appends-nil, Appends-trans}}
 use Rattle.std.specs.Io.KnownBytes.{Appends}
-use Rattle.legacy_base.specs.declared.results.DecodeEvent.{DecodeEvent}
-use Rattle.legacy_base.specs.declared.results.DecodeEvent.TheVariants.{Scalar, Bad}
-use Rattle.legacy_base.specs.declared.results.DecoderResult.{DecoderResult}
-use Rattle.legacy_base.specs.declared.results.DecoderResult.TheVariants.{InputEmpty, OutputFull, Malformed}
+use Rattle.legacy_base.specs.{declared.results.DecodeEvent.DecodeEvent, declared.results.DecodeEvent.TheVariants.{Scalar, Bad}}
+use Rattle.legacy_base.specs.{declared.results.DecoderResult.DecoderResult, declared.results.DecoderResult.TheVariants.{InputEmpty, OutputFull, Malformed}}
+use Rattle.legacy_base.specs.{Events.shift, Grammar.events_of, States.DecoderState, Calls.{Progress, DecoderCall, IsMalformedByte, reported_events, out_events}}
 use Rattle.legacy_text.specs.EncodingForm.{Utf16, total_unit_count}
-use Rattle.legacy_base.specs.Events.{shift}
-use Rattle.legacy_base.specs.Grammar.{events_of}
-use Rattle.legacy_base.specs.States.{DecoderState}
-use Rattle.legacy_base.specs.Calls.{Progress, DecoderCall, IsMalformedByte, reported_events, out_events}
-use Rattle.legacy_base.proofs.Shifts.{shift-append, shift-scalars}
-use Rattle.legacy_base.proofs.Progress.{stay, after_that, at_less, at_last, end_report-last, behind}
-use Rattle.legacy_base.proofs.Rooms.{lacks_small}
-use Rattle.legacy_codecs.proofs.RunEvents.{placed-append, placed-scalars}
+use Rattle.legacy_base.proofs.{Shifts.{shift-append, shift-scalars}, Progress.{stay, after_that, at_less, at_last, end_report-last, behind}, Rooms.lacks_small}
+use Rattle.legacy_codecs.proofs.{RunEvents.{placed-append, placed-scalars}, Replaced.length-shift}
 use Rattle.legacy_codecs.specs.Runs.{placed}
-use Rattle.legacy_codecs.proofs.Replaced.{length-shift}
-use Rattle.legacy_streams.proofs.Whole.{Joins, front_of, front_after}
-use Rattle.legacy_streams.specs.Lines.{event_lines, malformed_events}
-use Rattle.legacy_streams.specs.Streams.{AppendsFront}
-use Rattle.legacy_streams.specs.Recoding.{input_events, piece_lines, lines_of, RecodesPiece, RecodesFront}
-use Rattle.legacy_streams.proofs.EventLines.{event_lines-append, event_lines-none}
+use Rattle.legacy_streams.proofs.{Whole.{Joins, front_of, front_after}, EventLines.{event_lines-append, event_lines-none}}
+use Rattle.legacy_streams.specs.{Lines.{event_lines, malformed_events}, Streams.AppendsFront, Recoding.{input_events, piece_lines, lines_of, RecodesPiece}}
+use Rattle.legacy_streams.specs.Recoding.{RecodesFront}
 
 -- `offset` bytes of the piece were decoded. The lines of their events were written, except `pending`, which are the
 -- last.

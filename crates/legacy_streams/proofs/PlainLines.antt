@@ -1,26 +1,14 @@
 -- The lines of scalars of one code unit, and the scalars of code units.
 use Rattle.std.proofs.Common.{◌≡◌, ◌∙◌, ℕ, suc, ◌+◌, ◌*◌, ◌-◌, ◌/◌, ◌%◌, ◌≤◌, ◌<◌, List, [], ◌∷◌, ◌++◌, length, take, drop, map, get_or, refl, sym, ap, arith}
-use Rattle.std.proofs.Common.{inl, inr, ◌⊎◌, All, Some, slice_get}
-use Rattle.std.proofs.Common.{append_assoc, append-nil, take-suc, add-one, zero, None, ◌^◌}
-use Rattle.std.proofs.lemmas.Bool.{cases_lt}
-use Rattle.std.proofs.lemmas.Bool.Decides.{nat_tests}
-use Rattle.std.proofs.lemmas.List.{map-append}
-use Rattle.std.proofs.lemmas.Nat.{le_bytes_8}
-use Rattle.std.proofs.lemmas.Str.{utf16_chars-nil, utf16_chars_lone, utf16_chars_pair}
-use Rattle.std.proofs.str.Utf16.{IsPair, lone_unit_char_low, lone_unit_char_high}
-use Rattle.std.specs.Char.{IsScalar}
-use Rattle.std.specs.Char.Utf16.{lone_unit_char, surrogate_pair_char}
-use Rattle.std.specs.Int.{w64, to_le_bytes}
-use Rattle.std.specs.List.{range_with_len}
+use Rattle.std.proofs.{Common.{inl, inr, ◌⊎◌, All, Some, slice_get, append_assoc, append-nil, take-suc, add-one, zero, None, ◌^◌}, lemmas.Bool.cases_lt}
+use Rattle.std.proofs.{lemmas.Bool.Decides.nat_tests, lemmas.List.map-append, lemmas.Nat.le_bytes_8, lemmas.Str.{utf16_chars-nil, utf16_chars_lone}}
+use Rattle.std.proofs.{lemmas.Str.utf16_chars_pair, str.Utf16.{IsPair, lone_unit_char_low, lone_unit_char_high}}
+use Rattle.std.specs.{Char.IsScalar, Char.Utf16.{lone_unit_char, surrogate_pair_char}, Int.{w64, to_le_bytes}, List.range_with_len}
 use Rattle.legacy_base.specs.declared.results.DecodeEvent.TheVariants.{Scalar}
-use Rattle.legacy_text.specs.EncodingForm.{Utf16, all_code_units}
-use Rattle.legacy_text.specs.Texts.{unit_scalars}
-use Rattle.legacy_text.proofs.CodeUnits.{utf16_1, utf16_2}
-use Rattle.legacy_text.proofs.Texts.{replaced, scalars_lone, scalars_end, first_cons, none_left, utf16_step}
-use Rattle.legacy_streams.specs.Lines.{event_line, event_lines}
-use Rattle.legacy_streams.specs.declared.line_parts.TheConstants.{HEADS, TAILS}
-use Rattle.legacy_streams.proofs.EventLines.{line_of_four, event_lines-append, event_lines-one}
-use Rattle.legacy_streams.proofs.Hexadecimal.{glyph}
+use Rattle.legacy_text.specs.{EncodingForm.{Utf16, all_code_units}, Texts.unit_scalars}
+use Rattle.legacy_text.proofs.{CodeUnits.{utf16_1, utf16_2}, Texts.{replaced, scalars_lone, scalars_end, first_cons, none_left, utf16_step}}
+use Rattle.legacy_streams.specs.{Lines.{event_line, event_lines}, declared.line_parts.TheConstants.{HEADS, TAILS}}
+use Rattle.legacy_streams.proofs.{EventLines.{line_of_four, event_lines-append, event_lines-one}, Hexadecimal.glyph}
 
 -- ---- the two parts of a line
 

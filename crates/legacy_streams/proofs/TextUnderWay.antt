@@ -1,27 +1,15 @@
 -- Decoding an input to text: what holds after each step.
-use Rattle.std.proofs.Common.{◌≡◌, ◌∙◌, ℕ, ◌+◌, ◌-◌, ◌≤◌, ◌<◌, List, [], ◌∷◌, ◌++◌, length, take, drop, refl, ap, arith}
-use Rattle.std.proofs.Common.{append-nil}
-use Rattle.std.proofs.Common.{length-append, length-drop, Bool, false, ◌||◌, Option, inl}
+use Rattle.std.proofs.Common.{◌≡◌, ◌∙◌, ℕ, ◌+◌, ◌-◌, ◌≤◌, ◌<◌, List, [], ◌∷◌, ◌++◌, length, take, drop, refl, ap, arith, append-nil, length-append, length-drop}
+use Rattle.std.proofs.{Common.{Bool, false, ◌||◌, Option, inl}, KnownBytes.{Appends-nil, Appends-trans}, lemmas.List.drop-drop, Math.ListN.drop_of_length-le}
 use Rattle.std.specs.Io.KnownBytes.{Appends}
-use Rattle.std.proofs.KnownBytes.{Appends-nil, Appends-trans}
-use Rattle.std.proofs.lemmas.List.{drop-drop}
-use Rattle.std.proofs.Math.ListN.{drop_of_length-le}
-use Rattle.legacy_base.specs.declared.results.DecodeEvent.{DecodeEvent}
+use Rattle.legacy_base.specs.{declared.results.DecodeEvent.DecodeEvent, Events.shift, Grammar.events_of, States.DecoderState, Calls.Progress}
 use Rattle.legacy_text.specs.EncodingForm.{Utf8, all_code_units}
-use Rattle.legacy_base.specs.Events.{shift}
-use Rattle.legacy_base.specs.Grammar.{events_of}
-use Rattle.legacy_base.specs.States.{DecoderState}
-use Rattle.legacy_base.specs.Calls.{Progress}
-use Rattle.legacy_base.proofs.Progress.{stay, at_less, after_that}
+use Rattle.legacy_base.proofs.{Progress.{stay, at_less, after_that}, Rooms.lacks_small}
 use Rattle.legacy_text.proofs.CodeUnits.{all_code_units-append}
-use Rattle.legacy_base.proofs.Rooms.{lacks_small}
-use Rattle.legacy_codecs.specs.declared.results.CoderResult.{CoderResult}
-use Rattle.legacy_codecs.specs.declared.results.CoderResult.TheVariants.{InputEmpty, OutputFull}
+use Rattle.legacy_codecs.specs.{declared.results.CoderResult.CoderResult, declared.results.CoderResult.TheVariants.{InputEmpty, OutputFull}}
 use Rattle.legacy_codecs.specs.Replacing.{replaced_scalars, has_bad, ReplacingDecoderCall}
-use Rattle.legacy_codecs.proofs.Replacements.{end_found-last}
-use Rattle.legacy_codecs.proofs.Replaced.{replaced-append, replaced-shift, has_bad-append, has_bad-shift, length-shift}
-use Rattle.legacy_streams.specs.Streams.{AppendsFront}
-use Rattle.legacy_streams.specs.Text.{text_of, WritesPiece, WritesFront}
+use Rattle.legacy_codecs.proofs.{Replacements.end_found-last, Replaced.{replaced-append, replaced-shift, has_bad-append, has_bad-shift, length-shift}}
+use Rattle.legacy_streams.specs.{Streams.AppendsFront, Text.{text_of, WritesPiece, WritesFront}}
 use Rattle.legacy_streams.proofs.Whole.{Joins, front_of, front_after}
 
 text-none : text_of [] ≡ []

@@ -1,19 +1,13 @@
 -- The text of bytes in UTF-8 that come in pieces.
-use Rattle.std.proofs.Common.{◌≡◌, ◌≢◌, ◌⊎◌, ◌∙◌, ℕ, zero, suc, ◌+◌, ◌-◌, ◌/◌, ◌%◌, ◌<◌, ◌≤◌, true, false, List, [], ◌∷◌, ◌++◌, length, take, drop}
-use Rattle.std.proofs.Common.{Option, Some, None, IsUtf8, encode_utf8_all, refl, sym, ap, subst, arith, inl, inr, ⊎_elim, true≢false, append_assoc, append-nil}
-use Rattle.std.proofs.Common.{length-append, length-drop, take_all, drop_at, take-add, zero-add}
-use Rattle.std.proofs.lemmas.Bool.{cases_Bool, cases_lt, and_parts}
-use Rattle.std.proofs.lemmas.Bool.Decides.{nat_tests}
-use Rattle.std.proofs.Math.Seq.{take-append-add, drop-append-add, take-append_seam, drop-append_seam}
-use Rattle.std.proofs.lemmas.List.{take_at, take-append-le, drop-append-le, take-take, length-take, drop_all}
-use Rattle.std.proofs.lemmas.Str.{IsUtf8-from_is_utf8, is_utf8-from_IsUtf8, IsUtf8-append, IsUtf8-drop, IsCharBoundary-from_take, utf8_lossy-IsUtf8}
-use Rattle.std.proofs.lemmas.Str.{utf8_lossy_step, utf8_valid_len-IsValidUpTo, utf8_valid_len-IsUtf8, utf8_lossy_empty, chars-append, chars-nil, IsUtf8-encode}
-use Rattle.std.proofs.lemmas.Str.{length-encode, len_utf8_bounds}
-use Rattle.std.specs.Char.{encode_utf8}
-use Rattle.std.specs.Int.{is_in_range}
-use Rattle.std.specs.Str.{IsValidUpTo, is_utf8, chars}
-use Rattle.std.specs.Str.Lossy.{valid_len_up_to, utf8_valid_len, second_byte_min, second_byte_max, utf8_error_len, utf8_invalid_len}
-use Rattle.std.specs.Str.Lossy.{utf8_lossy, replacement_bytes}
+use Rattle.std.proofs.Common.{◌≡◌, ◌≢◌, ◌⊎◌, ◌∙◌, ℕ, zero, suc, ◌+◌, ◌-◌, ◌/◌, ◌%◌, ◌<◌, ◌≤◌, true, false, List, [], ◌∷◌, ◌++◌, length, take, drop, Option}
+use Rattle.std.proofs.Common.{Some, None, IsUtf8, encode_utf8_all, refl, sym, ap, subst, arith, inl, inr, ⊎_elim, true≢false, append_assoc, append-nil}
+use Rattle.std.proofs.{Common.{length-append, length-drop, take_all, drop_at, take-add, zero-add}, lemmas.Bool.{cases_Bool, cases_lt, and_parts}}
+use Rattle.std.proofs.{lemmas.Bool.Decides.nat_tests, Math.Seq.{take-append-add, drop-append-add, take-append_seam, drop-append_seam}, lemmas.List.take_at}
+use Rattle.std.proofs.{lemmas.List.{take-append-le, drop-append-le, take-take, length-take, drop_all}, lemmas.Str.{IsUtf8-from_is_utf8, is_utf8-from_IsUtf8}}
+use Rattle.std.proofs.lemmas.Str.{IsUtf8-append, IsUtf8-drop, IsCharBoundary-from_take, utf8_lossy-IsUtf8, utf8_lossy_step, utf8_valid_len-IsValidUpTo}
+use Rattle.std.proofs.lemmas.Str.{utf8_valid_len-IsUtf8, utf8_lossy_empty, chars-append, chars-nil, IsUtf8-encode, length-encode, len_utf8_bounds}
+use Rattle.std.specs.{Char.encode_utf8, Int.is_in_range, Str.{IsValidUpTo, is_utf8, chars}, Str.Lossy.{valid_len_up_to, utf8_valid_len, second_byte_min}}
+use Rattle.std.specs.Str.Lossy.{second_byte_max, utf8_error_len, utf8_invalid_len, utf8_lossy, replacement_bytes}
 use lib.Utf8.{scalar, scalars, scalar_cases}
 use Rattle.legacy_streams.specs.Utf8Texts.{utf8_text, IsChunk}
 

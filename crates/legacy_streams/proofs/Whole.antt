@@ -1,15 +1,10 @@
 -- Decoding a whole input: what holds after each piece.
 use Rattle.std.proofs.Common.{◌≡◌, ◌∙◌, ℕ, ◌+◌, List, [], ◌++◌, length, refl, sym, ap, arith, append-nil, length-append, Bool, true, false, IsTrue, Option, inl}
-use Rattle.std.proofs.Common.{append_assoc, take, drop, take-append-drop}
+use Rattle.std.proofs.{Common.{append_assoc, take, drop, take-append-drop}, KnownBytes.{Appends-trans, Consumes-nil, Consumes-trans, Consumes-kept}}
 use Rattle.std.specs.Io.KnownBytes.{Appends, Consumes, IsAtEnd, Keeps}
-use Rattle.legacy_base.specs.declared.results.DecodeEvent.{DecodeEvent}
-use Rattle.legacy_base.specs.Events.{shift}
-use Rattle.legacy_base.specs.Grammar.{events_of}
-use Rattle.legacy_base.specs.States.{DecoderState}
-use Rattle.legacy_base.specs.Calls.{Progress}
+use Rattle.legacy_base.specs.{declared.results.DecodeEvent.DecodeEvent, Events.shift, Grammar.events_of, States.DecoderState, Calls.Progress}
 use Rattle.legacy_base.proofs.Progress.{stay, after_that, at_last, behind}
 use Rattle.legacy_streams.specs.Streams.{AppendsFront, DecodesPiece, DecodesFront, DecodesAll, DecodesBeginning, DecodesPartly}
-use Rattle.std.proofs.KnownBytes.{Appends-trans, Consumes-nil, Consumes-trans, Consumes-kept}
 
 -- ---- a front of some bytes
 

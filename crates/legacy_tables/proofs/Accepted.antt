@@ -1,31 +1,18 @@
 -- Facts about indexes and single-byte tables that passed their check.
-use Rattle.std.proofs.Common.{◌≡◌, ◌≢◌, ◌∙◌, ◌⊎◌, ℕ, zero, suc, ◌+◌, ◌-◌, ◌≤◌, ◌<◌, List, [], ◌∷◌, length}
-use Rattle.std.proofs.Common.{get_or, add-one, refl, inl, inr}
-use Rattle.std.proofs.Common.{sym, arith, Some, None, Option, true, false, Bool, not, cond, eq-eqb, nat_le, nat_lt, subst, ◌==◌}
-use Rattle.std.proofs.lemmas.Bool.{and_parts, cases_eq, ne_eqb, eqb-false, not-false}
-use Rattle.std.proofs.lemmas.Option.{cond_some, same_Some}
-use Rattle.std.proofs.lemmas.Bool.Decides.{nat_tests}
-use Rattle.std.proofs.lemmas.List.Elements.{All-nil, All-cons}
-use Rattle.std.proofs.lemmas.List.Sorted.{IsNonDecreasingBy-from_all_adjacent}
-use Rattle.std.specs.List.{All, AllAdjacentBelow}
-use Rattle.std.specs.Char.{IsScalar}
-use Rattle.std.specs.Option.{option_or}
-use Rattle.std.specs.Int.{is_in_range}
-use Rattle.std.specs.List.Sorted.{IsNonDecreasingBy}
+use Rattle.std.proofs.Common.{◌≡◌, ◌≢◌, ◌∙◌, ◌⊎◌, ℕ, zero, suc, ◌+◌, ◌-◌, ◌≤◌, ◌<◌, List, [], ◌∷◌, length, get_or, add-one, refl, inl, inr, sym, arith, Some}
+use Rattle.std.proofs.{Common.{None, Option, true, false, Bool, not, cond, eq-eqb, nat_le, nat_lt, subst, ◌==◌}, lemmas.Bool.{and_parts, cases_eq, ne_eqb}}
+use Rattle.std.proofs.{lemmas.Bool.{eqb-false, not-false}, lemmas.Option.{cond_some, same_Some}, lemmas.Bool.Decides.nat_tests, lemmas.List.Elements.All-nil}
+use Rattle.std.proofs.{lemmas.List.Elements.All-cons, lemmas.List.Sorted.IsNonDecreasingBy-from_all_adjacent}
+use Rattle.std.specs.{List.{All, AllAdjacentBelow}, Char.IsScalar, Option.option_or, Int.is_in_range, List.Sorted.IsNonDecreasingBy}
 use borrow.Author.Tests.{ltb-false, ltb-true, leb-true, leb-false, le-leb, lt-leb}
-use Rattle.legacy_tables.specs.declared.tables.IndexName.{IndexName}
-use Rattle.legacy_tables.specs.declared.tables.IndexName.TheVariants as names
-use Rattle.legacy_tables.specs.declared.tables.TableError.{TableError}
-use Rattle.legacy_tables.specs.declared.tables.TableError.TheVariants.{TooLong, BadEntry, NotEmpty, KatakanaLength, RangeOrder, RangeValue}
-use Rattle.legacy_tables.specs.declared.tables.packed.PackedPart.{PackedPart}
-use Rattle.legacy_tables.specs.Indexes.{FlatIndexes, entry_scalar, idx, range, last_range_scalar}
-use Rattle.legacy_tables.specs.Walks.{order_index}
-use Rattle.legacy_tables.specs.Unicode.{AreScalars}
+use Rattle.legacy_tables.specs.{declared.tables.IndexName.IndexName, declared.tables.TableError.TableError, declared.tables.TableError.TheVariants.TooLong}
+use Rattle.legacy_tables.specs.declared.tables.TableError.TheVariants.{BadEntry, NotEmpty, KatakanaLength, RangeOrder, RangeValue}
+use Rattle.legacy_tables.specs.{declared.tables.packed.PackedPart.PackedPart, Indexes.{FlatIndexes, entry_scalar, idx, range, last_range_scalar}}
+use Rattle.legacy_tables.specs.{Walks.order_index, Unicode.AreScalars, Tables.{index_list, is_narrow_index}, TableChecks.{is_entry, must_be_empty, entry_fault}}
+use Rattle.legacy_tables.specs.TableChecks.{entries_fault, index_fault, katakana_fault, range_order_fault, AreAccepted, next_pointer, has_range_scalars}
+use Rattle.legacy_tables.specs.TableChecks.{range_value_fault, rows_fault, table_fault}
 use Rattle.legacy_tables.proofs.FirstPlaces.{taken}
-use Rattle.legacy_tables.specs.Tables.{index_list, is_narrow_index}
-use Rattle.legacy_tables.specs.TableChecks.{is_entry, must_be_empty, entry_fault, entries_fault, index_fault, katakana_fault}
-use Rattle.legacy_tables.specs.TableChecks.{range_order_fault, AreAccepted}
-use Rattle.legacy_tables.specs.TableChecks.{next_pointer, has_range_scalars, range_value_fault, rows_fault, table_fault}
+use Rattle.legacy_tables.specs.declared.tables.IndexName.TheVariants as names
 
 -- ---- no fault of two parts, and of a test
 

@@ -1,17 +1,10 @@
 -- Facts about single-byte tables that passed their check.
-use Rattle.std.proofs.Common.{◌≡◌, ◌≢◌, ◌∙◌, ℕ, zero, suc, ◌+◌, ◌<◌, List, [], ◌∷◌, length, get_or, refl, sym, one-add, arith}
-use Rattle.std.proofs.Common.{Some, None, true, false, ◌↔◌, eqb, eq-eqb, ◌==◌, position, inl, inr}
-use Rattle.std.proofs.lemmas.Bool.{eqb-true, ne_eqb, or_parts, cases_lt, lt-ltb}
-use Rattle.std.proofs.lemmas.Bool.Decides.{nat_tests}
-use Rattle.std.proofs.lemmas.List.{get_or_past}
-use Rattle.std.proofs.lemmas.List.Elements.{All-nil, All-cons}
-use Rattle.std.proofs.lemmas.List.Quantifiers.{position-Some}
-use Rattle.std.specs.List.{All, list_any, position_or_len}
-use Rattle.std.specs.Char.{IsScalar}
-use Rattle.legacy_tables.specs.declared.tables.TableError.TheVariants.{BadByteEntry, Repeated}
-use Rattle.legacy_tables.specs.Indexes.{idx}
-use Rattle.legacy_tables.specs.Unicode.{AreScalars}
-use Rattle.legacy_tables.specs.TableChecks.{is_byte_entry, byte_entry_fault, byte_entries_fault, IsAcceptedTable}
+use Rattle.std.proofs.Common.{◌≡◌, ◌≢◌, ◌∙◌, ℕ, zero, suc, ◌+◌, ◌<◌, List, [], ◌∷◌, length, get_or, refl, sym, one-add, arith, Some, None, true, false, ◌↔◌}
+use Rattle.std.proofs.{Common.{eqb, eq-eqb, ◌==◌, position, inl, inr}, lemmas.Bool.{eqb-true, ne_eqb, or_parts, cases_lt, lt-ltb}}
+use Rattle.std.proofs.{lemmas.Bool.Decides.nat_tests, lemmas.List.get_or_past, lemmas.List.Elements.{All-nil, All-cons}, lemmas.List.Quantifiers.position-Some}
+use Rattle.std.specs.{List.{All, list_any, position_or_len}, Char.IsScalar}
+use Rattle.legacy_tables.specs.{declared.tables.TableError.TheVariants.{BadByteEntry, Repeated}, Indexes.idx, Unicode.AreScalars, TableChecks.is_byte_entry}
+use Rattle.legacy_tables.specs.TableChecks.{byte_entry_fault, byte_entries_fault, IsAcceptedTable}
 use Rattle.legacy_tables.proofs.Accepted.{or_none, untaken, entry_has, entry_scalar-is}
 
 -- an accepted entry that is not 0 is not among the entries before it

@@ -1,21 +1,13 @@
 -- Orders of pointers that passed their check, and look-ups in them.
-use Rattle.std.proofs.Common.{◌≡◌, ◌≢◌, ◌∙◌, ℕ, zero, suc, ◌+◌, ◌≤◌, ◌<◌, List, [], ◌∷◌, length, get_or, slice_index}
-use Rattle.std.proofs.Common.{refl, sym, ap}
-use Rattle.std.proofs.Common.{subst, arith, Some, None, Option, true, false, find, Bool, cond, eq-eqb, ◌==◌, nat_lt, not, inl, inr, drop, drop-cons}
-use Rattle.std.proofs.Common.{add-one}
-use Rattle.std.proofs.lemmas.Bool.{cases_lt, cases_eq, ne_eqb, eqb-true, and_parts, not-false, not_from_false, false_from_ne_true}
-use Rattle.std.proofs.lemmas.List.{get_or_default}
-use Rattle.std.proofs.lemmas.List.Folds.{list_any_at, Any-from_list_any}
-use Rattle.std.proofs.lemmas.Option.{same_Some}
-use Rattle.std.proofs.Math.ListN.{drop_of_length-le}
-use Rattle.std.specs.List.{list_any}
-use Rattle.std.specs.List.Sorted.{IsNonDecreasingBy}
+use Rattle.std.proofs.Common.{◌≡◌, ◌≢◌, ◌∙◌, ℕ, zero, suc, ◌+◌, ◌≤◌, ◌<◌, List, [], ◌∷◌, length, get_or, slice_index, refl, sym, ap, subst, arith, Some, None}
+use Rattle.std.proofs.{Common.{Option, true, false, find, Bool, cond, eq-eqb, ◌==◌, nat_lt, not, inl, inr, drop, drop-cons, add-one}, lemmas.Bool.cases_lt}
+use Rattle.std.proofs.{lemmas.Bool.{cases_eq, ne_eqb, eqb-true, and_parts, not-false, not_from_false, false_from_ne_true}, lemmas.List.get_or_default}
+use Rattle.std.proofs.{lemmas.List.Folds.{list_any_at, Any-from_list_any}, lemmas.Option.same_Some, Math.ListN.drop_of_length-le}
+use Rattle.std.specs.{List.list_any, List.Sorted.IsNonDecreasingBy}
 use borrow.Author.Tests.{ltb-true, ltb-false}
-use Rattle.legacy_tables.specs.declared.tables.packed.PackedPart.{PackedPart}
-use Rattle.legacy_tables.specs.Orders.{IsLookup, IsOrder, RisesBy, order_pointer}
-use Rattle.legacy_tables.specs.Packed.{may_use, pointer_of, takes_last, is_pointer_in_order, order_fault_from, order_fault, is_lacking, order_difference}
-use Rattle.legacy_tables.proofs.FirstPlaces.{taken, find-at, find-absent, find-place, find-none-at}
-use Rattle.legacy_tables.proofs.Pointers.{first-least, taken-within}
+use Rattle.legacy_tables.specs.{declared.tables.packed.PackedPart.PackedPart, Orders.{IsLookup, IsOrder, RisesBy, order_pointer}, Packed.{may_use, pointer_of}}
+use Rattle.legacy_tables.specs.Packed.{takes_last, is_pointer_in_order, order_fault_from, order_fault, is_lacking, order_difference}
+use Rattle.legacy_tables.proofs.{FirstPlaces.{taken, find-at, find-absent, find-place, find-none-at}, Pointers.{first-least, taken-within}}
 use Rattle.legacy_tables.proofs.PackedPointers.{pointer-taken, pointer-same}
 
 -- ---- the order, as a loop reads it

@@ -1,34 +1,19 @@
 -- Runs with the scalars of accepted indexes are accepted indexes too.
-use Rattle.std.proofs.Common.{◌≡◌, ◌∙◌, ℕ, suc, ◌+◌, ◌≤◌, ◌<◌, All, List, [], ◌∷◌, length, get_or, refl, sym, ap, arith, Some}
-use Rattle.std.proofs.Common.{None, Option}
-use Rattle.std.proofs.Common.{false, not, ◌==◌, inl, inr}
-use Rattle.std.proofs.lemmas.Bool.{cases_lt, cases_eq, ne_eqb, eqb-true, not-false}
-use Rattle.std.proofs.lemmas.Bool.Decides.{nat_tests}
-use Rattle.std.proofs.lemmas.List.{get_or_past}
+use Rattle.std.proofs.Common.{◌≡◌, ◌∙◌, ℕ, suc, ◌+◌, ◌≤◌, ◌<◌, All, List, [], ◌∷◌, length, get_or, refl, sym, ap, arith, Some, None, Option, false, not, ◌==◌}
+use Rattle.std.proofs.{Common.{inl, inr}, lemmas.Bool.{cases_lt, cases_eq, ne_eqb, eqb-true, not-false}, lemmas.Bool.Decides.nat_tests, lemmas.List.get_or_past}
 use Rattle.std.proofs.lemmas.List.Elements.{All-get_or}
-use Rattle.std.specs.Char.{IsScalar}
-use Rattle.std.specs.Option.{option_eq, option_map_or}
+use Rattle.std.specs.{Char.IsScalar, Option.{option_eq, option_map_or}}
 use borrow.Author.Tests.{le-ltb}
-use Rattle.legacy_tables.specs.declared.tables.IndexName.{IndexName}
+use Rattle.legacy_tables.specs.{declared.tables.IndexName.IndexName, declared.tables.packed.Run.Run, declared.tables.packed.Packed.Packed}
+use Rattle.legacy_tables.specs.{declared.tables.packed.PackedPart.PackedPart, Unicode.AreScalars, Indexes.{FlatIndexes, idx, entry_scalar}}
+use Rattle.legacy_tables.specs.{TableChecks.{entry_fault, entries_fault, index_fault, table_fault, AreAccepted}, Runs.{run_at, run_end, runs_scalar, runs_list}}
+use Rattle.legacy_tables.specs.{Runs.run_fault, Tables.index_list, Packed.{part_fault, differs_at, run_difference, runs_fault, all_runs_fault}}
+use Rattle.legacy_tables.specs.{Packed.{all_orders_fault, packed_lists, ArePackedTables}, PackedTables.{lists_of_runs, AreRunsOf, AnswerPointersOf}}
+use Rattle.legacy_tables.specs.{declared.tables.packed_checks.CheckedRuns.CheckedRuns, declared.tables.order_checks.CheckedOrders.CheckedOrders}
+use Rattle.legacy_tables.proofs.{Accepted.{parts, or_none, entry_at}, FirstPlaces.find-none-at, Orders.order-same, PackedRuns.{no_run, are_in_order}}
+use Rattle.legacy_tables.proofs.PackedRuns.{scalar-none, outside-behind, runs_end-within, runs_list-length, runs_list-entry}
 use Rattle.legacy_tables.specs.declared.tables.IndexName.TheVariants as names
-use Rattle.legacy_tables.specs.declared.tables.packed.Run.{Run}
-use Rattle.legacy_tables.specs.declared.tables.packed.Packed.{Packed}
-use Rattle.legacy_tables.specs.declared.tables.packed.PackedPart.{PackedPart}
 use Rattle.legacy_tables.specs.declared.tables.packed.PackedPart.TheVariants as parts
-use Rattle.legacy_tables.specs.Unicode.{AreScalars}
-use Rattle.legacy_tables.specs.Indexes.{FlatIndexes, idx, entry_scalar}
-use Rattle.legacy_tables.specs.TableChecks.{entry_fault, entries_fault, index_fault, table_fault, AreAccepted}
-use Rattle.legacy_tables.specs.Runs.{run_at, run_end, runs_scalar, runs_list, run_fault}
-use Rattle.legacy_tables.specs.Tables.{index_list}
-use Rattle.legacy_tables.specs.Packed.{part_fault, differs_at, run_difference, runs_fault, all_runs_fault, all_orders_fault}
-use Rattle.legacy_tables.specs.Packed.{packed_lists, ArePackedTables}
-use Rattle.legacy_tables.proofs.Accepted.{parts, or_none, entry_at}
-use Rattle.legacy_tables.specs.PackedTables.{lists_of_runs, AreRunsOf, AnswerPointersOf}
-use Rattle.legacy_tables.specs.declared.tables.packed_checks.CheckedRuns.{CheckedRuns}
-use Rattle.legacy_tables.specs.declared.tables.order_checks.CheckedOrders.{CheckedOrders}
-use Rattle.legacy_tables.proofs.FirstPlaces.{find-none-at}
-use Rattle.legacy_tables.proofs.Orders.{order-same}
-use Rattle.legacy_tables.proofs.PackedRuns.{no_run, are_in_order, scalar-none, outside-behind, runs_end-within, runs_list-length, runs_list-entry}
 
 -- ---- each entry is a scalar, also 0 past the end
 

@@ -1,12 +1,7 @@
 -- The pointer that the codec of an order uses, which is the same in indexes with the same entries.
-use Rattle.std.proofs.Common.{◌≡◌, ◌∙◌, ℕ, zero, suc, ◌+◌, List, length, slice_index, sym, arith}
-use Rattle.std.proofs.lemmas.Bool.{cond_both}
-use Rattle.std.proofs.lemmas.List.{get_or_past}
-use Rattle.legacy_tables.specs.declared.tables.packed.PackedPart.{PackedPart}
-use Rattle.legacy_tables.specs.Packed.{may_use, pointer_of, takes_last}
-use Rattle.legacy_tables.specs.Walks.{taken_below}
-use Rattle.legacy_tables.proofs.Pointers.{IsTaken, first-taken, last-taken}
-use Rattle.legacy_tables.proofs.Walks.{none-taken, taken-more, taken-empty, taken-whole}
+use Rattle.std.proofs.{Common.{◌≡◌, ◌∙◌, ℕ, zero, suc, ◌+◌, List, length, slice_index, sym, arith}, lemmas.Bool.cond_both, lemmas.List.get_or_past}
+use Rattle.legacy_tables.specs.{declared.tables.packed.PackedPart.PackedPart, Packed.{may_use, pointer_of, takes_last}, Walks.taken_below}
+use Rattle.legacy_tables.proofs.{Pointers.{IsTaken, first-taken, last-taken}, Walks.{none-taken, taken-more, taken-empty, taken-whole}}
 
 -- the pointer that a codec uses
 pub pointer-taken : (part : PackedPart) (index : List ℕ) (c : ℕ) → IsTaken (may_use part) index c (pointer_of part index c)

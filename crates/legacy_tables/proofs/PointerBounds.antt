@@ -1,14 +1,10 @@
 -- The greatest pointers that encoders use in accepted indexes.
-use Rattle.std.proofs.Common.{ℕ, ◌<◌, ◌≤◌, Bool, List, length, arith, Option}
-use Rattle.std.proofs.lemmas.Option.{IfSome_then}
+use Rattle.std.proofs.{Common.{ℕ, ◌<◌, ◌≤◌, Bool, List, length, arith, Option}, lemmas.Option.IfSome_then}
 use Rattle.std.specs.Option.{IfSome}
 use borrow.Author.Tests.{ltb-true}
-use Rattle.legacy_tables.specs.Indexes.{FlatIndexes}
-use Rattle.legacy_tables.specs.TableChecks.{AreAccepted}
-use Rattle.legacy_tables.specs.Pointers.{every_pointer, is_shift_jis_pointer, is_jis0208_pointer, big5_pointer_of}
-use Rattle.legacy_tables.specs.Pointers.{euc_kr_pointer_of, shift_jis_pointer_of, euc_jp_pointer_of, gb18030_pointer_of, range_pointer_of}
-use Rattle.legacy_tables.proofs.Accepted.{parts}
-use Rattle.legacy_tables.proofs.Pointers.{IsTaken, if_some, taken-within, first-taken, big5-taken, range-taken}
+use Rattle.legacy_tables.specs.{Indexes.FlatIndexes, TableChecks.AreAccepted, Pointers.{every_pointer, is_shift_jis_pointer, is_jis0208_pointer}}
+use Rattle.legacy_tables.specs.Pointers.{big5_pointer_of, euc_kr_pointer_of, shift_jis_pointer_of, euc_jp_pointer_of, gb18030_pointer_of, range_pointer_of}
+use Rattle.legacy_tables.proofs.{Accepted.parts, Pointers.{IsTaken, if_some, taken-within, first-taken, big5-taken, range-taken}}
 
 module _ (flat : FlatIndexes) (accepted : AreAccepted flat) (c : ℕ) where
   bound : (may : ℕ → Bool) (index : List ℕ) (o : Option ℕ) (limit : ℕ) → length index ≤ limit → IsTaken may index c o

@@ -1,11 +1,8 @@
 -- Growing sets of pointers.
-use Rattle.std.proofs.Common.{◌≡◌, ◌≢◌, ℕ, ◌*◌, ◌/◌, ◌%◌, ◌^◌, ◌<◌, ◌==◌, List, length, replicate, slice_index, slice_set}
-use Rattle.std.proofs.Common.{get_or-set_other, get_or-set_same, bit_or, w64, arith, true, inl, inr}
-use Rattle.std.proofs.lemmas.Bool.{cases_eq, cases_lt, eqb-true}
-use Rattle.std.proofs.lemmas.List.{get_or-replicate, get_or_past, length-replicate}
-use Rattle.std.proofs.lemmas.Nat.Bits.{bit_at-zero, bit_at_set_other}
-use Rattle.std.specs.Int.{bit_at}
-use Rattle.std.specs.List.{list_any}
+use Rattle.std.proofs.Common.{◌≡◌, ◌≢◌, ℕ, ◌*◌, ◌/◌, ◌%◌, ◌^◌, ◌<◌, ◌==◌, List, length, replicate, slice_index, slice_set, get_or-set_other, get_or-set_same}
+use Rattle.std.proofs.{Common.{bit_or, w64, arith, true, inl, inr}, lemmas.Bool.{cases_eq, cases_lt, eqb-true}, lemmas.List.{get_or-replicate, get_or_past}}
+use Rattle.std.proofs.{lemmas.List.length-replicate, lemmas.Nat.Bits.{bit_at-zero, bit_at_set_other}}
+use Rattle.std.specs.{Int.bit_at, List.list_any}
 use Rattle.legacy_tables.specs.PointerSets.{HasOnly, is_in_blocks}
 
 -- an empty set

@@ -1,18 +1,12 @@
 -- Private-use rows that passed their check, and the search in them.
-use Rattle.std.proofs.Common.{◌≡◌, ◌≢◌, inl, inr, ℕ, zero, suc, ◌+◌, ◌≤◌, ◌<◌, List, [], ◌∷◌, length, ◌∙◌, sym, ap}
-use Rattle.std.proofs.Common.{get_or, add-one}
-use Rattle.std.proofs.Common.{refl, arith, Some, None, Option, true, false, not, eq-eqb, ◌==◌}
-use Rattle.std.proofs.lemmas.Bool.{and_parts, not-false, ne_eqb, cases_lt, true≢false}
-use Rattle.std.specs.Int.{is_in_range}
+use Rattle.std.proofs.Common.{◌≡◌, ◌≢◌, inl, inr, ℕ, zero, suc, ◌+◌, ◌≤◌, ◌<◌, List, [], ◌∷◌, length, ◌∙◌, sym, ap, get_or, add-one, refl, arith, Some, None}
+use Rattle.std.proofs.{Common.{Option, true, false, not, eq-eqb, ◌==◌}, lemmas.Bool.{and_parts, not-false, ne_eqb, cases_lt, true≢false}}
 use Rattle.std.proofs.lemmas.List.Sorted.{IsNonDecreasingBy-from_all_adjacent}
-use Rattle.std.specs.List.{AllAdjacentBelow}
-use Rattle.std.specs.List.Sorted.{IsNonDecreasingBy}
+use Rattle.std.specs.{Int.is_in_range, List.AllAdjacentBelow, List.Sorted.IsNonDecreasingBy}
 use borrow.Author.Tests.{ltb-true}
-use Rattle.legacy_tables.specs.declared.tables.TableError.TheVariants.{PuaOrder, PuaScalar}
-use Rattle.legacy_tables.specs.Indexes.{gb18030_pua_of}
-use Rattle.legacy_tables.specs.TableChecks.{follows_scalar, is_row_scalar, row_fault, rows_fault}
-use Rattle.legacy_tables.proofs.Accepted.{or_none, untaken}
-use Rattle.legacy_tables.proofs.FirstPlaces.{find-at, find-absent}
+use Rattle.legacy_tables.specs.{declared.tables.TableError.TheVariants.{PuaOrder, PuaScalar}, Indexes.gb18030_pua_of, TableChecks.follows_scalar}
+use Rattle.legacy_tables.specs.TableChecks.{is_row_scalar, row_fault, rows_fault}
+use Rattle.legacy_tables.proofs.{Accepted.{or_none, untaken}, FirstPlaces.{find-at, find-absent}}
 
 -- a row without a fault follows the row before it, and its scalar is for private use
 fine : (place : ℕ) (before : Option ℕ) (r : ℕ × ℕ × ℕ) → row_fault place before r ≡ None

@@ -1,11 +1,9 @@
 -- A walk over runs: the scalars of the next run, and pointers without scalars before it.
-use Rattle.std.proofs.Common.{◌≡◌, ◌∙◌, ℕ, ◌+◌, ◌-◌, ◌≤◌, ◌<◌, List, length, get_or, ap, arith, inl, inr}
-use Rattle.std.proofs.lemmas.Bool.{cases_lt}
+use Rattle.std.proofs.{Common.{◌≡◌, ◌∙◌, ℕ, ◌+◌, ◌-◌, ◌≤◌, ◌<◌, List, length, get_or, ap, arith, inl, inr}, lemmas.Bool.cases_lt}
 use Rattle.std.specs.Option.{option_map_or}
-use Rattle.legacy_tables.specs.declared.tables.packed.Run.{Run}
-use Rattle.legacy_tables.specs.Runs.{run_at, HasPointer, IsBetween, run_end, runs_list, AreInOrder}
-use Rattle.legacy_tables.proofs.PackedRuns.{no_run, outside-before, outside-behind, scalar-none, scalar-had}
-use Rattle.legacy_tables.proofs.PackedRuns.{runs_list-entry, runs_list-length, runs_end-within, end_most}
+use Rattle.legacy_tables.specs.{declared.tables.packed.Run.Run, Runs.{run_at, HasPointer, IsBetween, run_end, runs_list, AreInOrder}}
+use Rattle.legacy_tables.proofs.PackedRuns.{no_run, outside-before, outside-behind, scalar-none, scalar-had, runs_list-entry, runs_list-length, runs_end-within}
+use Rattle.legacy_tables.proofs.PackedRuns.{end_most}
 
 module _ {limit : ℕ} (runs : List Run) (ordered : AreInOrder limit runs) (n p : ℕ) (at : IsBetween runs n p) where
   -- a walk that has not come to the end of the list has a next run

@@ -1,18 +1,11 @@
 -- Loops over an index, over ranges or over a single-byte table: their next step, and their end.
-use Rattle.std.proofs.Common.{◌≡◌, ◌∙◌, ℕ, ◌+◌, ◌≤◌, ◌<◌, List, [], ◌∷◌, ◌++◌, length, get_or, take, reverse}
-use Rattle.std.proofs.Common.{drop, drop-cons, add-one, refl, sym, Some, None, Option, Bool, ◌&&◌, ◌||◌, cond, eqb, nat_le}
-use Rattle.std.proofs.lemmas.Result.{err_from_is_err_and}
-use Rattle.std.proofs.lemmas.Bool.{le-ltb}
-use Rattle.std.proofs.lemmas.List.{reverse-append}
-use Rattle.std.proofs.lemmas.List.Sorted.{list_any-IsPermutation, IsPermutation-reverse}
-use Rattle.std.proofs.Math.Seq.{take-suc}
-use Rattle.std.proofs.Math.ListN.{drop_of_length-le}
-use Rattle.std.specs.List.{list_any}
-use Rattle.std.specs.Option.{option_or}
-use Rattle.legacy_tables.specs.declared.tables.IndexName.{IndexName}
-use Rattle.legacy_tables.specs.declared.tables.TableError.TheVariants.{RangeOrder, RangeValue}
-use Rattle.legacy_tables.specs.TableChecks.{entry_fault, entries_fault, follows_range, range_order_fault, next_pointer}
-use Rattle.legacy_tables.specs.TableChecks.{has_range_scalars, range_value_fault, row_fault, rows_fault, byte_entry_fault, byte_entries_fault}
+use Rattle.std.proofs.Common.{◌≡◌, ◌∙◌, ℕ, ◌+◌, ◌≤◌, ◌<◌, List, [], ◌∷◌, ◌++◌, length, get_or, take, reverse, drop, drop-cons, add-one, refl, sym, Some, None}
+use Rattle.std.proofs.{Common.{Option, Bool, ◌&&◌, ◌||◌, cond, eqb, nat_le}, lemmas.Result.err_from_is_err_and, lemmas.Bool.le-ltb, lemmas.List.reverse-append}
+use Rattle.std.proofs.{lemmas.List.Sorted.{list_any-IsPermutation, IsPermutation-reverse}, Math.Seq.take-suc, Math.ListN.drop_of_length-le}
+use Rattle.std.specs.{List.list_any, Option.option_or}
+use Rattle.legacy_tables.specs.{declared.tables.IndexName.IndexName, declared.tables.TableError.TheVariants.{RangeOrder, RangeValue}, TableChecks.entry_fault}
+use Rattle.legacy_tables.specs.TableChecks.{entries_fault, follows_range, range_order_fault, next_pointer, has_range_scalars, range_value_fault, row_fault}
+use Rattle.legacy_tables.specs.TableChecks.{rows_fault, byte_entry_fault, byte_entries_fault}
 
 -- ---- the entries of an index
 

@@ -1,33 +1,19 @@
 -- Bits that say where scalars begin, and the scalars of one and three bytes of UTF-8 between them.
-use Rattle.std.proofs.lemmas.Bool.Decides.{nat_tests}
-use Rattle.std.proofs.Common.{◌≡◌, ◌↔◌, ◌∙◌, ℕ, zero, suc, ◌+◌, ◌-◌, ◌*◌, ◌/◌, ◌%◌, ◌^◌, ◌≤◌, ◌<◌, List, [], ◌∷◌, ◌++◌, length, get_or, true, false, cond}
-use Rattle.std.proofs.Common.{leb, map, max, take, drop, replicate, refl, sym, ap, subst, arith, append_assoc, append-nil, length-append, add-zero, slice_set}
-use Rattle.std.proofs.Common.{inl, inr, w8, w32, Fits, bit_and, bit_or}
-use Rattle.std.specs.Int.{bit_at, bit_not, trailing_zeros}
-use Rattle.std.specs.Simd.Lanes.{zip2, mask_l, number_l, digits_l, put_chunk, Each1}
-use Rattle.std.specs.Str.{chars, is_utf8}
-use Rattle.std.proofs.Math.ListN.{get_or-map}
-use Rattle.std.proofs.Math.Nat.{mod-lt, pow-suc}
-use Rattle.std.proofs.lemmas.Bool.{cases_lt}
-use Rattle.std.proofs.lemmas.List.{get_or-set_same, get_or-set_other, get_or_past, length-drop, get_or_append_left, get_or-append-add, get_or-drop}
-use Rattle.std.proofs.lemmas.List.{get_or-take, length-map}
-use Rattle.std.proofs.lemmas.Nat.{pow_pos, and_mask}
-use Rattle.std.proofs.lemmas.Nat.Bits.{bit_at-trailing_zeros, bit_at-pow_same, bit_at-pow_other, bit_at_and, bit_at_or, bit_at_not, bit_at_ones_above}
-use Rattle.std.proofs.lemmas.Nat.Bits.{bit_at_cat_low, bit_at_cat_high, same_from_bits_below, bit_at-lt}
-use Rattle.std.proofs.lemmas.Simd.{bit_mask_l, mask_l-lt, get_or_wider, Each1-from_get_or, Each1-get_or, below_from_Fits}
-use Rattle.std.proofs.lemmas.Simd.{get_or-put_chunk_below, get_or-put_chunk_at, length-put_chunk, get_or-zip2, get_or-replicate}
+use Rattle.std.proofs.{lemmas.Bool.Decides.nat_tests, Common.{◌≡◌, ◌↔◌, ◌∙◌, ℕ, zero, suc, ◌+◌, ◌-◌, ◌*◌, ◌/◌, ◌%◌, ◌^◌, ◌≤◌, ◌<◌, List, [], ◌∷◌, ◌++◌, length}}
+use Rattle.std.proofs.Common.{get_or, true, false, cond, leb, map, max, take, drop, replicate, refl, sym, ap, subst, arith, append_assoc, append-nil}
+use Rattle.std.proofs.{Common.{length-append, add-zero, slice_set, inl, inr, w8, w32, Fits, bit_and, bit_or}, Math.ListN.get_or-map, Math.Nat.{mod-lt, pow-suc}}
+use Rattle.std.proofs.{lemmas.Bool.cases_lt, lemmas.List.{get_or-set_same, get_or-set_other, get_or_past, length-drop, get_or_append_left, get_or-append-add}}
+use Rattle.std.proofs.{lemmas.List.{get_or-drop, get_or-take, length-map}, lemmas.Nat.{pow_pos, and_mask}, lemmas.Nat.Bits.bit_at-trailing_zeros}
+use Rattle.std.proofs.lemmas.Nat.Bits.{bit_at-pow_same, bit_at-pow_other, bit_at_and, bit_at_or, bit_at_not, bit_at_ones_above, bit_at_cat_low, bit_at_cat_high}
+use Rattle.std.proofs.{lemmas.Nat.Bits.{same_from_bits_below, bit_at-lt}, lemmas.Simd.{bit_mask_l, mask_l-lt, get_or_wider, Each1-from_get_or, Each1-get_or}}
+use Rattle.std.proofs.lemmas.Simd.{below_from_Fits, get_or-put_chunk_below, get_or-put_chunk_at, length-put_chunk, get_or-zip2, get_or-replicate}
 use Rattle.std.proofs.lemmas.Str.{length-encode, len_utf8_bounds}
+use Rattle.std.specs.{Int.{bit_at, bit_not, trailing_zeros}, Simd.Lanes.{zip2, mask_l, number_l, digits_l, put_chunk, Each1}, Str.{chars, is_utf8}}
 use lib.Utf8.{encode}
-use Rattle.legacy_text.specs.EncodingForm.{Utf8, code_units, unit_count, total_unit_count}
-use Rattle.legacy_text.specs.NextScalars.{StandsAt}
-use Rattle.legacy_text.specs.ShortScalars.{ReadsScalar}
-use Rattle.legacy_text.specs.ScalarTurns.{IsStart, IsUnitOf, IsUnitAt, ReadsUnits}
-use Rattle.legacy_text.specs.UnitCodes.{IsNoSurrogate}
-use Rattle.legacy_text.specs.UnitTurns.{AreLone}
-use Rattle.legacy_text.proofs.Ascii.{mask_from, mask_from-is, bit_tells}
-use Rattle.legacy_text.proofs.CodeUnits.{encode_1, encode_2, encode_3, encode_4, total_unit_count-append}
-use Rattle.legacy_text.proofs.Texts.{made_of_three, first_some, first_cons, utf8_pass, utf8_stands}
-use Rattle.legacy_text.proofs.ShortScalars.{some_left, reads_ascii}
+use Rattle.legacy_text.specs.{EncodingForm.{Utf8, code_units, unit_count, total_unit_count}, NextScalars.StandsAt, ShortScalars.ReadsScalar}
+use Rattle.legacy_text.specs.{ScalarTurns.{IsStart, IsUnitOf, IsUnitAt, ReadsUnits}, UnitCodes.IsNoSurrogate, UnitTurns.AreLone}
+use Rattle.legacy_text.proofs.{Ascii.{mask_from, mask_from-is, bit_tells}, CodeUnits.{encode_1, encode_2, encode_3, encode_4, total_unit_count-append}}
+use Rattle.legacy_text.proofs.{Texts.{made_of_three, first_some, first_cons, utf8_pass, utf8_stands}, ShortScalars.{some_left, reads_ascii}}
 
 -- ---- the lowest bit
 

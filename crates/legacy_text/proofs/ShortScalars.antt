@@ -1,19 +1,13 @@
 -- Runs of scalars that were written as one byte each, and the scalars of one and two bytes of UTF-8.
-use Rattle.std.proofs.lemmas.Bool.Decides.{nat_tests}
-use Rattle.std.proofs.lemmas.Grind.{common_steps}
-use Rattle.std.proofs.Common.{◌≡◌, ◌∙◌, ℕ, ◌+◌, ◌-◌, ◌*◌, ◌/◌, ◌%◌, ◌≤◌, ◌<◌, List, [], ◌∷◌, ◌++◌, length, get_or, Bool, true, ◌&&◌}
-use Rattle.std.proofs.Common.{take, drop, sym, ap, arith, append_assoc, append-nil, length-append, length-drop, add-zero}
-use Rattle.std.proofs.lemmas.List.{get_or_append_left, get_or-append-add, get_or-drop, drop-drop}
-use Rattle.std.proofs.lemmas.Str.{encodes-chars, IsUtf8-from_is_utf8}
+use Rattle.std.proofs.{lemmas.Bool.Decides.nat_tests, lemmas.Grind.common_steps, Common.{◌≡◌, ◌∙◌, ℕ, ◌+◌, ◌-◌, ◌*◌, ◌/◌, ◌%◌, ◌≤◌, ◌<◌, List, [], ◌∷◌, ◌++◌}}
+use Rattle.std.proofs.Common.{length, get_or, Bool, true, ◌&&◌, take, drop, sym, ap, arith, append_assoc, append-nil, length-append, length-drop, add-zero}
+use Rattle.std.proofs.{lemmas.List.{get_or_append_left, get_or-append-add, get_or-drop, drop-drop}, lemmas.Str.{encodes-chars, IsUtf8-from_is_utf8}}
 use Rattle.std.proofs.Math.Seq.{take-add}
 use Rattle.std.specs.Str.{chars, is_utf8}
 use lib.Utf8.{encode, encodes}
-use Rattle.legacy_text.specs.EncodingForm.{Utf8, code_units, unit_count, total_unit_count}
-use Rattle.legacy_text.specs.ShortScalars.{ReadsScalar, WritesScalars}
-use Rattle.legacy_text.specs.UnitCodes.{WritesCodes}
-use Rattle.legacy_text.proofs.CodeUnits.{encode_1, encode_2, total_unit_count-append, one_below, two_above, two_below}
-use Rattle.legacy_text.proofs.Texts.{TellsCount, first_some, first_cons, utf8_pass, utf8_bytes, utf8_tells}
-use Rattle.legacy_text.proofs.UnitCopies.{writes_none}
+use Rattle.legacy_text.specs.{EncodingForm.{Utf8, code_units, unit_count, total_unit_count}, ShortScalars.{ReadsScalar, WritesScalars}, UnitCodes.WritesCodes}
+use Rattle.legacy_text.proofs.{CodeUnits.{encode_1, encode_2, total_unit_count-append, one_below, two_above, two_below}, Texts.{TellsCount, first_some}}
+use Rattle.legacy_text.proofs.{Texts.{first_cons, utf8_pass, utf8_bytes, utf8_tells}, UnitCopies.writes_none}
 
 -- ---- runs
 

@@ -1,19 +1,12 @@
 -- Code units below 0x800.
 use Rattle.std.proofs.Common.{◌≡◌, ℕ, zero, suc, ◌+◌, ◌-◌, ◌*◌, ◌/◌, ◌%◌, ◌^◌, ◌<◌, ◌≤◌, Bool, true, false, cond, ltb, leb, eqb, List, [], ◌∷◌, ◌++◌, length}
-use Rattle.std.proofs.Common.{get_or, map, take, replicate, bit_and, refl, ap, ap₂, ◌∙◌, arith, w8, w16, Fits, All}
-use Rattle.std.proofs.lemmas.Bool.{ltb-true, lt-ltb, leb-true, eqb-true, agree_below_at}
-use Rattle.std.proofs.lemmas.Bool.Decides.{nat_tests}
-use Rattle.std.proofs.lemmas.Grind.{common_steps}
-use Rattle.std.proofs.lemmas.List.{map-append, length-map, take-take, take-map}
-use Rattle.std.proofs.Math.Seq.{take-append_seam}
-use Rattle.std.proofs.lemmas.Nat.{and_mask}
-use Rattle.std.proofs.lemmas.Simd.{bitmask_splat, mask_l-lt, swz_l}
-use Rattle.std.specs.Char.{encode_utf8}
-use Rattle.std.specs.Int.RustNames.{count_ones}
-use Rattle.std.specs.List.{range_with_len}
+use Rattle.std.proofs.{Common.{get_or, map, take, replicate, bit_and, refl, ap, ap₂, ◌∙◌, arith, w8, w16, Fits, All}, lemmas.Bool.{ltb-true, lt-ltb, leb-true}}
+use Rattle.std.proofs.{lemmas.Bool.{eqb-true, agree_below_at}, lemmas.Bool.Decides.nat_tests, lemmas.Grind.common_steps, lemmas.List.{map-append, length-map}}
+use Rattle.std.proofs.{lemmas.List.{take-take, take-map}, Math.Seq.take-append_seam, lemmas.Nat.and_mask, lemmas.Simd.{bitmask_splat, mask_l-lt, swz_l}}
+use Rattle.std.specs.{Char.encode_utf8, Int.RustNames.count_ones, List.range_with_len}
 use lib.Lanes.{Each1, zip2, sel_l, mask_l, top, number_l, digits_l, all_below}
-use Rattle.legacy_text.specs.declared.unit_rows.TheConstants.{SHORT_WRITTEN}
-use Rattle.legacy_text.specs.UnitBytes.{short_bytes, short_lanes, short_pattern, short_places, short_row, AreShort, utf8_bytes}
+use Rattle.legacy_text.specs.{declared.unit_rows.TheConstants.SHORT_WRITTEN, UnitBytes.{short_bytes, short_lanes, short_pattern, short_places, short_row}}
+use Rattle.legacy_text.specs.UnitBytes.{AreShort, utf8_bytes}
 use Rattle.legacy_text.proofs.UnitLanes.{of_eight, le_bytes_map, shuffled, each_below}
 
 -- ---- two bytes of each code unit

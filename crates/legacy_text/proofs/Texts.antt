@@ -1,25 +1,17 @@
 -- The scalars of texts, one by one from the front, and the places between them.
-use Rattle.std.proofs.lemmas.Bool.Decides.{nat_tests}
-use Rattle.std.proofs.Common.{◌≡◌, ◌∙◌, ℕ, suc, ◌+◌, ◌-◌, ◌≤◌, ◌<◌, List, [], ◌∷◌, ◌++◌, length, take, drop, get_or, refl, sym, ◌*◌, ◌/◌, ◌%◌, add-zero, ap}
-use Rattle.std.proofs.Common.{subst, arith, length-append, length-drop, Some, None, Option, true, false, ◌⊎◌, inl, inr, ◌&&◌, map, slice_get, IsAscii}
-use Rattle.std.proofs.lemmas.Bool.{and_parts}
-use Rattle.std.proofs.lemmas.List.{drop-drop, take-append-drop, length-take-le, take_all, get_or-drop}
-use Rattle.std.proofs.Math.Seq.{drop-append_seam, take-append_seam}
-use Rattle.std.specs.Str.{chars, is_utf8, IsUtf8, IsCharBoundary}
-use Rattle.std.specs.Char.{len_utf8}
-use Rattle.std.specs.Char.Utf16.{lone_unit_char, surrogate_pair_char, is_high_surrogate, is_low_surrogate}
-use Rattle.std.specs.Option.{unwrap_or}
-use lib.ListN.{get_or-eq_default}
-use Rattle.std.proofs.lemmas.Str.{IsUtf8-from_is_utf8, is_utf8-from_IsUtf8, encodes-chars, chars_past_char, IsUtf8-past_char, drop_past_char, length-encode}
-use Rattle.std.proofs.lemmas.Str.{utf16_chars-nil, len_utf8_bounds, utf16_chars_lone, utf16_chars_pair, encodes-append, scalars-chars, chars-encodes}
-use Rattle.std.proofs.lemmas.Str.{IsCharBoundary-at_seam, chars-append, chars-IsAscii, IsUtf8-from_ascii}
+use Rattle.std.proofs.{lemmas.Bool.Decides.nat_tests, Common.{◌≡◌, ◌∙◌, ℕ, suc, ◌+◌, ◌-◌, ◌≤◌, ◌<◌, List, [], ◌∷◌, ◌++◌, length, take, drop, get_or, refl, sym}}
+use Rattle.std.proofs.Common.{◌*◌, ◌/◌, ◌%◌, add-zero, ap, subst, arith, length-append, length-drop, Some, None, Option, true, false, ◌⊎◌, inl, inr, ◌&&◌, map}
+use Rattle.std.proofs.{Common.{slice_get, IsAscii}, lemmas.Bool.and_parts, lemmas.List.{drop-drop, take-append-drop, length-take-le, take_all, get_or-drop}}
+use Rattle.std.proofs.{Math.Seq.{drop-append_seam, take-append_seam}, lemmas.Str.{IsUtf8-from_is_utf8, is_utf8-from_IsUtf8, encodes-chars, chars_past_char}}
+use Rattle.std.proofs.lemmas.Str.{IsUtf8-past_char, drop_past_char, length-encode, utf16_chars-nil, len_utf8_bounds, utf16_chars_lone, utf16_chars_pair}
+use Rattle.std.proofs.lemmas.Str.{encodes-append, scalars-chars, chars-encodes, IsCharBoundary-at_seam, chars-append, chars-IsAscii, IsUtf8-from_ascii}
 use Rattle.std.proofs.str.Utf16.{IsPair, lone_unit_char_low, lone_unit_char_high, lone_unit_char_surrogate, utf16_chars-drop_lone, utf16_chars-drop_pair}
 use Rattle.std.proofs.str.Utf16.{utf16_chars-drop_all}
-use lib.Utf8.{encode, encodes, scalar, scalars}
-use Rattle.legacy_text.specs.EncodingForm.{EncodingForm, Utf8, Utf16, unit_count, all_code_units}
-use Rattle.legacy_text.specs.declared.text_cursor.Next.{Next}
-use Rattle.legacy_text.specs.NextScalars.{StandsAt, IsSized, IsNext}
-use Rattle.legacy_text.specs.Texts.{unit_scalars, IsUnitBoundary}
+use Rattle.std.specs.{Str.{chars, is_utf8, IsUtf8, IsCharBoundary}, Char.len_utf8, Char.Utf16.{lone_unit_char, surrogate_pair_char, is_high_surrogate}}
+use Rattle.std.specs.{Char.Utf16.is_low_surrogate, Option.unwrap_or}
+use lib.{ListN.get_or-eq_default, Utf8.{encode, encodes, scalar, scalars}}
+use Rattle.legacy_text.specs.{EncodingForm.{EncodingForm, Utf8, Utf16, unit_count, all_code_units}, declared.text_cursor.Next.Next, NextScalars.StandsAt}
+use Rattle.legacy_text.specs.{NextScalars.{IsSized, IsNext}, Texts.{unit_scalars, IsUnitBoundary}}
 use Rattle.legacy_text.proofs.CodeUnits.{encode_1, encode_2, encode_3, encode_4, two_above, two_below, three_above, three_below, utf16_1, utf16_2}
 use Rattle.legacy_text.proofs.CodeUnits.{total_unit_count-append}
 

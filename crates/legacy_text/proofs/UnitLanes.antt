@@ -1,21 +1,14 @@
 -- Vectors lane by lane: a vector is written out as the list of its lanes.
 use Rattle.std.proofs.Common.{◌≡◌, ℕ, zero, suc, ◌+◌, ◌-◌, ◌*◌, ◌/◌, ◌%◌, ◌^◌, ◌<◌, ◌≤◌, Bool, true, false, cond, ltb, leb, eqb, List, [], ◌∷◌, ◌++◌, length}
-use Rattle.std.proofs.Common.{get_or, map, take, drop, replicate, bit_and, refl, sym, ap, ap₂, ◌∙◌, arith, w8, w16, Fits, ◌&&◌, mod-lt, zero-lt-suc}
-use Rattle.std.proofs.Common.{mul_assoc, length-append}
-use Rattle.std.proofs.lemmas.Bool.{ltb-true, leb-true, eqb-true, lt-leb, and_parts, agree_below_at}
-use Rattle.std.proofs.lemmas.List.{map-append, append_assoc, length-replicate, length-take-le, length-drop, take-take, take-append-drop, take-append-le}
-use Rattle.std.proofs.lemmas.List.{take-map}
-use Rattle.std.proofs.Math.Seq.{take-append_seam, take-append-add}
-use Rattle.std.proofs.lemmas.Nat.{and_mask}
-use Rattle.std.proofs.lemmas.Nat.Bits.{and_high}
-use Rattle.std.proofs.lemmas.Simd.{mask_l-lt, mask_l-mod, swz_l, put_chunk_is}
-use Rattle.std.proofs.lemmas.Grind.{flat_map-append, common_steps}
-use Rattle.std.proofs.lemmas.Bool.Decides.{nat_tests}
-use Rattle.std.specs.Char.{encode_utf8}
-use Rattle.std.specs.List.{range_with_len}
+use Rattle.std.proofs.Common.{get_or, map, take, drop, replicate, bit_and, refl, sym, ap, ap₂, ◌∙◌, arith, w8, w16, Fits, ◌&&◌, mod-lt, zero-lt-suc, mul_assoc}
+use Rattle.std.proofs.{Common.length-append, lemmas.Bool.{ltb-true, leb-true, eqb-true, lt-leb, and_parts, agree_below_at}, lemmas.List.map-append}
+use Rattle.std.proofs.lemmas.List.{append_assoc, length-replicate, length-take-le, length-drop, take-take, take-append-drop, take-append-le, take-map}
+use Rattle.std.proofs.{Math.Seq.{take-append_seam, take-append-add}, lemmas.Nat.and_mask, lemmas.Nat.Bits.and_high, lemmas.Simd.{mask_l-lt, mask_l-mod, swz_l}}
+use Rattle.std.proofs.{lemmas.Simd.put_chunk_is, lemmas.Grind.{flat_map-append, common_steps}, lemmas.Bool.Decides.nat_tests}
+use Rattle.std.specs.{Char.encode_utf8, List.range_with_len}
 use lib.Lanes.{Each1, zip2, sel_l, mask_l, top, number_l, digits_l, pick_l, all_below, put_chunk}
-use Rattle.legacy_text.specs.declared.unit_rows.TheConstants.{WRITTEN, COUNTS}
-use Rattle.legacy_text.specs.UnitBytes.{last_byte, front_bytes, lanes, flags, pattern, lane_places, places, row, utf8_bytes}
+use Rattle.legacy_text.specs.{declared.unit_rows.TheConstants.{WRITTEN, COUNTS}, UnitBytes.{last_byte, front_bytes, lanes, flags, pattern, lane_places, places}}
+use Rattle.legacy_text.specs.UnitBytes.{row, utf8_bytes}
 
 -- ---- eight lanes
 

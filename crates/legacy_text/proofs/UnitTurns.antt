@@ -1,11 +1,8 @@
 -- Code units of UTF-16 that are taken several at a time are scalars, if none is a surrogate.
-use Rattle.std.proofs.Common.{◌≡◌, ◌∙◌, ℕ, ◌+◌, ◌-◌, ◌≤◌, ◌<◌, List, length, take, drop, get_or, sym, ap, subst, arith, length-drop}
+use Rattle.std.proofs.{Common.{◌≡◌, ◌∙◌, ℕ, ◌+◌, ◌-◌, ◌≤◌, ◌<◌, List, length, take, drop, get_or, sym, ap, subst, arith, length-drop}, lemmas.List.get_or-take}
+use Rattle.std.proofs.lemmas.List.{length-take-le, take_all, take-append-drop}
 use Rattle.std.specs.Bool.{⊤}
-use Rattle.std.proofs.lemmas.List.{get_or-take, length-take-le, take_all, take-append-drop}
-use Rattle.legacy_text.specs.EncodingForm.{Utf16, total_unit_count}
-use Rattle.legacy_text.specs.Texts.{unit_scalars}
-use Rattle.legacy_text.specs.UnitCodes.{IsNoSurrogate}
-use Rattle.legacy_text.specs.UnitTurns.{AreLone, TakesUnits}
+use Rattle.legacy_text.specs.{EncodingForm.{Utf16, total_unit_count}, Texts.unit_scalars, UnitCodes.IsNoSurrogate, UnitTurns.{AreLone, TakesUnits}}
 use Rattle.legacy_text.proofs.UnitCopies.{lone_front, lone_count}
 
 module _ (list : List ℕ) (place n : ℕ) (fits : place + n ≤ length list) (bound : (k : ℕ) → get_or list k 0 < 65536) (units : List ℕ)

@@ -1,9 +1,6 @@
 -- Eight code units that a destination writes at once, none of them a surrogate.
-use Rattle.std.proofs.lemmas.Bool.Decides.{nat_tests}
-use Rattle.std.proofs.Common.{◌≡◌, ◌∙◌, ℕ, zero, suc, ◌+◌, ◌-◌, ◌≤◌, ◌<◌, List, [], ◌∷◌, ◌++◌, length, take, get_or, refl, ap, ap₂, arith, append-nil}
-use Rattle.std.proofs.Common.{length-append, w16, Fits}
-use Rattle.std.proofs.lemmas.List.{length-take-le, flat_map_more}
-use Rattle.std.proofs.Math.Seq.{take-suc}
+use Rattle.std.proofs.{lemmas.Bool.Decides.nat_tests, Common.{◌≡◌, ◌∙◌, ℕ, zero, suc, ◌+◌, ◌-◌, ◌≤◌, ◌<◌, List, [], ◌∷◌, ◌++◌, length, take, get_or, refl, ap}}
+use Rattle.std.proofs.{Common.{ap₂, arith, append-nil, length-append, w16, Fits}, lemmas.List.{length-take-le, flat_map_more}, Math.Seq.take-suc}
 use lib.Lanes.{Each1}
 use Rattle.legacy_text.specs.EncodingForm.{EncodingForm, Utf8, Utf16, code_units, all_code_units, unit_count, total_unit_count}
 use Rattle.legacy_text.proofs.CodeUnits.{utf16_1, length-code_units-bmp, total_unit_count-append}

@@ -1,24 +1,16 @@
 -- What is known of a set of indexes into which only index EUC-KR was read of a file.
 use Rattle.std.proofs.Common.{◌≡◌, ◌↔◌, ℕ, List, [], ◌∷◌, length, Some, None, Result, Err, refl, sym, subst, arith}
-use Rattle.legacy_base.specs.EucKr.{euc_kr}
-use Rattle.legacy_base.specs.Lengths.{query_answer, to_utf8}
-use Rattle.legacy_base.specs.States.{DecoderState, new_state}
-use Rattle.legacy_index_files.specs.declared.index_file.EncoderIndex.TheVariants.{Of}
-use Rattle.legacy_index_files.specs.declared.index_file.IndexFileError.{IndexFileError}
-use Rattle.legacy_index_files.specs.declared.index_file.IndexFileError.TheVariants as reading
+use Rattle.legacy_base.specs.{EucKr.euc_kr, Lengths.{query_answer, to_utf8}, States.{DecoderState, new_state}}
+use Rattle.legacy_index_files.specs.{declared.index_file.EncoderIndex.TheVariants.Of, declared.index_file.IndexFileError.IndexFileError}
+use Rattle.legacy_index_files.specs.{declared.index_file.FileIndex.TheVariants.EucKr, declared.index_file.FileTable.FileTable}
+use Rattle.legacy_index_files.specs.{declared.index_file.FileTable.TheVariants.{Wide, Narrow, Ranges, Bytes}, declared.owned_indexes.OwnedIndexes.OwnedIndexes}
+use Rattle.legacy_index_files.specs.{IndexLine.lines, IndexTable.{entries_of, first_malformed, IsTableOf, IsIndexOf}, IndexTexts.no_text}
+use Rattle.legacy_index_files.specs.OwnedIndexes.{HoldsFile, HoldsTexts, with_table, owned_lists}
 use Rattle.legacy_index_files.proofs.WellFormed.{well_formed_memory}
 use Rattle.legacy_encodings.specs.declared.registry.RegistryError.TheVariants.{File, Sized}
-use Rattle.legacy_codecs.specs.declared.whole.SizedError.{SizedError}
-use Rattle.legacy_codecs.specs.declared.whole.SizedError.TheVariants.{TooLong, Memory}
-use Rattle.legacy_index_files.specs.declared.index_file.FileIndex.TheVariants.{EucKr}
-use Rattle.legacy_index_files.specs.declared.index_file.FileTable.{FileTable}
-use Rattle.legacy_index_files.specs.declared.index_file.FileTable.TheVariants.{Wide, Narrow, Ranges, Bytes}
-use Rattle.legacy_index_files.specs.declared.owned_indexes.OwnedIndexes.{OwnedIndexes}
-use Rattle.legacy_index_files.specs.IndexLine.{lines}
-use Rattle.legacy_index_files.specs.IndexTable.{entries_of, first_malformed, IsTableOf, IsIndexOf}
-use Rattle.legacy_index_files.specs.IndexTexts.{no_text}
-use Rattle.legacy_index_files.specs.OwnedIndexes.{HoldsFile, HoldsTexts, with_table, owned_lists}
+use Rattle.legacy_codecs.specs.{declared.whole.SizedError.SizedError, declared.whole.SizedError.TheVariants.{TooLong, Memory}}
 use Rattle.legacy_uses.specs.IndexData.{IsEucKrFile, IsEucKrIndex, IsFaultByFile, only_euc_kr}
+use Rattle.legacy_index_files.specs.declared.index_file.IndexFileError.TheVariants as reading
 
 empty : (l : List ℕ) → IsIndexOf [] l → l ≡ []
 empty [] is = refl

@@ -1,6 +1,5 @@
 -- A page that has grown by what was written after its text.
-use Rattle.std.proofs.Common.{◌≡◌, ◌∙◌, ℕ, ◌+◌, ◌≤◌, List, ◌++◌, length, take, ap, arith}
-use Rattle.std.proofs.lemmas.List.{length-append, take-append-le, take-take, take_all}
+use Rattle.std.proofs.{Common.{◌≡◌, ◌∙◌, ℕ, ◌+◌, ◌≤◌, List, ◌++◌, length, take, ap, arith}, lemmas.List.{length-append, take-append-le, take-take, take_all}}
 use Rattle.std.proofs.Math.Seq.{take-append-add, take-append_seam}
 
 -- the page is unchanged before what it grew by

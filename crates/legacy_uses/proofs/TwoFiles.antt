@@ -1,21 +1,14 @@
 -- An input in EUC-KR, by a registry that read its index file.
 use Rattle.std.proofs.Common.{◌≡◌, ◌≢◌, ◌∙◌, ℕ, List, length, Some, None, find, bytes_eq, codes, sym, ap, refl, subst}
-use Rattle.legacy_base.specs.EucKr.{euc_kr}
-use Rattle.legacy_base.specs.Lengths.{query_answer, to_utf8}
-use Rattle.legacy_base.specs.States.{DecoderState, new_state}
-use Rattle.legacy_tables.specs.TableChecks.{AreAccepted}
-use Rattle.legacy_tables.specs.Indexes.{FlatIndexes}
-use Rattle.legacy_index_files.specs.declared.encodings.Encoding.{Encoding}
-use Rattle.legacy_index_files.specs.declared.encodings.Encoding.TheVariants as encoding
-use Rattle.legacy_index_files.specs.declared.encodings.TheConstants.{ENCODINGS}
-use Rattle.legacy_index_files.specs.Encodings.{encoding_name}
+use Rattle.legacy_base.specs.{EucKr.euc_kr, Lengths.{query_answer, to_utf8}, States.{DecoderState, new_state}}
+use Rattle.legacy_tables.specs.{TableChecks.AreAccepted, Indexes.FlatIndexes}
+use Rattle.legacy_index_files.specs.{declared.encodings.Encoding.Encoding, declared.encodings.TheConstants.ENCODINGS, Encodings.encoding_name}
 use Rattle.legacy_index_files.proofs.EncodingNames.{named}
-use Rattle.legacy_encodings.specs.declared.registry.EncodingTable.{EncodingTable}
-use Rattle.legacy_encodings.specs.declared.registry.RegistryError.{RegistryError}
-use Rattle.legacy_encodings.specs.declared.registry.RegistryError.TheVariants.{Unknown}
+use Rattle.legacy_encodings.specs.{declared.registry.EncodingTable.EncodingTable, declared.registry.RegistryError.RegistryError}
+use Rattle.legacy_encodings.specs.{declared.registry.RegistryError.TheVariants.Unknown, Registries.{decoder_for, IsDecodeError, IsDecoderOf, IsText}}
 use Rattle.legacy_uses.specs.IndexData.{IsEucKrFile, IsTextByFile, only_euc_kr}
-use Rattle.legacy_encodings.specs.Registries.{decoder_for, IsDecodeError, IsDecoderOf, IsText}
 use Rattle.legacy_codecs.specs.WholeTexts.{text_of}
+use Rattle.legacy_index_files.specs.declared.encodings.Encoding.TheVariants as encoding
 
 some_same : {A : Type 0} (a b : A) → Some a ≡ Some b → a ≡ b
 some_same a b e = cc

@@ -1,51 +1,23 @@
-use Rattle.std.proofs.Common.{◌≡◌, ◌∙◌, ℕ, ◌+◌, ◌-◌, ◌/◌, ◌%◌, ◌≤◌, ◌<◌, true, false, List, [], ◌∷◌, ◌++◌, length, Some, None, nat_lt, inl, inr, refl}
-use Rattle.std.proofs.Common.{sym, ap, subst, arith, rules}
-use Rattle.std.specs.Prelude.{replicate, slice_index, option_map}
-use Rattle.std.specs.Int.{is_in_range}
-use Rattle.std.proofs.lemmas.List.{get_or-replicate, get_or-append_right, length-replicate, length-append}
-use Rattle.std.proofs.Math.ListN.{get_or-append}
-use Rattle.std.proofs.lemmas.Bool.{and_right, cases_lt}
-use Rattle.std.proofs.lemmas.Bool.Decides.{nat_tests}
+use Rattle.std.proofs.Common.{◌≡◌, ◌∙◌, ℕ, ◌+◌, ◌-◌, ◌/◌, ◌%◌, ◌≤◌, ◌<◌, true, false, List, [], ◌∷◌, ◌++◌, length, Some, None, nat_lt, inl, inr, refl, sym, ap}
+use Rattle.std.proofs.{Common.{subst, arith, rules}, lemmas.List.{get_or-replicate, get_or-append_right, length-replicate, length-append}}
+use Rattle.std.proofs.{Math.ListN.get_or-append, lemmas.Bool.{and_right, cases_lt}, lemmas.Bool.Decides.nat_tests}
+use Rattle.std.specs.{Prelude.{replicate, slice_index, option_map}, Int.is_in_range}
 use borrow.Author.Tests.{lt-ltb, le-ltb}
-use Rattle.legacy_base.specs.declared.results.EncodeEvent.{EncodeEvent}
-use Rattle.legacy_base.specs.declared.results.EncodeEvent.TheVariants.{Byte, Unmappable}
-use Rattle.legacy_base.specs.Encoders as codecs
-use Rattle.legacy_base.specs.Encoders.{new_encoder, encoded}
-use Rattle.legacy_base.specs.Gb18030.{gb18030_code}
-use Rattle.legacy_base.specs.EncodeEvents.{code_events, plain_events}
-use Rattle.legacy_base.specs.ShiftJis.{shift_jis_code}
-use Rattle.legacy_base.specs.EucJp.{euc_jp_bytes, euc_jp_code}
-use Rattle.legacy_base.specs.Iso2022Jp.{iso_2022_jp_code, settled_mode, mode_behind, iso_2022_jp_text_events, part_mode}
-use Rattle.legacy_tables.specs.Indexes.{entry_scalar, range}
-use Rattle.legacy_tables.specs.TableChecks.{range_order_fault}
-use Rattle.legacy_tables.specs.Pointers.{every_pointer, is_jis0208_pointer, first_pointer, last_pointer, euc_jp_pointer_of, range_pointer_of}
-use Rattle.legacy_tables.proofs.Pointers.{first-alike, first-is, first-none}
-use Rattle.legacy_tables.proofs.RangePointers.{pointer-past}
-use Rattle.legacy_standard.specs.Processing.{process}
-use Rattle.legacy_standard.specs.SingleByte.{single_byte_handler}
-use Rattle.legacy_standard.specs.UserDefined.{user_defined_handler}
-use Rattle.legacy_standard.specs.Replacement.{replacement_handler}
-use Rattle.legacy_standard.specs.EucKr.{euc_kr_handler}
-use Rattle.legacy_standard.specs.Big5.{big5_handler}
-use Rattle.legacy_standard.specs.ShiftJis.{shift_jis_handler}
-use Rattle.legacy_standard.specs.EucJp.{euc_jp_handler}
-use Rattle.legacy_standard.specs.Gb18030.{gb18030_handler}
-use Rattle.legacy_standard.specs.Utf16.{utf16_handler}
-use Rattle.legacy_standard.specs.Iso2022Jp.{iso_2022_jp_handler}
-use Rattle.legacy_standard.specs.Iso2022JpPlaces.{mode_after}
-use Rattle.legacy_standard.specs.TextQueue as text_queue
-use Rattle.legacy_standard.specs.TextQueue.{by_scalar}
-use Rattle.legacy_standard.specs.IndexPointers.{index_pointer, ranges_pointer}
-use Rattle.legacy_standard.specs.SingleByteEncoder.{single_byte_encodes}
-use Rattle.legacy_standard.specs.UserDefinedEncoder.{user_defined_encodes}
-use Rattle.legacy_standard.specs.EucKrEncoder.{euc_kr_encodes}
-use Rattle.legacy_standard.specs.Big5Encoder.{big5_encodes}
-use Rattle.legacy_standard.specs.ShiftJisEncoder.{shift_jis_encodes}
-use Rattle.legacy_standard.specs.EucJpEncoder.{euc_jp_at, euc_jp_encodes}
-use Rattle.legacy_standard.specs.Gb18030Encoder.{gb18030_encodes}
-use Rattle.legacy_standard.specs.Iso2022JpEncoder.{iso_2022_jp_encodes}
-use Rattle.legacy_standard.specs.EncoderLaw.{IsFold}
+use Rattle.legacy_base.specs.{declared.results.EncodeEvent.EncodeEvent, declared.results.EncodeEvent.TheVariants.{Byte, Unmappable}, Encoders.new_encoder}
+use Rattle.legacy_base.specs.{Encoders.encoded, Gb18030.gb18030_code, EncodeEvents.{code_events, plain_events}, ShiftJis.shift_jis_code, EucJp.euc_jp_bytes}
+use Rattle.legacy_base.specs.{EucJp.euc_jp_code, Iso2022Jp.{iso_2022_jp_code, settled_mode, mode_behind, iso_2022_jp_text_events, part_mode}}
+use Rattle.legacy_tables.specs.{Indexes.{entry_scalar, range}, TableChecks.range_order_fault, Pointers.{every_pointer, is_jis0208_pointer, first_pointer}}
+use Rattle.legacy_tables.specs.Pointers.{last_pointer, euc_jp_pointer_of, range_pointer_of}
+use Rattle.legacy_tables.proofs.{Pointers.{first-alike, first-is, first-none}, RangePointers.pointer-past}
+use Rattle.legacy_standard.specs.{Processing.process, SingleByte.single_byte_handler, UserDefined.user_defined_handler, Replacement.replacement_handler}
+use Rattle.legacy_standard.specs.{EucKr.euc_kr_handler, Big5.big5_handler, ShiftJis.shift_jis_handler, EucJp.euc_jp_handler, Gb18030.gb18030_handler}
+use Rattle.legacy_standard.specs.{Utf16.utf16_handler, Iso2022Jp.iso_2022_jp_handler, Iso2022JpPlaces.mode_after, TextQueue.by_scalar}
+use Rattle.legacy_standard.specs.{IndexPointers.{index_pointer, ranges_pointer}, SingleByteEncoder.single_byte_encodes, UserDefinedEncoder.user_defined_encodes}
+use Rattle.legacy_standard.specs.{EucKrEncoder.euc_kr_encodes, Big5Encoder.big5_encodes, ShiftJisEncoder.shift_jis_encodes, EucJpEncoder.euc_jp_at}
+use Rattle.legacy_standard.specs.{EucJpEncoder.euc_jp_encodes, Gb18030Encoder.gb18030_encodes, Iso2022JpEncoder.iso_2022_jp_encodes, EncoderLaw.IsFold}
 use Rattle.legacy_standard.specs.WorkedTexts.{entry_at, Parts}
+use Rattle.legacy_base.specs.Encoders as codecs
+use Rattle.legacy_standard.specs.TextQueue as text_queue
 use Rattle.legacy_standard.proofs.worked_rows.Goals as goal
 
 -- the only range ends before U+9A7C

@@ -1,5 +1,4 @@
-use Rattle.std.proofs.Common.{◌≡◌, ◌-◌, length, take, drop, length-drop, arith}
-use Rattle.std.proofs.lemmas.List.{length-take-le}
+use Rattle.std.proofs.{Common.{◌≡◌, ◌-◌, length, take, drop, length-drop, arith}, lemmas.List.length-take-le}
 use Rattle.legacy_codecs.proofs.ReferenceTexts.{front_of_part}
 use Rattle.legacy_codecs.proofs.character_references.encode_from.Goals as goal
 

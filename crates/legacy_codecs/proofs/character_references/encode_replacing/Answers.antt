@@ -1,9 +1,8 @@
-use Rattle.std.proofs.Common.{◌≡◌, ◌∙◌, ◌+◌, ◌≤◌, ◌++◌, length, take, is_some, sym, ap, refl, arith, append_assoc, inl, inr}
-use Rattle.std.proofs.lemmas.List.{length-take-le}
+use Rattle.std.proofs.{Common.{◌≡◌, ◌∙◌, ◌+◌, ◌≤◌, ◌++◌, length, take, is_some, sym, ap, refl, arith, append_assoc, inl, inr}, lemmas.List.length-take-le}
 use Rattle.legacy_base.specs.declared.results.EncoderResult.TheVariants.{OutputFull}
 use Rattle.legacy_codecs.specs.References.{reference}
-use Rattle.legacy_codecs.proofs.ReferencingCalls.{referencing_start, referencing_step, referencing_less, referencing_end, referencing_full}
-use Rattle.legacy_codecs.proofs.ReferencingCalls.{referencing_done, referencing_pending, nothing_reported, nothing_left}
+use Rattle.legacy_codecs.proofs.ReferencingCalls.{referencing_start, referencing_step, referencing_less, referencing_end, referencing_full, referencing_done}
+use Rattle.legacy_codecs.proofs.ReferencingCalls.{referencing_pending, nothing_reported, nothing_left}
 use Rattle.legacy_codecs.proofs.character_references.encode_replacing.Goals as goal
 
 pub calls-init : goal.calls-init

@@ -1,7 +1,5 @@
 use Rattle.std.proofs.lemmas.Result.{IfOk-weaker}
-use Rattle.legacy_codecs.proofs.RunEvents.{is_beginning, none_left}
-use Rattle.legacy_codecs.proofs.StandardRuns.{run_is_decoded}
-use Rattle.legacy_codecs.proofs.AmpleLengths.{is_finished}
+use Rattle.legacy_codecs.proofs.{RunEvents.{is_beginning, none_left}, StandardRuns.run_is_decoded, AmpleLengths.is_finished}
 use Rattle.legacy_codecs.proofs.decode_run.decode_run_utf8.Goals as goal
 
 pub returns-clause-beginning : goal.returns-clause-beginning

@@ -1,13 +1,11 @@
-use Rattle.std.proofs.Common.{◌≡◌, ◌+◌, [], drop, length, refl, arith, ap, sym, ◌∙◌, vec_len, append-nil, length-drop, Vec, Global}
-use Rattle.std.proofs.lemmas.Bool.{true≢false}
-use Rattle.std.proofs.lemmas.Option.{slice_get-get_or}
-use Rattle.std.proofs.lemmas.List.{length-map}
+use Rattle.std.proofs.{Common.{◌≡◌, ◌+◌, [], drop, length, refl, arith, ap, sym, ◌∙◌, vec_len, append-nil, length-drop, Vec, Global}, lemmas.Bool.true≢false}
+use Rattle.std.proofs.{lemmas.Option.slice_get-get_or, lemmas.List.length-map}
 use Rattle.std.specs.Prelude.{slice_index_or}
 use Rattle.legacy_codecs.specs.Pieces.{contents_of}
-use Rattle.legacy_codecs.proofs.Places.{place_before-state, pieces-length, place_at-first, place_at-next, not_last, room_step}
-use Rattle.legacy_codecs.proofs.RunSteps.{running_start, running_call, is_run, place_at-more}
+use Rattle.legacy_codecs.proofs.{Places.{place_before-state, pieces-length, place_at-first, place_at-next, not_last, room_step}, RunSteps.running_start}
+use Rattle.legacy_codecs.proofs.{RunSteps.{running_call, is_run, place_at-more}, decode_run.run_calls.Goals.{in-InputEmpty+else-last, in-OutputFull}}
+use Rattle.legacy_codecs.proofs.decode_run.run_calls.Goals.{in-Malformed}
 use Rattle.legacy_codecs.proofs.decode_run.run_calls.Goals as goal
-use Rattle.legacy_codecs.proofs.decode_run.run_calls.Goals.{in-InputEmpty+else-last, in-OutputFull, in-Malformed}
 
 -- at the start there are no events
 none : {A : Type 0} (v : Vec A Global) → v.items ≡ [] → vec_len v ≡ 0

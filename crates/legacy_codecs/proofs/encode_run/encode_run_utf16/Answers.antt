@@ -1,7 +1,5 @@
 use Rattle.std.proofs.lemmas.Result.{IfOk-weaker}
-use Rattle.legacy_codecs.proofs.EncodeRunEvents.{is_encode_beginning, no_end_left}
-use Rattle.legacy_codecs.proofs.RoundTripRuns.{run_comes_back}
-use Rattle.legacy_codecs.proofs.StandardRuns.{run_is_encoded}
+use Rattle.legacy_codecs.proofs.{EncodeRunEvents.{is_encode_beginning, no_end_left}, RoundTripRuns.run_comes_back, StandardRuns.run_is_encoded}
 use Rattle.legacy_codecs.proofs.AmpleOutputs.{encode_is_finished}
 use Rattle.legacy_codecs.proofs.encode_run.encode_run_utf16.Goals as goal
 

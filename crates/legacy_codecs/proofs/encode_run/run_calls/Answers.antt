@@ -1,15 +1,11 @@
-use Rattle.std.proofs.Common.{◌≡◌, ℕ, ◌+◌, ◌≤◌, ◌<◌, ◌++◌, List, [], drop, take, get_or, length, map, vec_len, Vec, Global, All, Some}
-use Rattle.std.proofs.Common.{refl, arith, ap, sym, ◌∙◌, length-append, length-drop, length-take}
+use Rattle.std.proofs.Common.{◌≡◌, ℕ, ◌+◌, ◌≤◌, ◌<◌, ◌++◌, List, [], drop, take, get_or, length, map, vec_len, Vec, Global, All, Some, refl, arith, ap, sym}
+use Rattle.std.proofs.{Common.{◌∙◌, length-append, length-drop, length-take}, lemmas.Bool.true≢false, lemmas.Option.slice_get-get_or, lemmas.List.length-map}
+use Rattle.std.proofs.lemmas.List.{get_or-map}
 use Rattle.std.specs.Prelude.{slice_get}
-use Rattle.std.proofs.lemmas.Bool.{true≢false}
-use Rattle.std.proofs.lemmas.Option.{slice_get-get_or}
-use Rattle.std.proofs.lemmas.List.{length-map, get_or-map}
-use Rattle.legacy_codecs.specs.Pieces.{place_before}
-use Rattle.legacy_codecs.proofs.Places.{place_before-state, place_at-begin, place_at-next, same_end, not_last, room_step}
-use Rattle.legacy_codecs.proofs.EncodeRunEvents.{reaches_call}
-use Rattle.legacy_codecs.specs.EncodeRuns.EncodeReaches.{begun}
-use Rattle.legacy_codecs.proofs.encode_run.run_calls.Goals as goal
+use Rattle.legacy_codecs.specs.{Pieces.place_before, EncodeRuns.EncodeReaches.begun}
+use Rattle.legacy_codecs.proofs.{Places.{place_before-state, place_at-begin, place_at-next, same_end, not_last, room_step}, EncodeRunEvents.reaches_call}
 use Rattle.legacy_codecs.proofs.encode_run.run_calls.Goals.{then-call_once+else-last, else-call_once}
+use Rattle.legacy_codecs.proofs.encode_run.run_calls.Goals as goal
 
 -- at the start there are no events
 none : {A : Type 0} (v : Vec A Global) → v.items ≡ [] → vec_len v ≡ 0

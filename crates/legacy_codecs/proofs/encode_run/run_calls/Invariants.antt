@@ -1,7 +1,6 @@
 use Rattle.std.proofs.Common.{◌≤◌, ◌+◌, drop, length, sum, map, vec_len, All, false}
 use Rattle.std.specs.Prelude.{vec_capacity}
-use Rattle.legacy_codecs.specs.Pieces.{place_before}
-use Rattle.legacy_codecs.specs.EncodeRuns.{EncodeReaches}
+use Rattle.legacy_codecs.specs.{Pieces.place_before, EncodeRuns.EncodeReaches}
 use Rattle.legacy_codecs.proofs.encode_run.run_calls.Given as goal
 
 abbrev pub invariant-loop-calls : goal.invariant-loop-calls

@@ -2,8 +2,7 @@ use Rattle.std.proofs.Common.{◌∙◌, ◌++◌, ◌∷◌, [], length, arith,
 use Rattle.legacy_codecs.specs.declared.malformed.MalformedSequence.{MalformedSequence}
 use Rattle.legacy_base.specs.Lengths.{to_utf8_without_replacement}
 use Rattle.legacy_base.proofs.Enough.{room-answer}
-use Rattle.legacy_codecs.proofs.MalformedSequences.{finds_start, finds_step, finds_stop, sequence_is}
-use Rattle.legacy_codecs.proofs.Replaced.{fault_less}
+use Rattle.legacy_codecs.proofs.{MalformedSequences.{finds_start, finds_step, finds_stop, sequence_is}, Replaced.fault_less}
 use Rattle.legacy_codecs.proofs.malformed.malformed_sequences.Goals as goal
 
 pub calls-init : goal.calls-init

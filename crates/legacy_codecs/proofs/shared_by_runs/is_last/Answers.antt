@@ -1,5 +1,4 @@
-use Rattle.std.proofs.Common.{◌≡◌, length, map}
-use Rattle.std.proofs.lemmas.List.{length-map}
+use Rattle.std.proofs.{Common.{◌≡◌, length, map}, lemmas.List.length-map}
 use Rattle.legacy_codecs.proofs.Places.{last_is}
 use Rattle.legacy_codecs.proofs.shared_by_runs.is_last.Goals as goal
 

@@ -1,6 +1,5 @@
 use Rattle.std.proofs.Common.{◌≡◌, ℕ, List, ◌+◌, ◌<◌, ◌++◌, ◌∷◌, [], take, get_or, length, arith, ap, sym, ◌∙◌, append-nil, append_assoc, map, take-suc}
-use Rattle.std.proofs.Common.{add-one}
-use Rattle.std.proofs.lemmas.List.{map-append}
+use Rattle.std.proofs.{Common.add-one, lemmas.List.map-append}
 use Rattle.legacy_codecs.proofs.shared_by_runs.push_items.Goals as goal
 
 -- one more item

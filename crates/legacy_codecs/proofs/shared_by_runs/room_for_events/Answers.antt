@@ -1,5 +1,4 @@
-use Rattle.std.proofs.Common.{arith}
-use Rattle.std.proofs.lemmas.Grind.{common_steps}
+use Rattle.std.proofs.{Common.arith, lemmas.Grind.common_steps}
 use Rattle.legacy_codecs.proofs.shared_by_runs.room_for_events.Goals as goal
 
 pub returns-in_default-clause-too_long : goal.returns-in_default-clause-too_long

@@ -1,6 +1,4 @@
-use Rattle.std.proofs.Common.{arith}
-use Rattle.std.proofs.lemmas.Grind.{common_steps}
-use Rattle.std.proofs.Math.ListN.{drop_of_length-le}
+use Rattle.std.proofs.{Common.arith, lemmas.Grind.common_steps, Math.ListN.drop_of_length-le}
 use Rattle.legacy_codecs.proofs.shared_by_runs.total_length.Goals as goal
 
 pub returns : goal.returns

@@ -1,5 +1,4 @@
-use Rattle.std.proofs.Common.{arith}
-use Rattle.std.proofs.Math.ListN.{drop_of_length-le}
+use Rattle.std.proofs.{Common.arith, Math.ListN.drop_of_length-le}
 use Rattle.legacy_codecs.proofs.shared_by_runs.total_room.Goals as goal
 
 pub returns : goal.returns

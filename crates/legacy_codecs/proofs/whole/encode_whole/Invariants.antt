@@ -1,6 +1,5 @@
 use Rattle.std.proofs.Common.{◌≡◌, ◌≤◌, ◌++◌, true, length}
-use denote.Text.{Utf8}
-use denote.Shadow.{shadow}
+use denote.{Text.Utf8, Shadow.shadow}
 use Rattle.std.specs.Str.{chars}
 use Rattle.legacy_base.specs.Encoders.{encoded}
 use Rattle.legacy_codecs.specs.References.{referenced_bytes}

@@ -1,9 +1,8 @@
-use Rattle.std.proofs.Common.{rules, Err, sym, ap, ◌∙◌, ◌∷◌}
-use Rattle.std.proofs.lemmas.Result.{err_from_is_err_and}
-use Rattle.legacy_command.proofs.CommandLine.{later_words, later_indexes}
+use Rattle.std.proofs.{Common.{rules, Err, sym, ap, ◌∙◌, ◌∷◌}, lemmas.Result.err_from_is_err_and}
+use Rattle.legacy_command.proofs.{CommandLine.{later_words, later_indexes}, GivenFiles.{few_words, one_more_file, few_well_formed, one_more_well_formed}}
+use Rattle.legacy_command.proofs.GivenFiles.{first_and_later_well_formed}
 use Rattle.legacy_index_files.specs.declared.index_file.EncoderIndex.TheVariants.{Of}
 use Rattle.legacy_index_files.proofs.WellFormed.{well_formed_ok}
-use Rattle.legacy_command.proofs.GivenFiles.{few_words, one_more_file, few_well_formed, one_more_well_formed, first_and_later_well_formed}
 use Rattle.legacy_command.proofs.given_indexes.+read_files.Goals as goal
 
 pub read_files-requires : goal.read_files-requires

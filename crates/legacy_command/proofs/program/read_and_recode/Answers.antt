@@ -1,5 +1,4 @@
-use Rattle.std.proofs.Common.{inl, inr}
-use Rattle.std.proofs.lemmas.Result.{on_err_weaker, on_ok_weaker}
+use Rattle.std.proofs.{Common.{inl, inr}, lemmas.Result.{on_err_weaker, on_ok_weaker}}
 use Rattle.legacy_command.proofs.program.read_and_recode.Goals as goal
 
 pub returns-clause-recoded : goal.returns-clause-recoded

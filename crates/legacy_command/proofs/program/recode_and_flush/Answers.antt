@@ -1,6 +1,4 @@
-use Rattle.std.proofs.Common.{arith}
-use Rattle.std.proofs.lemmas.Grind.{common_steps}
-use Rattle.std.proofs.lemmas.Result.{err_from_is_err_and}
+use Rattle.std.proofs.{Common.arith, lemmas.Grind.common_steps, lemmas.Result.err_from_is_err_and}
 use Rattle.legacy_command.proofs.Stopping.{either, some_kept, some_of_all}
 use Rattle.legacy_command.proofs.program.recode_and_flush.Goals as goal
 

@@ -1,5 +1,4 @@
-use Rattle.std.proofs.Common.{[], ◌∷◌, get_or, sym, subst, arith}
-use Rattle.std.proofs.lemmas.List.{take_more}
+use Rattle.std.proofs.{Common.{[], ◌∷◌, get_or, sym, subst, arith}, lemmas.List.take_more}
 use Rattle.legacy_decoder_engine.specs.ReadAhead.{Runs}
 use Rattle.legacy_decoder_engine.proofs.WrittenRuns.{runs_byte}
 use Rattle.legacy_decoder_engine.proofs.lanes.form_at.Goals as goal

@@ -1,6 +1,5 @@
-use Rattle.std.proofs.Common.{◌∙◌, ap, arith, w64}
+use Rattle.std.proofs.{Common.{◌∙◌, ap, arith, w64}, lemmas.Nat.Bits.{bit_at-trailing_zeros, bit_at-zero}}
 use Rattle.std.specs.Int.{bit_at}
-use Rattle.std.proofs.lemmas.Nat.Bits.{bit_at-trailing_zeros, bit_at-zero}
 use Rattle.legacy_decoder_engine.proofs.LaneUnits.{unit_known}
 use Rattle.legacy_decoder_engine.proofs.lanes.known_count.Goals as goal
 

@@ -1,11 +1,9 @@
-use Rattle.std.proofs.Common.{◌≡◌, ◌∙◌, ◌*◌, ◌+◌, ◌++◌, ℕ, List, ltb, length, take, drop, ap, refl, sym, subst, arith}
-use Rattle.std.proofs.lemmas.List.{get_or-drop, length-drop, take_all}
+use Rattle.std.proofs.{Common.{◌≡◌, ◌∙◌, ◌*◌, ◌+◌, ◌++◌, ℕ, List, ltb, length, take, drop, ap, refl, sym, subst, arith}, lemmas.List.{get_or-drop, length-drop}}
+use Rattle.std.proofs.lemmas.List.{take_all}
 use Rattle.std.specs.List.{count_by}
 use Rattle.legacy_text.specs.EncodingForm.{all_code_units, total_unit_count}
-use Rattle.legacy_decoder_engine.specs.ReadAhead.{Writes}
-use Rattle.legacy_decoder_engine.specs.PickedForms.{forms_of}
-use Rattle.legacy_decoder_engine.proofs.LaneUnits.{all_scalars, codes_more, units_written}
-use Rattle.legacy_decoder_engine.proofs.WrittenRuns.{writes_none, all_short}
+use Rattle.legacy_decoder_engine.specs.{ReadAhead.Writes, PickedForms.forms_of}
+use Rattle.legacy_decoder_engine.proofs.{LaneUnits.{all_scalars, codes_more, units_written}, WrittenRuns.{writes_none, all_short}}
 use Rattle.legacy_decoder_engine.proofs.lanes.put_codes.Goals as goal
 
 pub returns-then-entries-eq0-clause-writes : goal.returns-then-entries-eq0-clause-writes

@@ -1,7 +1,6 @@
 use Rattle.std.proofs.Common.{ltb, ap, refl, arith}
 use Rattle.std.specs.List.{count_by}
-use Rattle.legacy_decoder_engine.proofs.LaneUnits.{ascii_first, few_units, units_written}
-use Rattle.legacy_decoder_engine.proofs.WrittenRuns.{writes_none}
+use Rattle.legacy_decoder_engine.proofs.{LaneUnits.{ascii_first, few_units, units_written}, WrittenRuns.writes_none}
 use Rattle.legacy_decoder_engine.proofs.lanes.put_units.Goals as goal
 
 pub returns-then-bytes-limit-clause-writes : goal.returns-then-bytes-limit-clause-writes

@@ -1,5 +1,4 @@
-use Rattle.std.proofs.Common.{◌≡◌, ◌≤◌, ◌∙◌, length, take, ap, sym, subst, arith}
-use Rattle.std.proofs.lemmas.List.{take-take, length-take-le}
+use Rattle.std.proofs.{Common.{◌≡◌, ◌≤◌, ◌∙◌, length, take, ap, sym, subst, arith}, lemmas.List.{take-take, length-take-le}}
 use Rattle.legacy_decoder_engine.specs.ReadAhead.{Writes}
 use Rattle.legacy_decoder_engine.proofs.JoinedRuns.{reads_front}
 use Rattle.legacy_decoder_engine.proofs.lanes.read_front.Goals as goal

@@ -1,5 +1,4 @@
-use Rattle.std.proofs.Common.{◌∙◌, ◌-◌, ◌+◌, ◌<◌, get_or, ap, sym, subst, arith}
-use Rattle.std.proofs.lemmas.List.{get_or-take}
+use Rattle.std.proofs.{Common.{◌∙◌, ◌-◌, ◌+◌, ◌<◌, get_or, ap, sym, subst, arith}, lemmas.List.get_or-take}
 use Rattle.legacy_decoder_engine.specs.LaneCodes.{IsLane}
 use Rattle.legacy_decoder_engine.proofs.LaneUnits.{is_form, get_from}
 use Rattle.legacy_decoder_engine.proofs.lanes.units_at.Goals as goal

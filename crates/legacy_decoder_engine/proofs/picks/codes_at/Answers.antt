@@ -1,5 +1,4 @@
-use Rattle.std.proofs.Common.{◌<◌, ◌∙◌, ap, refl, subst, sym, take, length, arith, w8}
-use Rattle.std.proofs.lemmas.Simd.{swz_l, SwzOk, SwzOk-from_below}
+use Rattle.std.proofs.{Common.{◌<◌, ◌∙◌, ap, refl, subst, sym, take, length, arith, w8}, lemmas.Simd.{swz_l, SwzOk, SwzOk-from_below}}
 use lib.Lanes.{digits_l, number_l}
 use Rattle.legacy_decoder_engine.specs.PickedForms.{row, places}
 use Rattle.legacy_decoder_engine.proofs.Picking.{rows_are, row_within, row_long, codes_picked}

@@ -1,4 +1,4 @@
-use Rattle.std.proofs.{Common.◌<◌, Common.arith, Math.Nat.le-mul_of_pos_right}
+use Rattle.std.proofs.{Common.{◌<◌, arith}, Math.Nat.le-mul_of_pos_right}
 use Rattle.legacy_base.specs.States.{new_state}
 use Rattle.legacy_decoder_engine.proofs.{JoinedRuns.reads_written, WrittenRuns.reads_none}
 use Rattle.legacy_decoder_engine.proofs.read_ahead.read_one.Goals as goal

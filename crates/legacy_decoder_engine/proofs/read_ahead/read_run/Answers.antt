@@ -1,7 +1,6 @@
 use Rattle.std.proofs.Common.{◌%◌, arith}
 use Rattle.legacy_base.specs.States.{new_state}
-use Rattle.legacy_decoder_engine.proofs.{JoinedRuns.reads_written, Turns.all_turns, Turns.four_turns, Turns.last_turns, WrittenRuns.writes_none}
-use Rattle.legacy_decoder_engine.proofs.{WrittenRuns.writes_run, WrittenRuns.reads_none}
+use Rattle.legacy_decoder_engine.proofs.{JoinedRuns.reads_written, Turns.{all_turns, four_turns, last_turns}, WrittenRuns.{writes_none, writes_run, reads_none}}
 use Rattle.legacy_decoder_engine.proofs.read_ahead.read_run.Goals as goal
 
 pub returns-then-turns-eq0 : goal.returns-then-turns-eq0

@@ -1,4 +1,4 @@
-use Rattle.std.proofs.{Common.take, Common.arith, Common.subst, lemmas.List.length-take, lemmas.List.length-take-le, lemmas.List.take-take}
+use Rattle.std.proofs.{Common.{take, arith, subst}, lemmas.List.{length-take, length-take-le, take-take}}
 use Rattle.legacy_decoder_engine.specs.ReadAhead.{Writes}
 use Rattle.legacy_decoder_engine.proofs.{JoinedRuns.reads_front, WrittenRuns.writes_ascii}
 use Rattle.legacy_decoder_engine.proofs.read_ahead.read_short_blocks.Goals as goal

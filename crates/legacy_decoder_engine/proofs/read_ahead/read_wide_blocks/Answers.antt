@@ -1,7 +1,6 @@
-use Rattle.std.proofs.Common.{◌-◌, length, drop, arith}
-use Rattle.std.proofs.lemmas.List.{length-take, length-drop}
+use Rattle.std.proofs.{Common.{◌-◌, length, drop, arith}, lemmas.List.{length-take, length-drop}}
 use Rattle.legacy_base.specs.States.{new_state}
-use Rattle.legacy_decoder_engine.proofs.{JoinedRuns.reads_ascii, JoinedRuns.reads_more, WrittenRuns.reads_none}
+use Rattle.legacy_decoder_engine.proofs.{JoinedRuns.{reads_ascii, reads_more}, WrittenRuns.reads_none}
 use Rattle.legacy_decoder_engine.proofs.read_ahead.read_wide_blocks.Goals as goal
 
 pub returns-then-not-begins_long-clause-ahead : goal.returns-then-not-begins_long-clause-ahead

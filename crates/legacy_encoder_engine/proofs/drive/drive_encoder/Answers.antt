@@ -1,5 +1,4 @@
-use Rattle.std.proofs.Common.{◌≡◌, ◌∙◌, length, false, IsTrue, refl, sym, ap, arith}
-use Rattle.std.proofs.lemmas.{Bool.false≢true, List.length-take-le}
+use Rattle.std.proofs.{Common.{◌≡◌, ◌∙◌, length, false, IsTrue, refl, sym, ap, arith}, lemmas.Bool.false≢true, lemmas.List.length-take-le}
 use Rattle.legacy_base.specs.Encoders.{is_pending}
 use Rattle.legacy_text.proofs.Texts.{first_cons, none_left}
 use Rattle.legacy_encoder_engine.specs.Moves.{is_escape}

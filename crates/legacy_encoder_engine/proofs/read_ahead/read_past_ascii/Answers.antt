@@ -1,5 +1,4 @@
-use Rattle.std.proofs.Common.{arith}
-use Rattle.std.proofs.lemmas.List.{length-take-le}
+use Rattle.std.proofs.{Common.arith, lemmas.List.length-take-le}
 use Rattle.legacy_encoder_engine.proofs.ReadingAhead.{encodes_none, encodes_put}
 use Rattle.legacy_encoder_engine.proofs.read_ahead.read_past_ascii.Goals as goal
 

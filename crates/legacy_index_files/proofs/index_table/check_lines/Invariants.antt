@@ -1,6 +1,5 @@
 use Rattle.std.proofs.Common.{◌≡◌, ◌+◌, ◌≤◌, length, max}
-use Rattle.legacy_index_files.specs.IndexLine.{lines}
-use Rattle.legacy_index_files.specs.IndexTable.{malformed_line, file_entries, table_length, greatest_length}
+use Rattle.legacy_index_files.specs.{IndexLine.lines, IndexTable.{malformed_line, file_entries, table_length, greatest_length}}
 use Rattle.legacy_index_files.proofs.index_table.check_lines.Given as goal
 
 abbrev pub invariant-loop-rest : goal.invariant-loop-rest

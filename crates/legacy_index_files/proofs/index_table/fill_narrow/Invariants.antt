@@ -1,7 +1,6 @@
 use Rattle.std.proofs.Common.{◌≡◌, ℕ, ◌<◌, ◌≤◌, length, get_or}
 use Rattle.std.specs.Option.{unwrap_or}
-use Rattle.legacy_index_files.specs.IndexLine.{lines}
-use Rattle.legacy_index_files.specs.IndexTable.{file_entries, table_length, last_value}
+use Rattle.legacy_index_files.specs.{IndexLine.lines, IndexTable.{file_entries, table_length, last_value}}
 use Rattle.legacy_index_files.proofs.index_table.fill_narrow.Given as goal
 
 abbrev pub invariant-loop-rest : goal.invariant-loop-rest

@@ -1,7 +1,5 @@
 use Rattle.std.proofs.Common.{◌≡◌, ◌++◌, length}
-use Rattle.legacy_index_files.specs.declared.index_file.FileIndex.TheVariants.{Ranges}
-use Rattle.legacy_index_files.specs.IndexLine.{lines}
-use Rattle.legacy_index_files.specs.IndexTable.{entries_of}
+use Rattle.legacy_index_files.specs.{declared.index_file.FileIndex.TheVariants.Ranges, IndexLine.lines, IndexTable.entries_of}
 use Rattle.legacy_index_files.proofs.index_table.read_ranges.Given as goal
 
 abbrev pub invariant-loop-rest : goal.invariant-loop-rest

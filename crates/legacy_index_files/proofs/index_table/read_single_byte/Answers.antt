@@ -1,9 +1,6 @@
-use Rattle.std.proofs.Common.{◌<◌, ◌∙◌, ap, arith}
-use Rattle.std.proofs.lemmas.List.{get_or-replicate}
+use Rattle.std.proofs.{Common.{◌<◌, ◌∙◌, ap, arith}, lemmas.List.get_or-replicate}
 use Rattle.std.specs.Option.{unwrap_or}
-use Rattle.legacy_index_files.specs.declared.index_file.FileIndex.TheVariants.{SingleByte}
-use Rattle.legacy_index_files.specs.IndexLine.{lines}
-use Rattle.legacy_index_files.specs.IndexTable.{entries_of, last_value}
+use Rattle.legacy_index_files.specs.{declared.index_file.FileIndex.TheVariants.SingleByte, IndexLine.lines, IndexTable.{entries_of, last_value}}
 use Rattle.legacy_index_files.proofs.index_table.read_single_byte.Goals as goal
 
 pub returns : goal.returns

@@ -1,5 +1,4 @@
-use Rattle.std.proofs.Common.{◌≡◌, ◌≤◌, ◌∙◌, ◌+◌, ◌-◌, ◌++◌, length, take, drop, arith, sym, ap, refl}
-use Rattle.std.proofs.lemmas.List.{length-take-le}
+use Rattle.std.proofs.{Common.{◌≡◌, ◌≤◌, ◌∙◌, ◌+◌, ◌-◌, ◌++◌, length, take, drop, arith, sym, ap, refl}, lemmas.List.length-take-le}
 use Rattle.legacy_streams.proofs.EncodingUnderWay.{input_start, input_step, input_partly, input_end, input_end_partly, read_nothing}
 use Rattle.legacy_streams.proofs.encode.encode_text.Goals as goal
 

@@ -1,5 +1,4 @@
-use Rattle.std.proofs.Common.{◌∙◌, not, is_some, sym, ap}
-use Rattle.std.proofs.lemmas.Str.{utf8_valid_len-IsValidUpTo}
+use Rattle.std.proofs.{Common.{◌∙◌, not, is_some, sym, ap}, lemmas.Str.utf8_valid_len-IsValidUpTo}
 use Rattle.legacy_streams.proofs.EncodingUnderWay.{no_text, told_of_all, flipped, short_of}
 use Rattle.legacy_streams.proofs.encode.is_cut.Goals as goal
 

@@ -1,9 +1,7 @@
-use Rattle.std.proofs.Common.{◌≡◌, ◌<◌, ◌∙◌, ℕ, false, eqb, refl, sym, arith, inl, inr, ⊎_elim}
-use Rattle.std.proofs.lemmas.Bool.{eqb-true, eqb-false}
+use Rattle.std.proofs.{Common.{◌≡◌, ◌<◌, ◌∙◌, ℕ, false, eqb, refl, sym, arith, inl, inr, ⊎_elim}, lemmas.Bool.{eqb-true, eqb-false}}
 use Rattle.std.proofs.lemmas.Result.{err_from_is_err_and}
-use Rattle.legacy_streams.proofs.Utf8Pieces.{replacement_chars}
-use Rattle.legacy_streams.proofs.EncodingUnderWay.{piece_start, piece_end, chunk_front, chunk_end, malformed_front, malformed_step, held_valid, held_nothing}
-use Rattle.legacy_streams.proofs.EncodingUnderWay.{text_of_held, end_of_none_text}
+use Rattle.legacy_streams.proofs.{Utf8Pieces.replacement_chars, EncodingUnderWay.{piece_start, piece_end, chunk_front, chunk_end, malformed_front}}
+use Rattle.legacy_streams.proofs.EncodingUnderWay.{malformed_step, held_valid, held_nothing, text_of_held, end_of_none_text}
 use Rattle.legacy_streams.proofs.encode.push_piece.Goals as goal
 
 some_invalid : (n : ℕ) → eqb n 0 ≡ false → 0 < n

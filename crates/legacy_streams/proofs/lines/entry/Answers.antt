@@ -1,5 +1,4 @@
-use Rattle.std.proofs.Common.{◌∙◌, ap, arith, get_or}
-use Rattle.std.proofs.lemmas.List.FromFn.{get_or-map-range_with_len}
+use Rattle.std.proofs.{Common.{◌∙◌, ap, arith, get_or}, lemmas.List.FromFn.get_or-map-range_with_len}
 use Rattle.legacy_streams.proofs.lines.entry.Goals as goal
 
 pub returns : goal.returns

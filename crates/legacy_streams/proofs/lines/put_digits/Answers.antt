@@ -1,5 +1,4 @@
-use Rattle.std.proofs.Common.{◌≡◌, ◌∙◌, ◌≤◌, ◌++◌, [], drop, length, decimal, arith, ap, append-nil}
-use Rattle.std.proofs.Math.ListN.{drop_of_length-le}
+use Rattle.std.proofs.{Common.{◌≡◌, ◌∙◌, ◌≤◌, ◌++◌, [], drop, length, decimal, arith, ap, append-nil}, Math.ListN.drop_of_length-le}
 use Rattle.legacy_codecs.proofs.ReferenceTexts.{length-decimal_one, length-decimal_more, digit_before, first_digit}
 use Rattle.legacy_streams.proofs.EventLines.{length-decimal_20}
 use Rattle.legacy_streams.proofs.lines.put_digits.Goals as goal

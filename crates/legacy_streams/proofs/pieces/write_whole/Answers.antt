@@ -1,8 +1,6 @@
-use Rattle.std.proofs.Common.{arith, take-add, length-drop}
-use Rattle.std.proofs.lemmas.Grind.{common_steps}
-use Rattle.std.proofs.KnownBytes.{Appends-kept, Appends-trans}
-use Rattle.legacy_streams.proofs.pieces.write_whole.Goals as goal
+use Rattle.std.proofs.{Common.{arith, take-add, length-drop}, lemmas.Grind.common_steps, KnownBytes.{Appends-kept, Appends-trans}}
 use Rattle.legacy_streams.proofs.pieces.write_whole.Goals.{in-Ok, in-Err+else-ne}
+use Rattle.legacy_streams.proofs.pieces.write_whole.Goals as goal
 
 pub writes-preserved : goal.writes-preserved
 writes-preserved g c =

@@ -1,8 +1,6 @@
-use Rattle.std.proofs.Common.{◌≡◌, arith, length, take, length-take, eq-eqb}
-use Rattle.std.proofs.lemmas.Bool.{ne_eqb, eqb-true}
-use Rattle.std.proofs.KnownBytes.{Appends-nil}
-use Rattle.legacy_streams.proofs.Whole.{whole_start, whole_step, whole_end, whole_beginning, whole_partly}
-use Rattle.legacy_streams.proofs.PieceUnderWay.{lines_of_none, lines_join, lines_front_join}
+use Rattle.std.proofs.{Common.{◌≡◌, arith, length, take, length-take, eq-eqb}, lemmas.Bool.{ne_eqb, eqb-true}, KnownBytes.Appends-nil}
+use Rattle.legacy_streams.proofs.{Whole.{whole_start, whole_step, whole_end, whole_beginning, whole_partly}, PieceUnderWay.{lines_of_none, lines_join}}
+use Rattle.legacy_streams.proofs.PieceUnderWay.{lines_front_join}
 use Rattle.legacy_streams.proofs.recode.recode.Goals as goal
 
 pub pieces-init : goal.pieces-init

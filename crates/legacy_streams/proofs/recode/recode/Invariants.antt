@@ -1,7 +1,6 @@
 use Rattle.std.proofs.Common.{[], ◌≡◌, ◌^◌, ◌-◌, ◌<◌}
 use Rattle.std.specs.Io.KnownBytes.{Appends}
-use Rattle.legacy_streams.specs.LineBuffers.{line_bytes}
-use Rattle.legacy_streams.specs.Recoding.{lines_of}
+use Rattle.legacy_streams.specs.{LineBuffers.line_bytes, Recoding.lines_of}
 use Rattle.legacy_streams.proofs.Whole.{Whole}
 use Rattle.legacy_streams.proofs.recode.recode.Given as goal
 

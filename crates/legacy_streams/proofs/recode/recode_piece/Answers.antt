@@ -1,5 +1,4 @@
-use Rattle.std.proofs.Common.{arith}
-use Rattle.std.proofs.lemmas.Result.{on_ok_weaker, on_err_weaker, err_from_is_err_and}
+use Rattle.std.proofs.{Common.arith, lemmas.Result.{on_ok_weaker, on_err_weaker, err_from_is_err_and}}
 use Rattle.legacy_streams.proofs.PieceUnderWay.{piece_start, piece_step, piece_front, piece_end, piece_less, piece_ahead, piece_malformed_less}
 use Rattle.legacy_streams.proofs.recode.recode_piece.Goals as goal
 

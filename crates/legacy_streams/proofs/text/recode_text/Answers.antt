@@ -1,7 +1,6 @@
-use Rattle.std.proofs.Common.{◌≡◌, arith, eq-eqb, length, take, length-take}
-use Rattle.std.proofs.lemmas.Bool.{ne_eqb, eqb-true}
-use Rattle.legacy_streams.proofs.Whole.{whole_start, whole_step, whole_end, whole_beginning, whole_partly}
-use Rattle.legacy_streams.proofs.TextUnderWay.{whole_text_start, text_join, text_front_join}
+use Rattle.std.proofs.{Common.{◌≡◌, arith, eq-eqb, length, take, length-take}, lemmas.Bool.{ne_eqb, eqb-true}}
+use Rattle.legacy_streams.proofs.{Whole.{whole_start, whole_step, whole_end, whole_beginning, whole_partly}, TextUnderWay.{whole_text_start, text_join}}
+use Rattle.legacy_streams.proofs.TextUnderWay.{text_front_join}
 use Rattle.legacy_streams.proofs.text.recode_text.Goals as goal
 
 pub pieces-init : goal.pieces-init

@@ -1,5 +1,4 @@
-use Rattle.std.proofs.Common.{arith}
-use Rattle.std.proofs.lemmas.Result.{err_from_is_err_and}
+use Rattle.std.proofs.{Common.arith, lemmas.Result.err_from_is_err_and}
 use Rattle.legacy_streams.proofs.TextUnderWay.{text_start, text_step, text_end, text_front, text_less}
 use Rattle.legacy_streams.proofs.text.write_piece.Goals as goal
 

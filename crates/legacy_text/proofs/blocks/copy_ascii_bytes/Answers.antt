@@ -1,5 +1,4 @@
-use Rattle.std.proofs.lemmas.Grind.{common_steps}
-use Rattle.std.proofs.Common.{arith}
+use Rattle.std.proofs.{lemmas.Grind.common_steps, Common.arith}
 use Rattle.legacy_text.proofs.Ascii.{ascii_behind, stored_next, all_behind}
 use Rattle.legacy_text.proofs.blocks.copy_ascii_bytes.Goals as goal
 

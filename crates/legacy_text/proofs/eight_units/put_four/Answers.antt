@@ -1,5 +1,4 @@
-use Rattle.std.proofs.Common.{◌≡◌, ◌++◌, ◌∙◌, ℕ, List, take, length, ap, subst, sym, arith, w8, refl}
-use Rattle.std.proofs.lemmas.Simd.{swz_l, SwzOk, SwzOk-from_below}
+use Rattle.std.proofs.{Common.{◌≡◌, ◌++◌, ◌∙◌, ℕ, List, take, length, ap, subst, sym, arith, w8, refl}, lemmas.Simd.{swz_l, SwzOk, SwzOk-from_below}}
 use Rattle.legacy_text.specs.UnitBytes.{row, places}
 use Rattle.legacy_text.proofs.UnitLanes.{rows_are, counts_are, row_within, row_long, count_most, written_places}
 use Rattle.legacy_text.proofs.eight_units.put_four.Goals as goal

@@ -1,5 +1,4 @@
-use Rattle.std.proofs.Common.{◌∙◌, get_or, ap, arith, []}
-use Rattle.std.proofs.lemmas.List.FromFn.{get_or-map-range_with_len}
+use Rattle.std.proofs.{Common.{◌∙◌, get_or, ap, arith, []}, lemmas.List.FromFn.get_or-map-range_with_len}
 use Rattle.legacy_text.proofs.eight_units.row_of.Goals as goal
 
 pub returns : goal.returns

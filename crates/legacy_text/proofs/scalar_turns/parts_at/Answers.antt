@@ -1,5 +1,4 @@
-use Rattle.std.proofs.Common.{◌≡◌, ◌∙◌, ◌+◌, ◌*◌, ◌%◌, ◌<◌, get_or, ap, arith}
-use Rattle.std.proofs.lemmas.List.{length-set}
+use Rattle.std.proofs.{Common.{◌≡◌, ◌∙◌, ◌+◌, ◌*◌, ◌%◌, ◌<◌, get_or, ap, arith}, lemmas.List.length-set}
 use Rattle.legacy_text.specs.ScalarTurns.{IsUnitAt}
 use Rattle.legacy_text.proofs.ScalarTurns.{filled, of_tails}
 use Rattle.legacy_text.proofs.scalar_turns.parts_at.Goals as goal

@@ -1,5 +1,5 @@
-use Rattle.std.proofs.Common.{◌≡◌, ◌∙◌, ◌+◌, take, drop, length, arith, get_or, subst, sym}
-use Rattle.std.proofs.lemmas.List.{length-drop, length-take-le, get_or-take, get_or-drop}
+use Rattle.std.proofs.{Common.{◌≡◌, ◌∙◌, ◌+◌, take, drop, length, arith, get_or, subst, sym}, lemmas.List.{length-drop, length-take-le, get_or-take}}
+use Rattle.std.proofs.lemmas.List.{get_or-drop}
 use Rattle.legacy_text.specs.ScalarTurns.{IsStart}
 use Rattle.legacy_text.proofs.ScalarTurns.{mask_from-lt, starts_bit}
 use Rattle.legacy_text.proofs.scalar_turns.starts_at.Goals as goal

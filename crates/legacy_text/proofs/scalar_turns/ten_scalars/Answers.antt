@@ -1,6 +1,4 @@
-use Rattle.std.proofs.Common.{◌≡◌, ◌∙◌, ◌<◌, length, take, get_or, refl, arith, inl, inr, w32}
-use Rattle.std.proofs.lemmas.Bool.{cases_lt}
-use Rattle.std.proofs.lemmas.List.{length-set, take_more_set}
+use Rattle.std.proofs.{Common.{◌≡◌, ◌∙◌, ◌<◌, length, take, get_or, refl, arith, inl, inr, w32}, lemmas.Bool.cases_lt, lemmas.List.{length-set, take_more_set}}
 use Rattle.std.specs.Int.{trailing_zeros}
 use Rattle.legacy_text.proofs.ScalarTurns.{stands_first, stands_more}
 use Rattle.legacy_text.proofs.scalar_turns.ten_scalars.Goals as goal

@@ -1,5 +1,4 @@
-use Rattle.std.proofs.Common.{◌∙◌, ◌≡◌, ◌+◌, ◌%◌, ap, arith, drop, length, take}
-use Rattle.std.proofs.lemmas.List.{length-drop, length-take-le}
+use Rattle.std.proofs.{Common.{◌∙◌, ◌≡◌, ◌+◌, ◌%◌, ap, arith, drop, length, take}, lemmas.List.{length-drop, length-take-le}}
 use Rattle.legacy_text.proofs.ScalarTurns.{sixteenth, turned_is}
 use Rattle.legacy_text.proofs.scalar_turns.turned_at.Goals as goal
 

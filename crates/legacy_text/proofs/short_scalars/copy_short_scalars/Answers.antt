@@ -1,5 +1,4 @@
-use Rattle.std.proofs.lemmas.Grind.{common_steps}
-use Rattle.std.proofs.Common.{◌≡◌, ◌+◌, add-zero, arith}
+use Rattle.std.proofs.{lemmas.Grind.common_steps, Common.{◌≡◌, ◌+◌, add-zero, arith}}
 use Rattle.legacy_text.proofs.ShortScalars.{scalars_none, scalars_append}
 use Rattle.legacy_text.proofs.short_scalars.copy_short_scalars.Goals as goal
 

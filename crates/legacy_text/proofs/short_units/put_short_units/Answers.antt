@@ -1,5 +1,5 @@
-use Rattle.std.proofs.Common.{◌++◌, ◌∙◌, ℕ, List, take, length, ap, ap₂, subst, sym, refl, arith, w8, get_or, map}
-use Rattle.std.proofs.lemmas.Simd.{swz_l, SwzOk, SwzOk-from_below}
+use Rattle.std.proofs.{Common.{◌++◌, ◌∙◌, ℕ, List, take, length, ap, ap₂, subst, sym, refl, arith, w8, get_or, map}, lemmas.Simd.{swz_l, SwzOk}}
+use Rattle.std.proofs.lemmas.Simd.{SwzOk-from_below}
 use Rattle.legacy_text.specs.UnitBytes.{short_row, short_places, short_lanes}
 use Rattle.legacy_text.proofs.ShortUnits.{short_rows_are, short_row_within, short_row_long, short_counted, short_places_most, short_written}
 use Rattle.legacy_text.proofs.ShortUnits.{short_text_of_eight}

@@ -1,5 +1,4 @@
-use Rattle.std.proofs.lemmas.Grind.{common_steps}
-use Rattle.std.proofs.Common.{◌≡◌, ◌∙◌, ◌+◌, ◌*◌, ◌%◌, arith, refl, sym, subst}
+use Rattle.std.proofs.{lemmas.Grind.common_steps, Common.{◌≡◌, ◌∙◌, ◌+◌, ◌*◌, ◌%◌, arith, refl, sym, subst}}
 use Rattle.std.specs.Char.{IsScalar}
 use Rattle.legacy_text.proofs.Texts.{stands_one, stands_four, made_of_two, made_of_three}
 use Rattle.legacy_text.proofs.text_source.by_bytes.Goals as goal

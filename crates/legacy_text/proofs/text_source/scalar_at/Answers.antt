@@ -1,5 +1,4 @@
-use Rattle.std.proofs.Common.{drop}
-use Rattle.std.proofs.lemmas.Str.{IsUtf8-from_is_utf8, IsCharBoundary-from_drop}
+use Rattle.std.proofs.{Common.drop, lemmas.Str.{IsUtf8-from_is_utf8, IsCharBoundary-from_drop}}
 use Rattle.legacy_text.proofs.text_source.scalar_at.Goals as goal
 
 pub range_from-requires : goal.range_from-requires

@@ -1,12 +1,11 @@
-use Rattle.std.proofs.lemmas.Grind.{common_steps}
-use Rattle.std.proofs.Common.{◌≡◌, ◌∙◌, ◌+◌, ◌-◌, ◌*◌, arith, ap, refl, Some, sym, get_or}
+use Rattle.std.proofs.{lemmas.Grind.common_steps, Common.{◌≡◌, ◌∙◌, ◌+◌, ◌-◌, ◌*◌, arith, ap, refl, Some, sym, get_or}}
 use Rattle.std.specs.Char.Utf16.{surrogate_pair_char}
 use Rattle.legacy_text.proofs.Texts.{first_none, first_unpaired, first_low, first_high, first_pair}
-use Rattle.legacy_text.proofs.text_source.unit_scalar_at.Goals as goal
 use Rattle.legacy_text.proofs.text_source.unit_scalar_at.Goals.{then-high-lt55296-via-then-high-lt55296}
 use Rattle.legacy_text.proofs.text_source.unit_scalar_at.Goals.{then-high-lt55296-via-else-high-lt55296+then-high-ge57344}
 use Rattle.legacy_text.proofs.text_source.unit_scalar_at.Goals.{then-high-ge56320-via-then-high-ge56320}
 use Rattle.legacy_text.proofs.text_source.unit_scalar_at.Goals.{then-high-ge56320-via-else-high-ge56320+then-units-place-lt2}
+use Rattle.legacy_text.proofs.text_source.unit_scalar_at.Goals as goal
 
 pub returns-then-place-units : goal.returns-then-place-units
 returns-then-place-units c = sym (first_none c.args.units.now c.args.place (omega arith))

@@ -1,11 +1,7 @@
-use Rattle.std.proofs.Common.{◌∙◌, ap, sym, subst, refl, length, ◌≡◌, None}
-use Rattle.std.proofs.lemmas.Result.{err_from_is_err_and}
-use Rattle.legacy_base.specs.EucKr.{euc_kr}
-use Rattle.legacy_base.specs.Lengths.{query_answer, to_utf8}
-use Rattle.legacy_base.specs.States.{new_state}
+use Rattle.std.proofs.{Common.{◌∙◌, ap, sym, subst, refl, length, ◌≡◌, None}, lemmas.Result.err_from_is_err_and}
+use Rattle.legacy_base.specs.{EucKr.euc_kr, Lengths.{query_answer, to_utf8}, States.new_state}
 use Rattle.legacy_tables.specs.TableChecks.{AreAccepted}
-use Rattle.legacy_index_files.specs.declared.index_file.EncoderIndex.TheVariants.{Of}
-use Rattle.legacy_index_files.specs.declared.index_file.FileIndex.TheVariants.{EucKr}
+use Rattle.legacy_index_files.specs.{declared.index_file.EncoderIndex.TheVariants.Of, declared.index_file.FileIndex.TheVariants.EucKr}
 use Rattle.legacy_index_files.proofs.WellFormed.{well_formed_ok}
 use Rattle.legacy_uses.specs.IndexData.{IsEucKrIndex}
 use Rattle.legacy_codecs.specs.WholeTexts.{text_of}

@@ -1,11 +1,7 @@
-use Rattle.std.proofs.Common.{◌∙◌, ap, refl}
-use Rattle.std.proofs.lemmas.Result.{err_from_is_err_and}
-use Rattle.legacy_index_files.specs.declared.index_file.EncoderIndex.TheVariants.{Of}
-use Rattle.legacy_index_files.specs.declared.index_file.FileIndex.TheVariants.{EucKr}
-use Rattle.legacy_index_files.specs.OwnedIndexes.{owned_lists}
+use Rattle.std.proofs.{Common.{◌∙◌, ap, refl}, lemmas.Result.err_from_is_err_and}
+use Rattle.legacy_index_files.specs.{declared.index_file.EncoderIndex.TheVariants.Of, declared.index_file.FileIndex.TheVariants.EucKr, OwnedIndexes.owned_lists}
 use Rattle.legacy_index_files.proofs.WellFormed.{well_formed_ok}
-use Rattle.legacy_uses.proofs.EucKrFiles.{holds_euc_kr}
-use Rattle.legacy_uses.proofs.TwoFiles.{euc_kr_by_file, euc_kr_known}
+use Rattle.legacy_uses.proofs.{EucKrFiles.holds_euc_kr, TwoFiles.{euc_kr_by_file, euc_kr_known}}
 use Rattle.legacy_uses.proofs.code_pages.decode_two.Goals as goal
 
 pub returns-in_err-korean_text-clause-known : goal.returns-in_err-korean_text-clause-known

@@ -2,8 +2,7 @@ use Rattle.std.proofs.Common.{◌∙◌, ◌≤◌, [], length, cond, ap, arith}
 use Rattle.legacy_tables.proofs.Accepted.{length-gb18030}
 use Rattle.legacy_base.specs.Gb18030.{gb18030_scalars}
 use Rattle.legacy_decoder_engine.specs.Places.{lead_place}
-use Rattle.legacy_decoder_engine.proofs.PairPlaces.{rows_are}
-use Rattle.legacy_decoder_engine.proofs.TwoByteMeets.{is_lead-in}
+use Rattle.legacy_decoder_engine.proofs.{PairPlaces.rows_are, TwoByteMeets.is_lead-in}
 use Rattle.legacy_chinese.specs.Gb18030Places.{gb18030_trail_place}
 use Rattle.legacy_chinese.proofs.Gb18030Places.{gb18030_trails_are, gb18030_entry}
 use Rattle.legacy_chinese.proofs.gb18030.decoder.pair_scalar.Goals as goal

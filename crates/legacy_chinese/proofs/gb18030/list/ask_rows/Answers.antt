@@ -1,6 +1,5 @@
-use Rattle.std.proofs.Common.{◌≡◌, ◌∙◌, ℕ, ◌+◌, get_or, take, take_all, false, ◌==◌, ◌||◌, sym, inl, inr, arith}
-use Rattle.std.proofs.lemmas.Bool.{both_ways, cases_lt, or_cases, or_parts, eqb-false, ne_eqb}
-use Rattle.std.proofs.lemmas.List.Folds.{list_any_more}
+use Rattle.std.proofs.{Common.{◌≡◌, ◌∙◌, ℕ, ◌+◌, get_or, take, take_all, false, ◌==◌, ◌||◌, sym, inl, inr, arith}, lemmas.Bool.{both_ways, cases_lt, or_cases}}
+use Rattle.std.proofs.{lemmas.Bool.{or_parts, eqb-false, ne_eqb}, lemmas.List.Folds.list_any_more}
 use Rattle.legacy_encoder_engine.specs.CachedPairs.{IsOutside}
 use Rattle.legacy_encoder_engine.proofs.CachedPairs.{asked}
 use Rattle.legacy_chinese.specs.Gb18030List.{is_in_rows}

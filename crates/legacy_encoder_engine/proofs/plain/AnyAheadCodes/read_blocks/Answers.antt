@@ -1,7 +1,5 @@
-use Rattle.std.proofs.Common.{length, ◌∙◌, ◌+◌, ap, sym, arith}
-use Rattle.std.proofs.lemmas.List.{length-take-le}
-use Rattle.legacy_encoder_engine.proofs.PlainServes.{plain_serves, plain_ascii, plain_byte}
-use Rattle.legacy_encoder_engine.proofs.ReadingAhead.{encodes_codes, same_bytes, ascii_count}
+use Rattle.std.proofs.{Common.{length, ◌∙◌, ◌+◌, ap, sym, arith}, lemmas.List.length-take-le}
+use Rattle.legacy_encoder_engine.proofs.{PlainServes.{plain_serves, plain_ascii, plain_byte}, ReadingAhead.{encodes_codes, same_bytes, ascii_count}}
 use Rattle.legacy_encoder_engine.proofs.plain.AnyAheadCodes.read_blocks.Goals as goal
 
 pub returns-then-has_blocks : goal.returns-then-has_blocks

@@ -1,6 +1,5 @@
-use Rattle.std.proofs.Common.{length, arith}
-use Rattle.std.proofs.lemmas.List.{length-take-le}
-use Rattle.legacy_encoder_engine.proofs.{PlainServes.plain_serves, PlainServes.plain_byte, ReadingAhead.encodes_codes, ReadingAhead.encodes_none}
+use Rattle.std.proofs.{Common.{length, arith}, lemmas.List.length-take-le}
+use Rattle.legacy_encoder_engine.proofs.{PlainServes.{plain_serves, plain_byte}, ReadingAhead.{encodes_codes, encodes_none}}
 use Rattle.legacy_encoder_engine.proofs.plain.AnyAheadCodes.read_turns.Goals as goal
 
 pub returns-then-has_turns : goal.returns-then-has_turns

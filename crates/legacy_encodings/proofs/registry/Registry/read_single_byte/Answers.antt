@@ -1,5 +1,4 @@
-use Rattle.std.proofs.Common.{refl}
-use Rattle.std.proofs.lemmas.Result.{err_from_is_err_and}
+use Rattle.std.proofs.{Common.refl, lemmas.Result.err_from_is_err_and}
 use Rattle.legacy_encodings.proofs.ReadTables.{single_byte_file, single_byte_fault_of}
 use Rattle.legacy_encodings.proofs.registry.Registry.read_single_byte.Goals as goal
 

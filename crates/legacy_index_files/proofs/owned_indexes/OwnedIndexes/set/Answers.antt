@@ -1,5 +1,4 @@
-use Rattle.std.proofs.Common.{arith}
-use Rattle.std.proofs.lemmas.Grind.{common_steps}
+use Rattle.std.proofs.{Common.arith, lemmas.Grind.common_steps}
 use Rattle.legacy_index_files.proofs.owned_indexes.OwnedIndexes.set.Goals as goal
 
 pub returns-then-eq-3-clause-place : goal.returns-then-eq-3-clause-place

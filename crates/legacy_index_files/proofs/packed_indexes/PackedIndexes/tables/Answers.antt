@@ -1,14 +1,8 @@
 use Rattle.std.proofs.Common.{◌≡◌, ◌∙◌, Result, Ok, Err, Some, sym}
 use Rattle.std.specs.Result.{MatchResult}
-use Rattle.legacy_tables.specs.declared.tables.packed.Packed.{Packed}
-use Rattle.legacy_tables.specs.declared.tables.TableError.{TableError}
-use Rattle.legacy_tables.specs.declared.tables.Tables.{Tables}
-use Rattle.legacy_tables.specs.Indexes.{FlatIndexes}
-use Rattle.legacy_tables.specs.TableChecks.{table_fault}
-use Rattle.legacy_tables.specs.Packed.{packed_fault, ArePackedTables}
-use Rattle.legacy_index_files.specs.declared.packing.OwnedPacked.{OwnedPacked}
-use Rattle.legacy_index_files.specs.OwnedIndexes.{owned_lists}
-use Rattle.legacy_index_files.specs.Packing.{HasParts, IsPackOf, AreTablesOf}
+use Rattle.legacy_tables.specs.{declared.tables.packed.Packed.Packed, declared.tables.TableError.TableError, declared.tables.Tables.Tables, Indexes.FlatIndexes}
+use Rattle.legacy_tables.specs.{TableChecks.table_fault, Packed.{packed_fault, ArePackedTables}}
+use Rattle.legacy_index_files.specs.{declared.packing.OwnedPacked.OwnedPacked, OwnedIndexes.owned_lists, Packing.{HasParts, IsPackOf, AreTablesOf}}
 use Rattle.legacy_index_files.proofs.packed_indexes.PackedIndexes.tables.Goals as goal
 
 module _ {T : Type 0} (lists : T → FlatIndexes) (flat : FlatIndexes) (owned : OwnedPacked) (packed : Packed) (has : HasParts owned packed)

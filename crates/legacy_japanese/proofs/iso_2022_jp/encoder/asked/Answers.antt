@@ -1,5 +1,5 @@
-use Rattle.std.proofs.Common.{◌≡◌, ◌||◌, eqb, false, true, arith, ◌∙◌, ◌/◌, ◌%◌, ◌+◌, [], ◌∷◌, Some, None, refl, sym}
-use Rattle.std.proofs.lemmas.{Bool.lt-ltb, Bool.le-ltb, Bool.Decides.nat_tests}
+use Rattle.std.proofs.{Common.{◌≡◌, ◌||◌, eqb, false, true, arith, ◌∙◌, ◌/◌, ◌%◌, ◌+◌, [], ◌∷◌, Some, None, refl, sym}, lemmas.Bool.{lt-ltb, le-ltb}}
+use Rattle.std.proofs.lemmas.Bool.Decides.{nat_tests}
 use Rattle.legacy_base.proofs.Iso2022JpEncoding.{at_control, at_special, at_neutral, at_yen, at_overline, at_pair, at_none}
 use Rattle.legacy_japanese.proofs.Iso2022JpEncoderMoves.{asks}
 use Rattle.legacy_japanese.proofs.iso_2022_jp.encoder.asked.Goals as goal

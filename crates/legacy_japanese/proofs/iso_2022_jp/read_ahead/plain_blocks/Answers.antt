@@ -1,5 +1,4 @@
-use Rattle.std.proofs.Common.{◌-◌, arith, inl, inr}
-use Rattle.std.proofs.lemmas.{Bool.cases_lt, Grind.common_steps}
+use Rattle.std.proofs.{Common.{◌-◌, arith, inl, inr}, lemmas.Bool.cases_lt, lemmas.Grind.common_steps}
 use Rattle.legacy_japanese.proofs.iso_2022_jp.read_ahead.plain_blocks.Goals as goal
 
 pub loop-at-preserved : goal.loop-at-preserved

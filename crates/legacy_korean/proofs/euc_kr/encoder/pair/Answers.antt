@@ -1,5 +1,4 @@
-use Rattle.std.proofs.Common.{arith}
-use Rattle.std.proofs.lemmas.Grind.{common_steps}
+use Rattle.std.proofs.{Common.arith, lemmas.Grind.common_steps}
 use Rattle.legacy_korean.proofs.euc_kr.encoder.pair.Goals as goal
 
 pub returns-in-Some : goal.returns-in-Some

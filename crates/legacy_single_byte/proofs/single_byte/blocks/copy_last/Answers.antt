@@ -1,6 +1,4 @@
-use Rattle.std.proofs.Common.{arith}
-use Rattle.std.proofs.lemmas.List.{length-take-le}
-use Rattle.std.proofs.Math.Seq.{take-append_seam}
+use Rattle.std.proofs.{Common.arith, lemmas.List.length-take-le, Math.Seq.take-append_seam}
 use Rattle.legacy_single_byte.proofs.single_byte.blocks.copy_last.Goals as goal
 
 pub copy_from_slice-requires : goal.copy_from_slice-requires

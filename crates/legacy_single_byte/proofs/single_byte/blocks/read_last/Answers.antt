@@ -1,5 +1,4 @@
-use Rattle.legacy_base.specs.Grammar.{single_byte}
-use Rattle.legacy_base.specs.States.{new_state}
+use Rattle.legacy_base.specs.{Grammar.single_byte, States.new_state}
 use Rattle.legacy_decoder_engine.proofs.WrittenRuns.{reads_none}
 use Rattle.legacy_single_byte.proofs.SingleByteRuns.{reads_padded}
 use Rattle.legacy_single_byte.proofs.single_byte.blocks.read_last.Goals as goal

@@ -1,7 +1,6 @@
 use Rattle.std.proofs.Common.{arith}
 use Rattle.legacy_base.specs.States.{new_state}
-use Rattle.legacy_decoder_engine.proofs.JoinedRuns.{reads_more}
-use Rattle.legacy_decoder_engine.proofs.WrittenRuns.{reads_none}
+use Rattle.legacy_decoder_engine.proofs.{JoinedRuns.reads_more, WrittenRuns.reads_none}
 use Rattle.legacy_single_byte.proofs.single_byte.blocks.read_parts.Goals as goal
 
 pub loop-at-init : goal.loop-at-init

@@ -1,7 +1,5 @@
-use Rattle.legacy_base.specs.Grammar.{single_byte}
-use Rattle.legacy_base.specs.States.{new_state}
-use Rattle.legacy_decoder_engine.proofs.JoinedRuns.{reads_more}
-use Rattle.legacy_decoder_engine.proofs.WrittenRuns.{reads_none}
+use Rattle.legacy_base.specs.{Grammar.single_byte, States.new_state}
+use Rattle.legacy_decoder_engine.proofs.{JoinedRuns.reads_more, WrittenRuns.reads_none}
 use Rattle.legacy_single_byte.proofs.single_byte.blocks.read_text.Goals as goal
 
 pub returns-then-begins_uncommon : goal.returns-then-begins_uncommon

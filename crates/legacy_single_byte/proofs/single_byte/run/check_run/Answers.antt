@@ -1,5 +1,4 @@
-use Rattle.std.proofs.Common.{◌∙◌, sym, arith}
-use Rattle.std.proofs.lemmas.Grind.{common_steps}
+use Rattle.std.proofs.{Common.{◌∙◌, sym, arith}, lemmas.Grind.common_steps}
 use Rattle.legacy_single_byte.proofs.EncoderRuns.{run_holds, run_below, mismatch_within}
 use Rattle.legacy_single_byte.proofs.single_byte.run.check_run.Goals as goal
 

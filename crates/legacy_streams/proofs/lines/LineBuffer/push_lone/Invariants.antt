@@ -1,6 +1,5 @@
 use Rattle.std.proofs.Common.{◌≡◌, ◌+◌, ◌*◌, ◌-◌, ◌≤◌, ◌++◌}
-use Rattle.legacy_streams.specs.Lines.{event_lines, malformed_events}
-use Rattle.legacy_streams.specs.LineBuffers.{line_bytes, line_room}
+use Rattle.legacy_streams.specs.{Lines.{event_lines, malformed_events}, LineBuffers.{line_bytes, line_room}}
 use Rattle.legacy_streams.proofs.lines.LineBuffer.push_malformed_bytes.Given as goal
 
 abbrev pub invariant-hundreds : goal.invariant-hundreds

@@ -1,5 +1,4 @@
-use Rattle.legacy_tables.proofs.Accepted.{narrow_index}
-use Rattle.legacy_tables.proofs.PackedAccepted.{entry-narrow}
+use Rattle.legacy_tables.proofs.{Accepted.narrow_index, PackedAccepted.entry-narrow}
 use Rattle.legacy_tables.proofs.tables.Tables.unpack.Goals as goal
 
 pub unpack-requires : goal.unpack-requires

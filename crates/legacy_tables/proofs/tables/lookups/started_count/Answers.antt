@@ -1,5 +1,4 @@
-use Rattle.std.proofs.Common.{ℕ, rules, arith, nat_le}
-use Rattle.std.proofs.lemmas.List.Sorted.{IsPartitionPoint-from_clause, IsPartitionedBy-leb}
+use Rattle.std.proofs.{Common.{ℕ, rules, arith, nat_le}, lemmas.List.Sorted.{IsPartitionPoint-from_clause, IsPartitionedBy-leb}}
 use borrow.Author.Tests.{leb-true, leb-false}
 use Rattle.legacy_tables.proofs.Accepted.{rising}
 use Rattle.legacy_tables.proofs.tables.lookups.started_count.Goals as goal

@@ -1,5 +1,4 @@
-use Rattle.std.proofs.Common.{◌+◌, ◌<◌, ap, arith, rules, inl, inr, not, slice_index}
-use Rattle.std.proofs.lemmas.Bool.{cases_lt}
+use Rattle.std.proofs.{Common.{◌+◌, ◌<◌, ap, arith, rules, inl, inr, not, slice_index}, lemmas.Bool.cases_lt}
 use Rattle.legacy_tables.proofs.SearchedBlocks.{not-contained}
 use Rattle.legacy_tables.proofs.tables.numbers.is_past_wide.Goals as goal
 

@@ -1,5 +1,4 @@
-use Rattle.std.proofs.Common.{ℕ, rules, arith, nat_lt, slice_index}
-use Rattle.std.proofs.lemmas.List.Sorted.{IsPartitionPoint-from_clause, IsPartitionedBy-ltb}
+use Rattle.std.proofs.{Common.{ℕ, rules, arith, nat_lt, slice_index}, lemmas.List.Sorted.{IsPartitionPoint-from_clause, IsPartitionedBy-ltb}}
 use borrow.Author.Tests.{ltb-true, ltb-false}
 use Rattle.legacy_tables.proofs.Orders.{order-rising}
 use Rattle.legacy_tables.proofs.tables.order.count_below.Goals as goal

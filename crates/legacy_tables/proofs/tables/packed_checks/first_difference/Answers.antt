@@ -1,10 +1,7 @@
-use Rattle.std.proofs.Common.{◌≡◌, ◌∙◌, sym, refl, arith, false, inl, inr}
-use Rattle.std.proofs.lemmas.Bool.{cases_lt}
+use Rattle.std.proofs.{Common.{◌≡◌, ◌∙◌, sym, refl, arith, false, inl, inr}, lemmas.Bool.cases_lt, lemmas.List.get_or_past}
 use borrow.Author.Count.{below_more}
 use Rattle.legacy_tables.specs.Packed.{differs_at, run_difference}
-use Rattle.legacy_tables.proofs.FirstPlaces.{find-some, find-none}
-use Rattle.std.proofs.lemmas.List.{get_or_past}
-use Rattle.legacy_tables.proofs.PackedRuns.{first-behind, scalar-past_list}
+use Rattle.legacy_tables.proofs.{FirstPlaces.{find-some, find-none}, PackedRuns.{first-behind, scalar-past_list}}
 use Rattle.legacy_tables.proofs.tables.packed_checks.first_difference.Goals as goal
 
 pub loop-pointer-init : goal.loop-pointer-init

@@ -1,5 +1,4 @@
-use Rattle.std.proofs.Common.{rules, arith, nat_le}
-use Rattle.std.proofs.lemmas.List.Sorted.{IsPartitionPoint-from_clause, IsPartitionedBy-leb}
+use Rattle.std.proofs.{Common.{rules, arith, nat_le}, lemmas.List.Sorted.{IsPartitionPoint-from_clause, IsPartitionedBy-leb}}
 use borrow.Author.Tests.{leb-true, leb-false}
 use Rattle.legacy_tables.specs.declared.tables.packed.Run.{Run}
 use Rattle.legacy_tables.proofs.PackedRuns.{no_run, starts-rise}

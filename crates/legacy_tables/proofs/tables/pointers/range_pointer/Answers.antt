@@ -1,6 +1,5 @@
 use Rattle.std.proofs.Common.{◌<◌, sym, rules}
-use Rattle.legacy_tables.proofs.Pointers.{range-fixed}
-use Rattle.legacy_tables.proofs.RangePointers.{wide-pointer}
+use Rattle.legacy_tables.proofs.{Pointers.range-fixed, RangePointers.wide-pointer}
 use Rattle.legacy_tables.proofs.tables.pointers.range_pointer.Goals as goal
 
 pub returns-then-scalar-eq59335 : goal.returns-then-scalar-eq59335

@@ -1,5 +1,4 @@
-use Rattle.std.proofs.Common.{ℕ, rules, arith, nat_lt}
-use Rattle.std.proofs.lemmas.List.Sorted.{IsPartitionPoint-from_clause, IsPartitionedBy-ltb}
+use Rattle.std.proofs.{Common.{ℕ, rules, arith, nat_lt}, lemmas.List.Sorted.{IsPartitionPoint-from_clause, IsPartitionedBy-ltb}}
 use borrow.Author.Tests.{ltb-true, ltb-false}
 use Rattle.legacy_tables.proofs.PrivateUse.{rows-rising}
 use Rattle.legacy_tables.proofs.tables.private_use.rows_below.Goals as goal

@@ -1,6 +1,4 @@
-use Rattle.std.proofs.Common.{◌≡◌, ◌∙◌, ◌+◌, ◌-◌, length, arith, inl, inr, sym}
-use Rattle.std.proofs.lemmas.Bool.{cases_lt}
-use Rattle.std.proofs.lemmas.List.{ext_get_or}
+use Rattle.std.proofs.{Common.{◌≡◌, ◌∙◌, ◌+◌, ◌-◌, length, arith, inl, inr, sym}, lemmas.Bool.cases_lt, lemmas.List.ext_get_or}
 use Rattle.legacy_tables.proofs.tables.unpacking.write.Goals as goal
 
 pub loop-pointer-init : goal.loop-pointer-init

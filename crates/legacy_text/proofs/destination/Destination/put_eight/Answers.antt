@@ -1,6 +1,4 @@
-use Rattle.std.proofs.lemmas.Grind.{common_steps}
-use Rattle.std.proofs.Common.{◌∙◌, ◌+◌, ℕ, List, arith, ap, sym}
-use Rattle.std.proofs.lemmas.List.{take_all}
+use Rattle.std.proofs.{lemmas.Grind.common_steps, Common.{◌∙◌, ◌+◌, ℕ, List, arith, ap, sym}, lemmas.List.take_all}
 use Rattle.legacy_text.specs.EncodingForm.{total_unit_count}
 use Rattle.legacy_text.proofs.destination.Destination.put_eight.Goals as goal
 

@@ -1,5 +1,4 @@
-use Rattle.std.proofs.lemmas.Grind.{common_steps}
-use Rattle.std.proofs.Common.{arith, append-nil}
+use Rattle.std.proofs.{lemmas.Grind.common_steps, Common.{arith, append-nil}}
 use Rattle.legacy_text.proofs.VectorUnits.{few-units, one-more, more-units, unit-below}
 use Rattle.legacy_text.proofs.destination.Destination.put_first.Goals as goal
 

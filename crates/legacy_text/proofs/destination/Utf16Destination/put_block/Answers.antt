@@ -1,5 +1,4 @@
-use Rattle.std.proofs.Common.{arith}
-use Rattle.std.proofs.lemmas.List.{map-id}
+use Rattle.std.proofs.{Common.arith, lemmas.List.map-id}
 use Rattle.legacy_text.proofs.Ascii.{stored}
 use Rattle.legacy_text.proofs.destination.Utf16Destination.put_block.Goals as goal
 

@@ -1,8 +1,5 @@
-use Rattle.std.proofs.lemmas.Grind.{common_steps}
-use Rattle.std.proofs.Common.{ap, length, List, ℕ, arith}
-use Rattle.std.proofs.lemmas.List.{length-take-le}
-use Rattle.legacy_text.proofs.Ascii.{stored}
-use Rattle.legacy_text.proofs.VectorUnits.{own-units}
+use Rattle.std.proofs.{lemmas.Grind.common_steps, Common.{ap, length, List, ℕ, arith}, lemmas.List.length-take-le}
+use Rattle.legacy_text.proofs.{Ascii.stored, VectorUnits.own-units}
 use Rattle.legacy_text.proofs.destination.Utf16DestinationDestination.put_first.Goals as goal
 
 pub returns-clause-contents : goal.returns-clause-contents

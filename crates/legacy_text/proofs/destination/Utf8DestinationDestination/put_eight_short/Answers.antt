@@ -1,5 +1,4 @@
-use Rattle.std.proofs.lemmas.Grind.{common_steps}
-use Rattle.std.proofs.Common.{arith}
+use Rattle.std.proofs.{lemmas.Grind.common_steps, Common.arith}
 use Rattle.legacy_text.proofs.VectorUnits.{free-after}
 use Rattle.legacy_text.proofs.destination.Utf8DestinationDestination.put_eight_short.Goals as goal
 

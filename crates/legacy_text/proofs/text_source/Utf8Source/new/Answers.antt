@@ -1,5 +1,4 @@
-use Rattle.std.proofs.Common.{arith}
-use Rattle.std.proofs.lemmas.Str.{is_utf8-from_IsUtf8}
+use Rattle.std.proofs.{Common.arith, lemmas.Str.is_utf8-from_IsUtf8}
 use Rattle.legacy_text.proofs.text_source.Utf8Source.new.Goals as goal
 
 pub invariant_of-result : goal.invariant_of-result

@@ -1,5 +1,4 @@
-use Rattle.std.proofs.lemmas.Grind.{common_steps}
-use Rattle.std.proofs.Common.{arith}
+use Rattle.std.proofs.{lemmas.Grind.common_steps, Common.arith}
 use Rattle.legacy_text.proofs.Texts.{utf8_pass}
 use Rattle.legacy_text.proofs.text_source.Utf8SourceTextCursor.pass.Goals as goal
 

@@ -1,11 +1,9 @@
 use Rattle.std.proofs.Common.{◌≡◌, ◌∙◌, ◌≤◌, ◌∷◌, [], length, cond, ap, subst, arith}
 use Rattle.legacy_tables.proofs.Accepted.{length-big5}
 use Rattle.legacy_base.specs.Big5.{big5_scalars}
-use Rattle.legacy_decoder_engine.specs.Steps.{trail_step}
-use Rattle.legacy_decoder_engine.specs.Feeding.{Took}
+use Rattle.legacy_decoder_engine.specs.{Steps.trail_step, Feeding.Took}
 use Rattle.legacy_decoder_engine.proofs.TwoByteMeets.{is_lead-in}
-use Rattle.legacy_chinese.specs.Big5Machine.{big5_pair_scalars}
-use Rattle.legacy_chinese.specs.Big5Places.{big5_lead_place, big5_trail_place}
+use Rattle.legacy_chinese.specs.{Big5Machine.big5_pair_scalars, Big5Places.{big5_lead_place, big5_trail_place}}
 use Rattle.legacy_chinese.proofs.Big5Places.{big5_rows_are, big5_trails_are, big5_at}
 use Rattle.legacy_chinese.proofs.big5.decoder.Big5LeadCodec.read_pair.Goals as goal
 

@@ -1,8 +1,7 @@
 use Rattle.std.proofs.Common.{◌∙◌}
 use Rattle.legacy_base.specs.Encoders.{big5}
 use Rattle.legacy_encoder_engine.specs.CachedPairs.{IsRightEntry}
-use Rattle.legacy_encoder_engine.proofs.CachedPairs.{asked, all-right, outside-first}
-use Rattle.legacy_encoder_engine.proofs.WalkedPairs.{walked-right}
+use Rattle.legacy_encoder_engine.proofs.{CachedPairs.{asked, all-right, outside-first}, WalkedPairs.walked-right}
 use Rattle.legacy_chinese.proofs.Big5Walk.{goes-by-pointers}
 use Rattle.legacy_chinese.proofs.big5.encoder.Big5FillsPairs.fill.Goals as goal
 

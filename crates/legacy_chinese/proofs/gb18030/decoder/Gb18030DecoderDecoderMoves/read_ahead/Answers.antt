@@ -1,10 +1,8 @@
 use Rattle.std.proofs.Common.{◌∙◌, sym, subst}
 use Rattle.legacy_tables.specs.AcceptedTables.{AcceptedIndexes}
-use Rattle.legacy_base.specs.Grammar.{gb18030}
-use Rattle.legacy_base.specs.States.{new_state}
+use Rattle.legacy_base.specs.{Grammar.gb18030, States.new_state}
 use Rattle.legacy_decoder_engine.specs.ReadAhead.{ReadsAhead}
-use Rattle.legacy_decoder_engine.proofs.JoinedRuns.{reads_idle}
-use Rattle.legacy_decoder_engine.proofs.WrittenRuns.{reads_none}
+use Rattle.legacy_decoder_engine.proofs.{JoinedRuns.reads_idle, WrittenRuns.reads_none}
 use Rattle.legacy_chinese.specs.Gb18030Decoder.{gb18030_state}
 use Rattle.legacy_chinese.proofs.Gb18030Held.{ascii, idle}
 use Rattle.legacy_chinese.proofs.gb18030.decoder.Gb18030DecoderDecoderMoves.read_ahead.Goals as goal

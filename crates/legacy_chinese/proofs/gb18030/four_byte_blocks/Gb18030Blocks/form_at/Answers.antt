@@ -1,10 +1,8 @@
-use Rattle.std.proofs.Common.{◌∙◌, [], ◌∷◌, ◌++◌, get_or, sym, ap, subst, arith}
-use Rattle.std.proofs.lemmas.List.{take_more}
+use Rattle.std.proofs.{Common.{◌∙◌, [], ◌∷◌, ◌++◌, get_or, sym, ap, subst, arith}, lemmas.List.take_more}
 use Rattle.legacy_base.specs.Grammar.{gb18030}
 use Rattle.legacy_decoder_engine.specs.ReadAhead.{Runs}
 use Rattle.legacy_decoder_engine.proofs.WrittenRuns.{runs_byte, take_two}
-use Rattle.legacy_chinese.proofs.Gb18030Held.{ascii}
-use Rattle.legacy_chinese.proofs.FourPlaces.{four_at}
+use Rattle.legacy_chinese.proofs.{Gb18030Held.ascii, FourPlaces.four_at}
 use Rattle.legacy_chinese.proofs.gb18030.four_byte_blocks.Gb18030Blocks.form_at.Goals as goal
 
 pub returns-then-byte-lt128 : goal.returns-then-byte-lt128

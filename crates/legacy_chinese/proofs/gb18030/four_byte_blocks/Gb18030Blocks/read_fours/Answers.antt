@@ -1,9 +1,7 @@
 use Rattle.std.proofs.Common.{◌+◌, ◌<◌, length, get_or, ap, arith}
 use Rattle.legacy_base.specs.Grammar.{gb18030}
-use Rattle.legacy_decoder_engine.proofs.JoinedRuns.{reads_front}
-use Rattle.legacy_decoder_engine.proofs.WrittenRuns.{runs_byte, code_units_ascii, writes_none, writes_one, writes_four, four_fit}
-use Rattle.legacy_chinese.proofs.Gb18030Held.{ascii}
-use Rattle.legacy_chinese.proofs.FourPlaces.{four_at}
+use Rattle.legacy_decoder_engine.proofs.{JoinedRuns.reads_front, WrittenRuns.{runs_byte, code_units_ascii, writes_none, writes_one, writes_four, four_fit}}
+use Rattle.legacy_chinese.proofs.{Gb18030Held.ascii, FourPlaces.four_at}
 use Rattle.legacy_chinese.proofs.gb18030.four_byte_blocks.Gb18030Blocks.read_fours.Goals as goal
 
 pub loop-at-init : goal.loop-at-init

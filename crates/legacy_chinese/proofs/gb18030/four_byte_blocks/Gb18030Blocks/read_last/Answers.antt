@@ -1,5 +1,4 @@
-use Rattle.std.proofs.Common.{◌-◌, take, drop, length, length-drop, arith}
-use Rattle.std.proofs.lemmas.List.{length-take}
+use Rattle.std.proofs.{Common.{◌-◌, take, drop, length, length-drop, arith}, lemmas.List.length-take}
 use Rattle.legacy_base.specs.Grammar.{gb18030}
 use Rattle.legacy_decoder_engine.proofs.WrittenRuns.{writes_none, writes_put, writes_run, four_fit}
 use Rattle.legacy_chinese.proofs.gb18030.four_byte_blocks.Gb18030Blocks.read_last.Goals as goal

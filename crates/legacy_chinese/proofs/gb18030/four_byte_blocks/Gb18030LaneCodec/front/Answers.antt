@@ -3,8 +3,7 @@ use Rattle.legacy_tables.specs.Indexes.{idx}
 use Rattle.legacy_decoder_engine.specs.Places.{lead_place}
 use Rattle.legacy_decoder_engine.proofs.PairPlaces.{rows_are}
 use Rattle.legacy_chinese.specs.Gb18030Places.{gb18030_trail_place}
-use Rattle.legacy_chinese.proofs.Gb18030Places.{gb18030_trails_are}
-use Rattle.legacy_chinese.proofs.Gb18030Held.{pair_at}
+use Rattle.legacy_chinese.proofs.{Gb18030Places.gb18030_trails_are, Gb18030Held.pair_at}
 use Rattle.legacy_chinese.proofs.gb18030.four_byte_blocks.Gb18030LaneCodec.front.Goals as goal
 
 pub returns-in-Some : goal.returns-in-Some

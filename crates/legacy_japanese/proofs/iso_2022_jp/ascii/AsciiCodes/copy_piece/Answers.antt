@@ -1,8 +1,6 @@
-use Rattle.std.proofs.Common.{◌≡◌, ◌∙◌, ◌+◌, ◌-◌, ◌≤◌, ◌++◌, take, drop, length, ap, sym, arith}
-use Rattle.std.proofs.lemmas.List.{length-take-le}
+use Rattle.std.proofs.{Common.{◌≡◌, ◌∙◌, ◌+◌, ◌-◌, ◌≤◌, ◌++◌, take, drop, length, ap, sym, arith}, lemmas.List.length-take-le}
 use Rattle.legacy_encoder_engine.proofs.ReadingAhead.{ascii_count, encodes_codes, encodes_none}
-use Rattle.legacy_japanese.proofs.Iso2022JpEncoderMoves.{serves, own_byte}
-use Rattle.legacy_japanese.proofs.Iso2022JpPieces.{piece_behind, front_same, piece_is, front_without, own_bytes}
+use Rattle.legacy_japanese.proofs.{Iso2022JpEncoderMoves.{serves, own_byte}, Iso2022JpPieces.{piece_behind, front_same, piece_is, front_without, own_bytes}}
 use Rattle.legacy_japanese.proofs.iso_2022_jp.ascii.AsciiCodes.copy_piece.Goals as goal
 
 pub returns-then-has_any_control : goal.returns-then-has_any_control

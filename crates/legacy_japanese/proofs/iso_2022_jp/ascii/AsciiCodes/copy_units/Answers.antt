@@ -1,5 +1,4 @@
-use Rattle.std.proofs.Common.{◌≡◌, ◌+◌, ◌-◌, take, drop, length, arith}
-use Rattle.std.proofs.lemmas.List.{take-append-le, take-take, length-take-le}
+use Rattle.std.proofs.{Common.{◌≡◌, ◌+◌, ◌-◌, take, drop, length, arith}, lemmas.List.{take-append-le, take-take, length-take-le}}
 use Rattle.legacy_encoder_engine.proofs.ReadingAhead.{encodes_codes}
 use Rattle.legacy_japanese.proofs.Iso2022JpEncoderMoves.{serves, own_byte}
 use Rattle.legacy_japanese.proofs.iso_2022_jp.ascii.AsciiCodes.copy_units.Goals as goal

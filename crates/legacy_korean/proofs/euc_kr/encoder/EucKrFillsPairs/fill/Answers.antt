@@ -1,8 +1,7 @@
 use Rattle.std.proofs.Common.{◌∙◌}
 use Rattle.legacy_base.specs.Encoders.{euc_kr}
 use Rattle.legacy_encoder_engine.specs.CachedPairs.{IsRightEntry}
-use Rattle.legacy_encoder_engine.proofs.CachedPairs.{asked, all-right, outside-first}
-use Rattle.legacy_encoder_engine.proofs.WalkedPairs.{walked-right}
+use Rattle.legacy_encoder_engine.proofs.{CachedPairs.{asked, all-right, outside-first}, WalkedPairs.walked-right}
 use Rattle.legacy_korean.proofs.EucKrWalk.{goes-by-pointers}
 use Rattle.legacy_korean.proofs.euc_kr.encoder.EucKrFillsPairs.fill.Goals as goal
 

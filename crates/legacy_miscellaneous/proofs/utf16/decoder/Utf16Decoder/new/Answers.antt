@@ -1,5 +1,4 @@
-use Rattle.std.proofs.Common.{arith}
-use Rattle.std.proofs.lemmas.Grind.{common_steps}
+use Rattle.std.proofs.{Common.arith, lemmas.Grind.common_steps}
 use Rattle.legacy_miscellaneous.proofs.utf16.decoder.Utf16Decoder.new.Goals as goal
 
 pub returns : goal.returns

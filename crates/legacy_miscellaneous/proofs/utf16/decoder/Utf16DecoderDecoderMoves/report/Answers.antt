@@ -1,8 +1,7 @@
 use Rattle.std.proofs.Common.{refl}
 use Rattle.legacy_miscellaneous.specs.declared.utf16.held_bytes.Held.TheVariants.{Odd, High, HighOdd}
-use Rattle.legacy_miscellaneous.proofs.Utf16Held.{ends_none, reports}
+use Rattle.legacy_miscellaneous.proofs.{Utf16Held.{ends_none, reports}, utf16.decoder.Utf16DecoderDecoderMoves.report.Goals.{in-Odd, in-High, in-HighOdd}}
 use Rattle.legacy_miscellaneous.proofs.utf16.decoder.Utf16DecoderDecoderMoves.report.Goals as goal
-use Rattle.legacy_miscellaneous.proofs.utf16.decoder.Utf16DecoderDecoderMoves.report.Goals.{in-Odd, in-High, in-HighOdd}
 
 pub returns-in-Nothing : goal.returns-in-Nothing
 returns-in-Nothing c = rw c.in-Nothing.is (ends_none c.args.self.now.big_endian)

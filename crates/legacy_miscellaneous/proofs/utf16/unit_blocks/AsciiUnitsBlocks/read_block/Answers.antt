@@ -1,6 +1,5 @@
 use Rattle.std.proofs.Common.{arith}
-use Rattle.legacy_base.specs.Grammar.{utf16}
-use Rattle.legacy_base.specs.States.{new_state}
+use Rattle.legacy_base.specs.{Grammar.utf16, States.new_state}
 use Rattle.legacy_decoder_engine.proofs.WrittenRuns.{reads_none}
 use Rattle.legacy_miscellaneous.proofs.Utf16Runs.{reads_block}
 use Rattle.legacy_miscellaneous.proofs.utf16.unit_blocks.AsciiUnitsBlocks.read_block.Goals as goal

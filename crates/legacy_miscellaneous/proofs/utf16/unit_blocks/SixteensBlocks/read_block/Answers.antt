@@ -1,7 +1,6 @@
 use Rattle.std.proofs.Common.{◌≡◌, ℕ, ◌+◌, ◌*◌, ◌<◌, length, get_or, subst, arith}
 use Rattle.std.specs.Char.{IsScalar}
-use Rattle.legacy_base.specs.Grammar.{utf16}
-use Rattle.legacy_base.specs.States.{new_state}
+use Rattle.legacy_base.specs.{Grammar.utf16, States.new_state}
 use Rattle.legacy_tables.specs.Unicode.{IsByte}
 use Rattle.legacy_miscellaneous.specs.Utf16Decoder.{unit_at}
 use Rattle.legacy_miscellaneous.proofs.Utf16Runs.{writes_unit}

@@ -1,5 +1,4 @@
-use Rattle.std.proofs.Common.{◌<◌, arith}
-use Rattle.std.proofs.lemmas.List.Elements.{All-from_get_or}
+use Rattle.std.proofs.{Common.{◌<◌, arith}, lemmas.List.Elements.All-from_get_or}
 use Rattle.std.specs.Char.{IsScalar}
 use Rattle.legacy_base.specs.Grammar.{utf16}
 use Rattle.legacy_decoder_engine.proofs.WrittenRuns.{writes_none}

@@ -2,8 +2,8 @@ use Rattle.std.proofs.Common.{◌≡◌, ◌∙◌, get_or, true, sym, arith}
 use Rattle.legacy_base.specs.Latin1.{is_latin1_byte}
 use Rattle.legacy_single_byte.specs.SingleByteDecoder.{single_byte_entries}
 use Rattle.legacy_single_byte.proofs.Latin1Fronts.{latin1_front-length, latin1-ascii}
-use Rattle.legacy_single_byte.proofs.single_byte.decoder.SingleByteDecoder.latin1_byte_compatible_up_to.Goals as goal
 use borrow.Author.Count.{below_more}
+use Rattle.legacy_single_byte.proofs.single_byte.decoder.SingleByteDecoder.latin1_byte_compatible_up_to.Goals as goal
 
 pub loop-count-init : goal.loop-count-init
 loop-count-init c = (

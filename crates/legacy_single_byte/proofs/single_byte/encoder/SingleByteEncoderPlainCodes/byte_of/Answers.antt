@@ -1,5 +1,4 @@
-use Rattle.std.proofs.Common.{◌≡◌, ◌∙◌, ◌+◌, ◌-◌, ◌<◌, Some, [], ◌∷◌, get_or, refl, sym, ap, arith, inl, inr}
-use Rattle.std.proofs.lemmas.Bool.{cases_lt, le-ltb, ltb-true}
+use Rattle.std.proofs.{Common.{◌≡◌, ◌∙◌, ◌+◌, ◌-◌, ◌<◌, Some, [], ◌∷◌, get_or, refl, sym, ap, arith, inl, inr}, lemmas.Bool.{cases_lt, le-ltb, ltb-true}}
 use Rattle.legacy_single_byte.proofs.EncoderRuns.{code_at, code_ascii, malformed_at}
 use Rattle.legacy_single_byte.proofs.single_byte.encoder.SingleByteEncoderPlainCodes.byte_of.Goals as goal
 

@@ -1,5 +1,4 @@
-use Rattle.std.proofs.Common.{◌<◌, ◌∙◌, get_or, sym, subst, arith}
-use Rattle.std.proofs.lemmas.List.{length-set}
+use Rattle.std.proofs.{Common.{◌<◌, ◌∙◌, get_or, sym, subst, arith}, lemmas.List.length-set}
 use Rattle.legacy_single_byte.specs.ByteEntries.{IsByteEntry}
 use Rattle.legacy_single_byte.proofs.SingleByteRuns.{set_more}
 use Rattle.legacy_single_byte.proofs.single_byte.scalars.ByteScalars.units.Goals as goal

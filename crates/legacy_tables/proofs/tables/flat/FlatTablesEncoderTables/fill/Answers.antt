@@ -1,6 +1,5 @@
 use Rattle.std.proofs.Common.{subst}
-use Rattle.legacy_tables.specs.AcceptedTables.{AcceptedIndexes}
-use Rattle.legacy_tables.specs.Walks.{IsFilled, order_index}
+use Rattle.legacy_tables.specs.{AcceptedTables.AcceptedIndexes, Walks.{IsFilled, order_index}}
 use Rattle.legacy_tables.proofs.Accepted.{order_index-short}
 use Rattle.legacy_tables.proofs.tables.flat.FlatTablesEncoderTables.fill.Goals as goal
 

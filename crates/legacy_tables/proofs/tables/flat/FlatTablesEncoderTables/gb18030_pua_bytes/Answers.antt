@@ -1,6 +1,5 @@
-use Rattle.std.proofs.Common.{arith}
+use Rattle.std.proofs.{Common.arith, lemmas.Grind.common_steps}
 use Rattle.legacy_tables.proofs.Accepted.{parts}
-use Rattle.std.proofs.lemmas.Grind.{common_steps}
 use Rattle.legacy_tables.proofs.tables.flat.FlatTablesEncoderTables.gb18030_pua_bytes.Goals as goal
 
 pub row_bytes-requires : goal.row_bytes-requires

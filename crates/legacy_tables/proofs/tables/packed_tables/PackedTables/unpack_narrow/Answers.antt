@@ -1,5 +1,4 @@
-use Rattle.legacy_tables.proofs.Accepted.{euc_kr-below, jis0208-below, jis0212-below, gb18030-below}
-use Rattle.legacy_tables.proofs.PackedAccepted.{entry-narrow}
+use Rattle.legacy_tables.proofs.{Accepted.{euc_kr-below, jis0208-below, jis0212-below, gb18030-below}, PackedAccepted.entry-narrow}
 use Rattle.legacy_tables.proofs.tables.packed_tables.PackedTables.unpack_narrow.Goals as goal
 
 pub unpack-requires : goal.unpack-requires

@@ -1,6 +1,5 @@
-use Rattle.legacy_tables.proofs.RunWalks.{row-there, row-gap, row-numbers, row-within, row-next}
+use Rattle.legacy_tables.proofs.{RunWalks.{row-there, row-gap, row-numbers, row-within, row-next}, PackedRuns.no_run}
 use Rattle.std.proofs.Common.{◌<◌, length, arith, rules}
-use Rattle.legacy_tables.proofs.PackedRuns.{no_run}
 use Rattle.legacy_tables.proofs.tables.pointer_runs.RunsNumbers.row.Goals as goal
 
 pub bounds-self-place : goal.bounds-self-place

@@ -1,9 +1,7 @@
-use Rattle.std.proofs.Common.{◌∙◌, ◌/◌, ◌<◌, ◌≡◌, ◌==◌, arith, eq-eqb, length, length-set, refl, slice_index_or, true}
-use Rattle.std.proofs.lemmas.List.Folds.{list_any_at}
+use Rattle.std.proofs.{Common.{◌∙◌, ◌/◌, ◌<◌, ◌≡◌, ◌==◌, arith, eq-eqb, length, length-set, refl, slice_index_or, true}, lemmas.List.Folds.list_any_at}
 use Rattle.std.specs.List.{list_any}
-use Rattle.legacy_tables.proofs.PointerSets.{none-yet, only-more}
+use Rattle.legacy_tables.proofs.{PointerSets.{none-yet, only-more}, tables.pointer_set.PointerSet.of.Goals.{then-pointer-lt24000, else-pointer-lt24000}}
 use Rattle.legacy_tables.proofs.tables.pointer_set.PointerSet.of.Goals as goal
-use Rattle.legacy_tables.proofs.tables.pointer_set.PointerSet.of.Goals.{then-pointer-lt24000, else-pointer-lt24000}
 
 pub loop-entry-init : goal.loop-entry-init
 loop-entry-init c = record { count = refl; own = none-yet 375 c.args.order.now }
