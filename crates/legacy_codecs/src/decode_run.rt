@@ -7,8 +7,8 @@ ghost use Rattle.legacy_codecs.specs.Pieces.{contents_of, place_before, IsTooLon
 ghost use Rattle.legacy_codecs.specs.Runs.{IsRun, IsBeginning, HasNoneLeft, HasAmpleLengths};
 ghost use Rattle.legacy_codecs.specs.StandardRuns.{RunIsDecodedByHandler};
 
-use crate::shared_by_runs::{RunError, is_last, longest, push_items, push_within, room_for_events};
 use crate::scalars::{OutputForm, ScalarBuffer, Utf8Form, Utf16Form};
+use crate::shared_by_runs::{RunError, is_last, longest, push_items, push_within, room_for_events};
 use legacy_base::{DecodeEvent, DecoderResult, RawDecoder};
 use std::alloc::Global;
 

@@ -5,18 +5,19 @@
 //! inputs and texts, and runs that return events.
 #![tactic(auto)]
 
+mod character_references;
 mod decode_run;
 mod encode_run;
 pub mod laws;
 mod malformed;
-mod character_references;
 mod replacing;
 mod results;
-mod shared_by_runs;
 mod scalars;
+mod shared_by_runs;
 mod source_texts;
 mod whole;
 
+pub use character_references::{encode_replacing_utf8, encode_replacing_utf16};
 pub use decode_run::{DecodeRun, decode_run_utf8, decode_run_utf16};
 pub use encode_run::{EncodeRun, encode_run_utf8, encode_run_utf16};
 pub use legacy_base::{
@@ -35,9 +36,8 @@ pub use legacy_encoders::{
     SingleByteRunError, UserDefinedEncoder,
 };
 pub use malformed::{MalformedSequence, malformed_sequences};
-pub use character_references::{encode_replacing_utf8, encode_replacing_utf16};
 pub use replacing::{decode_replacing_utf8, decode_replacing_utf16};
 pub use results::CoderResult;
-pub use shared_by_runs::RunError;
 pub use scalars::{OutputForm, ScalarBuffer, Utf8Form, Utf16Form};
+pub use shared_by_runs::RunError;
 pub use whole::{SizedError, decode_piece, decode_whole, encode_whole, transcode};

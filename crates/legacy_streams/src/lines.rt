@@ -484,7 +484,13 @@ impl LineBuffer {
         self.keep_hundreds(place / 100);
         let rest = place % 100;
         let count = most.min(100 - rest);
-        self.filled = put_malformed_lines(&mut self.bytes, self.filled, &self.hundreds, rest, count);
+        self.filled = put_malformed_lines(
+            &mut self.bytes,
+            self.filled,
+            &self.hundreds,
+            rest,
+            count,
+        );
         count
     }
 

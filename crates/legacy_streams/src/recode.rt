@@ -8,7 +8,9 @@ ghost use Rattle.legacy_streams.specs.LineBuffers.{line_bytes, line_room};
 ghost use Rattle.legacy_base.specs.Calls.{reported_events};
 ghost use Rattle.legacy_streams.specs.Recoding.{RecodesPiece, RecodesFront, RecodesAll, RecodesBeginning, RecodesPartly};
 
-use crate::lines::{MALFORMED_LINE, BATCH, CALL_LINES, MALFORMED_BATCH, LineBuffer, SCALAR_LINE, TURN_LINES};
+use crate::lines::{
+    BATCH, CALL_LINES, LineBuffer, MALFORMED_BATCH, MALFORMED_LINE, SCALAR_LINE, TURN_LINES,
+};
 use crate::pieces::{PIECE, read_piece, rest_of};
 use legacy_codecs::{DecodeEvent, DecoderResult, RawDecoder};
 use std::io::{self, Read, Write};

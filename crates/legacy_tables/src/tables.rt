@@ -12,11 +12,11 @@ pub(crate) mod order_checks;
 pub(crate) mod packed;
 pub(crate) mod packed_checks;
 pub(crate) mod packed_tables;
+pub(crate) mod pointer_runs;
 pub(crate) mod pointer_set;
 pub(crate) mod pointers;
 pub(crate) mod private_use;
 pub(crate) mod ranges;
-pub(crate) mod pointer_runs;
 pub(crate) mod unpacking;
 pub(crate) mod walks;
 

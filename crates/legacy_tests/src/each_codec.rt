@@ -1,7 +1,7 @@
 //! The rows of each codec, followed.
 use crate::codecs::follow_each;
 use crate::{
-    big5, euc_jp, euc_kr, gb18030, iso_2022_jp, replacement, replacing, decoder_runs, shift_jis,
+    big5, decoder_runs, euc_jp, euc_kr, gb18030, iso_2022_jp, replacement, replacing, shift_jis,
     single_byte, user_defined, utf16,
 };
 

@@ -20,6 +20,8 @@ mod compared;
 #[cfg(test)]
 mod cuts;
 #[cfg(test)]
+mod decoder_runs;
+#[cfg(test)]
 mod destinations;
 #[cfg(test)]
 mod each_codec;
@@ -50,15 +52,13 @@ mod replacing;
 #[cfg(test)]
 mod rows;
 #[cfg(test)]
-mod decoder_runs;
-#[cfg(test)]
 mod shift_jis;
 #[cfg(test)]
 mod single_byte;
 #[cfg(test)]
-mod tables;
-#[cfg(test)]
 mod source_texts;
+#[cfg(test)]
+mod tables;
 #[cfg(test)]
 mod units;
 #[cfg(test)]

@@ -16,11 +16,11 @@ use legacy_base::{IndexName, Tables};
 use legacy_decoder_engine::common_forms::CommonForm;
 use legacy_decoder_engine::held_lead::Lead;
 use legacy_decoder_engine::lanes::LaneCodec;
+use legacy_decoder_engine::lead_and_trail::{read_first, read_trail};
 use legacy_decoder_engine::lead_decoder::{LeadCodec, LeadDecoder};
 use legacy_decoder_engine::moves::{Fed, Room};
 use legacy_decoder_engine::places::pair_pointer;
 use legacy_decoder_engine::split_rows::{lead_places, place_sums, trail_places};
-use legacy_decoder_engine::lead_and_trail::{read_first, read_trail};
 use legacy_tables::{DecoderTables, FlatTables};
 use std::simd::prelude::*;
 

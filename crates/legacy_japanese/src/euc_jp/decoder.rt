@@ -20,11 +20,11 @@ use legacy_base::{DecoderResult, Destination, IndexName, RawDecoder, Tables};
 use legacy_decoder_engine::common_forms::CommonForm;
 use legacy_decoder_engine::drive::{count_malformed_bytes, drive_decoder};
 use legacy_decoder_engine::lanes::{LaneCodec, LaneForms, narrow_entries, read_common};
-use legacy_decoder_engine::moves::{DecoderMoves, Fed, Room};
-use legacy_decoder_engine::rows::row_pointers;
-use legacy_decoder_engine::read_ahead::read_ascii;
-use legacy_decoder_engine::unmapped_trail::unmapped;
 use legacy_decoder_engine::lead_and_trail::malformed_through;
+use legacy_decoder_engine::moves::{DecoderMoves, Fed, Room};
+use legacy_decoder_engine::read_ahead::read_ascii;
+use legacy_decoder_engine::rows::row_pointers;
+use legacy_decoder_engine::unmapped_trail::unmapped;
 use legacy_tables::{DecoderTables, FlatTables};
 use std::simd::prelude::*;
 

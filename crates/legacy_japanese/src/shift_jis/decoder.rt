@@ -15,11 +15,11 @@ use super::places::{LEADS, TRAILS};
 use legacy_base::{IndexName, Tables};
 use legacy_decoder_engine::common_forms::CommonForm;
 use legacy_decoder_engine::lanes::{LaneCodec, narrow_entries};
+use legacy_decoder_engine::lead_and_trail::{malformed_through, read_trail};
 use legacy_decoder_engine::lead_decoder::{LeadCodec, LeadDecoder};
 use legacy_decoder_engine::moves::{Fed, Room};
 use legacy_decoder_engine::places::pair_pointer;
 use legacy_decoder_engine::split_rows::{lead_places, place_sums, trail_places};
-use legacy_decoder_engine::lead_and_trail::{malformed_through, read_trail};
 use legacy_tables::{DecoderTables, FlatTables};
 use std::simd::prelude::*;
 

@@ -14,11 +14,11 @@ use legacy_base::{IndexName, Tables};
 use legacy_decoder_engine::common_forms::CommonForm;
 use legacy_decoder_engine::held_lead::Lead;
 use legacy_decoder_engine::lanes::{LaneCodec, narrow_entries};
+use legacy_decoder_engine::lead_and_trail::{read_first, read_trail};
 use legacy_decoder_engine::lead_decoder::{LeadCodec, LeadDecoder};
 use legacy_decoder_engine::moves::{Fed, Room};
 use legacy_decoder_engine::places::{ROWS_OF_190, pair_pointer};
 use legacy_decoder_engine::rows::row_pointers;
-use legacy_decoder_engine::lead_and_trail::{read_first, read_trail};
 use legacy_tables::{DecoderTables, FlatTables};
 use std::simd::prelude::*;
 
