@@ -21,7 +21,7 @@ pub mod Utf16
 pub mod Grammar
 pub mod EucKr
 pub mod States
-pub mod Acts
+pub mod DecoderActs
 pub mod Lengths
 pub mod Calls
 pub mod Encoders

@@ -4,7 +4,7 @@ pub mod Pieces
 pub mod Runs
 pub mod EncodeRuns
 pub mod RoundTripRuns
-pub mod Filling
+pub mod QueriedOutput
 pub mod EncodeFilling
 pub mod Replacing
 pub mod References

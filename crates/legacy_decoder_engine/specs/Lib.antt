@@ -1,14 +1,14 @@
 -- The internal definitions of the decoders. The promises of the decoders are in legacy_base and do not depend on these.
 pub mod Moves
-pub mod Ahead
+pub mod ReadAhead
 pub mod SplitRows
 pub mod Steps
-pub mod Costs
+pub mod StepUnits
 pub mod Feeding
 pub mod LeadMachines
 pub mod LeadCodecs
 pub mod Places
-pub mod Settling
+pub mod StatesAfterSteps
 pub mod Shown
 pub mod PickedForms
 pub mod LaneCodes
