@@ -10,7 +10,7 @@ use Rattle.legacy_decoder_engine.specs.{ReadAhead.{HasAscii, IsPair}, LaneRows.r
 use Rattle.legacy_tables.proofs.Accepted.{jis0208-below, jis0212-below, jis0208-scalars, length-jis0208}
 use Rattle.legacy_decoder_engine.proofs.{RunForms.{pair_runs, has_ascii, ascii_is}, Widths.idx_below, LanePlaces.entry_is}
 use Rattle.legacy_japanese.specs.{declared.euc_jp.decoder.Held.TheVariants.{Nothing, Katakana, Jis0212, Lead, Jis0212Lead}, declared.euc_jp.decoder.Held.Held}
-use Rattle.legacy_japanese.specs.{declared.euc_jp.lead.EucJpLead.EucJpLead, EucJpHeld.held_bytes, EucJpMachine.{euc_jp_first, euc_jp_step, euc_jp_machine}}
+use Rattle.legacy_japanese.specs.{declared.euc_jp.held_lead.EucJpLead.EucJpLead, EucJpHeld.held_bytes, EucJpMachine.{euc_jp_first, euc_jp_step, euc_jp_machine}}
 use Rattle.legacy_japanese.proofs.EucJpShown.{euc_jp_shown}
 use Rattle.legacy_decoder_engine.proofs.Feeding as moves
 
