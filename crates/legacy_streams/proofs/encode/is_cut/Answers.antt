@@ -7,7 +7,7 @@ returns-in-Ok-clause-none c = absurd (no_text c.args.invalid.now c.requires c.in
 
 pub returns-in-Err-clause-none : goal.returns-in-Err-clause-none
 returns-in-Err-clause-none c =
-    let told = told_of_all c.args.invalid.now _ c.error_len.result c.requires c.in-Err.ensures.valid_len (c.error_len.ensures ∙ c.in-Err.ensures.malformed_sequence) in
+    let told = told_of_all c.args.invalid.now _ c.error_len.result c.requires c.in-Err.ensures.valid_len (c.error_len.ensures ∙ c.in-Err.ensures.fault) in
     flipped _ _ c.is_none.ensures ∙ ap (λ o. not (is_some o)) told
 
 pub returns-in-Err-clause-short : goal.returns-in-Err-clause-short
