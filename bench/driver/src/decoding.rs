@@ -1,4 +1,4 @@
-//! The decoders' table: over flat tables and over packed ones, beside encoding_rs.
+//! The decoders' tables: over flat tables, and over packed ones, beside encoding_rs.
 
 use crate::measure::{best_times, is_same, ratio_cell, speed, speed_cell, without, written, Call};
 use crate::ours::{Calls, Ours};
@@ -86,47 +86,36 @@ pub struct Codec {
     pub ahead: Option<Ours>,
 }
 
-/// The headings of the columns of one source.
-const COLUMNS: [&str; 6] = [
-    "encoding_rs MB/s, ",
-    "flat tables",
-    "ratio to encoding_rs",
-    "packed tables",
-    "ratio to encoding_rs",
-    "ratio to flat tables",
-];
+/// Returns a heading with these columns after the names of a line.
+fn heading_of(columns: &str) -> String {
+    let names = format!("| corpus | encoding | decoding | {columns} |");
+    let rule = "---|".repeat(names.matches('|').count() - 1);
+    format!("{names}\n|{rule}")
+}
 
+/// Returns the heading of the table over flat tables.
 pub fn heading() -> String {
-    let columns: Vec<String> = ["3 MB", "short", "pieces of 64"]
-        .iter()
-        .flat_map(|source| COLUMNS.iter().enumerate().map(move |(at, name)| if at == 0 { format!("{name}{source}") } else { name.to_string() }))
-        .collect();
-    format!("| corpus | encoding | decoding | {} |\n|{}", columns.join(" | "), "---|".repeat(columns.len() + 3))
+    let columns: Vec<String> =
+        ["3 MB", "short", "pieces of 64"].iter().map(|source| format!("encoding_rs MB/s, {source} | ours | ratio to encoding_rs")).collect();
+    heading_of(&columns.join(" | "))
 }
 
 /// Returns the cells of one source.
 fn cells<D: Into>(codec: &Codec, src: &[u8], piece: usize, rounds: usize, times: usize) -> String {
-    let mut dst = room::<D>(src);
     let calls = [
         Some(theirs::<D>(codec.encoding, Calls::Raw, src, piece, rounds)),
         Some(ours::<D>(&codec.flat, Calls::Raw, src, piece, rounds)),
         Some(ours::<D>(&codec.flat, Calls::Raw, src, piece, 0)),
-        codec.packed.as_ref().map(|packed| ours::<D>(packed, Calls::Raw, src, piece, rounds)),
-        codec.packed.as_ref().map(|packed| ours::<D>(packed, Calls::Raw, src, piece, 0)),
     ];
-    let best = best_times(&calls, src, &mut dst, times);
+    let best = best_times(&calls, src, &mut room::<D>(src), times);
     let bytes = src.len() * rounds;
-    let theirs = speed(bytes, best[0]);
-    let flat = speed(bytes, without(best[1], best[2]));
-    let packed = speed(bytes, without(best[3], best[4]));
-    speed_cell(theirs) + &speed_cell(flat) + &ratio_cell(flat, theirs) + &speed_cell(packed) + &ratio_cell(packed, theirs) + &ratio_cell(packed, flat)
+    let (theirs, ours) = (speed(bytes, best[0]), speed(bytes, without(best[1], best[2])));
+    speed_cell(theirs) + &speed_cell(ours) + &ratio_cell(ours, theirs)
 }
 
 fn line<D: Into>(corpus: &str, codec: &Codec, long: &[u8], short: &[u8], times: usize) -> Result<(), String> {
     for src in [long, short] {
-        for ours in [Some(&codec.flat), codec.packed.as_ref()].into_iter().flatten() {
-            compare::<D>(ours, codec.encoding, Calls::Raw, src).map_err(|error| format!("{corpus} {}: {error}", codec.encoding.name()))?;
-        }
+        compare::<D>(&codec.flat, codec.encoding, Calls::Raw, src).map_err(|error| format!("{corpus} {}: {error}", codec.encoding.name()))?;
     }
     print!("| {corpus} | {} | {} |", codec.encoding.name(), D::NAME);
     for (src, piece, rounds) in measured(corpus, long, short) {
@@ -140,4 +129,34 @@ fn line<D: Into>(corpus: &str, codec: &Codec, long: &[u8], short: &[u8], times: 
 pub fn lines(corpus: &str, codec: &Codec, long: &[u8], short: &[u8], times: usize) -> Result<(), String> {
     line::<ToUtf8>(corpus, codec, long, short, times)?;
     line::<ToUtf16>(corpus, codec, long, short, times)
+}
+
+/// Returns the heading of the table over packed tables.
+pub fn packed_heading() -> String {
+    heading_of("encoding_rs MB/s, short | packed tables | flat tables | ratio to encoding_rs | ratio to flat tables")
+}
+
+fn packed_line<D: Into>(corpus: &str, codec: &Codec, packed: &Ours, src: &[u8], times: usize) -> Result<(), String> {
+    let name = codec.encoding.name();
+    compare::<D>(packed, codec.encoding, Calls::Raw, src).map_err(|error| format!("{corpus} {name}, packed: {error}"))?;
+    let calls = [
+        Some(theirs::<D>(codec.encoding, Calls::Raw, src, 0, 1)),
+        Some(ours::<D>(packed, Calls::Raw, src, 0, 1)),
+        Some(ours::<D>(packed, Calls::Raw, src, 0, 0)),
+        Some(ours::<D>(&codec.flat, Calls::Raw, src, 0, 1)),
+        Some(ours::<D>(&codec.flat, Calls::Raw, src, 0, 0)),
+    ];
+    let best = best_times(&calls, src, &mut room::<D>(src), times);
+    let length = src.len();
+    let (theirs, packed, flat) = (speed(length, best[0]), speed(length, without(best[1], best[2])), speed(length, without(best[3], best[4])));
+    let cells = speed_cell(theirs) + &speed_cell(packed) + &speed_cell(flat) + &ratio_cell(packed, theirs) + &ratio_cell(packed, flat);
+    println!("| {corpus} | {name} | {} |{cells}", D::NAME);
+    Ok(())
+}
+
+/// Prints the two lines of a decoder over packed tables, if the codec can have them. It searches these byte by byte.
+pub fn packed_lines(corpus: &str, codec: &Codec, short: &[u8], times: usize) -> Result<(), String> {
+    let Some(packed) = &codec.packed else { return Ok(()) };
+    packed_line::<ToUtf8>(corpus, codec, packed, short, times)?;
+    packed_line::<ToUtf16>(corpus, codec, packed, short, times)
 }

@@ -4,7 +4,7 @@
 //!
 //! - Words and a number. A line is made if it has one of the words: a corpus, a language, a kind of text or an encoding,
 //!   as `ja-text`, `ja`, `text` or `Big5`.
-//!   The name of a table (`decode`, `encode`, `ahead`, `replace`, `flat`, `checks`) makes that table, and `recode` the
+//!   The name of a table (`decode`, `encode`, `ahead`, `packed`, `flat`, `replace`, `checks`) makes that table, and `recode` the
 //!   program's. Without words all lines of all tables are made. The number is how often each call of a codec is timed
 //!   at least.
 //! - `agreement`: compares all codecs and times nothing.
@@ -61,16 +61,18 @@ enum Table {
     Decode,
     Encode,
     Ahead,
+    Packed,
     Flat,
     Replace,
     Checks,
 }
 
 /// The names of the tables, in the order in which they are made.
-const TABLES: [(&str, Table); 6] = [
+const TABLES: [(&str, Table); 7] = [
     ("decode", Table::Decode),
     ("encode", Table::Encode),
     ("ahead", Table::Ahead),
+    ("packed", Table::Packed),
     ("flat", Table::Flat),
     ("replace", Table::Replace),
     ("checks", Table::Checks),
@@ -123,6 +125,7 @@ fn lines(table: Table, corpus: &str, codec: &Codec, long: &[u8], short: &[u8], t
         Table::Decode => decoding::lines(corpus, codec, long, short, times),
         Table::Encode => encoding::lines(corpus, codec, codec.packed.as_ref().unwrap_or(&codec.flat), long, short, times),
         Table::Ahead => codec.ahead.as_ref().map_or(Ok(()), |ahead| encoding::lines(corpus, codec, ahead, long, short, times)),
+        Table::Packed if is_text => decoding::packed_lines(corpus, codec, short, times),
         Table::Flat if is_text => encoding::flat_lines(corpus, codec, short, times),
         Table::Replace if is_text => {
             replacing::lines(corpus, codec, long, short, times)?;
@@ -131,7 +134,7 @@ fn lines(table: Table, corpus: &str, codec: &Codec, long: &[u8], short: &[u8], t
             }
             replacing::faulty_lines(corpus, codec, long, short, times)
         }
-        Table::Flat | Table::Replace | Table::Checks => Ok(()),
+        Table::Packed | Table::Flat | Table::Replace | Table::Checks => Ok(()),
     }
 }
 
@@ -140,6 +143,7 @@ fn heading(table: Table) -> String {
     match table {
         Table::Decode => decoding::heading(),
         Table::Encode | Table::Ahead => encoding::heading(),
+        Table::Packed => decoding::packed_heading(),
         Table::Flat => encoding::flat_heading(),
         Table::Replace => replacing::heading(),
         Table::Checks => String::new(),

@@ -52,11 +52,11 @@ fn cell(name: &str, same: &[&String]) -> Result<String, String> {
     Ok(if median < 10.0 { format!("{median:.1}") } else { format!("{median:.0}") })
 }
 
-/// Prints a chart of a table of speeds: for each text our bar and that of encoding_rs, for the first source.
+/// Prints a chart of a table with a column `ours`: for each text our bar and that of encoding_rs, for the first source.
 fn chart(names: &[String], lines: &[Vec<String>]) {
     let place = |start: &str| names.iter().position(|name| name.starts_with(start));
     let theirs = place("its fast tables").or(place("encoding_rs MB/s"));
-    let (Some(theirs), Some(ours)) = (theirs, place("ours").or(place("flat tables"))) else { return };
+    let (Some(theirs), Some(ours)) = (theirs, place("ours")) else { return };
     let speed = |line: &[String], column: usize| line[column].parse::<f64>().unwrap_or(0.0);
     let texts: Vec<&Vec<String>> = lines.iter().filter(|line| line[0].ends_with("-text")).collect();
     let most = texts.iter().map(|line| speed(line, ours).max(speed(line, theirs))).fold(1.0, f64::max);
