@@ -19,4 +19,6 @@ pub use legacy_text::{
     ByteSource, Destination, ReadingLoop, Source, Utf8Destination, Utf8Source, Utf16Destination,
     Utf16Source,
 };
-pub use results::{DecodeEvent, DecoderResult, EncodeEvent, EncoderResult};
+pub use results::{
+    DecodeEvent, DecoderResult, DecoderStep, EncodeEvent, EncoderResult, EncoderStep,
+};

@@ -14,6 +14,9 @@ pub enum DecoderResult {
     Malformed(u8, u8),
 }
 
+/// What a decoder's `step` returns: the result, and the number of bytes read.
+pub type DecoderStep = (DecoderResult, usize);
+
 /// One event of decoding a list of bytes.
 #[derive(Clone, Copy, Debug, PartialEq, Eq)]
 pub enum DecodeEvent {
@@ -38,6 +41,9 @@ pub enum EncoderResult {
     /// The scalar was read, and the encoding has no bytes for it.
     Unmappable(char),
 }
+
+/// What an encoder's `step` returns: the result, and the number of bytes written.
+pub type EncoderStep = (EncoderResult, usize);
 
 /// One event of encoding.
 #[derive(Clone, Copy, Debug, PartialEq, Eq)]

@@ -16,7 +16,7 @@ use crate::drive::{count_malformed_bytes, drive_decoder};
 use crate::lanes::{LaneCodec, LaneForms, read_common};
 use crate::moves::{DecoderMoves, Fed, Room};
 use crate::read_ahead::read_ascii;
-use legacy_base::{DecoderResult, Destination, RawDecoder, Tables};
+use legacy_base::{DecoderStep, Destination, RawDecoder, Tables};
 use legacy_tables::DecoderTables;
 
 /// A codec whose forms have one byte, or a lead and a trail: the parts that it does not share with the others.
@@ -215,12 +215,7 @@ impl<'a, C: LeadCodec> RawDecoder for LeadDecoder<'a, C> {
     ghost state = { λ d. lead_state C.grammar C.byte_of d.tables.now d.held };
 
     #[inline(always)]
-    fn step<T: Destination>(
-        &mut self,
-        src: &[u8],
-        dst: &mut T,
-        last: bool,
-    ) -> (DecoderResult, usize) {
+    fn step<T: Destination>(&mut self, src: &[u8], dst: &mut T, last: bool) -> DecoderStep {
         drive_decoder(self, src, dst, last)
     }
 

@@ -13,7 +13,7 @@ use crate::pair_encoder::{FillsPairs, PairCodec, PairEncoder};
 use crate::plain::PlainEncoder;
 use crate::plain_codes::PlainCodes;
 use crate::read_ahead::read_runs;
-use legacy_base::{EncoderResult, RawEncoder, Source};
+use legacy_base::{EncoderStep, RawEncoder, Source};
 use legacy_tables::RangePart;
 use std::alloc::AllocError;
 
@@ -245,12 +245,7 @@ impl<'a, E: EncodesPairs> PlainEncoder for CachedEncoder<'a, E> {
 impl<'a, E: EncodesPairs> RawEncoder for CachedEncoder<'a, E> {
     ghost state = { λ e. new_encoder (E.codec e.encoder.now) };
 
-    fn step<S: Source>(
-        &mut self,
-        src: &mut S,
-        dst: &mut [u8],
-        last: bool,
-    ) -> (EncoderResult, usize) {
+    fn step<S: Source>(&mut self, src: &mut S, dst: &mut [u8], last: bool) -> EncoderStep {
         drive_encoder(self, src, dst, last)
     }
 

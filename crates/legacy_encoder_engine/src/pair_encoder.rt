@@ -12,7 +12,7 @@ use crate::moves::EncoderMove;
 use crate::plain::PlainEncoder;
 use crate::plain_codes::PlainCodes;
 use crate::read_ahead::read_runs;
-use legacy_base::{EncoderResult, RawEncoder, Source, Tables};
+use legacy_base::{EncoderStep, RawEncoder, Source, Tables};
 use legacy_tables::{DecoderTables, EncoderTables, FlatTables};
 use std::marker::PhantomData;
 
@@ -188,12 +188,7 @@ fn length_from_utf8(byte_length: usize) -> Option<usize>
 impl<'a, C: PairCodec> RawEncoder for PairEncoder<'a, C> {
     ghost state = { λ e. pair_encoder_state C.codec e.tables.now };
 
-    fn step<S: Source>(
-        &mut self,
-        src: &mut S,
-        dst: &mut [u8],
-        last: bool,
-    ) -> (EncoderResult, usize) {
+    fn step<S: Source>(&mut self, src: &mut S, dst: &mut [u8], last: bool) -> EncoderStep {
         drive_encoder(self, src, dst, last)
     }
 

@@ -14,7 +14,7 @@ ghost use Rattle.legacy_chinese.specs.Gb18030Held.{held_bytes, is_resting};
 use super::digit::Digit;
 use super::four_byte_blocks::{guessed_scalar, read_flat};
 use super::pair_places::TRAILS;
-use legacy_base::{DecoderResult, Destination, IndexName, RawDecoder, Tables};
+use legacy_base::{DecoderStep, Destination, IndexName, RawDecoder, Tables};
 use legacy_decoder_engine::drive::{count_malformed_bytes, drive_decoder};
 use legacy_decoder_engine::held_lead::Lead;
 use legacy_decoder_engine::lead_and_trail::malformed_through;
@@ -327,12 +327,7 @@ impl RawDecoder for Gb18030Decoder<'_> {
     ghost state = { gb18030_state };
 
     #[inline(always)]
-    fn step<T: Destination>(
-        &mut self,
-        src: &[u8],
-        dst: &mut T,
-        last: bool,
-    ) -> (DecoderResult, usize) {
+    fn step<T: Destination>(&mut self, src: &[u8], dst: &mut T, last: bool) -> DecoderStep {
         drive_decoder(self, src, dst, last)
     }
 

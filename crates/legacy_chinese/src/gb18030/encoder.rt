@@ -13,7 +13,7 @@ ghost use Rattle.legacy_chinese.specs.Gb18030Codec.{gb18030_codec};
 ghost use Rattle.legacy_chinese.specs.Gb18030Codes.{gb18030_plain};
 
 use super::list::{Gb18030Marks, ask_rows};
-use legacy_base::{EncoderResult, PackedPart, RawEncoder, Source, Tables};
+use legacy_base::{EncoderStep, PackedPart, RawEncoder, Source, Tables};
 use legacy_encoder_engine::asked_pairs::ask_pairs;
 use legacy_encoder_engine::cached::{EncodesPairs, PastPairs, WithPairs};
 use legacy_encoder_engine::drive::drive_encoder;
@@ -442,12 +442,7 @@ impl RawEncoder for Gb18030Encoder<'_> {
 
     ghost state = { gb18030_encoder_state };
 
-    fn step<S: Source>(
-        &mut self,
-        src: &mut S,
-        dst: &mut [u8],
-        last: bool,
-    ) -> (EncoderResult, usize) {
+    fn step<S: Source>(&mut self, src: &mut S, dst: &mut [u8], last: bool) -> EncoderStep {
         drive_encoder(self, src, dst, last)
     }
 

@@ -16,7 +16,7 @@ ghost use Rattle.legacy_decoder_engine.specs.LaneRows.{row_place};
 ghost use Rattle.legacy_japanese.specs.EucJpHeld.{held_bytes};
 
 use super::held_lead::EucJpLead;
-use legacy_base::{DecoderResult, Destination, IndexName, RawDecoder, Tables};
+use legacy_base::{DecoderStep, Destination, IndexName, RawDecoder, Tables};
 use legacy_decoder_engine::common_forms::CommonForm;
 use legacy_decoder_engine::drive::{count_malformed_bytes, drive_decoder};
 use legacy_decoder_engine::lanes::{LaneCodec, LaneForms, narrow_entries, read_common};
@@ -363,12 +363,7 @@ impl RawDecoder for EucJpDecoder<'_> {
     ghost state = { euc_jp_state };
 
     #[inline(always)]
-    fn step<T: Destination>(
-        &mut self,
-        src: &[u8],
-        dst: &mut T,
-        last: bool,
-    ) -> (DecoderResult, usize) {
+    fn step<T: Destination>(&mut self, src: &[u8], dst: &mut T, last: bool) -> DecoderStep {
         drive_decoder(self, src, dst, last)
     }
 

@@ -7,7 +7,7 @@ ghost use Rattle.legacy_japanese.specs.Iso2022JpPairs.{iso_2022_jp_mark, iso_202
 
 use crate::asked_scalars::ask_others;
 use crate::iso_2022_jp::encoder::{Iso2022JpEncoder, Mode, asked, go_to};
-use legacy_base::{EncoderResult, PackedPart, RawEncoder, Source, Tables};
+use legacy_base::{EncoderStep, PackedPart, RawEncoder, Source, Tables};
 use legacy_encoder_engine::ahead_codes::AheadCodes;
 use legacy_encoder_engine::asked_pairs::PairEntries;
 use legacy_encoder_engine::cached::PAIR_ROOM;
@@ -235,12 +235,7 @@ impl RawEncoder for CachedIso2022JpEncoder<'_, '_> {
 
     ghost state = { cached_state };
 
-    fn step<S: Source>(
-        &mut self,
-        src: &mut S,
-        dst: &mut [u8],
-        last: bool,
-    ) -> (EncoderResult, usize) {
+    fn step<S: Source>(&mut self, src: &mut S, dst: &mut [u8], last: bool) -> EncoderStep {
         drive_encoder(self, src, dst, last)
     }
 

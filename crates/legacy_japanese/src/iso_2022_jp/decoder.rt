@@ -8,7 +8,7 @@ ghost use Rattle.legacy_japanese.specs.Iso2022JpMoves.{weight_of};
 
 use super::read_ahead::{escape_at, read_modes};
 use super::steps::{Held, Mode, Start, finish, pending, read};
-use legacy_base::{DecoderResult, Destination, RawDecoder, Tables};
+use legacy_base::{DecoderStep, Destination, RawDecoder, Tables};
 use legacy_decoder_engine::drive::drive_decoder;
 use legacy_decoder_engine::moves::{DecoderMoves, Fed, Room};
 
@@ -149,12 +149,7 @@ impl<'a> RawDecoder for Iso2022JpDecoder<'a> {
     ghost state = { iso_2022_jp_state };
 
     #[inline(always)]
-    fn step<T: Destination>(
-        &mut self,
-        src: &[u8],
-        dst: &mut T,
-        last: bool,
-    ) -> (DecoderResult, usize) {
+    fn step<T: Destination>(&mut self, src: &[u8], dst: &mut T, last: bool) -> DecoderStep {
         drive_decoder(self, src, dst, last)
     }
 

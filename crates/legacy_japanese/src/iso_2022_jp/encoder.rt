@@ -10,7 +10,7 @@ ghost use Rattle.legacy_japanese.specs.Iso2022JpEncoder.{state_in};
 
 use crate::folded_scalars::minus_as_hyphen;
 use crate::iso_2022_jp::ascii::{AsciiCodes, is_control};
-use legacy_base::{EncoderResult, IndexName, RawEncoder, Source, Tables};
+use legacy_base::{EncoderStep, IndexName, RawEncoder, Source, Tables};
 use legacy_encoder_engine::ahead_codes::AheadCodes;
 use legacy_encoder_engine::drive::{drive_encoder, put_move};
 use legacy_encoder_engine::moves::{EncoderMove, EncoderMoves};
@@ -245,12 +245,7 @@ impl AheadCodes for Iso2022JpEncoder<'_> {
 impl RawEncoder for Iso2022JpEncoder<'_> {
     ghost state = { iso_2022_jp_encoder_state };
 
-    fn step<S: Source>(
-        &mut self,
-        src: &mut S,
-        dst: &mut [u8],
-        last: bool,
-    ) -> (EncoderResult, usize) {
+    fn step<S: Source>(&mut self, src: &mut S, dst: &mut [u8], last: bool) -> EncoderStep {
         drive_encoder(self, src, dst, last)
     }
 

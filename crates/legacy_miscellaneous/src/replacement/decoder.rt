@@ -3,7 +3,7 @@ ghost use Rattle.std.specs.Prelude.{◌≡◌, false};
 ghost use Rattle.legacy_base.specs.Grammar.{replacement};
 ghost use Rattle.legacy_base.specs.States.{new_state};
 
-use legacy_base::{DecoderResult, Destination, RawDecoder};
+use legacy_base::{DecoderStep, Destination, RawDecoder};
 use legacy_decoder_engine::drive::drive_decoder;
 use legacy_decoder_engine::moves::{DecoderMoves, Fed, Room};
 
@@ -90,12 +90,7 @@ impl RawDecoder for ReplacementDecoder {
 
     ghost state = { replacement_state };
 
-    fn step<T: Destination>(
-        &mut self,
-        src: &[u8],
-        dst: &mut T,
-        last: bool,
-    ) -> (DecoderResult, usize) {
+    fn step<T: Destination>(&mut self, src: &[u8], dst: &mut T, last: bool) -> DecoderStep {
         drive_decoder(self, src, dst, last)
     }
 

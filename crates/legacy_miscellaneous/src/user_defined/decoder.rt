@@ -8,7 +8,7 @@ ghost use Rattle.legacy_base.specs.Grammar.{user_defined};
 ghost use Rattle.legacy_base.specs.States.{new_state};
 ghost use Rattle.legacy_decoder_engine.specs.ReadAhead.{ReadsAhead};
 
-use legacy_base::{DecoderResult, Destination, RawDecoder};
+use legacy_base::{DecoderStep, Destination, RawDecoder};
 use legacy_decoder_engine::common_forms::{CommonForm, CommonForms, read_forms};
 use legacy_decoder_engine::drive::drive_decoder;
 use legacy_decoder_engine::moves::{DecoderMoves, Fed, Room};
@@ -151,12 +151,7 @@ impl RawDecoder for UserDefinedDecoder {
     ghost state = { user_defined_state };
 
     #[inline(always)]
-    fn step<T: Destination>(
-        &mut self,
-        src: &[u8],
-        dst: &mut T,
-        last: bool,
-    ) -> (DecoderResult, usize) {
+    fn step<T: Destination>(&mut self, src: &[u8], dst: &mut T, last: bool) -> DecoderStep {
         drive_decoder(self, src, dst, last)
     }
 

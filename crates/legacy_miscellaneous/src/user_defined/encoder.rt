@@ -3,7 +3,7 @@ ghost use Rattle.std.specs.Prelude.{◌≡◌, ◌+◌, ◌-◌};
 ghost use Rattle.legacy_base.specs.Encoders.{user_defined, new_encoder};
 ghost use Rattle.legacy_miscellaneous.specs.UserDefinedCodes.{user_defined_plain};
 
-use legacy_base::{EncoderResult, RawEncoder, Source};
+use legacy_base::{EncoderStep, RawEncoder, Source};
 use legacy_encoder_engine::drive::drive_encoder;
 use legacy_encoder_engine::moves::EncoderMove;
 use legacy_encoder_engine::plain::PlainEncoder;
@@ -96,12 +96,7 @@ impl RawEncoder for UserDefinedEncoder {
 
     ghost state = { user_defined_encoder_state };
 
-    fn step<S: Source>(
-        &mut self,
-        src: &mut S,
-        dst: &mut [u8],
-        last: bool,
-    ) -> (EncoderResult, usize) {
+    fn step<S: Source>(&mut self, src: &mut S, dst: &mut [u8], last: bool) -> EncoderStep {
         drive_encoder(self, src, dst, last)
     }
 

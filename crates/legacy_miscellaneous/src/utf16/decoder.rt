@@ -7,7 +7,7 @@ ghost use Rattle.legacy_base.specs.Lengths.{answer, utf16_units};
 use super::held_bytes::Held;
 use super::unit_blocks::Units;
 use super::unit_steps::read_byte;
-use legacy_base::{DecoderResult, Destination, RawDecoder};
+use legacy_base::{DecoderStep, Destination, RawDecoder};
 use legacy_decoder_engine::drive::drive_decoder;
 use legacy_decoder_engine::moves::{DecoderMoves, Fed, Room};
 use legacy_decoder_engine::read_ahead::read_blocks;
@@ -151,12 +151,7 @@ impl RawDecoder for Utf16Decoder {
     ghost state = { utf16_state };
 
     #[inline(always)]
-    fn step<T: Destination>(
-        &mut self,
-        src: &[u8],
-        dst: &mut T,
-        last: bool,
-    ) -> (DecoderResult, usize) {
+    fn step<T: Destination>(&mut self, src: &[u8], dst: &mut T, last: bool) -> DecoderStep {
         drive_decoder(self, src, dst, last)
     }
 

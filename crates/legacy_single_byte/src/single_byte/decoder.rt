@@ -8,7 +8,7 @@ ghost use Rattle.legacy_decoder_engine.specs.Feeding.{Took};
 
 use super::blocks::read_text;
 use super::scalars::ByteScalars;
-use legacy_base::{DecoderResult, Destination, RawDecoder, SingleByteTable};
+use legacy_base::{DecoderStep, Destination, RawDecoder, SingleByteTable};
 use legacy_decoder_engine::drive::drive_decoder;
 use legacy_decoder_engine::moves::{DecoderMoves, Fed, Room};
 use std::simd::prelude::*;
@@ -160,12 +160,7 @@ impl RawDecoder for SingleByteDecoder<'_> {
     ghost state = { single_byte_state };
 
     #[inline(always)]
-    fn step<T: Destination>(
-        &mut self,
-        src: &[u8],
-        dst: &mut T,
-        last: bool,
-    ) -> (DecoderResult, usize) {
+    fn step<T: Destination>(&mut self, src: &[u8], dst: &mut T, last: bool) -> DecoderStep {
         drive_decoder(self, src, dst, last)
     }
 

@@ -5,7 +5,7 @@ ghost use Rattle.legacy_single_byte.specs.SingleByteRun.{IsRun, IsLongestRun, si
 ghost use Rattle.legacy_single_byte.specs.SingleByteCodes.{single_byte_plain};
 
 use super::run::{SingleByteRun, SingleByteRunError, check_run};
-use legacy_base::{EncoderResult, RawEncoder, SingleByteTable, Source};
+use legacy_base::{EncoderStep, RawEncoder, SingleByteTable, Source};
 use legacy_encoder_engine::drive::drive_encoder;
 use legacy_encoder_engine::moves::EncoderMove;
 use legacy_encoder_engine::plain::PlainEncoder;
@@ -230,12 +230,7 @@ impl RawEncoder for SingleByteEncoder<'_> {
 
     ghost state = { single_byte_encoder_state };
 
-    fn step<S: Source>(
-        &mut self,
-        src: &mut S,
-        dst: &mut [u8],
-        last: bool,
-    ) -> (EncoderResult, usize) {
+    fn step<S: Source>(&mut self, src: &mut S, dst: &mut [u8], last: bool) -> EncoderStep {
         drive_encoder(self, src, dst, last)
     }
 
