@@ -22,6 +22,9 @@ pub trait RawDecoder {
 
     /// Decodes bytes of `src` into `dst`, and returns the result and the number of bytes read.
     ///
+    /// It reads `src` from its beginning, and ends at the first malformed sequence (Encoding
+    /// Standard, "process a queue").
+    ///
     /// - `InputEmpty`: all of `src` was read and no scalar is held back. If `last` is set, nothing
     ///   is left to report.
     /// - `OutputFull`: the decoder's next act needs more code units than are free. If this holds
@@ -41,10 +44,11 @@ pub trait RawDecoder {
             ≡ T.room dst.old + length (T.contents dst.old) }
         ensures loan { T.loan dst.new ≡ T.loan dst.old };
 
-    /// Decodes with `step` into a slice of UTF-8 bytes.
+    /// Decodes bytes to UTF-8, up to the first malformed sequence.
     ///
-    /// Returns the result, the number of bytes read and the number of bytes written to the
-    /// beginning of `dst`. The body of a loop over an input in memory:
+    /// Returns the result of `step`, the number of bytes read and the number of bytes written to
+    /// the beginning of `dst`. Only whole scalars are written. The bytes of `dst` after them may
+    /// change. The body of a loop over an input in memory:
     ///
     /// ```text
     /// let (result, read, written) = decoder.decode_to_utf8_raw(input, &mut output, true);
@@ -72,10 +76,22 @@ pub trait RawDecoder {
         (answer, read, written)
     }
 
-    /// Decodes with `step` into a slice of UTF-16 code units.
+    /// Decodes bytes to UTF-16, up to the first malformed sequence.
     ///
-    /// Returns the result, the number of bytes read and the number of code units written to the
-    /// beginning of `dst`.
+    /// Returns the result of `step`, the number of bytes read and the number of code units written
+    /// to the beginning of `dst`. Only whole scalars are written. The code units of `dst` after them
+    /// may change. The body of a loop over one piece of several:
+    ///
+    /// ```text
+    /// let (result, read, written) = decoder.decode_to_utf16_raw(piece, &mut output, false);
+    /// text.extend_from_slice(&output[..written])?;
+    /// piece = &piece[read..];
+    /// match result {
+    ///     DecoderResult::InputEmpty => break,
+    ///     DecoderResult::OutputFull => continue,
+    ///     DecoderResult::Malformed(_, _) => text.push(0xFFFD)?,
+    /// }
+    /// ```
     fn decode_to_utf16_raw(
         &mut self,
         src: &[u8],

@@ -22,8 +22,9 @@ pub trait RawEncoder {
 
     /// Encodes scalars from what `src` has left into `dst`, and returns the result and a length.
     ///
-    /// The length is the number of bytes written to the beginning of `dst`. The source keeps the
-    /// place up to which it was read.
+    /// The length is the number of bytes written to the beginning of `dst`. The bytes of `dst` after
+    /// them may change. The source keeps the place up to which it was read. The call ends at the
+    /// first unmappable scalar (Encoding Standard, "process a queue").
     ///
     /// - `InputEmpty`: all of `src` was read. If `last` is set, the end is written too.
     /// - `OutputFull`: the encoder's next act needs more bytes than are free. If this holds when
@@ -38,10 +39,11 @@ pub trait RawEncoder {
         ensures passed { S.passed src.new + total_unit_count S.form (S.left src.new)
             ≡ S.passed src.old + total_unit_count S.form (S.left src.old) };
 
-    /// Encodes a text in UTF-8 with `step`.
+    /// Encodes a text in UTF-8, up to the first unmappable scalar.
     ///
-    /// Returns the result, the number of bytes read and the number of bytes written to the
-    /// beginning of `dst`. Reading stops between two characters. The body of a loop over a text:
+    /// Returns the result of `step`, the number of bytes read and the number of bytes written to
+    /// the beginning of `dst`. The bytes of `dst` after them may change. Reading stops between two
+    /// characters. The body of a loop over a text:
     ///
     /// ```text
     /// let (result, read, written) = encoder.encode_from_utf8_raw(text, &mut output, true);
@@ -70,10 +72,23 @@ pub trait RawEncoder {
         (answer, read, written)
     }
 
-    /// Encodes UTF-16 code units with `step`, with U+FFFD for each unpaired surrogate.
+    /// Encodes UTF-16 code units, up to the first unmappable scalar.
     ///
-    /// Returns the result, the number of code units read and the number of bytes written to the
-    /// beginning of `dst`. Reading does not stop inside a surrogate pair.
+    /// An unpaired surrogate is read as U+FFFD. Returns the result of `step`, the number of code
+    /// units read and the number of bytes written to the beginning of `dst`. The bytes of `dst`
+    /// after them may change. Reading does not stop inside a surrogate pair. The body of a loop over
+    /// a text:
+    ///
+    /// ```text
+    /// let (result, read, written) = encoder.encode_from_utf16_raw(units, &mut output, true);
+    /// bytes.extend_from_slice(&output[..written])?;
+    /// units = &units[read..];
+    /// match result {
+    ///     EncoderResult::InputEmpty => break,
+    ///     EncoderResult::OutputFull => continue,
+    ///     EncoderResult::Unmappable(_) => bytes.push(b'?')?,
+    /// }
+    /// ```
     fn encode_from_utf16_raw(
         &mut self,
         src: &[u16],
