@@ -136,7 +136,7 @@ fn encode_replacing<E: RawEncoder, S: Source>(
 /// The text is read from the start of `src`, and a reference is written as `&#128169;` (Encoding
 /// Standard, error mode "html"). Returns the result, the number of bytes read, the number of bytes
 /// written to the start of `dst`, and whether a reference was written. What is read ends between
-/// two characters.
+/// two characters. The bytes of `dst` after those written may change.
 ///
 /// - `InputEmpty`: the whole of `src` was read. If `last` is set, the end of the text is written
 ///   too.

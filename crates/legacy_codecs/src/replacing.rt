@@ -63,7 +63,7 @@ fn decode_replacing<D: RawDecoder, T: Destination>(
 ///
 /// It reads from the start of `src` and writes to the start of `dst` (Encoding Standard, error mode
 /// "replacement"). Returns the result, the numbers of bytes read and written, and whether U+FFFD
-/// was written for a malformed sequence.
+/// was written for a malformed sequence. The bytes of `dst` after those written may change.
 ///
 /// - `InputEmpty`: the whole of `src` was read and no scalar is held back. If `last` is set,
 ///   nothing is left to report.
@@ -101,8 +101,9 @@ pub fn decode_replacing_utf8<D: RawDecoder>(
 
 /// Decodes bytes to UTF-16, with U+FFFD for each malformed sequence.
 ///
-/// It does what `decode_replacing_utf8` does, but writes code units of UTF-16. The result is
-/// `InputEmpty` if `dst` is at least as long as the result of `max_utf16_buffer_length`.
+/// It does what `decode_replacing_utf8` does, but writes and counts code units of UTF-16. The
+/// result is `InputEmpty` if `dst` is at least as long as the result of `max_utf16_buffer_length`
+/// for at least the length of `src`.
 #[inline(never)]
 pub fn decode_replacing_utf16<D: RawDecoder>(
     decoder: &mut D,

@@ -44,7 +44,13 @@ impl From<AllocError> for SizedError {
 /// - `TooLong`: exactly if `max_utf8_buffer_length` returns `None` for the length of `input`.
 /// - `Memory`: the allocation of that many bytes failed.
 ///
-/// After either error the decoder is unchanged. `docs/USING.md` has an example, `decode_by_file`.
+/// After either error the decoder is unchanged. `docs/USING.md` has a longer example,
+/// `decode_by_file`.
+///
+/// ```text
+/// let mut decoder = EucKrDecoder::new(&tables);
+/// let text = decode_whole(alloc, &mut decoder, input)?;
+/// ```
 pub fn decode_whole<D: RawDecoder>(
     alloc: Global,
     decoder: &mut D,
@@ -72,6 +78,7 @@ pub fn decode_whole<D: RawDecoder>(
 /// Returns the number of bytes written to the beginning of `output`. The whole piece is read: pass
 /// the next piece in the next call. If the piece ends inside a sequence, the decoder holds its
 /// bytes back. Set `last` for the final piece and for no other. After it nothing is left to write.
+/// The bytes of `output` after those written may change.
 ///
 /// `output` must be at least as long as the result of `max_utf8_buffer_length` for the length of
 /// `piece`, queried after the previous piece. `docs/USING.md` has an example, `show_piece`.
@@ -138,6 +145,12 @@ pub fn encode_whole<E: RawEncoder>(
 /// - `Memory`: an allocation failed.
 ///
 /// After an error take new coders.
+///
+/// ```text
+/// let mut decoder = ShiftJisDecoder::new(&tables);
+/// let mut encoder = EucJpEncoder::new(&tables);
+/// let bytes = transcode(alloc, &mut decoder, &mut encoder, input)?;
+/// ```
 pub fn transcode<D: RawDecoder, E: RawEncoder>(
     alloc: Global,
     decoder: &mut D,
