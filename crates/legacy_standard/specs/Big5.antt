@@ -23,6 +23,7 @@ big5_trailing index leading b =
     if is_in_range 0x40 0x7E b || is_in_range 0xA1 0xFE b then Some ((leading - 0x81) * 157 + (b - offset)) else None in
     big5_pointer_returns index pointer b
 
+-- the handler of the "Big5 decoder", by index Big5 and the leading byte
 unfoldable pub big5_handler : List ℕ → ℕ → Item → Handled ℕ
 big5_handler index leading end_of_queue =
     if not (leading == 0x00) then returns error 0x00

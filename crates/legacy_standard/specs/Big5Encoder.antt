@@ -13,6 +13,7 @@ big5_at (Some pointer) c =
     let offset : ℕ = if nat_lt trailing 0x3F then 0x40 else 0x62 in
     bytes (leading ∷ (trailing + offset) ∷ [])
 
+-- the result of the "Big5 encoder" for a code point, by index Big5
 unfoldable pub big5_encodes : List ℕ → ℕ → TextOutcome
 big5_encodes index c =
     if is_ascii c then bytes (c ∷ [])

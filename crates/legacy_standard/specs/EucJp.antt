@@ -6,13 +6,16 @@ use Rattle.std.specs.Char.{is_ascii}
 use Rattle.legacy_tables.specs.Indexes.{idx}
 use Rattle.legacy_standard.specs.Queue.{Item, byte, end_of_queue, Handled, continue, finished, error, code_point, returns, return_or_error}
 
+-- the state of the "EUC-JP decoder"
 pub record EucJp : Type 0 where
   pub jis0212 : Bool
   pub leading : ℕ
 
+-- the state with these two values
 abbrev pub euc_jp_state : Bool → ℕ → EucJp
 euc_jp_state jis0212 leading = record { jis0212 = jis0212; leading = leading }
 
+-- the state before the first byte
 abbrev pub euc_jp_initial : EucJp
 euc_jp_initial = euc_jp_state false 0x00
 
@@ -24,6 +27,7 @@ euc_jp_trailing jis0208 jis0212 d b =
     then idx (if d.jis0212 then jis0212 else jis0208) ((d.leading - 0xA1) * 94 + (b - 0xA1)) else None in
     return_or_error code_point b (euc_jp_state false 0x00)
 
+-- the handler of the "EUC-JP decoder", by index jis0208, index jis0212 and the state
 unfoldable pub euc_jp_handler : List ℕ → List ℕ → EucJp → Item → Handled EucJp
 euc_jp_handler jis0208 jis0212 d end_of_queue =
     if not (d.leading == 0x00) then returns error (euc_jp_state d.jis0212 0x00)

@@ -14,6 +14,7 @@ euc_jp_at (Some pointer) c =
     let trailing : ℕ = pointer % 94 + 0xA1 in
     bytes (leading ∷ trailing ∷ [])
 
+-- the result of the "EUC-JP encoder" for a code point, by index jis0208
 unfoldable pub euc_jp_encodes : List ℕ → ℕ → TextOutcome
 euc_jp_encodes jis0208 c =
     if is_ascii c then bytes (c ∷ [])

@@ -12,6 +12,7 @@ euc_kr_trailing index leading b =
     let pointer : Option ℕ = if is_in_range 0x41 0xFE b then Some ((leading - 0x81) * 190 + (b - 0x41)) else None in
     return_or_error (option_and_then (idx index) pointer) b 0x00
 
+-- the handler of the "EUC-KR decoder", by index EUC-KR and the leading byte
 unfoldable pub euc_kr_handler : List ℕ → ℕ → Item → Handled ℕ
 euc_kr_handler index leading end_of_queue =
     if not (leading == 0x00) then returns error 0x00

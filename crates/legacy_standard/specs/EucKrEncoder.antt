@@ -12,6 +12,7 @@ euc_kr_at (Some pointer) c =
     let trailing : ℕ = pointer % 190 + 0x41 in
     bytes (leading ∷ trailing ∷ [])
 
+-- the result of the "EUC-KR encoder" for a code point, by index EUC-KR
 unfoldable pub euc_kr_encodes : List ℕ → ℕ → TextOutcome
 euc_kr_encodes index c =
     if is_ascii c then bytes (c ∷ [])

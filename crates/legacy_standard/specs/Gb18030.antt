@@ -8,14 +8,17 @@ use Rattle.legacy_tables.specs.Indexes.{idx, range}
 use Rattle.legacy_standard.specs.Queue.{Item, byte, end_of_queue, Handled, continue, finished, error, code_point}
 use Rattle.legacy_standard.specs.Queue.{returns, restores, return_or_error, code_point_or_error}
 
+-- the state of the "gb18030 decoder"
 pub record Gb18030 : Type 0 where
   pub first : ℕ
   pub second : ℕ
   pub third : ℕ
 
+-- the state with these three values
 abbrev pub gb18030_state : ℕ → ℕ → ℕ → Gb18030
 gb18030_state first second third = record { first = first; second = second; third = third }
 
+-- the state before the first byte
 abbrev pub gb18030_initial : Gb18030
 gb18030_initial = gb18030_state 0x00 0x00 0x00
 
@@ -43,6 +46,7 @@ gb18030_second_byte index d b =
     if is_in_range 0x40 0x7E b || is_in_range 0x80 0xFE b then Some ((d.first - 0x81) * 190 + (b - offset)) else None in
     return_or_error (option_and_then (idx index) pointer) b (gb18030_state 0x00 d.second d.third)
 
+-- the handler of the "gb18030 decoder", by index gb18030, index gb18030 ranges and the state
 unfoldable pub gb18030_handler : List ℕ → List (ℕ × ℕ) → Gb18030 → Item → Handled Gb18030
 gb18030_handler index ranges d end_of_queue =
     if (d.first == 0x00 && d.second == 0x00) && d.third == 0x00 then returns finished d

@@ -31,6 +31,8 @@ abbrev pub gb18030_row : Bool → List ℕ → List (ℕ × ℕ) → Option (ℕ
 gb18030_row is_gbk index ranges (Some row) c = bytes (row.0 ∷ row.1 ∷ [])
 gb18030_row is_gbk index ranges None c = gb18030_at is_gbk ranges (index_pointer index c) c
 
+-- The result of the "gb18030 encoder" for a code point, by is GBK, index gb18030, index gb18030 ranges and the table of
+-- private-use scalars.
 unfoldable pub gb18030_encodes : (is_gbk : Bool) → List ℕ → List (ℕ × ℕ) → List (ℕ × ℕ × ℕ) → ℕ → TextOutcome
 gb18030_encodes is_gbk index ranges pua c =
     if is_ascii c then bytes (c ∷ [])

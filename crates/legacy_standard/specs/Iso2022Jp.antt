@@ -5,15 +5,18 @@ use Rattle.std.specs.Int.{is_in_range}
 use Rattle.legacy_tables.specs.Indexes.{idx}
 use Rattle.legacy_standard.specs.Queue.{Item, byte, end_of_queue, Handled, continue, finished, error, code_point, returns, restores, code_point_or_error}
 
+-- the values of the "ISO-2022-JP decoder state"
 pub data DecoderState : Type 0 where
   ascii roman katakana leading_byte trailing_byte escape_start escape : DecoderState
 
+-- the state of the "ISO-2022-JP decoder"
 pub record Iso2022Jp : Type 0 where
   pub state : DecoderState
   pub output_state : DecoderState
   pub leading : ℕ
   pub output : Bool
 
+-- the state before the first byte
 abbrev pub iso_2022_jp_initial : Iso2022Jp
 iso_2022_jp_initial = record { state = ascii; output_state = ascii; leading = 0x00; output = false }
 
@@ -78,5 +81,6 @@ handler_in escape jis0208 d (byte b) = after_escape (escape_state d.leading b) d
 handler_in escape jis0208 d end_of_queue = restores (d.leading ∷ []) error (in_state d.output_state (with_output false (with_leading 0x00 d)))
 handler_in _ jis0208 d end_of_queue = returns finished d
 
+-- the handler of the "ISO-2022-JP decoder", by index jis0208 and the state
 unfoldable pub iso_2022_jp_handler : List ℕ → Iso2022Jp → Item → Handled Iso2022Jp
 iso_2022_jp_handler jis0208 d item = handler_in d.state jis0208 d item

@@ -6,28 +6,34 @@ use Rattle.legacy_tables.specs.Indexes.{idx}
 use Rattle.legacy_standard.specs.TextQueue.{TextItem, scalar, end_of_queue, TextOutcome, TextHandled, finished, bytes, error_with, returns, restores}
 use Rattle.legacy_standard.specs.IndexPointers.{index_pointer}
 
+-- the values of the "ISO-2022-JP encoder state"
 pub data EncoderState : Type 0 where
   ascii roman jis0208 : EncoderState
 
+-- true for ASCII
 abbrev pub is_ascii_state : EncoderState → Bool
 is_ascii_state ascii = true
 is_ascii_state _ = false
 
+-- true for Roman
 abbrev pub is_roman_state : EncoderState → Bool
 is_roman_state roman = true
 is_roman_state _ = false
 
+-- true for jis0208
 abbrev pub is_jis0208_state : EncoderState → Bool
 is_jis0208_state jis0208 = true
 is_jis0208_state _ = false
 
--- the bytes of the escapes
+-- the bytes of the escape to ASCII
 abbrev pub to_ascii : TextOutcome
 to_ascii = bytes (0x1B ∷ 0x28 ∷ 0x42 ∷ [])
 
+-- the bytes of the escape to Roman
 abbrev pub to_roman : TextOutcome
 to_roman = bytes (0x1B ∷ 0x28 ∷ 0x4A ∷ [])
 
+-- the bytes of the escape to jis0208
 abbrev pub to_jis0208 : TextOutcome
 to_jis0208 = bytes (0x1B ∷ 0x24 ∷ 0x42 ∷ [])
 
@@ -57,6 +63,7 @@ abbrev pub at_set : List ℕ → EncoderState → Option ℕ → ℕ → TextHan
 at_set index state None c = at_pointer state None c
 at_set index state (Some set) c = at_pointer state (index_pointer index set) set
 
+-- the handler of the "ISO-2022-JP encoder", by index jis0208, index ISO-2022-JP katakana and the state
 unfoldable pub iso_2022_jp_encodes : List ℕ → List ℕ → EncoderState → TextItem → TextHandled EncoderState
 iso_2022_jp_encodes index katakana_index state end_of_queue =
     if not (is_ascii_state state) then returns to_ascii ascii else returns finished state

@@ -2,6 +2,7 @@
 use Rattle.std.specs.Prelude.{Bool, true, not, if◌then◌else◌}
 use Rattle.legacy_standard.specs.Queue.{Item, byte, end_of_queue, Handled, finished, error, returns}
 
+-- the handler of the "replacement decoder", by replacement error returned
 unfoldable pub replacement_handler : Bool → Item → Handled Bool
 replacement_handler error_returned end_of_queue = returns finished error_returned
 replacement_handler error_returned (byte b) =

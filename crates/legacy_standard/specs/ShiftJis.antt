@@ -22,6 +22,7 @@ shift_jis_trailing jis0208 leading b =
     then Some ((leading - leading_offset) * 188 + (b - offset)) else None in
     shift_jis_pointer_returns jis0208 pointer b
 
+-- the handler of the "Shift_JIS decoder", by index jis0208 and the leading byte
 unfoldable pub shift_jis_handler : List ℕ → ℕ → Item → Handled ℕ
 shift_jis_handler jis0208 leading end_of_queue =
     if not (leading == 0x00) then returns error 0x00

@@ -19,6 +19,7 @@ shift_jis_at (Some pointer) c =
     let offset : ℕ = if nat_lt trailing 0x3F then 0x40 else 0x41 in
     bytes ((leading + leading_offset) ∷ (trailing + offset) ∷ [])
 
+-- the result of the "Shift_JIS encoder" for a code point, by index jis0208
 unfoldable pub shift_jis_encodes : List ℕ → ℕ → TextOutcome
 shift_jis_encodes jis0208 c =
     if is_ascii c || c == 0x80 then bytes (c ∷ [])

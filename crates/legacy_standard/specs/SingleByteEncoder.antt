@@ -9,6 +9,7 @@ abbrev pub single_byte_at : Option ℕ → ℕ → TextOutcome
 single_byte_at None c = error_with c
 single_byte_at (Some pointer) c = bytes ((pointer + 0x80) ∷ [])
 
+-- the result of the "single-byte encoder" for a code point, by the index of the encoding
 unfoldable pub single_byte_encodes : List ℕ → ℕ → TextOutcome
 single_byte_encodes index c =
     if is_ascii c then bytes (c ∷ [])

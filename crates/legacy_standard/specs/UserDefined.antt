@@ -3,6 +3,7 @@ use Rattle.std.specs.Prelude.{◌+◌, ◌-◌, if◌then◌else◌}
 use Rattle.std.specs.Char.{is_ascii}
 use Rattle.legacy_standard.specs.Queue.{Item, byte, end_of_queue, Handled, finished, code_point, returns}
 
+-- the handler of the "x-user-defined decoder"
 unfoldable pub user_defined_handler : Unit {0} → Item → Handled (Unit {0})
 user_defined_handler d end_of_queue = returns finished tt
 user_defined_handler d (byte b) =

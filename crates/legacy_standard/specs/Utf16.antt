@@ -4,13 +4,16 @@ use Rattle.std.specs.Prelude.{ℕ, ◌+◌, ◌*◌, ◌/◌, ◌%◌, ◌||◌,
 use Rattle.std.specs.Char.Utf16.{is_high_surrogate, is_low_surrogate, surrogate_pair_char}
 use Rattle.legacy_standard.specs.Queue.{Item, byte, end_of_queue, Handled, continue, finished, error, code_point, returns, restores}
 
+-- the state of the "shared UTF-16 decoder"
 pub record Utf16 : Type 0 where
   pub leading_byte : Option ℕ
   pub leading_surrogate : Option ℕ
 
+-- the state with these two values
 abbrev pub utf16_state : Option ℕ → Option ℕ → Utf16
 utf16_state leading_byte leading_surrogate = record { leading_byte = leading_byte; leading_surrogate = leading_surrogate }
 
+-- the state before the first byte
 abbrev pub utf16_initial : Utf16
 utf16_initial = utf16_state None None
 
@@ -37,6 +40,7 @@ utf16_byte is_utf16be None leading_surrogate b = returns continue (utf16_state (
 utf16_byte is_utf16be (Some leading_byte) leading_surrogate b =
     utf16_unit is_utf16be leading_surrogate (if is_utf16be then leading_byte * 0x100 + b else b * 0x100 + leading_byte)
 
+-- the handler of the "shared UTF-16 decoder", by is UTF-16BE decoder and the state
 unfoldable pub utf16_handler : Bool → Utf16 → Item → Handled Utf16
 utf16_handler is_utf16be d end_of_queue =
     if is_some d.leading_byte || is_some d.leading_surrogate then returns error (utf16_state None None)

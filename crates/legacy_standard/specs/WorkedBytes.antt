@@ -20,6 +20,7 @@ use Rattle.legacy_standard.specs.Iso2022JpPlaces.{lateness}
 abbrev pub Computes : {State : Type 0} → (State → Item → Handled State) → State → List (List ℕ × List DecodeEvent) → Type 0
 Computes handler initial rows = map (λ row. process handler 20 initial 0 0 row.0) rows ≡ map (λ row. Some row.1) rows
 
+-- The worked rows of each decoder, and the lateness of some malformed sequences of ISO-2022-JP.
 pub record ComputeWorkedBytes : Type 0 where
   pub single_byte : Computes (single_byte_handler (0x20AC ∷ [])) tt (
       (0x41 ∷ 0x80 ∷ 0x81 ∷ [], Scalar 0x41 ∷ Scalar 0x20AC ∷ Bad 2 1 ∷ []) ∷ [])

@@ -29,6 +29,7 @@ Parts handler initial codec c handled events =
 abbrev pub entry_at : ℕ → ℕ → List ℕ
 entry_at pointer c = replicate pointer 0 ++ c ∷ []
 
+-- the worked rows of each encoder
 pub record ComputeWorkedTexts : Type 0 where
   pub single_byte : Computes (by_scalar (single_byte_encodes (entry_at 65 0x391))) tt (
       (0x391 ∷ 0x1_F4A9 ∷ 0x41 ∷ [], Byte 0xC1 ∷ Unmappable 0x1_F4A9 ∷ Byte 0x41 ∷ []) ∷ [])
