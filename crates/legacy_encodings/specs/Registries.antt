@@ -60,11 +60,13 @@ IsNameError tables name Unknown = HasNoName name
 IsNameError tables name NoIndex = LacksTable tables name
 IsNameError tables name _ = ⊥
 
--- The encoding of the name has an encoder, and a new one is in this state; or its output encoding is UTF-8 (Encoding
--- Standard, "get an output encoding"), and there is none.
+-- A new encoder of the encoding is in this state. There is none if the output encoding is UTF-8 (Encoding Standard, "get
+-- an output encoding"), or if the table of a single-byte encoding was not read.
 abbrev pub encoder_for : FlatIndexes → List EncodingTable → Encoding → Option EncoderState
 encoder_for flat tables encoding = encoder_of (codec_of encoding) flat (entries_of tables encoding)
 
+-- A new encoder of the encoding of the name is in this state, or its output encoding is UTF-8 and there is none. The
+-- table of a single-byte encoding was read.
 pub record IsEncoderOf (flat : FlatIndexes) (tables : List EncodingTable) (name : List ℕ) (output : Option EncoderState) : Type 0 where
   pub encoding : Encoding
   pub named : encoding_name encoding ≡ name

@@ -201,7 +201,9 @@ impl<'a> AnyDecoder<'a> {
         Some(decoder)
     }
 
-    /// Does a task with the decoder of the encoding, whose type the task's code is compiled for.
+    /// Does a task with the decoder of the encoding, for whose type the task's code is compiled.
+    ///
+    /// Returns what the task returns: the number of code units that it wrote to `output`.
     #[inline(always)]
     pub fn lend<U, T: DecoderTask<U>>(&mut self, task: &T, output: &mut [U]) -> usize
         ensures { T.gives task.now (⟦<AnyDecoder<'static> as RawDecoder>⟧.state self.old)
@@ -244,7 +246,9 @@ impl<'a> AnyEncoder<'a> {
         Some(encoder)
     }
 
-    /// Does a task with the encoder of the encoding, whose type the task's code is compiled for.
+    /// Does a task with the encoder of the encoding, for whose type the task's code is compiled.
+    ///
+    /// Returns what the task returns: the number of bytes that it wrote to `output`.
     #[inline(always)]
     pub fn lend<T: EncoderTask>(&mut self, task: &T, output: &mut [u8]) -> usize
         ensures { T.gives task.now (⟦<AnyEncoder<'static> as RawEncoder>⟧.state self.old)

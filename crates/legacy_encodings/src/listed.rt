@@ -9,7 +9,7 @@ use legacy_codecs::{
     Gb18030Encoder, RawEncoder, ShiftJisEncoder, Source,
 };
 
-/// An encoder of any encoding of pairs, with a list of its pairs in memory that the user lends.
+/// An encoder of any encoding of pairs, with a list of its pairs in memory that the caller lends.
 #[derive(Drop)]
 pub enum ListedEncoder<'a, 'b> {
     /// Of GBK and gb18030.
@@ -103,7 +103,9 @@ impl<'a, 'b> ListedEncoder<'a, 'b> {
         }
     }
 
-    /// Does a task with the encoder of the encoding, whose type the task's code is compiled for.
+    /// Does a task with the encoder of the encoding, for whose type the task's code is compiled.
+    ///
+    /// Returns what the task returns: the number of bytes that it wrote to `output`.
     #[inline(always)]
     pub fn lend<T: EncoderTask>(&mut self, task: &T, output: &mut [u8]) -> usize
         ensures { T.gives task.now (⟦<ListedEncoder<'static, 'static> as RawEncoder>⟧.state self.old)

@@ -35,10 +35,10 @@ pub enum RegistryError {
     /// The index file of the single-byte encoding was not read.
     #[error("the encoding's index was not read")]
     NoIndex,
-    /// The index file is malformed, or an allocation failed.
+    /// A line of an index file is malformed, or an allocation failed.
     #[error("index file: {0}")]
     File(IndexFileError),
-    /// The index is refused.
+    /// An index or a single-byte table is refused.
     #[error("tables: {0}")]
     Tables(TableError),
     /// The length of the text's buffer exceeds `usize::MAX`, or an allocation failed.
@@ -79,7 +79,9 @@ impl From<SizedError> for RegistryError {
 /// The table of a single-byte encoding.
 #[derive(Drop)]
 pub struct EncodingTable {
+    /// The encoding.
     pub encoding: Encoding,
+    /// Its checked table.
     pub table: SingleByteTable,
 }
 
@@ -88,7 +90,9 @@ pub struct EncodingTable {
 /// An index that was not read is empty. The single-byte table that was read last comes first.
 #[derive(Drop)]
 pub struct Registry {
+    /// The indexes of the multi-byte encodings, not yet checked.
     pub indexes: OwnedIndexes,
+    /// The tables of single-byte encodings. The first table of an encoding counts.
     pub single_bytes: Vec<EncodingTable>,
 }
 
@@ -112,9 +116,14 @@ impl Registry {
         }
     }
 
-    /// Reads the index file of a single-byte encoding, and adds its table.
+    /// Reads the index file of a single-byte encoding, and adds its table before the other ones.
     ///
-    /// The indexes are unchanged, and after an error the tables too.
+    /// A table that was read earlier for the encoding is used no more. No coder uses a table that is
+    /// read for a multi-byte encoding. The indexes are unchanged, and after an error the tables too.
+    ///
+    /// - `File`: `text` has a malformed line (`read_index`), or an allocation failed.
+    /// - `Tables`: the entries of `text` are refused (`SingleByteTable::new`).
+    /// - `Sized(Memory)`: the allocation for the list of tables failed.
     pub fn read_single_byte(
         &mut self,
         alloc: Global,
@@ -141,6 +150,8 @@ impl Registry {
     }
 
     /// Checks the indexes once, and returns the coders over the registry's data or the first fault.
+    ///
+    /// The checks are those of `Tables::new`. The coders borrow the registry and allocate nothing.
     pub fn coders(&self) -> Result<Coders<'_>, TableError>
         ensures { MatchResult result
             (λ coders. (coders.tables.flat ≡ owned_lists self.now.indexes)

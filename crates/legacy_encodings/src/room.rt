@@ -5,6 +5,8 @@ use legacy_codecs::PAIR_ROOM;
 use std::alloc::{AllocError, Global};
 
 /// Allocates room for the pairs of a `ListedEncoder`: `PAIR_ROOM` entries, 128 KB.
+///
+/// All entries are 0. The only error is that the allocation failed.
 pub fn pair_room(alloc: Global) -> Result<Vec<u16>, AllocError>
     ensures { IfOk result (λ room. length room.items ≡ 65536) }
 {
