@@ -66,7 +66,7 @@ module _ (jis0208 : List ℕ) where
   unfolding part_mode
   no_escape_yet s = grind arith
 
-  -- a valid escape is not a lone escape byte
+  -- a valid escape is not an escape byte alone
   no_malformed : (t : Bool) (items rest : List DecodeEvent) → cond t (Bad 0 3 ∷ []) [] ++ shift 3 items ≡ Bad 0 1 ∷ rest → ⊥
   no_malformed t items rest e = grind (arith, no_sooner 3 0 1 items rest)
 

@@ -216,7 +216,7 @@ impl<'a> EucJpDecoder<'a> {
         }
     }
 
-    /// Returns whether no byte is held back.
+    /// Checks whether no byte is held back.
     #[inline]
     pub fn in_neutral_state(&self) -> bool
         ensures { result ≡ is_neutral (euc_jp_state self.now) }

@@ -1,4 +1,4 @@
-//! The encoder of ISO-2022-JP that reads pairs from a list, in memory that the user lends.
+//! The encoder of ISO-2022-JP that reads pairs from a list, in memory that the caller lends.
 ghost use Rattle.std.specs.Prelude.{◌≡◌, ◌≢◌, ◌<◌, ◌≤◌, length, MatchOption};
 ghost use Rattle.legacy_base.specs.Encoders.{is_pending};
 ghost use Rattle.legacy_japanese.specs.Iso2022JpEncoder.{Asks, iso_2022_jp_encoder_state, pairs_state};
@@ -135,7 +135,7 @@ impl AheadCodes for ListedPairs<'_, '_> {
 
 /// The encoder of ISO-2022-JP with a list of pairs: it writes what `Iso2022JpEncoder` writes.
 ///
-/// The list has the pairs of all scalars below U+10000, in memory that the user lends. `new` makes
+/// The list has the pairs of all scalars below U+10000, in memory that the caller lends. `new` makes
 /// it in one walk over index jis0208, flat or packed. Each pair is then one load, whatever tables
 /// the other encoder has. The encoder has its own mode, which is ASCII after the last call of a
 /// text: it can encode any number of texts, one after another. Each copy has its own mode.

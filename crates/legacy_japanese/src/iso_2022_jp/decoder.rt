@@ -15,10 +15,20 @@ use legacy_decoder_engine::moves::{DecoderMoves, Fed, Room};
 /// The decoder of ISO-2022-JP (Encoding Standard, "ISO-2022-JP decoder").
 ///
 /// An escape of three bytes switches to ASCII, JIS X 0201 Roman, half-width katakana or the pairs
-/// of JIS X 0208. The mode is kept between calls. An escape byte that begins no valid escape is
-/// malformed. A valid escape directly before another one is malformed too. The decoder holds back
-/// at most five bytes: a whole escape, and two bytes. It holds back a whole escape until a byte
-/// follows that is not part of an escape.
+/// of JIS X 0208. The mode is kept between calls. The decoder holds back at most five bytes: a whole
+/// escape, and two bytes. It holds back a whole escape until a byte follows that is not part of an
+/// escape.
+///
+/// Malformed sequences:
+///
+/// - an escape byte 1B that begins no valid escape (1 byte);
+/// - a valid escape directly before another one (3 bytes);
+/// - in ASCII and Roman mode the bytes 0E, 0F and 80 to FF, in katakana mode a byte outside 21 to
+///   5F, and in two-byte mode a byte outside 21 to 7E at the beginning of a pair (1 byte);
+/// - in two-byte mode a lead before 1B or at the end of the input (1 byte), or with another byte
+///   that gives no scalar with it (2 bytes).
+///
+/// The Standard's handler returns some of these errors later (`docs/PROOF.md`).
 #[derive(Drop)]
 pub struct Iso2022JpDecoder<'a> {
     tables: &'a Tables<'a>,
@@ -44,7 +54,7 @@ impl<'a> Iso2022JpDecoder<'a> {
         }
     }
 
-    /// Returns whether no byte is held back and the mode is ASCII, as in a new decoder.
+    /// Checks whether no byte is held back and the mode is ASCII, as in a new decoder.
     ///
     /// An escape with nothing after it is held back. The result is therefore false after an escape
     /// to ASCII mode alone.

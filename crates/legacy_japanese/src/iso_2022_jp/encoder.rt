@@ -146,8 +146,10 @@ pub fn go_to(mode: &mut Mode, target: Mode, own: EncoderMove) -> EncoderMove
 /// may come between an escape and its scalar, which is then unread. A scalar without bytes is
 /// reported in ASCII or Roman mode. In two-byte mode an escape to ASCII comes before the report.
 ///
-/// U+000E, U+000F and U+001B have no bytes, and are reported as U+FFFD. The minus sign U+2212 is
-/// written as U+FF0D.
+/// ASCII is itself. U+00A5 is 5C and U+203E is 7E, in Roman mode. Another scalar of index jis0208 is
+/// the lead and the trail of its first pointer below 8836. The minus sign U+2212 is encoded as
+/// U+FF0D, and half-width katakana as their entries in index katakana. All other scalars are
+/// unmappable. U+000E, U+000F and U+001B are unmappable too, and are reported as U+FFFD.
 #[derive(Drop)]
 pub struct Iso2022JpEncoder<'a> {
     pub(crate) tables: &'a Tables<'a>,

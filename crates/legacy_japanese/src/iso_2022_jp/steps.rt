@@ -426,7 +426,7 @@ fn read_whole(mode: Mode, escape: Escape, start: Start, byte: u8) -> Outcome
 
 /// Reads the next byte.
 ///
-/// No scalar may be pending.
+/// No scalar may be held back.
 #[inline(always)]
 pub fn read(tables: &Tables, mode: Mode, held: Held, byte: u8) -> Outcome
     requires sound { is_held mode held ≡ true }
