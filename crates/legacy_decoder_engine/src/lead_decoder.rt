@@ -106,7 +106,7 @@ impl<'a, C: LeadCodec> LeadDecoder<'a, C> {
         LeadDecoder { tables, held: None }
     }
 
-    /// Returns whether no lead is held back.
+    /// Checks whether no lead is held back.
     pub fn in_neutral_state(&self) -> bool
         ensures { result ≡ is_neutral
             (lead_state C.grammar C.byte_of self.now.tables.now self.now.held) }

@@ -1,4 +1,4 @@
-//! Encoders that read pairs from a list of all scalars below U+10000, in memory that the user
+//! Encoders that read pairs from a list of all scalars below U+10000, in memory that the caller
 //! lends.
 ghost use Rattle.std.specs.Prelude.{◌≡◌, ◌<◌, ◌≤◌, [], ◌∷◌, length, Some, IfSome, MatchOption};
 ghost use Rattle.legacy_base.specs.Encoders.{encoder_profile, new_encoder};
@@ -173,7 +173,7 @@ impl<'a, C: FillsPairs> EncodesPairs for PairEncoder<'a, C> {
 
 /// An encoder that writes what another encoder writes, and reads each pair from a list.
 ///
-/// The list has the pairs of all scalars below U+10000, in memory that the user lends. `new` makes
+/// The list has the pairs of all scalars below U+10000, in memory that the caller lends. `new` makes
 /// it in one walk over the codec's index, flat or packed. Each pair is then one load, whatever
 /// tables the other encoder has. The encoder has no modes: it can encode any number of texts, one
 /// after another.

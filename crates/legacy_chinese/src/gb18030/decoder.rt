@@ -221,7 +221,7 @@ impl<'a> Gb18030Decoder<'a> {
         }
     }
 
-    /// Returns whether no byte is held back.
+    /// Checks whether no byte is held back.
     #[inline]
     pub fn in_neutral_state(&self) -> bool
         ensures { result ≡ is_neutral (gb18030_state self.now) }

@@ -336,7 +336,7 @@ impl<V: EncoderTables, const EXTENDED: bool, const LISTED: bool> PlainCodes
         any_code_of(self.tables, EXTENDED, c)
     }
 
-    // With a list, `four_past_pairs` has the codes of four bytes, and other codes are rare.
+    // With a list, `four_past_pairs` has the codes of four bytes, and other codes are uncommon.
     #[inline(always)]
     fn goes_past_pairs(&self) -> bool {
         !LISTED

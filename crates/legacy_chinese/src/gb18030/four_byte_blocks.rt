@@ -223,6 +223,7 @@ impl Gb18030Blocks<'_, '_> {
     }
 
     /// Reads from the front, which is past ASCII or fewer than 16 bytes from the end.
+    ///
     /// Returns the number of bytes read, and whether another block may follow.
     #[inline(always)]
     fn read_forms_ahead<T: Destination>(&self, src: &[u8], dst: &mut T) -> (usize, bool)
