@@ -39,6 +39,7 @@ reading_room narrow wide narrow_acts = narrow
 reading_room narrow wide wide_reads = wide
 reading_room narrow wide wide_acts = wide
 
+-- the same for a grammar's codec
 abbrev pub full_room : ℕ → ℕ → Grammar → ℕ
 full_room narrow wide grammar = reading_room narrow wide (profile grammar).rooms
 
@@ -48,6 +49,7 @@ writing_room narrow wide narrow_acts = narrow
 writing_room narrow wide wide_reads = narrow
 writing_room narrow wide wide_acts = wide
 
+-- the same for a grammar's codec
 abbrev pub release_room : ℕ → ℕ → Grammar → ℕ
 release_room narrow wide grammar = writing_room narrow wide (profile grammar).rooms
 

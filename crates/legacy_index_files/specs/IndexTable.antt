@@ -59,6 +59,7 @@ malformed_line name n [] = None
 malformed_line name n (line ∷ more) =
     elim (says name line) [ Skipped ↦ malformed_line name (n + 1) more | Entry p v ↦ malformed_line name (n + 1) more | Malformed ↦ Some n ]
 
+-- the same for an index that a decoder uses
 abbrev pub first_malformed : FileIndex → ℕ → List (List ℕ) → Option ℕ
 first_malformed name = malformed_line (Of name)
 
@@ -74,6 +75,7 @@ abbrev pub file_entries : EncoderIndex → List (List ℕ) → List (ℕ × ℕ)
 file_entries name [] = []
 file_entries name (line ∷ more) = with_entry (says name line) (file_entries name more)
 
+-- the same for an index that a decoder uses
 abbrev pub entries_of : FileIndex → List (List ℕ) → List (ℕ × ℕ)
 entries_of name = file_entries (Of name)
 

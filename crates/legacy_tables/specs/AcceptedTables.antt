@@ -63,10 +63,11 @@ module _ {A : Type 0} where
 abbrev numbers : Coded (List ℕ)
 numbers = coded_list coded_ℕ
 
--- pairs of numbers, and rows of three numbers
+-- lists of pairs of numbers
 abbrev pairs : Coded (List (ℕ × ℕ))
 pairs = coded_list (coded× coded_ℕ coded_ℕ)
 
+-- lists of rows of three numbers, stored as nested pairs
 abbrev rows : Coded (List (ℕ × ℕ × ℕ))
 rows =
     coded_list (code_by (ℕ × (ℕ × ℕ)) (coded× coded_ℕ (coded× coded_ℕ coded_ℕ)) (λ r. (r.0, (r.1, r.2))) (λ t. (t.0, t.1.0, t.1.1)) (λ _. refl))
