@@ -1,6 +1,6 @@
 //! The table of calls with replacement.
 //!
-//! Clean text is timed beside raw calls, and text with many faults beside encoding_rs's calls with replacement.
+//! Clean text is timed beside raw calls, and text with many malformed sequences beside encoding_rs's calls with replacement.
 
 use crate::decoding::{self, Codec, Into, ToUtf16, ToUtf8};
 use crate::encoding::{self, fast_encoding, From, FromUtf16, FromUtf8};
@@ -69,7 +69,7 @@ fn encode_line<D: From>(corpus: &str, codec: &Ours, encoding: &'static Encoding,
     Ok(())
 }
 
-/// Prints the lines of text without faults.
+/// Prints the lines of clean text.
 pub fn lines(corpus: &str, codec: &Codec, long: &[u8], short: &[u8], times: usize) -> Result<(), String> {
     let encoding = codec.encoding;
     decode_line::<ToUtf8>(corpus, &codec.flat, encoding, long, short, times)?;

@@ -45,7 +45,7 @@ pub fn any_bytes(numbers: &mut Numbers) -> Vec<u8> {
     bytes
 }
 
-/// Returns UTF-16 code units of a text: mostly scalars that the codec has, others, ASCII, pairs and lone surrogates.
+/// Returns UTF-16 code units of a text: mostly scalars that the codec has, others, ASCII, pairs and unpaired surrogates.
 pub fn any_text(numbers: &mut Numbers, scalars: &[char]) -> Vec<u16> {
     let blocks: [(usize, usize); 10] = [
         (0x0000, 0x80),
