@@ -13,6 +13,7 @@ short : (index : List ℕ) (c : ℕ) → 128 ≤ c → code_length (big5_code in
 unfolding big5_code
 short index c h = short_past c _ _ 2 h (short_map big5_bytes (big5_pointer_of index c) 2 (λ p. omega arith))
 
+-- Big5 is a codec of ASCII and pairs, with any index
 pub big5_pairs : (index : List ℕ) → IsPairCodec (big5 index)
 unfolding big5_code
 big5_pairs index = record { code = big5_code index; profile_is = refl; ascii = λ c h. rw (lt-ltb c 128 h) refl; short = short index }
@@ -21,5 +22,6 @@ big5_pairs index = record { code = big5_code index; profile_is = refl; ascii = �
 abbrev pub big5_mark : ℕ → ℕ
 big5_mark p = (p / 157 + 0x81) + 256 * (p % 157 + (if nat_lt (p % 157) 0x3F then 0x40 else 0x62))
 
+-- no such number is 0
 pub big5_mark-some : (p : ℕ) → big5_mark p ≢ 0
 big5_mark-some p e = omega arith

@@ -51,6 +51,7 @@ gb18030_lengths = record {
   enough8 = λ u t p. omega arith;
 }
 
+-- GB18030 and GBK are codecs without modes, whose codes have at most four bytes
 pub gb18030_plain : (flat : FlatIndexes) (extended : Bool) → IsPlainCodec (gb18030_codec flat extended) 4
 unfolding gb18030_code gbk_code
 gb18030_plain flat true = record {

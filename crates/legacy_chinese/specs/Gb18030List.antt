@@ -19,5 +19,6 @@ pub record GoesByPointer (rows : List (ℕ × ℕ × ℕ)) (c : ℕ) : Type 0 wh
 abbrev pub gb18030_mark : ℕ → ℕ
 gb18030_mark p = (p / 190 + 0x81) + 256 * (p % 190 + (if nat_lt (p % 190) 0x3F then 0x40 else 0x41))
 
+-- no such number is 0
 pub gb18030_mark-some : (p : ℕ) → gb18030_mark p ≢ 0
 gb18030_mark-some p e = omega arith

@@ -13,6 +13,7 @@ abbrev pub gb18030_pending : List ℕ → Option (ℕ × ℕ)
 gb18030_pending [] = None
 gb18030_pending (b ∷ held) = if is_ascii_digit b then Some (1, b) else None
 
+-- the step at a byte if nothing is held back
 abbrev pub gb18030_first : ℕ → Step
 gb18030_first b =
     if is_ascii b then finish (reads 1 (b ∷ []))
@@ -20,6 +21,7 @@ gb18030_first b =
     else if is_lead b then hold
     else finish (malformed 1)
 
+-- the step at a byte after these held-back bytes
 abbrev pub gb18030_step : List ℕ → List (ℕ × ℕ) → List ℕ → ℕ → Step
 gb18030_step index ranges [] b = gb18030_first b
 gb18030_step index ranges (first ∷ []) b =
@@ -31,6 +33,7 @@ gb18030_step index ranges (first ∷ second ∷ third ∷ held) b =
     then finish (reads_or 4 (option_to_list (range ranges (gb18030_range_pointer first second third b))) (malformed 4))
     else leave 1
 
+-- the machine
 abbrev pub gb18030_machine : List ℕ → List (ℕ × ℕ) → DecoderMachine
 gb18030_machine index ranges = record {
   pending = gb18030_pending;

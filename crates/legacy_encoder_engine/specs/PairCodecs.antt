@@ -17,6 +17,7 @@ pub record IsPairCodec (codec : Codec) : Type 0 where
   pub ascii : (c : ℕ) → c < 0x80 → code c ≡ Some (c ∷ [])
   pub short : (c : ℕ) → 0x80 ≤ c → code_length (code c) ≤ 2
 
+-- such a codec has no modes, and its codes have at most two bytes
 pub pair_plain : (codec : Codec) → IsPairCodec codec → IsPlainCodec codec 2
 pair_plain codec p = record {
   code = p.code;

@@ -20,6 +20,7 @@ mode_meaning Roman = iso.roman
 mode_meaning Katakana = iso.katakana
 mode_meaning TwoByte = iso.two_byte
 
+-- the second byte of an escape
 abbrev pub second_of : Escape → ℕ
 second_of ToAscii = 0x28
 second_of ToRoman = 0x28
@@ -27,6 +28,7 @@ second_of ToKatakana = 0x28
 second_of ToJis1978 = 0x24
 second_of ToJis1983 = 0x24
 
+-- the third byte of an escape
 abbrev pub third_of : Escape → ℕ
 third_of ToAscii = 0x42
 third_of ToRoman = 0x4A
@@ -34,6 +36,7 @@ third_of ToKatakana = 0x49
 third_of ToJis1978 = 0x40
 third_of ToJis1983 = 0x42
 
+-- the mode that an escape switches to
 abbrev pub mode_of : Escape → Mode
 mode_of ToAscii = Ascii
 mode_of ToRoman = Roman
@@ -41,12 +44,14 @@ mode_of ToKatakana = Katakana
 mode_of ToJis1978 = TwoByte
 mode_of ToJis1983 = TwoByte
 
+-- the bytes of the beginning of an escape
 abbrev pub start_bytes : Start → List ℕ
 start_bytes Nothing = []
 start_bytes EscapeByte = esc ∷ []
 start_bytes Dollar = esc ∷ 0x24 ∷ []
 start_bytes Paren = esc ∷ 0x28 ∷ []
 
+-- the held-back bytes
 abbrev pub bytes_of : Held → List ℕ
 bytes_of (Byte b) = b ∷ []
 bytes_of (Begun s) = start_bytes s
@@ -67,6 +72,7 @@ single Roman b =
 single Katakana b = if is_in_range 0x21 0x5F b then Some (0xFF61 + (b - 0x21)) else None
 single TwoByte b = None
 
+-- a byte outside two-byte mode is written as its scalar, or is malformed
 abbrev pub read_single : Mode → Option ℕ → Outcome
 read_single mode (Some c) = moves (Writes c) mode (Begun Nothing)
 read_single mode None = moves (Reports 1) mode (Begun Nothing)
@@ -77,6 +83,7 @@ read_plain TwoByte b =
     if is_in_range 0x21 0x7E b then moves Holds TwoByte (Byte b) else moves (Reports 1) TwoByte (Begun Nothing)
 read_plain mode b = read_single mode (single mode b)
 
+-- a pair is written as its scalar, or is malformed
 abbrev pub read_pair : Option ℕ → Outcome
 read_pair (Some c) = moves (Writes c) TwoByte (Begun Nothing)
 read_pair None = moves (Reports 2) TwoByte (Begun Nothing)
@@ -103,6 +110,7 @@ abbrev pub read_third : Mode → ℕ → Option Escape → Outcome
 read_third mode a (Some e) = moves Holds mode (Whole e Nothing)
 read_third mode a None = moves Leaves mode (Byte a)
 
+-- reads a byte after the beginning of an escape, or with nothing held back
 abbrev pub read_start : Mode → Start → ℕ → Outcome
 read_start mode Nothing b = if b == esc then moves Holds mode (Begun EscapeByte) else read_plain mode b
 read_start mode EscapeByte b =
@@ -163,6 +171,7 @@ finish_start mode EscapeByte = Some (mode, Begun Nothing)
 finish_start mode Dollar = Some (mode, Byte 0x24)
 finish_start mode Paren = Some (mode, Byte 0x28)
 
+-- the same for all that may be held back
 abbrev pub finish : Mode → Held → Option (Mode × Held)
 finish mode (Byte l) = Some (mode, Begun Nothing)
 finish mode (Begun s) = finish_start mode s

@@ -22,5 +22,6 @@ pub record ListsPairs (jis0208 katakana_index pairs : List ℕ) : Type 0 where
 abbrev pub iso_2022_jp_mark : ℕ → ℕ
 iso_2022_jp_mark p = (p / 94 + 0x21) + 256 * (p % 94 + 0x21)
 
+-- no such number is 0
 pub iso_2022_jp_mark-some : (p : ℕ) → iso_2022_jp_mark p ≢ 0
 iso_2022_jp_mark-some p e = omega arith

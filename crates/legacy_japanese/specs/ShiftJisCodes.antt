@@ -5,6 +5,7 @@ use Rattle.std.proofs.lemmas.Bool.Decides.{nat_tests}
 use Rattle.legacy_base.specs.{ShiftJis.shift_jis_code, Encoders.shift_jis}
 use Rattle.legacy_encoder_engine.specs.PairCodecs.{IsPairCodec}
 
+-- Shift_JIS is a codec of ASCII and pairs, with any index
 pub shift_jis_pairs : (jis0208 : List ℕ) → IsPairCodec (shift_jis jis0208)
 unfolding shift_jis_code
 shift_jis_pairs jis0208 = record { code = shift_jis_code jis0208; profile_is = refl; ascii = λ c h. grind (arith, nat_tests); short = λ c h. grind arith }
@@ -15,5 +16,6 @@ shift_jis_mark p =
     (p / 188 + (if nat_lt (p / 188) 0x1F then 0x81 else 0xC1))
     + 256 * (p % 188 + (if nat_lt (p % 188) 0x3F then 0x40 else 0x41))
 
+-- no such number is 0
 pub shift_jis_mark-some : (p : ℕ) → shift_jis_mark p ≢ 0
 shift_jis_mark-some p e = grind arith

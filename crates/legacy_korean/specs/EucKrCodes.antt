@@ -12,6 +12,7 @@ short : (index : List ℕ) (c : ℕ) → 128 ≤ c → code_length (euc_kr_code 
 unfolding euc_kr_code
 short index c h = short_past c _ _ 2 h (short_map euc_kr_bytes (euc_kr_pointer_of index c) 2 (λ p. omega arith))
 
+-- EUC-KR is a codec of ASCII and pairs, with any index
 pub euc_kr_pairs : (index : List ℕ) → IsPairCodec (euc_kr index)
 unfolding euc_kr_code
 euc_kr_pairs index = record { code = euc_kr_code index; profile_is = refl; ascii = λ c h. rw (lt-ltb c 128 h) refl; short = short index }
@@ -20,5 +21,6 @@ euc_kr_pairs index = record { code = euc_kr_code index; profile_is = refl; ascii
 abbrev pub euc_kr_mark : ℕ → ℕ
 euc_kr_mark p = (p / 190 + 0x81) + 256 * (p % 190 + 0x41)
 
+-- no such number is 0
 pub euc_kr_mark-some : (p : ℕ) → euc_kr_mark p ≢ 0
 euc_kr_mark-some p e = omega arith

@@ -9,6 +9,7 @@ use Rattle.legacy_decoder_engine.specs.Steps.{Step, finish, DecoderMachine}
 abbrev pub replacement_first : Bool → Step
 replacement_first reported = if reported then finish (reads 1 []) else finish (malformed 1)
 
+-- the machine
 abbrev pub replacement_machine : Bool → DecoderMachine
 replacement_machine reported = record {
   pending = no_pending;

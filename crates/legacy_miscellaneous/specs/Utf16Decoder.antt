@@ -8,10 +8,11 @@ use Rattle.legacy_miscellaneous.specs.declared.utf16.held_bytes.Held.TheVariants
 use Rattle.legacy_miscellaneous.specs.declared.utf16.decoder.Utf16Decoder.{Utf16Decoder}
 use Rattle.legacy_miscellaneous.specs.declared.utf16.unit_blocks.Units.{Units}
 
--- the first and the second byte of a unit, in the byte order
+-- the first byte of a unit, in the byte order
 abbrev pub first_byte : Bool → ℕ → ℕ
 first_byte big_endian u = if big_endian then u / 0x100 else u % 0x100
 
+-- the second byte of a unit, in the byte order
 abbrev pub second_byte : Bool → ℕ → ℕ
 second_byte big_endian u = if big_endian then u % 0x100 else u / 0x100
 

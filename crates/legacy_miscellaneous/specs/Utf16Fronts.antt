@@ -17,6 +17,7 @@ unit_front big_endian u (c ∷ d ∷ rest) =
     then reads 4 (surrogate_pair_char u (unit_of big_endian c d) ∷ [])
     else single_unit_front u
 
+-- the front of a list that begins with the byte a
 unfoldable pub utf16_front : Bool → ℕ → List ℕ → Front
 utf16_front big_endian a [] = malformed 1
 utf16_front big_endian a (b ∷ rest) = unit_front big_endian (unit_of big_endian a b) rest

@@ -18,6 +18,7 @@ utf16_unit_step u =
     else if is_low_surrogate u then finish (malformed 2)
     else finish (reads 2 (u ∷ []))
 
+-- the step at a byte after these held-back bytes
 abbrev pub utf16_step : Bool → List ℕ → ℕ → Step
 utf16_step big_endian [] b = hold
 utf16_step big_endian (a ∷ []) b = utf16_unit_step (unit_of big_endian a b)
@@ -27,6 +28,7 @@ utf16_step big_endian (a ∷ b ∷ c ∷ held) d =
     then finish (reads 4 (surrogate_pair_char (unit_of big_endian a b) (unit_of big_endian c d) ∷ []))
     else finish (malformed 2)
 
+-- the machine, by the byte order
 abbrev pub utf16_machine : Bool → DecoderMachine
 utf16_machine big_endian = record {
   pending = utf16_pending big_endian;

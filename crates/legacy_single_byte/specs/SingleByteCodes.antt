@@ -12,6 +12,7 @@ short : (table : List ℕ) (c : ℕ) → 128 ≤ c → code_length (single_byte_
 unfolding single_byte_code
 short table c h = short_past c _ _ 1 h (short_map (λ place. (0x80 + place) ∷ []) (position (λ entry. entry == c) table) 1 (λ p. omega arith))
 
+-- a single-byte codec has no modes, and its codes have one byte
 pub single_byte_plain : (table : List ℕ) → IsPlainCodec (single_byte table) 1
 unfolding single_byte_code
 single_byte_plain table = record {

@@ -7,11 +7,13 @@ use Rattle.legacy_base.specs.Grammar.{single_byte}
 use Rattle.legacy_decoder_engine.specs.Steps.{no_pending}
 use Rattle.legacy_decoder_engine.specs.Steps.{Step, finish, DecoderMachine}
 
+-- the step at a byte
 abbrev pub single_byte_first : List ℕ → ℕ → Step
 single_byte_first table b =
     if is_ascii b then finish (reads 1 (b ∷ []))
     else finish (reads_or 1 (option_to_list (idx table (b - 0x80))) (malformed 1))
 
+-- the machine
 abbrev pub single_byte_machine : List ℕ → DecoderMachine
 single_byte_machine table = record {
   pending = no_pending;
