@@ -48,7 +48,7 @@ pub trait RawDecoder {
     ///
     /// Returns the result of `step`, the number of bytes read and the number of bytes written to
     /// the beginning of `dst`. Only whole scalars are written. The bytes of `dst` after them may
-    /// change. The body of a loop over an input in memory:
+    /// change. The body of a loop over an input in memory, with an output of at least 4 bytes:
     ///
     /// ```text
     /// let (result, read, written) = decoder.decode_to_utf8_raw(input, &mut output, true);
@@ -80,7 +80,8 @@ pub trait RawDecoder {
     ///
     /// Returns the result of `step`, the number of bytes read and the number of code units written
     /// to the beginning of `dst`. Only whole scalars are written. The code units of `dst` after them
-    /// may change. The body of a loop over one piece of several:
+    /// may change. The body of a loop over one piece of several, with an output of at least 2 code
+    /// units:
     ///
     /// ```text
     /// let (result, read, written) = decoder.decode_to_utf16_raw(piece, &mut output, false);

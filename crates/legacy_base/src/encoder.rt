@@ -43,7 +43,7 @@ pub trait RawEncoder {
     ///
     /// Returns the result of `step`, the number of bytes read and the number of bytes written to
     /// the beginning of `dst`. The bytes of `dst` after them may change. Reading stops between two
-    /// characters. The body of a loop over a text:
+    /// characters. The body of a loop over a text, with an output of at least 4 bytes:
     ///
     /// ```text
     /// let (result, read, written) = encoder.encode_from_utf8_raw(text, &mut output, true);
@@ -77,7 +77,7 @@ pub trait RawEncoder {
     /// An unpaired surrogate is read as U+FFFD. Returns the result of `step`, the number of code
     /// units read and the number of bytes written to the beginning of `dst`. The bytes of `dst`
     /// after them may change. Reading does not stop inside a surrogate pair. The body of a loop over
-    /// a text:
+    /// a text, with an output of at least 4 bytes:
     ///
     /// ```text
     /// let (result, read, written) = encoder.encode_from_utf16_raw(units, &mut output, true);

@@ -147,7 +147,7 @@ fn encode_replacing<E: RawEncoder, S: Source>(
 /// Let `dst` be at least 10 bytes longer than the result of
 /// `max_buffer_length_from_utf8_without_replacement` for the length of `src` or more. Then
 /// `OutputFull` is only returned after a reference was written. After either result the encoder
-/// continues from its state. The body of a loop over a text:
+/// continues from its state. The body of a loop over a text, with an output of at least 14 bytes:
 ///
 /// ```text
 /// let (result, read, written, _) = encode_replacing_utf8(encoder, text, &mut output, true);

@@ -72,7 +72,7 @@ fn decode_replacing<D: RawDecoder, T: Destination>(
 ///
 /// If `dst` is at least as long as the result of `max_utf8_buffer_length` for at least the length
 /// of `src`, the result is `InputEmpty`. After either result the decoder continues from its state.
-/// The body of a loop over an input in memory:
+/// The body of a loop over an input in memory, with an output of at least 4 bytes:
 ///
 /// ```text
 /// let (result, read, written, _) = decode_replacing_utf8(decoder, input, &mut output, true);

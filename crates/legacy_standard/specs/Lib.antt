@@ -1,4 +1,4 @@
--- The handlers of the WHATWG Encoding Standard's decoders and encoders, and the laws that they agree with our
+-- The handlers of the WHATWG Encoding Standard's decoders and encoders, and the laws that they agree with the
 -- definitions.
 pub mod Queue
 pub mod Processing

@@ -286,7 +286,7 @@ impl<'a> Tables<'a> {
 
     /// Writes the named index as a flat index to the start of the room, and returns it.
     ///
-    /// The name is `EucKr`, `Jis0208`, `Jis0212` or `Gb18030`. Returns `None` exactly if the room is shorter than
+    /// The name must be `EucKr`, `Jis0208`, `Jis0212` or `Gb18030`. Returns `None` exactly if the room is shorter than
     /// the index.
     pub fn unpack<'b>(&self, name: IndexName, room: &'b mut [u16]) -> Option<&'b [u16]>
         requires { is_narrow_index name ≡ true }
