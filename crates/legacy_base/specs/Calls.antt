@@ -115,7 +115,7 @@ pub record DecoderCall (form : EncodingForm) (before : DecoderState) (source : L
       ≤ room query before (length source + more)
   -- with the room that the source needs free, the result is not OutputFull
   pub suffices : (query : LengthQuery) → query_form query ≡ form → room query before (length source) ≤ free → answer ≢ OutputFull
-  -- with the room returned by a query for at least as many bytes free, the result is not OutputFull
+  -- with the length returned by a query for at least as many bytes free, the result is not OutputFull
   pub enough : (query : LengthQuery) → query_form query ≡ form → (n k : ℕ) → length source ≤ n → query_answer query before n ≡ Some k → k ≤ free → answer ≢ OutputFull
 
 -- a call, by the contents of the destination before and after it

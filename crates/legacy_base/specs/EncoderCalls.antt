@@ -68,5 +68,5 @@ pub record EncoderCall (before : EncoderState) (source : List ℕ) (last : Bool)
       length bytes ≤ encoder_room form before (total_unit_count form source)
   -- with the room that the source needs free, the result is not OutputFull
   pub suffices : (form : EncodingForm) → encoder_room form before (total_unit_count form source) ≤ free → answer ≢ OutputFull
-  -- with the room returned by a query for at least as many code units free, the result is not OutputFull
+  -- with the length returned by a query for at least as many code units free, the result is not OutputFull
   pub enough : (form : EncodingForm) (n k : ℕ) → total_unit_count form source ≤ n → encoder_answer form before n ≡ Some k → k ≤ free → answer ≢ OutputFull

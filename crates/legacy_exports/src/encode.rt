@@ -84,8 +84,8 @@ impl<C: Calls, T: Text> EncoderTask for Reading<C, T> {
 
 /// Encodes by the codec's encoder as `encode_times` does.
 ///
-/// Returns `None` if the codec has no encoder or the indexes are refused. An encoder of pairs caches
-/// them in the room if it is long enough.
+/// Returns `None` if the codec has no encoder or the indexes are refused. An encoder of pairs lists
+/// them in `room` if it is long enough.
 pub fn encode<C: Calls, T: Text>(
     codec: Codec,
     indexes: &IndexSlices,

@@ -7,8 +7,8 @@
 //! It returns the number of code units written to the output the last time. One decoder or encoder
 //! makes all conversions: it continues from one time to the next. A malformed sequence becomes
 //! U+FFFD. An unmappable scalar becomes a question mark, or a reference in calls with replacement.
-//! The conversion stops if the output is full. Encoders of pairs list them in room that the caller
-//! lends, if it is long enough.
+//! The conversion stops if the output is full. Encoders of pairs list them in memory that the
+//! caller lends, if it is long enough.
 //!
 //! If no codec has the number or the indexes are refused, nothing is written and `usize::MAX` is
 //! returned.

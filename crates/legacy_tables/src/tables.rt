@@ -270,9 +270,9 @@ impl<'a> Tables<'a> {
         })
     }
 
-    /// Writes index Big5 as a flat index to the start of the room, and returns it.
+    /// Writes index Big5 as a flat index to the start of `room`, and returns it.
     ///
-    /// Returns `None` exactly if the room is shorter than the index. Tables made of flat indexes look pointers up
+    /// Returns `None` exactly if `room` is shorter than the index. Tables made of flat indexes look pointers up
     /// without a search.
     pub fn unpack_big5<'b>(&self, room: &'b mut [u32]) -> Option<&'b [u32]>
         ensures { MatchOption result (length room.old < length self.now.flat.big5)
@@ -284,10 +284,10 @@ impl<'a> Tables<'a> {
         }
     }
 
-    /// Writes the named index as a flat index to the start of the room, and returns it.
+    /// Writes the named index as a flat index to the start of `room`, and returns it.
     ///
-    /// The name must be `EucKr`, `Jis0208`, `Jis0212` or `Gb18030`. Returns `None` exactly if the room is shorter than
-    /// the index.
+    /// The name must be `EucKr`, `Jis0208`, `Jis0212` or `Gb18030`. Returns `None` exactly if `room` is shorter than the
+    /// index.
     pub fn unpack<'b>(&self, name: IndexName, room: &'b mut [u16]) -> Option<&'b [u16]>
         requires { is_narrow_index name ≡ true }
         ensures { MatchOption result (length room.old < length (index_list self.now.flat name))

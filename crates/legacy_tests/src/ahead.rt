@@ -15,9 +15,9 @@ impl<'a, E: EncodesPairs> TestedEncoder for CachedEncoder<'a, E> {
     }
 }
 
-/// Follows the rows with an encoder that caches the pairs of this one in the room.
+/// Follows the rows with an encoder that lists the pairs of this one in `room`.
 ///
-/// Returns `false` without that if the room does not suffice.
+/// Returns `false` without that if `room` is too short.
 pub(crate) fn encode_ahead<E: EncodesPairs>(
     rt: &(impl AllocGlobal + Abort),
     encoder: &E,

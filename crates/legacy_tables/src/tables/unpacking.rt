@@ -104,9 +104,9 @@ fn write<N: Numbers, E: Entry>(index: &N, entries: &mut [E])
     }
 }
 
-/// Writes an index to the start of the room, and returns it.
+/// Writes an index to the start of `room`, and returns it.
 ///
-/// Returns `None` exactly if the room is too short.
+/// Returns `None` exactly if `room` is too short.
 pub(super) fn unpack<'b, N: Numbers, E: Entry>(index: &N, room: &'b mut [E]) -> Option<&'b [E]>
     requires { (p : ℕ) → slice_index (N.numbers index.now) p < E.limit }
     ensures { MatchOption result

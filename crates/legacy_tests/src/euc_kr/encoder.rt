@@ -149,9 +149,9 @@ const WORDS: &[EncoderRow] = &[
     ),
 ];
 
-/// Follows the rows of words with pairs cached in this room.
+/// Follows the rows of words with pairs listed in `room`.
 ///
-/// Returns whether the room suffices.
+/// Returns `false` without that if `room` is too short.
 fn encode_in(rt: &(impl AllocGlobal + Abort), room: &mut [u16]) -> bool {
     let indexes = Indexes {
         euc_kr: &[

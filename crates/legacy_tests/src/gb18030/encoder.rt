@@ -57,9 +57,9 @@ const GBK_WITHOUT_ENTRIES: &[EncoderRow] = &[
     Utf16Length(usize::MAX / 2, None),
 ];
 
-/// Follows the rows without entries with pairs cached in this room.
+/// Follows the rows without entries with pairs listed in `room`.
 ///
-/// Returns whether the room suffices.
+/// Returns `false` without that if `room` is too short.
 fn encode_in(rt: &(impl AllocGlobal + Abort), room: &mut [u16]) -> bool {
     let tables = tables_of(rt, &no_entries());
     let encoder = Gb18030Encoder::new(&tables, true);

@@ -25,7 +25,7 @@ impl<'a, 'b> TestedEncoder for CachedIso2022JpEncoder<'a, 'b> {
     }
 }
 
-/// Follows the rows of a case over packed tables, with an encoder that caches pairs in this room.
+/// Follows the rows of a case over packed tables, with an encoder that lists pairs in `room`.
 // Over flat tables, filling the cache would search the index for 65,536 scalars.
 fn encode_ahead(rt: &(impl AllocGlobal + Abort), room: &mut [u16], (_, flat, rows): &EncoderCase) {
     let filled = Filled::of(flat);
