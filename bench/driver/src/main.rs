@@ -187,7 +187,8 @@ fn tables(words: Vec<String>, times: usize) -> Result<(), String> {
         eprintln!("missing: ICU (libicuuc.so); its columns stay empty");
     }
     let (wanted, mut codecs) = (Wanted::new(words), Codecs::default());
-    for (_, each) in TABLES.iter().filter(|(_, each)| wanted.has_table(*each)) {
+    for (name, each) in TABLES.iter().filter(|(_, each)| wanted.has_table(*each)) {
+        println!("## {name}");
         table(*each, &wanted, &mut codecs, times)?;
         println!();
     }

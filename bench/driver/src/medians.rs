@@ -5,9 +5,9 @@
 
 use std::fs;
 
-/// A table: the two lines of its heading, and its lines by cells.
+/// A table: its title, the names of its columns, and its lines by cells.
 struct Table {
-    heading: Vec<String>,
+    title: String,
     names: Vec<String>,
     lines: Vec<Vec<String>>,
 }
@@ -22,10 +22,10 @@ fn cells(line: &str) -> Vec<String> {
 fn parse(text: &str) -> Vec<Table> {
     let mut tables = Vec::new();
     for part in text.split("\n\n") {
+        let title = part.lines().find(|line| line.starts_with("## ")).unwrap_or_default().to_string();
         let lines: Vec<&str> = part.lines().filter(|line| line.starts_with('|')).collect();
-        if let [names, rule, body @ ..] = lines.as_slice() {
-            let heading = vec![names.to_string(), rule.to_string()];
-            tables.push(Table { heading, names: cells(names), lines: body.iter().map(|line| cells(line)).collect() });
+        if let [names, _, body @ ..] = lines.as_slice() {
+            tables.push(Table { title, names: cells(names), lines: body.iter().map(|line| cells(line)).collect() });
         }
     }
     tables
@@ -52,6 +52,15 @@ fn cell(name: &str, same: &[&String]) -> Result<String, String> {
     Ok(if median < 10.0 { format!("{median:.1}") } else { format!("{median:.0}") })
 }
 
+/// Prints lines of cells in columns.
+fn print_columns(lines: &[Vec<String>]) {
+    let width = |column: usize| lines.iter().filter_map(|line| line.get(column)).map(String::len).max().unwrap_or(0);
+    for line in lines {
+        let cells: Vec<String> = line.iter().enumerate().map(|(column, cell)| format!("{cell:0$}", width(column))).collect();
+        println!("{}", cells.join("  ").trim_end());
+    }
+}
+
 /// Prints a chart of a table with a column `ours`: for each text our bar and that of encoding_rs, for the first source.
 fn chart(names: &[String], lines: &[Vec<String>]) {
     let place = |start: &str| names.iter().position(|name| name.starts_with(start));
@@ -60,20 +69,18 @@ fn chart(names: &[String], lines: &[Vec<String>]) {
     let speed = |line: &[String], column: usize| line[column].parse::<f64>().unwrap_or(0.0);
     let texts: Vec<&Vec<String>> = lines.iter().filter(|line| line[0].ends_with("-text")).collect();
     let most = texts.iter().map(|line| speed(line, ours).max(speed(line, theirs))).fold(1.0, f64::max);
-    println!("\n```text\nMB/s, 3 MB in one call: ours, and encoding_rs's below it");
+    println!("\nMB/s, 3 MB in one call: ours, and encoding_rs's below it");
     for line in texts {
         for (name, column) in [(line[..3].join(" "), ours), (String::new(), theirs)] {
             let speed = speed(line, column);
             println!("{name:36} {} {speed:.0}", "#".repeat((speed / most * 60.0).round() as usize));
         }
     }
-    println!("```");
 }
 
 /// Prints the medians of one table in all builds, and its chart.
 fn print(builds: &[&Table]) -> Result<(), String> {
-    println!("{}", builds[0].heading.join("\n"));
-    let mut lines = Vec::new();
+    let mut lines = vec![builds[0].names.clone()];
     for (at, line) in builds[0].lines.iter().enumerate() {
         let mut cells = Vec::new();
         for column in 0..line.len() {
@@ -81,11 +88,12 @@ fn print(builds: &[&Table]) -> Result<(), String> {
             let name = builds[0].names.get(column).map_or("", String::as_str);
             cells.push(cell(name, &same.ok_or("a table is shorter")?)?);
         }
-        println!("| {} |", cells.join(" | "));
         lines.push(cells);
     }
-    chart(&builds[0].names, &lines);
-    println!();
+    println!("{}\n\n```text", builds[0].title);
+    print_columns(&lines);
+    chart(&builds[0].names, &lines[1..]);
+    println!("```\n");
     Ok(())
 }
 
