@@ -1,6 +1,6 @@
 -- The entry of index Big5 at the sum of a lead's place and a trail's place.
-use Rattle.std.proofs.Common.{◌≡◌, ◌≢◌, ◌∙◌, ℕ, ◌+◌, ◌-◌, ◌*◌, ◌≤◌, List, [], ◌∷◌, length, cond, refl, sym, ap, arith, Bool, true, false, ◌||◌, ◌==◌, Some}
-use Rattle.std.proofs.{Common.None, lemmas.Bool.ne_eqb}
+use Rattle.std.proofs.Common.{◌≡◌, ◌≢◌, ◌∙◌, ℕ, ◌+◌, ◌-◌, ◌*◌, ◌≤◌, List, [], ◌∷◌, length, cond, refl, sym, ap, arith, Bool, false, ◌||◌, ◌==◌, Some}
+use Rattle.std.proofs.{Common.None, lemmas.Bool.{ne_eqb, Decides.nat_tests}}
 use Rattle.std.specs.{Int.is_in_range, Prelude.option_to_list, Option.option_map_or}
 use Rattle.legacy_tables.specs.{Indexes.{entry_scalar, idx}, TableChecks.must_be_empty, AcceptedTables.AcceptedIndexes, Unicode.IsByte}
 use Rattle.legacy_tables.proofs.Accepted.{length-big5, big5-used}
@@ -21,26 +21,18 @@ unfolding big5_trail_place
 big5_trails_are = refl
 
 by_range : (f : ℕ → List ℕ) (a b : Bool) (x y : ℕ) → cond a (f x) (cond b (f y) []) ≡ option_map_or f (cond a (Some x) (cond b (Some y) None)) []
-by_range f true b x y = refl
-by_range f false true x y = refl
-by_range f false false x y = refl
+by_range f a b x y = grind arith
 
 -- if none of four tests holds, the rest is taken
 no_test : (a b c d : Bool) (v w x y rest : List ℕ) → ((a || b) || (c || d)) ≡ false → cond a v (cond b w (cond c x (cond d y rest))) ≡ rest
-no_test false false false false v w x y rest e = refl
-no_test false false false true v w x y rest e = cc
-no_test false false true d v w x y rest e = cc
-no_test false true c d v w x y rest e = cc
-no_test true b c d v w x y rest e = cc
+no_test a b c d v w x y rest e = grind arith
 
 -- a pointer that is not one of the four letters with a mark gives its entry
 pub entry_is : (index : List ℕ) (p : ℕ) → must_be_empty names.Big5 p ≡ false → big5_scalars index p ≡ option_to_list (idx index p)
-entry_is index p e =
-    no_test (p == 1133) (p == 1135) (p == 1164) (p == 1166) (0xCA ∷ 0x304 ∷ []) (0xCA ∷ 0x30C ∷ []) (0xEA ∷ 0x304 ∷ []) (0xEA ∷ 0x30C ∷ []) (option_to_list (idx index p)) e
+entry_is index p e = no_test (p == 1133) (p == 1135) (p == 1164) (p == 1166) _ _ _ _ _ e
 
 past : (index : List ℕ) → length index ≤ 65535 → (p : ℕ) → 65535 ≤ p → big5_scalars index p ≡ []
-past index short p h =
-    rw (ne_eqb p 1133 (λ e. omega arith), ne_eqb p 1135 (λ e. omega arith), ne_eqb p 1164 (λ e. omega arith), ne_eqb p 1166 (λ e. omega arith)) (none_past index short p h)
+past index short p h = entry_is index p (grind (arith, nat_tests)) ∙ none_past index short p h
 
 pub big5_at : (index : List ℕ) → length index ≤ 65535 → (lead trail : ℕ) →
     big5_scalars index (big5_lead_place lead + big5_trail_place trail) ≡ cond (is_lead lead) (big5_pair_scalars index lead trail) []
@@ -49,7 +41,7 @@ big5_at index short lead trail =
     pair_entry (big5_scalars index) (past index short) (is_lead lead) (is_in_range 0x40 0x7E trail) (is_in_range 0xA1 0xFE trail)
     ((lead - 0x81) * 157) (trail - 0x40) (trail - 0x62)
     ∙ ap (λ l. cond (is_lead lead) l [])
-    (by_range (big5_scalars index) (is_in_range 0x40 0x7E trail) (is_in_range 0xA1 0xFE trail) ((lead - 0x81) * 157 + (trail - 0x40)) ((lead - 0x81) * 157 + (trail - 0x62)))
+    (by_range (big5_scalars index) (is_in_range 0x40 0x7E trail) (is_in_range 0xA1 0xFE trail) _ _)
 
 -- an entry that is not 0 is a scalar
 pub some_entry : (e : ℕ) → e ≢ 0 → Some e ≡ entry_scalar e
@@ -59,13 +51,14 @@ pub big5_ascii : (tables : AcceptedIndexes) → HasAscii (big5 tables.flat.big5)
 big5_ascii = ascii big5_codec
 
 -- an entry at the sum of the places is the scalar of the lead and the trail
-pub big5_runs : (tables : AcceptedIndexes) (lead trail c : ℕ) → IsByte lead → IsByte trail → Some c ≡ idx tables.flat.big5 (big5_lead_place lead + big5_trail_place trail) →
-    Runs (big5 tables.flat.big5) (lead ∷ trail ∷ []) (c ∷ [])
+pub big5_runs : (tables : AcceptedIndexes) (lead trail c : ℕ) → IsByte lead → IsByte trail →
+    Some c ≡ idx tables.flat.big5 (big5_lead_place lead + big5_trail_place trail) → Runs (big5 tables.flat.big5) (lead ∷ trail ∷ []) (c ∷ [])
 big5_runs tables lead trail c byte byte' e =
     let index = tables.flat.big5 in
     let p = big5_lead_place lead + big5_trail_place trail in
     let short : length index ≤ 65535 = let most = length-big5 tables.flat tables.accepted in omega arith in
     let used = big5-used tables.flat tables.accepted p c e in
-    let both = found (is_lead lead) (big5_pair_scalars index lead trail) c (ap option_to_list e ∙ sym (entry_is index p used) ∙ big5_at index short lead trail) in
+    let given = ap option_to_list e ∙ sym (entry_is index p used) ∙ big5_at index short lead trail in
+    let both = found (is_lead lead) (big5_pair_scalars index lead trail) c given in
     let scalar = scalar_at tables names.Big5 p c (ap option_to_list (sym e)) in
     pair big5_codec tables lead trail c byte byte' scalar both.0 both.1

@@ -1,5 +1,5 @@
 -- The output of the steps of gb18030.
-use Rattle.std.proofs.{Common.{◌≡◌, ℕ, ◌+◌, ◌-◌, ◌*◌, ◌≤◌, List, [], ◌∷◌, length, true, cond, ◌==◌, option_to_list, arith}, lemmas.Bool.{false≢true, ltb-true}}
+use Rattle.std.proofs.{Common.{◌≡◌, ℕ, ◌+◌, ◌-◌, ◌*◌, ◌≤◌, List, [], ◌∷◌, length, true, cond, ◌==◌, arith}, lemmas.Bool.{false≢true, ltb-true}}
 use Rattle.std.specs.{Int.is_in_range, Char.{is_ascii, is_ascii_digit}}
 use Rattle.legacy_base.specs.{Fronts.{reads, malformed, reads_or}, Gb18030.{gb18030_scalars, gb18030_range_pointer}, States.{is_lead, gb18030_may_hold}}
 use Rattle.legacy_tables.specs.Indexes.{range}
@@ -37,7 +37,7 @@ module _ (len : ℕ → ℕ) (narrow wide : ℕ) (w : IsWidth len narrow wide) w
       (λ d. record { fits = omega arith; pays = omega arith; pays_without = omega arith })
   gb18030_held_cost index ranges a (c ∷ d ∷ []) b h =
       cost_test len narrow wide length 6 (a ∷ c ∷ d ∷ []) b (is_ascii_digit b) _ (leave 1)
-      (λ e. four (option_to_list (range ranges (gb18030_range_pointer a c d b))) (option_units len narrow wide w (range ranges (gb18030_range_pointer a c d b))))
+      (λ e. four _ (option_units len narrow wide w (range ranges (gb18030_range_pointer a c d b))))
       (λ e. record { fits = omega arith; pays = omega arith; pays_without = omega arith })
     where
       four : (cs : List ℕ) → units len cs ≤ wide → Cost len narrow wide length 6 (a ∷ c ∷ d ∷ []) b (finish (reads_or 4 cs (malformed 4)))

@@ -4,7 +4,7 @@ use Rattle.std.proofs.{Common.◌==◌, lemmas.Bool.Decides.nat_tests, lemmas.Li
 use Rattle.std.specs.{Prelude.option_to_list, Int.is_in_range, Char.{IsScalar, is_ascii, is_ascii_digit}}
 use Rattle.legacy_tables.specs.{Unicode.{IsByte, AreBytes}, Indexes.{idx, range}, AcceptedTables.AcceptedIndexes}
 use Rattle.legacy_base.specs.{Calls.IsMalformedByte, Gb18030.{gb18030_scalars, gb18030_range_pointer}, States.{is_lead, gb18030_may_hold, is_neutral, rests}}
-use Rattle.legacy_base.specs.{States.state_of, Grammar.{Grammar, gb18030, events_of}}
+use Rattle.legacy_base.specs.{States.{DecoderState, state_of}, Grammar.{Grammar, gb18030, events_of}}
 use Rattle.legacy_tables.proofs.Accepted.{gb18030-below, gb18030-scalars, length-gb18030, range-scalar}
 use Rattle.legacy_chinese.specs.{declared.gb18030.decoder.Gb18030Decoder.Gb18030Decoder, declared.gb18030.decoder.Held.Held}
 use Rattle.legacy_chinese.specs.declared.gb18030.decoder.Held.TheVariants.{Nothing, First, Second, Third, Digit, DigitLead}
@@ -80,8 +80,12 @@ module _ (tables : AcceptedIndexes) where
   abbrev g : Grammar
   g = gb18030 tables.flat.gb18030 tables.flat.ranges
 
+  -- the state with these bytes held back
+  abbrev state : Held → DecoderState
+  state held = state_of g (held_bytes held)
+
   -- the held-back bytes rest exactly if there is no digit to write
-  pub rests-held : (held : Held) → rests (gb18030 tables.flat.gb18030 tables.flat.ranges) (held_bytes held) ≡ is_resting held
+  pub rests-held : (held : Held) → rests g (held_bytes held) ≡ is_resting held
   rests-held Nothing = refl
   rests-held (First first) = rw (of_lead first).1 refl
   rests-held (Second first second) = rw (of_lead first).1 refl
@@ -89,38 +93,39 @@ module _ (tables : AcceptedIndexes) where
   rests-held (Digit digit) = rw (of_digit digit).0 refl
   rests-held (DigitLead digit lead) = rw (of_digit digit).0 refl
 
-  shown : IsShown (gb18030 tables.flat.gb18030 tables.flat.ranges) (gb18030_machine tables.flat.gb18030 tables.flat.ranges)
+  shown : IsShown g (gb18030_machine tables.flat.gb18030 tables.flat.ranges)
   shown = gb18030_shown tables.flat.gb18030 tables.flat.ranges
 
   pub malformed_byte : (b : ℕ) → b ≡ 0xFF → IsMalformedByte (state_of g []) b
   malformed_byte b e = moves.malformed_byte shown b (rw e refl) refl
 
-  pub covered : (held : Held) → IsCovered (state_of g (held_bytes held))
+  pub covered : (held : Held) → IsCovered (state held)
   covered held = moves.covered shown (held_bytes held) (may held) (are_bytes held)
 
   pub feeds : (held : Held) (b : ℕ) → IsByte b → rests g (held_bytes held) ≡ true → (fed : Fed) (kept : List ℕ) →
-      Took (gb18030_step tables.flat.gb18030 tables.flat.ranges (held_bytes held) b) (held_bytes held) b fed kept → Feeds (state_of g (held_bytes held)) b (state_of g kept) fed
+      Took (gb18030_step tables.flat.gb18030 tables.flat.ranges (held_bytes held) b) (held_bytes held) b fed kept →
+      Feeds (state held) b (state_of g kept) fed
   feeds held b byte r fed kept took = moves.feeds shown (held_bytes held) (may held) (are_bytes held) b byte r fed kept took
 
   -- a held-back digit is written; the bytes after it stay held back
-  pub releases-digit : (digit : HeldDigit) → Releases (state_of g (held_bytes (Digit digit))) (state_of g []) digit.byte
+  pub releases-digit : (digit : HeldDigit) → Releases (state (Digit digit)) (state_of g []) digit.byte
   releases-digit digit =
       moves.releases shown (held_bytes (Digit digit)) (may (Digit digit)) (are_bytes (Digit digit))
       1 digit.byte (rests-held (Digit digit)) (rw (of_digit digit).0 refl) (of_digit digit).3
 
-  pub releases-digit_lead : (digit : HeldDigit) (lead : Lead) → Releases (state_of g (held_bytes (DigitLead digit lead))) (state_of g (held_bytes (First lead))) digit.byte
+  pub releases-digit_lead : (digit : HeldDigit) (lead : Lead) → Releases (state (DigitLead digit lead)) (state (First lead)) digit.byte
   releases-digit_lead digit lead =
       moves.releases shown (held_bytes (DigitLead digit lead)) (may (DigitLead digit lead)) (are_bytes (DigitLead digit lead))
       1 digit.byte (rests-held (DigitLead digit lead)) (rw (of_digit digit).0 refl) (of_digit digit).3
 
-  pub reports : (held : Held) → rests g (held_bytes held) ≡ true → held_bytes held ≢ [] → Reports (state_of g (held_bytes held)) (state_of g []) (length (held_bytes held)) 0
+  pub reports : (held : Held) → rests g (held_bytes held) ≡ true → held_bytes held ≢ [] → Reports (state held) (state_of g []) (length (held_bytes held)) 0
   reports held r some = moves.reports_all shown (held_bytes held) (may held) (are_bytes held) r some
 
   -- there is something to report exactly if bytes are held back
-  pub ends_none : (held : Held) → length (held_bytes held) ≡ 0 → events_of (gb18030 tables.flat.gb18030 tables.flat.ranges) (held_bytes held) ≡ []
+  pub ends_none : (held : Held) → length (held_bytes held) ≡ 0 → events_of g (held_bytes held) ≡ []
   ends_none held e = moves.ends_empty shown (held_bytes held) (may held) (are_bytes held) e
 
-  pub ends_some : (held : Held) → (held ≡ Nothing → ⊥) → events_of (gb18030 tables.flat.gb18030 tables.flat.ranges) (held_bytes held) ≢ []
+  pub ends_some : (held : Held) → (held ≡ Nothing → ⊥) → events_of g (held_bytes held) ≢ []
   ends_some held n = moves.ends_held shown (held_bytes held) (may held) (are_bytes held) (bytes-some held n)
 
   -- ---- runs
@@ -129,7 +134,8 @@ module _ (tables : AcceptedIndexes) where
   ascii = has_ascii shown (λ b. refl) (λ b h. let a = ascii_is b h in rw a refl)
 
   -- a pair whose entry at the sum of the places is a scalar
-  pub pair_at : (lead trail c : ℕ) → IsByte lead → IsByte trail → option_to_list (idx tables.flat.gb18030 (lead_place lead + gb18030_trail_place trail)) ≡ c ∷ [] → IsPair g lead trail c
+  pub pair_at : (lead trail c : ℕ) → IsByte lead → IsByte trail →
+      option_to_list (idx tables.flat.gb18030 (lead_place lead + gb18030_trail_place trail)) ≡ c ∷ [] → IsPair g lead trail c
   pair_at lead trail c byte byte' e =
       let index = tables.flat.gb18030 in
       let place = lead_place lead + gb18030_trail_place trail in
@@ -147,12 +153,14 @@ module _ (tables : AcceptedIndexes) where
   lane_pair code small within some =
       let index = tables.flat.gb18030 in
       let at : gb18030_place code ≡ lead_place (code % 256) + gb18030_trail_place (code / 256) = omega (arith, within, short tables) in
-      let scalar : IsScalar (get_or index (gb18030_place code) 0) = gb18030-scalars tables.flat tables.accepted (gb18030_place code) 0 within in
-      (scalar, pair_at (code % 256) (code / 256) (get_or index (gb18030_place code) 0) (omega arith) (omega arith) (ap (λ p. option_to_list (idx index p)) (sym at) ∙ entry_is (get_or index (gb18030_place code) 0) some))
+      let entry = get_or index (gb18030_place code) 0 in
+      let scalar : IsScalar entry = gb18030-scalars tables.flat tables.accepted (gb18030_place code) 0 within in
+      let given = ap (λ p. option_to_list (idx index p)) (sym at) ∙ entry_is entry some in
+      (scalar, pair_at (code % 256) (code / 256) entry (omega arith) (omega arith) given)
 
   -- four bytes that give a scalar
-  pub four : (a b c d x : ℕ) → 0x81 ≤ a → a ≤ 0xFE → 0x30 ≤ b → b ≤ 0x39 → 0x81 ≤ c → c ≤ 0xFE → 0x30 ≤ d → d ≤ 0x39 → Some x ≡ range tables.flat.ranges (gb18030_range_pointer a b c d) →
-      Runs g (a ∷ b ∷ c ∷ d ∷ []) (x ∷ [])
+  pub four : (a b c d x : ℕ) → 0x81 ≤ a → a ≤ 0xFE → 0x30 ≤ b → b ≤ 0x39 → 0x81 ≤ c → c ≤ 0xFE → 0x30 ≤ d → d ≤ 0x39 →
+      Some x ≡ range tables.flat.ranges (gb18030_range_pointer a b c d) → Runs g (a ∷ b ∷ c ∷ d ∷ []) (x ∷ [])
   four a b c d x a_low a_high b_low b_high c_low c_high d_low d_high e =
       let first = lead_is a a_low a_high in
       let second = digit_is b b_low b_high in
@@ -161,7 +169,8 @@ module _ (tables : AcceptedIndexes) where
       let other = lead_other a first.0 in
       let scalar : IsScalar x = range-scalar tables.flat tables.accepted (gb18030_range_pointer a b c d) x (sym e) in
       four_runs shown a b c d x first.2 second.2 third.2 fourth.2 scalar
-      (rw first.0 refl) (rw (first.0, second.0) refl) (rw (first.0, second.0, third.0) refl) (rw first.1 refl) (rw first.1 refl) (rw first.1 refl) (λ held byte. refl)
+      (rw first.0 refl) (rw (first.0, second.0) refl) (rw (first.0, second.0, third.0) refl)
+      (rw first.1 refl) (rw first.1 refl) (rw first.1 refl) (λ held byte. refl)
       (rw (other.0, other.1, first.0) refl) (rw second.0 refl) (rw third.0 refl) (rw (fourth.0, ← e) refl)
 
 -- a decoder that holds nothing back is idle

@@ -1,11 +1,10 @@
 -- The machine of gb18030 keeps to its grammar.
-use Rattle.std.proofs.Common.{◌≡◌, ℕ, ◌≤◌, List, [], ◌∷◌, ◌++◌, drop, length, Bool, true, false, not, cond, Some, None, refl, ◌∙◌, ◌&&◌, ◌==◌, option_to_list}
-use Rattle.std.proofs.{Common.{arith, ⊎_elim}, lemmas.Bool.{false≢true, not-true, and_parts, and_from, or_cases, or_left, or_right, both_ways}}
+use Rattle.std.proofs.Common.{◌≡◌, ℕ, ◌≤◌, List, [], ◌∷◌, ◌++◌, drop, length, Bool, true, false, not, cond, Some, None, refl, ◌∙◌, ◌&&◌, ◌==◌}
+use Rattle.std.proofs.{Common.arith, lemmas.Bool.{false≢true, and_from, or_left, or_right, both_ways}}
 use Rattle.std.proofs.lemmas.Bool.Decides.{nat_tests}
 use Rattle.std.specs.Char.{is_ascii, is_ascii_digit}
-use Rattle.legacy_base.specs.{Fronts.{Front, reads, malformed, reads_or, cut}, Grammar.{gb18030, events_of}, Gb18030.{gb18030_scalars, gb18030_range_pointer}}
+use Rattle.legacy_base.specs.{Fronts.{Front, reads, malformed, reads_or, cut}, Grammar.{Grammar, gb18030, events_of}, Gb18030.gb18030_scalars}
 use Rattle.legacy_base.specs.{Gb18030.{gb18030_fourth, gb18030_third, gb18030_second, gb18030_front}, States.{is_lead, gb18030_may_hold, rests}}
-use Rattle.legacy_tables.specs.Indexes.{range}
 use Rattle.legacy_decoder_engine.specs.Steps.{hold, finish, leave, PendingMeets, end_events, trail_step, Meets}
 use Rattle.legacy_chinese.specs.Gb18030Machine.{gb18030_pending, gb18030_first, gb18030_step, gb18030_machine}
 use Rattle.legacy_base.proofs.{Cuts.cut-nil, FrontLaws.gb18030_front-of}
@@ -17,11 +16,12 @@ lead_not_ascii b h = (grind (arith, nat_tests), grind (arith, nat_tests))
 digit_is_ascii : (b : ℕ) → is_ascii_digit b ≡ true → is_ascii b ≡ true
 digit_is_ascii b h = grind (arith, nat_tests)
 
-digit_not_lead : (b : ℕ) → is_ascii_digit b ≡ true → is_lead b ≡ false
+pub digit_not_lead : (b : ℕ) → is_ascii_digit b ≡ true → is_lead b ≡ false
 digit_not_lead b h = grind (arith, nat_tests)
 
 -- four bytes that give these scalars, or are malformed if there are none
-reads_fits : (front : ℕ → List ℕ → Front) (may : List ℕ → Bool) (held : List ℕ) (b : ℕ) (scalars : List ℕ) → may (drop 4 (held ++ b ∷ [])) ≡ true → length held ≡ 3 →
+reads_fits : (front : ℕ → List ℕ → Front) (may : List ℕ → Bool) (held : List ℕ) (b : ℕ) (scalars : List ℕ) →
+    may (drop 4 (held ++ b ∷ [])) ≡ true → length held ≡ 3 →
     ((more : List ℕ) → HasFront front (held ++ b ∷ more) (reads_or 4 scalars (malformed 4))) → Fits front may held b (finish (reads_or 4 scalars (malformed 4)))
 reads_fits front may held b [] m l h = (h, omega arith, omega arith, m)
 reads_fits front may held b (c ∷ scalars) m l h = (h, omega arith, omega arith, m)
@@ -30,58 +30,60 @@ reads_fits front may held b (c ∷ scalars) m l h = (h, omega arith, omega arith
 
 -- a byte held back alone that rests is a lead
 one_lead : (first : ℕ) → gb18030_may_hold (first ∷ []) ≡ true → not (is_ascii_digit first) ≡ true → is_lead first ≡ true
-one_lead first h r = let d = not-true (is_ascii_digit first) r in ⊎_elim (λ l. l) (λ e. absurd (both_ways (is_ascii_digit first) d e)) (or_cases (is_lead first) (is_ascii_digit first) h)
+one_lead first h r = grind arith
 
-two_lead : (first second : ℕ) → gb18030_may_hold (first ∷ second ∷ []) ≡ true → not (is_ascii_digit first) ≡ true → (is_lead first ≡ true) × (is_ascii_digit second ≡ true)
-two_lead first second h r = let d = not-true (is_ascii_digit first) r in
-    ⊎_elim (λ l. and_parts (is_lead first) (is_ascii_digit second) l)
-    (λ e. absurd (both_ways (is_ascii_digit first) d ((and_parts (is_ascii_digit first) (is_lead second) e).0)))
-    (or_cases (is_lead first && is_ascii_digit second) (is_ascii_digit first && is_lead second) h)
+two_lead : (first second : ℕ) → gb18030_may_hold (first ∷ second ∷ []) ≡ true → not (is_ascii_digit first) ≡ true →
+    (is_lead first ≡ true) × (is_ascii_digit second ≡ true)
+two_lead first second h r = (grind arith, grind arith)
 
-three_lead : (first second third : ℕ) → gb18030_may_hold (first ∷ second ∷ third ∷ []) ≡ true → (is_lead first ≡ true) × (is_ascii_digit second ≡ true) × (is_lead third ≡ true)
-three_lead first second third h =
-    let p = and_parts (is_lead first && is_ascii_digit second) (is_lead third) h in
-    let q = and_parts (is_lead first) (is_ascii_digit second) p.0 in
-    (q.0, q.1, p.1)
+three_lead : (first second third : ℕ) → gb18030_may_hold (first ∷ second ∷ third ∷ []) ≡ true →
+    (is_lead first ≡ true) × (is_ascii_digit second ≡ true) × (is_lead third ≡ true)
+three_lead first second third h = (grind arith, grind arith, grind arith)
 
 module _ (index : List ℕ) (ranges : List (ℕ × ℕ)) where
-  front_lead : (b : ℕ) (rest : List ℕ) → is_lead b ≡ true → gb18030_front index ranges b rest ≡ gb18030_second index ranges b rest
+  abbrev g : Grammar
+  g = gb18030 index ranges
+
+  abbrev front : ℕ → List ℕ → Front
+  front = gb18030_front index ranges
+
+  front_lead : (b : ℕ) (rest : List ℕ) → is_lead b ≡ true → front b rest ≡ gb18030_second index ranges b rest
   unfolding gb18030_front
   front_lead b rest h = let a = lead_not_ascii b h in rw (a.0, a.1, h)
 
-  first_fits : (b : ℕ) → Fits (gb18030_front index ranges) gb18030_may_hold [] b (gb18030_first b)
+  first_fits : (b : ℕ) → Fits front gb18030_may_hold [] b (gb18030_first b)
   unfolding gb18030_front
   first_fits b =
-      fits_test (gb18030_front index ranges) gb18030_may_hold [] b (is_ascii b) (finish (reads 1 (b ∷ []))) _
+      fits_test front gb18030_may_hold [] b (is_ascii b) (finish (reads 1 (b ∷ []))) _
       (λ a. (λ more. rw a, omega arith, omega arith, refl))
-      (λ a. fits_test (gb18030_front index ranges) gb18030_may_hold [] b (b == 0x80) (finish (reads 1 (0x20AC ∷ []))) _
+      (λ a. fits_test front gb18030_may_hold [] b (b == 0x80) (finish (reads 1 (0x20AC ∷ []))) _
       (λ e. (λ more. rw (a, e), omega arith, omega arith, refl))
-      (λ e. fits_test (gb18030_front index ranges) gb18030_may_hold [] b (is_lead b) hold (finish (malformed 1))
+      (λ e. fits_test front gb18030_may_hold [] b (is_lead b) hold (finish (malformed 1))
       (λ l. (omega arith, or_left (is_lead b) (is_ascii_digit b) l))
       (λ l. (λ more. rw (a, e, l), omega arith, omega arith, refl))))
 
-  second_fits : (first b : ℕ) → is_lead first ≡ true → Fits (gb18030_front index ranges) gb18030_may_hold (first ∷ []) b (gb18030_step index ranges (first ∷ []) b)
+  second_fits : (first b : ℕ) → is_lead first ≡ true → Fits front gb18030_may_hold (first ∷ []) b (gb18030_step index ranges (first ∷ []) b)
   unfolding gb18030_second
   second_fits first b l =
-      fits_test (gb18030_front index ranges) gb18030_may_hold (first ∷ []) b (is_ascii_digit b) hold (trail_step 1 (gb18030_scalars index first b) b)
+      fits_test front gb18030_may_hold (first ∷ []) b (is_ascii_digit b) hold (trail_step 1 (gb18030_scalars index first b) b)
       (λ d. (omega arith, or_left (is_lead first && is_ascii_digit b) (is_ascii_digit first && is_lead b) (and_from (is_lead first) (is_ascii_digit b) l d)))
-      (λ d. fits_trail (gb18030_front index ranges) gb18030_may_hold (first ∷ []) (gb18030_scalars index first b) b refl (omega arith)
+      (λ d. fits_trail front gb18030_may_hold (first ∷ []) (gb18030_scalars index first b) b refl (omega arith)
       (λ more. front_lead first (b ∷ more) l ∙ rw d))
 
   third_fits : (first second b : ℕ) → is_lead first ≡ true → is_ascii_digit second ≡ true →
-      Fits (gb18030_front index ranges) gb18030_may_hold (first ∷ second ∷ []) b (gb18030_step index ranges (first ∷ second ∷ []) b)
+      Fits front gb18030_may_hold (first ∷ second ∷ []) b (gb18030_step index ranges (first ∷ second ∷ []) b)
   unfolding gb18030_second gb18030_third
   third_fits first second b l d =
-      fits_test (gb18030_front index ranges) gb18030_may_hold (first ∷ second ∷ []) b (is_lead b) hold (leave 1)
+      fits_test front gb18030_may_hold (first ∷ second ∷ []) b (is_lead b) hold (leave 1)
       (λ k. (omega arith, and_from (is_lead first && is_ascii_digit second) (is_lead b) (and_from (is_lead first) (is_ascii_digit second) l d) k))
       (λ k. (λ more. front_lead first (second ∷ b ∷ more) l ∙ rw (d, k), omega arith, omega arith, or_right (is_lead second) (is_ascii_digit second) d))
 
   fourth_fits : (first second third b : ℕ) → is_lead first ≡ true → is_ascii_digit second ≡ true → is_lead third ≡ true →
-      Fits (gb18030_front index ranges) gb18030_may_hold (first ∷ second ∷ third ∷ []) b (gb18030_step index ranges (first ∷ second ∷ third ∷ []) b)
+      Fits front gb18030_may_hold (first ∷ second ∷ third ∷ []) b (gb18030_step index ranges (first ∷ second ∷ third ∷ []) b)
   unfolding gb18030_second gb18030_third gb18030_fourth
   fourth_fits first second third b l d k =
-      fits_test (gb18030_front index ranges) gb18030_may_hold (first ∷ second ∷ third ∷ []) b (is_ascii_digit b) _ (leave 1)
-      (λ e. reads_fits (gb18030_front index ranges) gb18030_may_hold (first ∷ second ∷ third ∷ []) b (option_to_list (range ranges (gb18030_range_pointer first second third b))) refl (omega arith)
+      fits_test front gb18030_may_hold (first ∷ second ∷ third ∷ []) b (is_ascii_digit b) _ (leave 1)
+      (λ e. reads_fits front gb18030_may_hold (first ∷ second ∷ third ∷ []) b _ refl (omega arith)
       (λ more. front_lead first (second ∷ third ∷ b ∷ more) l ∙ rw (d, k, e)))
       (λ e. (
         λ more. front_lead first (second ∷ third ∷ b ∷ more) l ∙ rw (d, k, e),
@@ -90,15 +92,15 @@ module _ (index : List ℕ) (ranges : List (ℕ × ℕ)) where
         or_right (is_lead second && is_ascii_digit third) (is_ascii_digit second && is_lead third) (and_from (is_ascii_digit second) (is_lead third) d k),
       ))
 
-  fits : (held : List ℕ) (b : ℕ) → gb18030_may_hold held ≡ true → rests (gb18030 index ranges) held ≡ true →
-      Fits (gb18030_front index ranges) gb18030_may_hold held b (gb18030_step index ranges held b)
+  fits : (held : List ℕ) (b : ℕ) → gb18030_may_hold held ≡ true → rests g held ≡ true →
+      Fits front gb18030_may_hold held b (gb18030_step index ranges held b)
   fits [] b h r = first_fits b
   fits (first ∷ []) b h r = second_fits first b (one_lead first h r)
   fits (first ∷ second ∷ []) b h r = let p = two_lead first second h r in third_fits first second b p.0 p.1
   fits (first ∷ second ∷ third ∷ []) b h r = let p = three_lead first second third h in fourth_fits first second third b p.0 p.1 p.2
   fits (first ∷ second ∷ third ∷ c ∷ held) b h r = absurd (false≢true h)
 
-  ev_is : (bytes : List ℕ) → events_of (gb18030 index ranges) bytes ≡ cut (gb18030_front index ranges) 0 0 bytes
+  ev_is : (bytes : List ℕ) → events_of g bytes ≡ cut front 0 0 bytes
   unfolding events_of
   ev_is bytes = refl
 
@@ -116,39 +118,39 @@ module _ (index : List ℕ) (ranges : List (ℕ × ℕ)) where
   behind_digit b (c ∷ e ∷ []) h d = let p = three_lead b c e h in absurd (both_ways (is_lead b) (digit_not_lead b d) p.0)
   behind_digit b (c ∷ e ∷ f ∷ held) h d = absurd (false≢true h)
 
-  digit_front : (b : ℕ) (rest : List ℕ) → is_ascii_digit b ≡ true → gb18030_front index ranges b rest ≡ reads 1 (b ∷ [])
+  digit_front : (b : ℕ) (rest : List ℕ) → is_ascii_digit b ≡ true → front b rest ≡ reads 1 (b ∷ [])
   unfolding gb18030_front
   digit_front b rest d = rw (digit_is_ascii b d)
 
-  pending : (b : ℕ) (held : List ℕ) → gb18030_may_hold (b ∷ held) ≡ true → (d : Bool) → is_ascii_digit b ≡ d → PendingMeets (gb18030 index ranges) (b ∷ held) (cond d (Some (1, b)) None)
+  pending : (b : ℕ) (held : List ℕ) → gb18030_may_hold (b ∷ held) ≡ true → (d : Bool) → is_ascii_digit b ≡ d →
+      PendingMeets g (b ∷ held) (cond d (Some (1, b)) None)
   pending b held h true d = (
     rw d,
-    write_meets (gb18030 index ranges) (gb18030_front index ranges) ev_is (b ∷ held) 1 b (λ more. digit_front b (held ++ more) d) (omega arith) (omega arith)
+    write_meets g front ev_is (b ∷ held) 1 b (λ more. digit_front b (held ++ more) d) (omega arith) (omega arith)
         (behind_digit b held h d),
   )
   pending b held h false d = rw d
 
-  writes : (held : List ℕ) → gb18030_may_hold held ≡ true → PendingMeets (gb18030 index ranges) held (gb18030_pending held)
+  writes : (held : List ℕ) → gb18030_may_hold held ≡ true → PendingMeets g held (gb18030_pending held)
   writes [] h = refl
   writes (b ∷ held) h = pending b held h (is_ascii_digit b) refl
 
   -- ---- the end of the input
 
-  all_end : (held : List ℕ) → gb18030_may_hold held ≡ true → rests (gb18030 index ranges) held ≡ true → events_of (gb18030 index ranges) held ≡ end_events held
+  all_end : (held : List ℕ) → gb18030_may_hold held ≡ true → rests g held ≡ true → events_of g held ≡ end_events held
   unfolding gb18030_second gb18030_third gb18030_fourth
-  all_end [] h r = ev_is [] ∙ cut-nil (gb18030_front index ranges)
-  all_end (a ∷ []) h r = end_meets (gb18030 index ranges) (gb18030_front index ranges) ev_is a [] (front_lead a [] (one_lead a h r))
-  all_end (a ∷ b ∷ []) h r = let p = two_lead a b h r in end_meets (gb18030 index ranges) (gb18030_front index ranges) ev_is a (b ∷ []) (front_lead a (b ∷ []) p.0 ∙ rw p.1)
-  all_end (a ∷ b ∷ c ∷ []) h r = let p = three_lead a b c h in end_meets (gb18030 index ranges) (gb18030_front index ranges) ev_is a (b ∷ c ∷ []) (front_lead a (b ∷ c ∷ []) p.0 ∙ rw (p.1, p.2))
+  all_end [] h r = ev_is [] ∙ cut-nil front
+  all_end (a ∷ []) h r = end_meets g front ev_is a [] (front_lead a [] (one_lead a h r))
+  all_end (a ∷ b ∷ []) h r = let p = two_lead a b h r in end_meets g front ev_is a (b ∷ []) (front_lead a (b ∷ []) p.0 ∙ rw p.1)
+  all_end (a ∷ b ∷ c ∷ []) h r = let p = three_lead a b c h in end_meets g front ev_is a (b ∷ c ∷ []) (front_lead a (b ∷ c ∷ []) p.0 ∙ rw (p.1, p.2))
   all_end (a ∷ b ∷ c ∷ d ∷ held) h r = absurd (false≢true h)
 
   pub gb18030_meets : Meets (gb18030 index ranges) (gb18030_machine index ranges)
   gb18030_meets = record {
     writes = writes;
-    steps = λ held b h r. fits_meets (gb18030 index ranges) (gb18030_front index ranges) ev_is gb18030_may_hold (λ held'. refl) held b (gb18030_step index ranges held b) (few_held held h)
-        (fits held b h r);
+    steps = λ held b h r. fits_meets g front ev_is gb18030_may_hold (λ held'. refl) held b _ (few_held held h) (fits held b h r);
     ends = all_end;
-    reports = λ held more h r. report_meets (gb18030 index ranges) (gb18030_front index ranges) ev_is held more
+    reports = λ held more h r. report_meets g front ev_is held more
         (λ b rest e. (gb18030_front-of {P = ⊥} index ranges (λ n. absurd n) (λ p c q n. absurd n) b rest).some);
     few = few_held;
   }

@@ -1,18 +1,10 @@
 -- A pair that is the code of a scalar in gb18030 or in GBK.
-use Rattle.std.proofs.Common.{◌≡◌, ◌≢◌, ℕ, ◌+◌, ◌<◌, ◌≤◌, List, [], ◌∷◌, Option, Some, None, Bool, true, false, IfSome, option_map, refl, arith}
+use Rattle.std.proofs.Common.{◌≡◌, ◌≢◌, ℕ, ◌+◌, ◌<◌, ◌≤◌, List, [], ◌∷◌, Option, Some, None, false, option_map, refl, arith}
 use Rattle.std.proofs.{lemmas.Bool.ne_eqb, lemmas.Bool.Decides.nat_tests}
 use Rattle.std.specs.Char.{is_ascii}
-use Rattle.legacy_tables.specs.{Indexes.{gb18030_pua_of, FlatIndexes}, Pointers.{gb18030_pointer_of, range_pointer_of}}
+use Rattle.legacy_tables.specs.{Indexes.gb18030_pua_of, Pointers.{gb18030_pointer_of, range_pointer_of}}
 use Rattle.legacy_tables.proofs.PointerBounds.{range-bound}
-use Rattle.legacy_base.specs.{Encoders.encoder_profile, Gb18030.{gb18030_code, gbk_code, gb18030_pair_bytes, gb18030_range_bytes}}
-use Rattle.legacy_chinese.specs.Gb18030Codec.{gb18030_codec}
-
-pub pair_by : (flat : FlatIndexes) (extended : Bool) (c : ℕ) (o : Option (ℕ × ℕ))
-    → IfSome o (λ pair. gb18030_code flat.gb18030 flat.ranges flat.gb18030_pua c ≡ Some (pair.0 ∷ pair.1 ∷ []))
-    → IfSome o (λ pair. gbk_code flat.gb18030 flat.gb18030_pua c ≡ Some (pair.0 ∷ pair.1 ∷ []))
-    → IfSome o (λ pair. (encoder_profile (gb18030_codec flat extended)).code c ≡ Some (pair.0 ∷ pair.1 ∷ []))
-pair_by flat true c o a b = a
-pair_by flat false c o a b = b
+use Rattle.legacy_base.specs.Gb18030.{gb18030_code, gb18030_pair_bytes, gb18030_range_bytes}
 
 -- a scalar's pointer of four bytes is below their number
 pub pointer_bound : (ranges : List (ℕ × ℕ)) (c p : ℕ) → range_pointer_of ranges c ≡ Some p → p < 1237576

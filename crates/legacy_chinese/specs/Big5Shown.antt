@@ -43,7 +43,7 @@ is : (index : List ℕ) → IsTwoByte (big5 index) (big5_front index) is_lead (l
 unfolding big5_front big5_pair
 is index = record {
   profile_is = refl;
-  front_is = λ b. elim [ [] ↦ lead_front_is is_lead (big5_pair_scalars index b) [] _ b refl | t ∷ rest ↦ lead_front_is is_lead (big5_pair_scalars index b) (t ∷ rest) _ b refl ];
+  front_is = λ b. let is = lead_front_is is_lead (big5_pair_scalars index b) in elim [ [] ↦ is [] _ b refl | t ∷ rest ↦ is (t ∷ rest) _ b refl ];
   pair_one = λ lead t. one index (big5_pointer lead t);
 }
 
@@ -57,5 +57,6 @@ rooms index = record {
 }
 
 pub big5_codec : IsLeadCodec (λ flat. big5 flat.big5) is_lead (lead_first is_lead) (λ flat. big5_pair_scalars flat.big5)
-big5_codec = lead_codec (λ flat. big5 flat.big5) (λ flat. big5_front flat.big5) is_lead (lead_first is_lead) (λ flat. big5_pair_scalars flat.big5) (λ flat. is flat.big5)
-    4 (lead_first_is is_lead is_lead-past 4 (omega arith)) (λ flat accepted. rooms flat.big5) (lead_byte_below is_lead is_lead-past)
+big5_codec =
+    lead_codec (λ flat. big5 flat.big5) (λ flat. big5_front flat.big5) is_lead (lead_first is_lead) (λ flat. big5_pair_scalars flat.big5)
+    (λ flat. is flat.big5) 4 (lead_first_is is_lead is_lead-past 4 (omega arith)) (λ flat accepted. rooms flat.big5) (lead_byte_below is_lead is_lead-past)

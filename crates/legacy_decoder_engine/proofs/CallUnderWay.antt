@@ -139,7 +139,8 @@ module _ {form : EncodingForm} {last : Bool} where
         let seen : a.passed + (length now.held + n) ≡ length before.held + (read + n) = omega (arith, counts, length-drop read source, a.within) in
         let reported = shift-reported a.passed (length now.held + n) (length before.held + (read + n)) next answer seen c.malformed_sequence in
         let full = a.rooms.full form in
-        let was_held : n ≤ 0 → IsMalformed answer → now.held ≢ [] = λ z m. malformed-held answer (length now.held + n) now.held next (omega arith) m c.malformed_sequence in
+        let seen_here = length now.held + n in
+        let was_held : n ≤ 0 → IsMalformed answer → now.held ≢ [] = λ z m. malformed-held answer seen_here _ next (omega arith) m c.malformed_sequence in
         let suffices : (query : LengthQuery) → query_form query ≡ form → room query before (length source) ≤ free → answer ≢ OutputFull =
         λ query q enough.
         let k = a.lowers query q 0 in
@@ -221,7 +222,8 @@ module _ {form : EncodingForm} {last : Bool} where
 
   -- a byte is read
   fed_going : {before : DecoderState} {byte : ℕ} {rest : List ℕ} {free : ℕ} {next : DecoderState} (fed : Fed) → rests before.grammar before.held ≡ true
-      → Feeds before byte next fed → (RevealsMalformed fed → ⊥) → read_room form before byte ≤ free → Going form last before (byte ∷ rest) free next 1 (fed_scalars fed)
+      → Feeds before byte next fed → (RevealsMalformed fed → ⊥) → read_room form before byte ≤ free
+      → Going form last before (byte ∷ rest) free next 1 (fed_scalars fed)
   fed_going (MalformedSequence a b unread) r f sound enough = absurd (sound tt)
   fed_going {before} {byte} {rest} {free} {next} fed r f sound enough = record {
     within = omega arith;
@@ -398,10 +400,12 @@ module _ {form : EncodingForm} {last : Bool} where
 
     -- the next byte reveals a malformed sequence, and is read or not
     module _ {next : DecoderState} {x y : ℕ} (h : read < length source) (enough : read_room form now (get_or source read 0) ≤ left) where
-      pub call_read : Feeds now (get_or source read 0) next (MalformedSequence x y false) → DecoderCall form before source last free next (Malformed x y) (read + 1) scalars
+      pub call_read : Feeds now (get_or source read 0) next (MalformedSequence x y false)
+          → DecoderCall form before source last free next (Malformed x y) (read + 1) scalars
       call_read f = call_then a room_is (rw (next_byte source read h) (call_fed false 1 a.resting f enough (omega arith) refl)) (inl tt)
 
-      pub call_unread : Feeds now (get_or source read 0) next (MalformedSequence x y true) → DecoderCall form before source last free next (Malformed x y) read scalars
+      pub call_unread : Feeds now (get_or source read 0) next (MalformedSequence x y true)
+          → DecoderCall form before source last free next (Malformed x y) read scalars
       call_unread f = call_here a room_is (rw (next_byte source read h) (call_fed true 0 a.resting f enough (omega arith) refl)) (inl tt)
 
     -- all bytes are read

@@ -284,7 +284,8 @@ module _ {g : Grammar} {m : DecoderMachine} (shown : IsShown g m) (held : List �
     by_pending (Some (k, c)) w = λ e. let first = w.1.goes_on [] in let all = ap (events_of g) (append-nil held) in cc
 
 -- a byte that is malformed by itself in the machine, if nothing is held back
-pub malformed_byte : {g : Grammar} {m : DecoderMachine} → IsShown g m → (b : ℕ) → m.step [] b ≡ finish (malformed 1) → m.to [] b ≡ g → IsMalformedByte (state_of g []) b
+pub malformed_byte : {g : Grammar} {m : DecoderMachine} → IsShown g m → (b : ℕ) → m.step [] b ≡ finish (malformed 1) → m.to [] b ≡ g →
+    IsMalformedByte (state_of g []) b
 malformed_byte shown b e t =
     let s = shown.meets.steps [] b (may_none _) (rests-none _) in
     record {

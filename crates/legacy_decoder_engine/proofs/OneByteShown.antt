@@ -74,7 +74,8 @@ module _ (g : Grammar) (front : ℕ → List ℕ → Front) (found : ℕ → Opt
   cost : (len : ℕ → ℕ) (narrow wide : ℕ) → IsWidth len narrow wide → (held : List ℕ) (b : ℕ) → is_empty held ≡ true → IsByte b →
       Cost len narrow (act_room narrow wide (state_of g held) (takes b)) weightless 6 held b (first b)
   cost len narrow wide w (c ∷ held) b h byte = absurd (false≢true h)
-  cost len narrow wide w [] b h byte = rw is.profile_is (cond_both (is_ascii b) _ _ (Cost len narrow (cond ((is_ascii b && true) && short) 1 narrow) weightless 6 [] b)
+  cost len narrow wide w [] b h byte = rw is.profile_is
+      (cond_both (is_ascii b) _ _ (Cost len narrow (cond ((is_ascii b && true) && short) 1 narrow) weightless 6 [] b)
       (λ a. let e = w.ascii b (ltb-true b 0x80 a) in let some = w.some in record { fits = grind arith; pays = omega arith; pays_without = omega arith })
       (λ a. rw a (by_found (found b) (is.below b byte))))
     where
@@ -95,7 +96,7 @@ module _ (g : Grammar) (front : ℕ → List ℕ → Front) (found : ℕ → Opt
   }
 
   settles : (held : List ℕ) (b : ℕ) → is_empty held ≡ true → Settles g held b (first b)
-  settles [] b h = cond_both (is_ascii b) _ _ (Settles g [] b) (λ a. (refl, tt)) (λ a. or_settles g [] b (option_to_list (found b)) (one_option (has_marks g) (found b)))
+  settles [] b h = cond_both (is_ascii b) _ _ (Settles g [] b) (λ a. (refl, tt)) (λ a. or_settles g [] b _ (one_option (has_marks g) (found b)))
   settles (a ∷ held) b h = absurd (false≢true h)
 
   pub one_byte_shown : IsShown g machine

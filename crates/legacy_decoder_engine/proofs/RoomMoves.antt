@@ -166,7 +166,7 @@ module _ (g : Grammar) (m : DecoderMachine) (wt : List ℕ → ℕ) (paid : ℕ)
         (paid_of query wt paid (act_room (bmp_room (query_form query)) (wide_room (query_form query)) (state_of g held) (takes b)) held b (m.step held b)
         (costs.cost (unit_count (query_form query)) (bmp_room (query_form query)) (wide_room (query_form query)) w held b h r bytes byte)));
     write_pays = is.writes query;
-    report_pays = λ b held h r. is.falls query (b ∷ held) [] 0 0 (replacement_units query) (malformed_paid query paid (wt []) (wt (b ∷ held)) (is.heavy b held h));
+    report_pays = λ b held h r. is.falls query (b ∷ held) [] 0 0 _ (malformed_paid query paid (wt []) (wt (b ∷ held)) (is.heavy b held h));
     reads_covered = λ held b n h p. takes_covered held b n p;
     holds_covered = λ held n h p. holds_covered held h n p;
   }

@@ -22,10 +22,7 @@ is : (index : List ℕ) → IsTwoByte (euc_kr index) (lead_front is_lead euc_kr_
 unfolding lead_front lead_pair
 is index = record {
   profile_is = refl;
-  front_is = λ b. elim [
-    | [] ↦ lead_front_is is_lead (pair_scalars euc_kr_pointer index b) [] _ b refl
-    | t ∷ rest ↦ lead_front_is is_lead (pair_scalars euc_kr_pointer index b) (t ∷ rest) _ b refl
-  ];
+  front_is = λ b. let is = lead_front_is is_lead (pair_scalars euc_kr_pointer index b) in elim [ [] ↦ is [] _ b refl | t ∷ rest ↦ is (t ∷ rest) _ b refl ];
   pair_one = λ lead t. one index (euc_kr_pointer lead t);
 }
 

@@ -2,7 +2,7 @@
 use Rattle.std.proofs.Common.{◌≡◌, ◌∙◌, ℕ, ◌+◌, ◌-◌, ◌/◌, ◌%◌, ◌≤◌, ◌<◌, List, [], ◌∷◌, ◌++◌, length, refl, ap, arith, append_assoc, length-append, inl, inr}
 use Rattle.std.proofs.{lemmas.List.Concat.flat_map-append, lemmas.Bool.{cases_lt, lt-ltb, le-ltb}, lemmas.Bool.Decides.nat_tests}
 use lib.Utf8.{encode}
-use Rattle.legacy_text.specs.EncodingForm.{EncodingForm, code_units, all_code_units, unit_count, total_unit_count, Utf8, Utf16, bmp_room, wide_room}
+use Rattle.legacy_text.specs.EncodingForm.{EncodingForm, code_units, all_code_units, unit_count, total_unit_count, Utf8, bmp_room, wide_room}
 use Rattle.std.specs.Char.Escape.{encode_utf16}
 
 pub encode_1 : (c : ℕ) → c < 128 → encode c ≡ c ∷ []
@@ -50,20 +50,17 @@ pub ruleset encoding = (encode_1, encode_2, encode_3, encode_4, append_assoc)
 -- a scalar up to U+FFFF fits into the room for one
 pub length-code_units-bmp : (form : EncodingForm) (c : ℕ) → c < 65536 → length (code_units form c) ≤ bmp_room form
 unfolding encode
-length-code_units-bmp Utf16 c h = grind (arith, nat_tests)
-length-code_units-bmp Utf8 c h = grind (arith, nat_tests)
+length-code_units-bmp form c h = grind (arith, nat_tests)
 
 -- any scalar fits into the room for any scalar
 pub length-code_units-wide : (form : EncodingForm) (c : ℕ) → length (code_units form c) ≤ wide_room form
 unfolding encode
-length-code_units-wide Utf16 c = grind (arith, nat_tests)
-length-code_units-wide Utf8 c = grind (arith, nat_tests)
+length-code_units-wide form c = grind (arith, nat_tests)
 
 -- an ASCII scalar has one code unit
 pub length-code_units-ascii : (form : EncodingForm) (c : ℕ) → c < 128 → length (code_units form c) ≡ 1
 unfolding encode
-length-code_units-ascii Utf16 c h = grind (arith, nat_tests)
-length-code_units-ascii Utf8 c h = grind (arith, nat_tests)
+length-code_units-ascii form c h = grind (arith, nat_tests)
 
 -- ---- more scalars at the end
 

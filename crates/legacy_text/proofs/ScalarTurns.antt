@@ -126,10 +126,7 @@ of_tails first second third unit h = grind arith
 
 -- the lanes of a vector of bytes
 pub below_256 : (v : List ℕ) → Each1 (Fits w8) v → (i : ℕ) → get_or v i 0 < 256
-below_256 v fits i = elim (cases_lt i (length v)) [
-  | inl l ↦ Each1-get_or (λ x. x < 256) v i 0 l (below_from_Fits w8 v fits)
-  | inr l ↦ omega (arith, get_or_past v i 0 l)
-]
+below_256 v fits i = grind (arith, cases_lt, Each1-get_or, below_from_Fits, w8, get_or_past)
 
 -- the interleaved entries of two lists of sixteen, n of each from `a` on
 abbrev pub woven : ℕ → ℕ → List ℕ → List ℕ
@@ -185,8 +182,7 @@ module _ (lows highs : List ℕ) (count : length lows ≡ 16) (are_low : (i : �
 
 -- two vectors that are stored from a place on change nothing before it
 pub stored_before : (all front back : List ℕ) (at k : ℕ) → k < at → get_or (put_chunk (at + 8) (put_chunk at all front) back) k 0 ≡ get_or all k 0
-stored_before all front back at k h =
-    get_or-put_chunk_below (at + 8) (put_chunk at all front) back k 0 (omega arith) ∙ get_or-put_chunk_below at all front k 0 h
+stored_before all front back at k h = grind (arith, get_or-put_chunk_below)
 
 -- they are at that place
 pub stored_at : (P : ℕ → ℕ → Type 0) (all front back : List ℕ) (at : ℕ) → length front ≡ 8 → length back ≡ 8 → at + 16 ≤ length all

@@ -16,8 +16,7 @@ use Rattle.legacy_text.proofs.CodeUnits.{encode_1, encode_2, encode_3, encode_4,
 use Rattle.legacy_text.proofs.CodeUnits.{total_unit_count-append}
 
 pub first_cons : {A : Type 0} (xs : List A) (x : A) → Some x ≡ slice_get xs 0 → xs ≡ x ∷ drop 1 xs
-first_cons [] x e = cc
-first_cons (y ∷ xs) x e = let e' : x ≡ y = cc in ap (λ z. z ∷ xs) (sym e')
+first_cons xs x h = grind arith
 
 -- ---- UTF-8
 
@@ -189,22 +188,7 @@ step_of list place c n s k all e same width within =
 pub utf16_step : (list : List ℕ) (place c n : ℕ) → ((i : ℕ) → get_or list i 0 < 65536) → place < length list →
     Some c ≡ slice_get (unit_scalars (drop place list)) 0 → (c < 65536 → n ≡ 1) → (65536 ≤ c → n ≡ 2) → Utf16Step list place c n
 utf16_step list place c n bound h e short long =
-    let u = get_or list place 0 in
-    let v = get_or list (place + 1) 0 in
-    elim (pair_or_not u v) [
-      | inl p ↦
-          let within : place + 1 < length list = grind (arith, p.2, get_or-eq_default list 0 {n = place + 1}) in
-          let all = scalars_pair list place within p in
-          let f : Some c ≡ Some (surrogate_pair_char u v) = e ∙ ap (λ l. slice_get l 0) all in
-          let is : c ≡ surrogate_pair_char u v = cc in
-          step_of list place c n _ 2 all e (long (omega (arith, p.2, is))) (sym (ap length (utf16_2 _ (omega (arith, p.2))))) (omega arith)
-      | inr p ↦
-          let all = scalars_lone list place h p in
-          let narrow = lone_bound u (bound place) in
-          let f : Some c ≡ Some (replaced (lone_unit_char u)) = e ∙ ap (λ l. slice_get l 0) all in
-          let is : c ≡ replaced (lone_unit_char u) = cc in
-          step_of list place c n _ 1 all e (short (omega (arith, narrow, is))) (sym (ap length (utf16_1 _ narrow))) (omega arith)
-    ]
+    grind (arith, pair_or_not, get_or-eq_default, scalars_pair, step_of, utf16_2, scalars_lone, lone_bound, utf16_1)
 
 -- there is a scalar only before the end
 pub some_within : (units : List ℕ) (place c : ℕ) → Some c ≡ slice_get (unit_scalars (drop place units)) 0 → place < length units

@@ -51,10 +51,7 @@ block_behind gives units old new front at copied r block marks within few long c
         subst (λ u. IsNoSurrogate u × gives u (get_or block (k - copied) 0)) same (codes (k - copied) (omega arith) marked)
 
     byte : (k : ℕ) → k < copied + r → copied ≤ k → get_or (writes.bytes ++ take r block) k 0 ≡ get_or block (k - copied) 0
-    byte k h l =
-        let index : k ≡ length writes.bytes + (k - copied) = omega (arith, writes.count) in
-        ap (λ n. get_or (writes.bytes ++ take r block) n 0) index ∙ get_or-append-add writes.bytes (take r block) (k - copied) 0
-        ∙ get_or-take r block (k - copied) 0 (omega arith)
+    byte k h l = grind (arith, writes, get_or-append-add, get_or-take)
 
 -- nothing was written yet
 pub writes_none : (gives : ℕ → ℕ → Type 0) (units old new : List ℕ) → new ≡ old → WritesCodes gives units 0 old new

@@ -1,5 +1,5 @@
 -- Code units of UTF-16 that are taken several at a time are scalars, if none is a surrogate.
-use Rattle.std.proofs.{Common.{◌≡◌, ◌∙◌, ℕ, ◌+◌, ◌-◌, ◌≤◌, ◌<◌, List, length, take, drop, get_or, sym, ap, subst, arith, length-drop}, lemmas.List.get_or-take}
+use Rattle.std.proofs.{Common.{◌≡◌, ◌∙◌, ℕ, ◌+◌, ◌-◌, ◌≤◌, ◌<◌, List, length, take, drop, get_or, sym, ap, arith, length-drop}, lemmas.List.get_or-take}
 use Rattle.std.proofs.lemmas.List.{length-take-le, take_all, take-append-drop}
 use Rattle.std.specs.Bool.{⊤}
 use Rattle.legacy_text.specs.{EncodingForm.{Utf16, total_unit_count}, Texts.unit_scalars, UnitCodes.IsNoSurrogate, UnitTurns.{AreLone, TakesUnits}}
@@ -17,9 +17,7 @@ module _ (list : List ℕ) (place n : ℕ) (fits : place + n ≤ length list) (b
   count = ap length is ∙ length-take-le n (drop place list) long
 
   lone_here : AreLone units → (k : ℕ) → k < n → IsNoSurrogate (get_or (take (length list - place) (drop place list)) k 0)
-  lone_here lone k h =
-      subst IsNoSurrogate (ap (λ l. get_or l k 0) is ∙ get_or-take n (drop place list) k 0 h ∙ ap (λ l. get_or l k 0) (sym whole))
-      (lone k (omega (arith, count)))
+  lone_here lone k h = grind (arith, get_or-take, whole, count)
 
   pub takes_units : TakesUnits Utf16 (unit_scalars (drop place list)) place units (unit_scalars (drop (place + n) list)) (place + n)
   takes_units = record {

@@ -2,7 +2,7 @@
 use Rattle.std.proofs.{lemmas.Bool.Decides.nat_tests, Common.{◌≡◌, ◌∙◌, ℕ, zero, suc, ◌+◌, ◌-◌, ◌≤◌, ◌<◌, List, [], ◌∷◌, ◌++◌, length, take, get_or, refl, ap}}
 use Rattle.std.proofs.{Common.{ap₂, arith, append-nil, length-append, w16, Fits}, lemmas.List.{length-take-le, flat_map_more}, Math.Seq.take-suc}
 use lib.Lanes.{Each1}
-use Rattle.legacy_text.specs.EncodingForm.{EncodingForm, Utf8, Utf16, code_units, all_code_units, unit_count, total_unit_count}
+use Rattle.legacy_text.specs.EncodingForm.{EncodingForm, Utf16, code_units, all_code_units, unit_count, total_unit_count}
 use Rattle.legacy_text.proofs.CodeUnits.{utf16_1, length-code_units-bmp, total_unit_count-append}
 
 -- the free code units after some were written up to a place
@@ -34,8 +34,7 @@ more-units form units k within = grind (arith, nat_tests, taken-more, total_unit
 
 -- a scalar of 16 bits has at most three code units
 pub few-units : (form : EncodingForm) (u : ℕ) → u < 65536 → unit_count form u ≤ 3
-few-units Utf8 u below = length-code_units-bmp Utf8 u below
-few-units Utf16 u below = let e : unit_count Utf16 u ≤ 1 = length-code_units-bmp Utf16 u below in omega arith
+few-units form u h = grind (arith, length-code_units-bmp)
 
 pub unit-below : (units : List ℕ) (k : ℕ) → Each1 (Fits w16) units → get_or units k 0 < 65536
 unit-below [] k fits = omega arith

@@ -56,9 +56,10 @@ loop-read-init g c =
     let T = g.T.Destination in
     elim c.if-not-rests.branch [
       | then-not-rests+else-not-has_room+in-Some w ↦
+          let enough = rw (w.release_room.ensures.units T.form) at (w.has_room.ensures.some w.if-not-has_room.false) in
           rw (w.decoder-is, w.dst-is) (
             w.in-Some.scalar ∷ [],
-            going_release (sym c.rests.ensures.is ∙ w.if-not-rests.true) (rw (w.release_room.ensures.units T.form) at (w.has_room.ensures.some w.if-not-has_room.false)) w.in-Some.ensures,
+            going_release (sym c.rests.ensures.is ∙ w.if-not-rests.true) enough w.in-Some.ensures,
             w.put.ensures.contents ∙ ap (λ l. T.contents c.args.dst.now ++ l) (sym (append-nil (code_units T.form w.in-Some.scalar))),
             simp length-append (omega (arith, w.put.ensures.room)),
             w.put.ensures.loan,

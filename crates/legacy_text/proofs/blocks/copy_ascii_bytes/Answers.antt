@@ -6,6 +6,4 @@ pub returns-clause-ascii : goal.returns-clause-ascii
 returns-clause-ascii c = grind (arith, common_steps, all_behind, ascii_behind)
 
 pub returns-clause-stored : goal.returns-clause-stored
-returns-clause-stored c =
-    let e = rw (all_behind c.copy_blocks-front.result.0 c.args.bytes.now) at c.copy_blocks-rest.ensures in
-    stored_next _ _ _ c.args.bytes.now _ c.copy_blocks-front.result.0 _ c.copy_blocks-front.ensures.stored e.stored
+returns-clause-stored c = grind (arith, all_behind, stored_next)

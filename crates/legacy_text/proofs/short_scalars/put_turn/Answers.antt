@@ -1,16 +1,10 @@
-use Rattle.std.proofs.{lemmas.Grind.common_steps, Common.{◌≡◌, ◌∙◌, ◌+◌, ◌<◌, length, take, ap, refl, add-zero, arith, slice_set}, lemmas.Bool.ltb-true}
+use Rattle.std.proofs.{lemmas.Grind.common_steps, Common.{◌≡◌, ◌∙◌, ◌+◌, ◌<◌, length, take, ap, add-zero, arith, slice_set}, lemmas.Bool.ltb-true}
 use Rattle.std.proofs.lemmas.List.{take-set-le, take_more_set}
 use Rattle.legacy_text.proofs.ShortScalars.{all_set, scalars_none, scalars_one, scalars_append}
 use Rattle.legacy_text.proofs.short_scalars.put_turn.Goals as goal
 
 pub loop-k-init : goal.loop-k-init
-loop-k-init g c = (
-  omega arith,
-  omega arith,
-  refl,
-  (λ e. scalars_none _ c.args.bytes.now c.args.start _ _ (omega (arith, c.requires.read)) c.requires.text
-      (ap (λ n. take n c.args.dst.now) (add-zero c.args.at))),
-)
+loop-k-init g c = grind (arith, scalars_none, add-zero)
 
 pub bounds-bytes-place : goal.bounds-bytes-place
 bounds-bytes-place g c = omega (arith, c.loop-k.invariant.1, c.loop-k-test.true, c.requires.read)

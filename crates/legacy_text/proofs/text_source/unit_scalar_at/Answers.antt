@@ -1,5 +1,4 @@
-use Rattle.std.proofs.{lemmas.Grind.common_steps, Common.{◌≡◌, ◌∙◌, ◌+◌, ◌-◌, ◌*◌, arith, ap, refl, Some, sym, get_or}}
-use Rattle.std.specs.Char.Utf16.{surrogate_pair_char}
+use Rattle.std.proofs.{lemmas.Grind.common_steps, Common.{◌+◌, ◌-◌, arith, sym}}
 use Rattle.legacy_text.proofs.Texts.{first_none, first_unpaired, first_low, first_high, first_pair}
 use Rattle.legacy_text.proofs.text_source.unit_scalar_at.Goals.{then-high-lt55296-via-then-high-lt55296}
 use Rattle.legacy_text.proofs.text_source.unit_scalar_at.Goals.{then-high-lt55296-via-else-high-lt55296+then-high-ge57344}
@@ -20,9 +19,4 @@ pub returns-then-low-lt56320 : goal.returns-then-low-lt56320
 returns-then-low-lt56320 c = first_unpaired c.args.units.now c.args.place (omega arith) (omega arith) (omega arith) (λ pair. omega arith)
 
 pub returns : goal.returns
-returns c =
-    let xs = c.args.units.now in
-    let at = c.args.place in
-    let value : 65536 + (c.from-high.result - 55296) * 1024 + (c.from-low.result - 56320) ≡ surrogate_pair_char (get_or xs at 0) (get_or xs (at + 1) 0) =
-    rw (c.from-high.ensures, c.from-low.ensures) refl in
-    ap Some (c.scalar_of-2.ensures ∙ value) ∙ first_pair xs at (omega arith) (omega arith, omega arith, omega arith, omega arith)
+returns c = grind (arith, first_pair)

@@ -1,3 +1,4 @@
+use Rattle.std.proofs.Common.{arith}
 use Rattle.legacy_text.proofs.Texts.{utf16_pass}
 use Rattle.legacy_text.proofs.text_source.Utf16SourceTextCursor.pass.Goals as goal
 
@@ -8,6 +9,4 @@ invariant_of-self c =
     record { are_units = s.are_units; in_range = p.0 }
 
 pub returns-clause-left : goal.returns-clause-left
-returns-clause-left c =
-    let s = c.args.self.now in
-    (utf16_pass s.units.now s.place c.args.count s.are_units c.requires.some c.requires.count).1
+returns-clause-left c = grind (arith, utf16_pass)

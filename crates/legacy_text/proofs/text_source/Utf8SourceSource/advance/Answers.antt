@@ -1,6 +1,4 @@
-use Rattle.std.proofs.Common.{◌+◌, ◌∙◌, drop, ap, sym}
-use Rattle.std.specs.Str.{chars}
-use Rattle.legacy_text.specs.EncodingForm.{unit_count, Utf8}
+use Rattle.std.proofs.Common.{arith, ◌+◌}
 use Rattle.legacy_text.proofs.Texts.{utf8_step}
 use Rattle.legacy_text.proofs.text_source.Utf8SourceSource.advance.Goals as goal
 
@@ -11,10 +9,4 @@ invariant_of-self c =
     record { in_range = rw c.len_utf8.ensures.value step.within; is_text = rw c.len_utf8.ensures.value step.is_text }
 
 pub returns-in-Some : goal.returns-in-Some
-returns-in-Some c =
-    let s = c.args.self.now in
-    let step = utf8_step s.text.now s.place c.in-Some.c s.in_range s.is_text c.in-Some.ensures in
-    record {
-      left = ap (λ n. chars (drop (s.place + n) s.text.now)) c.len_utf8.ensures.value ∙ step.behind;
-      passed = ap (λ n. s.place + n) c.len_utf8.ensures.len ∙ ap (λ x. s.place + unit_count Utf8 x) (sym step.first);
-    }
+returns-in-Some c = grind (arith, utf8_step)
