@@ -2,7 +2,7 @@
 use Rattle.std.proofs.Common.{◌≡◌, ◌∙◌, ℕ, suc, ◌+◌, ◌-◌, ◌≤◌, ◌<◌, List, [], ◌∷◌, ◌++◌, length, map, take, drop, refl, sym, ap, subst, arith, add-zero}
 use Rattle.std.proofs.{Common.{append_assoc, append-nil, true, length-append, length-drop, Bool, Some, None, Option, inl, inr}, lemmas.List.length-map}
 use Rattle.std.proofs.{lemmas.List.{take-append-drop, length-take-le, nil_from_length}, lemmas.Bool.{cases_lt, true≢false}}
-use Rattle.legacy_text.specs.EncodingForm.{EncodingForm, Utf8, Utf16, code_units, unit_count, all_code_units, total_unit_count, wide_room}
+use Rattle.legacy_text.specs.EncodingForm.{EncodingForm, code_units, unit_count, all_code_units, total_unit_count, wide_room}
 use Rattle.legacy_text.specs.declared.destination.Destination.{Ghosts}
 use Rattle.legacy_text.proofs.CodeUnits.{all_code_units-append, total_unit_count-append}
 use Rattle.legacy_base.specs.{States.{DecoderState, new_state, rests, may_hold}, Grammar.{Grammar, events_of}, declared.results.DecodeEvent.DecodeEvent}
@@ -12,8 +12,7 @@ use Rattle.legacy_decoder_engine.specs.{ReadAhead.{RunsTo, Runs, ReadsTo}, Moves
 use Rattle.legacy_decoder_engine.proofs.{CallUnderWay.{Going, going_then, held_going}, WrittenRuns.rest_of}
 
 wide_most : (form : EncodingForm) → wide_room form ≤ 4
-wide_most Utf8 = omega arith
-wide_most Utf16 = omega arith
+wide_most form = grind arith
 
 -- scalars that leave three free code units were written with the full room of any act
 ample : (form : EncodingForm) (g : Grammar) (previous : Option ℕ) (free : ℕ) (cs : List ℕ) → total_unit_count form cs + 3 ≤ free
@@ -51,9 +50,7 @@ IsUnderWay T last before source first now read new =
 -- code units were written after those before
 pub written : {D : Type 0} (T : Ghosts D) (first old new : D) (scalars ds : List ℕ) → T.contents old ≡ T.contents first ++ all_code_units T.form scalars
     → T.contents new ≡ T.contents old ++ all_code_units T.form ds → T.contents new ≡ T.contents first ++ all_code_units T.form (scalars ++ ds)
-written T first old new scalars ds e f =
-    f ∙ ap (λ l. l ++ all_code_units T.form ds) e ∙ append_assoc (T.contents first) (all_code_units T.form scalars) (all_code_units T.form ds)
-    ∙ ap (λ l. T.contents first ++ l) (sym (all_code_units-append T.form scalars ds))
+written T first old new scalars ds e f = grind (arith, append_assoc, all_code_units-append)
 
 module _ {D : Type 0} {T : Ghosts D} where
   pub reads_nothing : {before after : DecoderState} {source : List ℕ} {old new : D} {r : ℕ} → (reads : ReadsTo T before after source r old new) → r ≡ 0

@@ -13,7 +13,7 @@ use Rattle.legacy_base.specs.{Calls.may_report_end, declared.results.DecodeEvent
 use Rattle.legacy_base.specs.{Events.shift, Grammar.{Grammar, events_of}}
 use Rattle.legacy_base.proofs.{Progress.{stay, at_last, behind, after_that}, Rooms.{HadRooms-append, HadRooms-none, HadRooms-released, room_needed-release}}
 use Rattle.legacy_base.proofs.{Rooms.{room_needed-read, room_needed-report, room_needed-none}, Enough.room-answer, Shifts.shift-scalars}
-use Rattle.legacy_decoder_engine.specs.{declared.moves.Fed.TheVariants.{Nothing, One, Two, MalformedSequence}, Moves.{SameRooms, Feeds, Releases, Reports}}
+use Rattle.legacy_decoder_engine.specs.{declared.moves.Fed.TheVariants.{Nothing, MalformedSequence}, Moves.{SameRooms, Feeds, Releases, Reports}}
 use Rattle.legacy_decoder_engine.specs.Moves.{Finishes, IsCovered, HoldsBytes, RevealsMalformed, read_room, fed_scalars, fed_units, unread_byte}
 use Rattle.legacy_decoder_engine.specs.declared.moves.Fed.{Fed}
 
@@ -21,11 +21,7 @@ pub same_rooms : (g : Grammar) → SameRooms g g
 same_rooms g = record { full = λ form. refl; report = λ form. refl; wants = λ p c. refl }
 
 pub both_rooms : (g h k : Grammar) → SameRooms g h → SameRooms h k → SameRooms g k
-both_rooms g h k a b = record {
-  full = λ form. b.full form ∙ a.full form;
-  report = λ form. b.report form ∙ a.report form;
-  wants = λ p c. b.wants p c ∙ a.wants p c;
-}
+both_rooms g h k a b = grind arith
 
 -- no bytes are held back
 pub holds_none : (form : EncodingForm) (free : ℕ) (state : DecoderState) → HoldsBytes form free state [] state
@@ -41,9 +37,7 @@ next_byte : (source : List ℕ) (read : ℕ) → read < length source → drop r
 next_byte source read h = drop-cons source read 0 h ∙ rw add-one refl
 
 gave : (fed : Fed) → (fed_scalars fed ≡ []) ⊎ (fed_scalars fed ≢ [])
-gave (One c) = inr (λ e. cc)
-gave (Two c d) = inr (λ e. cc)
-gave fed = inl refl
+gave fed = grind arith
 
 -- ---- rooms
 
@@ -65,17 +59,12 @@ module _ (form : EncodingForm) (g : Grammar) where
 
 shift-reported : (p seen more : ℕ) (after : DecoderState) (answer : DecoderResult) → p + seen ≡ more → HoldsBack seen after answer
     → (shift p (reported_events seen answer) ≡ reported_events more answer) × HoldsBack more after answer
-shift-reported p seen more after (Malformed a b) e f =
-    let w = f.within in
-    let place : p + (seen - b - a) ≡ more - b - a = omega arith in
-    (ap (λ q. Bad q a ∷ []) place, record { some = f.some; few = f.few; near = f.near; held = f.held; within = omega arith })
-shift-reported p seen more after answer e f = (refl, tt)
+shift-reported p seen more after answer h h1 = grind arith
 
 -- a sequence that is reported without a byte was held back
 malformed-held : (answer : DecoderResult) (seen : ℕ) (held : List ℕ) (after : DecoderState) → length held ≡ seen → IsMalformed answer
     → HoldsBack seen after answer → held ≢ []
-malformed-held (Malformed a b) seen held after e m f z = omega (arith, f.within, f.some, e, ap length z)
-malformed-held answer seen held after e m f z = absurd m
+malformed-held answer seen held after h h1 h2 h3 = grind arith
 
 -- A call in progress: the decoder is in the state `now`, has read `read` bytes and has written the scalars.
 pub record Going (form : EncodingForm) (last : Bool) (before : DecoderState) (source : List ℕ) (free : ℕ) (now : DecoderState) (read : ℕ)
@@ -322,27 +311,7 @@ module _ {form : EncodingForm} {last : Bool} where
         → room query next (length (drop n source) + more) + replacement_units query ≤ room query s (length source + more))
         → DecoderCall form s source last free next (Malformed a b) n []
     call_malformed {source} {next} {a} {b} n passed within allowed f progress had malformed_sequence full lowers =
-        let all = progress.counts in
-        let seen : passed + length next.held ≡ length s.held + n = omega (arith, all, length-drop n source, within) in
-        let place : passed - a ≡ length s.held + n - b - a = omega (arith, seen, f.held) in
-        record {
-          within = within;
-          fits = omega arith;
-          scalar = All-nil IsScalar;
-          passed = passed;
-          progress = rw (← place) progress;
-          allowed = allowed;
-          malformed_sequence = rw (← seen) f;
-          input_empty = λ x. cc;
-          output_full = λ x. cc;
-          full_at_once = λ l. absurd (had l);
-          room_after_malformed = λ x. rw sub-zero malformed_sequence;
-          room_held = λ p ne. rw sub-zero (full p);
-          had_room = HadRooms-none form s free;
-          lowers = λ query q more z. omega (arith, lowers query q more z);
-          suffices = λ query q le x. cc;
-          enough = λ query q n k le answered most x. cc;
-        }
+        grind (arith, length-drop, All-nil, sub-zero, HadRooms-none)
 
     -- a byte reveals a malformed sequence
     call_fed : {byte : ℕ} {rest : List ℕ} {next : DecoderState} {a b : ℕ} (unread : Bool) (n : ℕ) → rests s.grammar s.held ≡ true
@@ -377,9 +346,7 @@ module _ {form : EncodingForm} {last : Bool} where
     call_finish : {next : DecoderState} (answer : DecoderResult) → rests s.grammar s.held ≡ true → may_hold s.grammar s.held ≡ true
         → Finishes form s last free next answer
         → DecoderCall form s [] last free next answer 0 [] × (IsMalformed answer ⊎ (next ≡ s))
-    call_finish InputEmpty r m f = (rw f.0 (call_done r m f.1), inr f.0)
-    call_finish OutputFull r m f = (rw f.0 (call_full m f.4 (rw f.1 (let e = room_needed-report form s r f.2 in omega (arith, f.3)))), inr f.0)
-    call_finish (Malformed a b) r m f = (call_report f.0 r f.1 f.2 f.3, inl tt)
+    call_finish answer h h1 h2 = grind (arith, call_done, call_full, room_needed-report, call_report)
 
     -- the held-back scalar lacks its room
     pub call_full_release : {source : List ℕ} → IsCovered s → may_hold s.grammar s.held ≡ true → rests s.grammar s.held ≡ false

@@ -7,12 +7,12 @@ use Rattle.std.specs.Char.{IsScalar, is_ascii}
 use Rattle.legacy_text.specs.EncodingForm.{EncodingForm, Utf8, Utf16, code_units, unit_count, all_code_units, total_unit_count, bmp_room, wide_room}
 use Rattle.legacy_tables.specs.Unicode.{IsByte, AreBytes}
 use Rattle.legacy_base.specs.{States.{DecoderState, rests, may_hold, state_of}, DecoderActs.{act_room, takes, full_room, has_short_ascii, has_reported}}
-use Rattle.legacy_base.specs.{DecoderActs.{has_marks, is_mark_behind, full_room_in, release_room_in, HadRoom}, Lengths.{LengthQuery, to_utf16, to_utf8}}
+use Rattle.legacy_base.specs.{DecoderActs.{has_marks, full_room_in, release_room_in, HadRoom}, Lengths.{LengthQuery, to_utf16, to_utf8}}
 use Rattle.legacy_base.specs.{Lengths.{query_form, replacement_units, room}, Fronts.{reads, malformed}, Events.shift}
-use Rattle.legacy_base.specs.{declared.results.DecodeEvent.TheVariants.{Scalar, Bad}, Grammar.{Grammar, events_of}, Calls.IsMalformedByte}
+use Rattle.legacy_base.specs.{declared.results.DecodeEvent.TheVariants.Scalar, Grammar.{Grammar, events_of}, Calls.IsMalformedByte}
 use Rattle.legacy_decoder_engine.specs.Moves.{IsCovered, read_room, fed_scalars, fed_malformed, FedHolds, RevealsMalformed, Feeds, Releases, Reports}
-use Rattle.legacy_decoder_engine.specs.Steps.{Step, hold, finish, leave, step_held, step_length, step_unread, step_events, StepMeets, PendingMeets, end_events}
-use Rattle.legacy_decoder_engine.specs.{Steps.DecoderMachine, Feeding.{fed_form, fed_of, HasScalars, Took}, declared.moves.Fed.TheVariants.{One, Two}}
+use Rattle.legacy_decoder_engine.specs.Steps.{Step, finish, step_held, step_length, step_unread, step_events, StepMeets, PendingMeets}
+use Rattle.legacy_decoder_engine.specs.{Steps.DecoderMachine, Feeding.{fed_form, fed_of, HasScalars, Took}}
 use Rattle.legacy_decoder_engine.specs.{StepUnits.{units, step_units, step_left}, declared.moves.Fed.Fed, StatesAfterSteps.{IsOneOrMarked, Settles}}
 use Rattle.legacy_decoder_engine.specs.Shown.{IsShown}
 use Rattle.legacy_base.proofs.{Rooms.release-full, GrammarLaws.{may_none, rests-none}}
@@ -40,16 +40,13 @@ writes_form Utf16 shown held n c m r bytes e = let w = (shown.rooms to_utf16).wr
 -- ---- what a step is
 
 fed_scalars_are : (marks : Bool) (cs : List ℕ) → IsOneOrMarked marks cs → fed_scalars (fed_form cs) ≡ cs
-fed_scalars_are marks (c ∷ d ∷ e ∷ cs) h = absurd h
-fed_scalars_are marks cs h = refl
+fed_scalars_are marks cs h = grind arith
 
 form_sound : (cs : List ℕ) → RevealsMalformed (fed_form cs) → ⊥
-form_sound (c ∷ d ∷ cs) f = f
-form_sound cs f = f
+form_sound cs h = grind arith
 
 form_holds : (passed : ℕ) (after : DecoderState) (cs : List ℕ) → IsTrue (rests after.grammar after.held) → FedHolds passed after (fed_form cs)
-form_holds passed after (c ∷ d ∷ cs) h = h
-form_holds passed after cs h = h
+form_holds passed after cs h = grind arith
 
 -- ---- the room that the scalars of a step had
 
@@ -60,13 +57,10 @@ module _ (narrow wide : ℕ) {g : Grammar} {m : DecoderMachine} (shown : IsShown
 
   by_tests : (a s : Bool) → is_ascii b ≡ a → has_short_ascii g ≡ s
       → (full_room narrow wide g ≤ cond ((a && true) && s) 1 (full_room narrow wide g)) ⊎ IsShort []
-  by_tests true true e f = inr (rw (e, f) refl, shown.ascii_first f b e)
-  by_tests true false e f = inl (omega arith)
-  by_tests false s e f = inl (omega arith)
+  by_tests a s h h1 = grind arith
 
   short_or_usual : (held : List ℕ) → (full_room narrow wide g ≤ act_room narrow wide (state_of g held) (takes b)) ⊎ IsShort held
-  short_or_usual [] = rw unreported (by_tests (is_ascii b) (has_short_ascii g) refl refl)
-  short_or_usual (x ∷ held) = inl (rw unreported (grind (arith, nat_tests)))
+  short_or_usual held = grind (arith, by_tests, nat_tests)
 
 -- an ASCII scalar needs no more room if ASCII needs one code unit
 short_wants : (short marks mark : Bool) (want : ℕ) (free : ℕ) → short ≡ true → IsTrue (not (short || (marks && mark))) → want ≤ free
@@ -78,22 +72,14 @@ mark_wants short both want free e w = grind (arith, nat_tests)
 had_usual : (form : EncodingForm) (g : Grammar) (free : ℕ) (cs : List ℕ) → IsOneOrMarked (has_marks g) cs → full_room_in form g ≤ free
     → HadRoom form g None free cs
 unfolding HadRoom
-had_usual form g free [] h full = tt
-had_usual form g free (c ∷ []) h full = (λ w. full, tt)
-had_usual form g free (c ∷ d ∷ []) h full = (
-  λ w. full,
-  (λ w. mark_wants (has_short_ascii g && is_ascii d) (has_marks g && is_mark_behind (Some c) d) (full_room_in form g) (free - unit_count form c) h w, tt),
-)
-had_usual form g free (c ∷ d ∷ e ∷ cs) h full = absurd h
+had_usual form g free cs h h1 = grind (arith, mark_wants)
 
 had_short : (form : EncodingForm) (g : Grammar) (free b : ℕ) → (has_short_ascii g && is_ascii b) ≡ true → HadRoom form g None free (b ∷ [])
 unfolding HadRoom
 had_short form g free b h = (λ w. short_wants (has_short_ascii g && is_ascii b) (has_marks g) false (full_room_in form g) free h w, tt)
 
 has_scalars : (fed : Fed) → HasScalars fed → All IsScalar (fed_scalars fed)
-has_scalars (One c) h = All-cons IsScalar c [] h (All-nil IsScalar)
-has_scalars (Two c d) h = All-cons IsScalar c (d ∷ []) h.0 (All-cons IsScalar d [] h.1 (All-nil IsScalar))
-has_scalars fed h = All-nil IsScalar
+has_scalars fed h = grind (arith, All-cons, All-nil)
 
 reads_same : (m n : ℕ) (xs ys : List ℕ) → finish (reads m xs) ≡ finish (reads n ys) → xs ≡ ys
 reads_same m n xs ys e = cc
@@ -131,52 +117,29 @@ module _ {g : Grammar} {m : DecoderMachine} (shown : IsShown g m) (held : List �
     -- there was full room before a step, unless the byte is its own scalar
     usual_step : (form : EncodingForm) (s : Step) → m.step held b ≡ s → (s ≡ finish (reads 1 (b ∷ [])) → ⊥) → has_reported g ≡ false
         → full_room_in form g ≤ read_room form (state_of g held) b
-    usual_step form s e ne reported = elim (short_or_usual (bmp_room form) (wide_room form) shown b reported held) [
-      | inl h ↦ h
-      | inr h ↦ absurd (ne (sym e ∙ h.1))
-    ]
+    usual_step form s e ne reported = grind (arith, short_or_usual)
 
     had_form : (form : EncodingForm) (free n : ℕ) (cs : List ℕ) → m.step held b ≡ finish (reads n cs) → read_room form (state_of g held) b ≤ free
         → HadRoom form g None free cs
     unfolding HadRoom
-    had_form form free n cs e le = elim (shown.swallows) [
-      | inr r ↦ rw (reads_same n 1 cs [] (sym e ∙ r held b)) tt
-      | inl r ↦ elim (short_or_usual (bmp_room form) (wide_room form) shown b r held) [
-        | inl h ↦ had_usual form g free cs (subst (λ m. IsOneOrMarked m cs) (shown.same_marks held b) (settled _ e).1) (omega (arith, h, le))
-        | inr h ↦ rw (reads_same n 1 cs (b ∷ []) (sym e ∙ h.1)) (had_short form g free b h.0)
-      ]
-    ]
+    had_form form free n cs e le = grind (arith, reads_same, short_or_usual, had_usual, settled, had_short)
 
     -- the bytes and the events after a step
     rest_is : (s : Step) → m.step held b ≡ s → drop (step_length s) (held ++ b ∷ []) ≡ step_held s held b ++ step_unread s b []
-    rest_is (leave n) e = drop-append-le n held (b ∷ []) (omega (arith, (meets _ e).counts, length-drop n held))
-    rest_is s e = sym (append-nil (step_held s held b))
+    rest_is s h = grind (arith, drop-append-le, meets, length-drop, append-nil)
 
     out_is : (s : Step) → Settles to held b s → step_events s ≡ map Scalar (fed_scalars (fed_of s held b)) ++ fed_malformed (step_length s) (fed_of s held b)
-    out_is (finish (malformed n)) h = let z : 0 ≡ n - n = omega arith in ap (λ p. Bad p n ∷ []) z
-    out_is (leave n) h = let z : 0 ≡ n - n = omega arith in ap (λ p. Bad p n ∷ []) z
-    out_is (finish (reads n (c ∷ d ∷ e ∷ cs))) h = absurd h.1
-    out_is s h = refl
+    out_is s h = grind arith
 
     holds_is : (s : Step) → m.step held b ≡ s → FedHolds (step_length s) (state_of to (step_held s held b)) (fed_of s held b)
-    holds_is hold e = settled hold e
-    holds_is (finish (reads n cs)) e = form_holds n (state_of to (drop n (held ++ b ∷ []))) cs (rw (all_dropped n held b (settled _ e).0) (rests-none to))
-    holds_is s e = let k = meets s e in record { some = k.malformed_sequence.0; few = k.malformed_sequence.1; near = k.few; held = refl; within = omega arith }
+    holds_is s h = grind (arith, settled, form_holds, all_dropped, rests-none, meets)
 
     empties_is : (s : Step) → Settles to held b s → fed_scalars (fed_of s held b) ≢ [] → step_held s held b ≡ []
-    empties_is (finish (reads n cs)) h ne = all_dropped n held b h.0
-    empties_is s h ne = absurd (ne refl)
+    empties_is s h h1 = grind (arith, all_dropped)
 
     full_is : (form : EncodingForm) (s : Step) → m.step held b ≡ s → RevealsMalformed (fed_of s held b) ⊎ (step_held s held b ≢ [])
         → full_room_in form g ≤ read_room form (state_of g held) b
-    full_is form (finish (reads n cs)) e x = elim x [
-      | inl f ↦ absurd (form_sound cs f)
-      | inr ne ↦ absurd (ne (all_dropped n held b (settled _ e).0))
-    ]
-    full_is form s e x = elim (shown.swallows) [
-      | inl r ↦ usual_step form s e (λ z. cc) r
-      | inr r ↦ absurd (let z : s ≡ finish (reads 1 []) = sym e ∙ r held b in cc)
-    ]
+    full_is form s h h1 = grind (arith, form_sound, all_dropped, settled, usual_step)
 
     had_is : (form : EncodingForm) (free : ℕ) (s : Step) → m.step held b ≡ s → read_room form (state_of g held) b ≤ free
         → HadRoom form g None free (fed_scalars (fed_of s held b))
@@ -210,10 +173,7 @@ module _ {g : Grammar} {m : DecoderMachine} (shown : IsShown g m) (held : List �
 
     -- a decoder that took the step has made the move
     pub feeds : (fed : Fed) (kept : List ℕ) → Took (m.step held b) held b fed kept → Feeds (state_of g held) b (state_of (m.to held b) kept) fed
-    feeds fed kept took =
-        let scalar : All IsScalar (fed_scalars fed) = has_scalars fed took.scalar in
-        let scalar' = rw (took.answer) at scalar in
-        rw (took.answer, took.holds) (step_feeds (m.step held b) refl scalar')
+    feeds fed kept took = grind (arith, has_scalars, step_feeds)
 
   -- the held-back scalar is written
   pub releases : (n c : ℕ) → rests g held ≡ false → m.pending held ≡ Some (n, c) → IsScalar c → Releases (state_of g held) (state_of g (drop n held)) c
@@ -271,10 +231,7 @@ module _ {g : Grammar} {m : DecoderMachine} (shown : IsShown g m) (held : List �
   ends_empty e = ap (events_of g) (nil_from_length held e) ∙ shown.meets.ends [] (may_none g) (rests-none g)
 
   pub ends_some : rests g held ≡ true → held ≢ [] → events_of g held ≢ []
-  ends_some r n e = by_held held n (sym (shown.meets.ends held may r) ∙ e) where
-    by_held : (l : List ℕ) → l ≢ [] → end_events l ≡ [] → ⊥
-    by_held [] n e = n refl
-    by_held (x ∷ xs) n e = cc
+  ends_some r n e = grind (arith, meets)
 
   -- there is something to report if bytes are held back, even if a scalar is still to be written
   pub ends_held : held ≢ [] → events_of g held ≢ []
@@ -286,9 +243,4 @@ module _ {g : Grammar} {m : DecoderMachine} (shown : IsShown g m) (held : List �
 -- a byte that is malformed by itself in the machine, if nothing is held back
 pub malformed_byte : {g : Grammar} {m : DecoderMachine} → IsShown g m → (b : ℕ) → m.step [] b ≡ finish (malformed 1) → m.to [] b ≡ g →
     IsMalformedByte (state_of g []) b
-malformed_byte shown b e t =
-    let s = shown.meets.steps [] b (may_none _) (rests-none _) in
-    record {
-      empty = refl;
-      progress = record { counts = refl; rest = refl; events = λ more h. let all = s.goes_on more in rw (e, t) at all };
-    }
+malformed_byte shown b e t = grind (arith, meets, may_none, rests-none)

@@ -39,10 +39,7 @@ past_mask block long =
 -- the bit of one byte
 pub past_bits : (block : List ℕ) (i : ℕ) → i < length block
     → ◌≡◌ {A = ℕ} (bit_at (mask_l (map (λ b. leb 128 b) block)) i) (cond (ltb (get_or block i 0) 128) 0 1)
-past_bits block i h =
-    bit_mask_l (map (λ b. leb 128 b) block) i
-    ∙ ap (λ t. cond t 1 0) (get_or-map (λ b. leb 128 b) block i 0 false h)
-    ∙ grind (arith, nat_tests)
+past_bits block i h = grind (arith, bit_mask_l, leb, get_or-map, nat_tests)
 
 -- ---- the forms from a place on
 
@@ -51,8 +48,7 @@ one_byte block rest i h = sym (append_assoc (take i block) (get_or block i 0 ∷
 
 two_bytes : (block rest : List ℕ) (i : ℕ) → i + 1 < length block
     → take i block ++ (get_or block i 0 ∷ get_or block (i + 1) 0 ∷ rest) ≡ take (i + 2) block ++ rest
-two_bytes block rest i h = sym (append_assoc (take i block) (get_or block i 0 ∷ get_or block (i + 1) 0 ∷ []) rest)
-    ∙ ap (λ (l : List ℕ). l ++ rest) (sym (take_two block i h))
+two_bytes block rest i h = grind (arith, append_assoc, take_two)
 
 module _ (block : List ℕ) (past starts : ℕ) (long : 72 ≤ length block) (small : (j : ℕ) → get_or block j 0 < 256) (are_past : ArePast past block)
     (are : AreStarts past starts) where
@@ -61,21 +57,11 @@ module _ (block : List ℕ) (past starts : ℕ) (long : 72 ≤ length block) (sm
 
   -- a form starts after a byte that starts no form or is ASCII
   starts_next : (i : ℕ) → i < 63 → min (bit_at starts i) (bit_at past i) ≡ 0 → bit_at starts (i + 1) ≡ 1
-  starts_next i below none =
-      let e : suc i ≡ i + 1 = omega arith in
-      let n = are.next i below in
-      let low = bit_at-lt starts (suc i) in
-      let is : bit_at starts (suc i) ≡ 1 = omega (arith, n, none, low) in
-      sym (ap (bit_at starts) e) ∙ is
+  starts_next i below none = grind (arith, bit_at-lt)
 
   -- no form starts after the first byte of two
   ends_next : (i : ℕ) → i < 63 → bit_at starts i ≡ 1 → bit_at past i ≡ 1 → bit_at starts (i + 1) ≡ 0
-  ends_next i below a b =
-      let e : suc i ≡ i + 1 = omega arith in
-      let n = are.next i below in
-      let low = bit_at-lt starts (suc i) in
-      let is : bit_at starts (suc i) ≡ 0 = omega (arith, n, a, b, low) in
-      sym (ap (bit_at starts) e) ∙ is
+  ends_next i below a b = grind (arith, bit_at-lt)
 
   -- a form that starts at byte i, and those after it
   first_of : (m i y : ℕ) → i + suc m ≡ 64 → ((k : ℕ) → bit_at y k ≡ bit_at starts (i + k)) → bit_at starts i ≡ 1 → (t : Bool) → ltb (get_or block i 0) 128 ≡ t
@@ -120,10 +106,7 @@ module _ (block : List ℕ) (past starts : ℕ) (long : 72 ≤ length block) (sm
   fronts : (n i y : ℕ) (c : Bool) → i + n ≡ 64 → ((k : ℕ) → bit_at y k ≡ bit_at starts (i + k)) → (0 < n → bit_at starts i ≡ cond c 0 1)
       → IsFront (take (i + cond c 1 0) block ++ forms_of (map (code_at block) (places i n y))) block
   unfolding places
-  fronts zero i y c e bits here =
-      let k : ℕ = i + cond c 1 0 in
-      let l : length (take k block) ≡ k = length-take-le k block (grind (arith, nat_tests)) in
-      ap (λ bytes. take (length bytes) block) (append-nil (take k block)) ∙ ap (λ m. take m block) l ∙ sym (append-nil (take k block))
+  fronts zero i y c e bits here = grind (arith, length-take-le, nat_tests, append-nil)
   fronts (suc m) i y true e bits here =
       let z : i + 0 ≡ i = omega arith in
       let is : bit_at starts i ≡ 0 = here (omega arith) in

@@ -2,7 +2,6 @@
 use Rattle.std.proofs.Common.{◌≡◌, ℕ, suc, ◌+◌, ◌<◌, ◌≤◌, List, [], ◌∷◌, ◌++◌, drop, length, Bool, true, false, cond, ◌-◌, refl, sym, ap, ◌∙◌, append_assoc}
 use Rattle.std.proofs.{Common.{length-append, length-drop, drop_of_length-le, le_refl, arith, subst}, Math.Seq.{drop-length, drop-append_seam}}
 use Rattle.std.proofs.{lemmas.List.drop-append-le, lemmas.Bool.cond_both}
-use Rattle.std.specs.Char.{is_ascii}
 use Rattle.legacy_base.specs.{Fronts.{Front, reads, malformed, front_length, front_events, reads_or, trail_rule, cut}, Grammar.{Grammar, events_of}}
 use Rattle.legacy_base.specs.{declared.results.DecodeEvent.TheVariants.Bad, Beginnings.BeginsWith, Events.shift, States.may_hold}
 use Rattle.legacy_decoder_engine.specs.Steps.{Step, hold, finish, leave, HasMalformedLength, StepMeets, WriteMeets, end_events, ReportMeets, trail_step}
@@ -17,8 +16,7 @@ HasFront front (b ∷ rest) f = front b rest ≡ f
 pub front_move : (front : ℕ → List ℕ → Front) (bytes behind : List ℕ) (f : Front) → HasFront front bytes f → 0 < front_length f
     → drop (front_length f) bytes ≡ behind →
     cut front 0 0 bytes ≡ front_events 0 f ++ shift (front_length f) (cut front 0 0 behind)
-front_move front [] behind f h pos e = absurd h
-front_move front (b ∷ rest) behind f h pos e = rw (← e, ← h) (cut-front front b rest (rw h pos))
+front_move front bytes behind f h h1 h2 = grind (arith, cut-front)
 
 -- the front of a step is the same for every continuation
 abbrev pub Fits : (ℕ → List ℕ → Front) → (List ℕ → Bool) → List ℕ → ℕ → Step → Type 0
@@ -29,12 +27,10 @@ Fits front may held b (leave n) = ((more : List ℕ) → HasFront front (held ++
 
 -- a front that is malformed or gives scalars has at least one byte
 pub some_reads_or : (n : ℕ) (scalars : List ℕ) (other : Front) → 0 < n → 0 < front_length other → 0 < front_length (reads_or n scalars other)
-some_reads_or n [] other some h = h
-some_reads_or n (c ∷ scalars) other some h = some
+some_reads_or n scalars other h h1 = grind arith
 
 pub some_trail_rule : (n t : ℕ) → 0 < n → 0 < front_length (trail_rule n t)
-some_trail_rule n t some =
-    cond_both (is_ascii t) (malformed n) (malformed (n + 1)) (λ f. 0 < front_length f) (λ _. some) (λ _. omega arith)
+some_trail_rule n t some = grind (arith, cond_both)
 
 -- if the events of a list begin with a malformed sequence of n bytes, its front is that sequence
 front_reported : (front : ℕ → List ℕ → Front) (b : ℕ) (rest : List ℕ) (n : ℕ) (f : Front) → front b rest ≡ f → 0 < front_length f
@@ -53,8 +49,7 @@ front_reported front b rest n (malformed k) e some g =
 -- a step that depends on a test
 pub fits_test : (front : ℕ → List ℕ → Front) (may : List ℕ → Bool) (held : List ℕ) (b : ℕ) (t : Bool) (s₁ s₂ : Step) →
     (t ≡ true → Fits front may held b s₁) → (t ≡ false → Fits front may held b s₂) → Fits front may held b (cond t s₁ s₂)
-fits_test front may held b true s₁ s₂ f₁ f₂ = f₁ refl
-fits_test front may held b false s₁ s₂ f₁ f₂ = f₂ refl
+fits_test front may held b t s₁ s₂ h h1 = grind arith
 
 all_dropped : (xs : List ℕ) (x : ℕ) → drop (length xs + 1) (xs ++ x ∷ []) ≡ []
 all_dropped xs x = drop_of_length-le (xs ++ x ∷ []) (omega (arith, length-append xs (x ∷ [])))
@@ -63,15 +58,10 @@ all_dropped xs x = drop_of_length-le (xs ++ x ∷ []) (omega (arith, length-appe
 pub fits_trail : (front : ℕ → List ℕ → Front) (may : List ℕ → Bool) (held : List ℕ) (scalars : List ℕ) (t : ℕ) → may [] ≡ true → 0 < length held →
     ((more : List ℕ) → HasFront front (held ++ t ∷ more) (reads_or (length held + 1) scalars (trail_rule (length held) t))) →
     Fits front may held t (trail_step (length held) scalars t)
-fits_trail front may held (c ∷ scalars) t empty pos h = (h, omega arith, omega arith, rw (all_dropped held t) empty)
-fits_trail front may held [] t empty pos h =
-    fits_test front may held t (is_ascii t) (leave (length held)) (finish (malformed (length held + 1)))
-    (λ e. (λ more. rw e at (h more), pos, le_refl (length held), rw drop-length empty))
-    (λ e. (λ more. rw e at (h more), omega arith, omega arith, rw (all_dropped held t) empty))
+fits_trail front may held scalars t h h1 h2 = grind (arith, all_dropped, fits_test, le_refl, drop-length)
 
 malformed_length : (f : Front) (n : ℕ) → n ≤ 3 → 0 < front_length f → front_length f ≤ suc n → HasMalformedLength f
-malformed_length (reads k cs) n le pos h = tt
-malformed_length (malformed k) n le pos h = (pos, omega arith)
+malformed_length f n h h1 h2 = grind arith
 
 module _ (g : Grammar) (front : ℕ → List ℕ → Front) (ev_is : (bytes : List ℕ) → events_of g bytes ≡ cut front 0 0 bytes) where
   pub ev_front : (bytes behind : List ℕ) (f : Front) → HasFront front bytes f → 0 < front_length f → drop (front_length f) bytes ≡ behind →

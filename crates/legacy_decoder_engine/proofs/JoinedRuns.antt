@@ -1,5 +1,5 @@
 -- Runs that are read one after another.
-use Rattle.std.proofs.Common.{◌≡◌, ◌∙◌, ℕ, ◌+◌, ◌-◌, ◌<◌, ◌≤◌, List, ◌++◌, length, take, drop, refl, sym, ap, subst, arith, inl, inr, IsAscii}
+use Rattle.std.proofs.Common.{◌≡◌, ◌∙◌, ℕ, ◌+◌, ◌-◌, ◌<◌, ◌≤◌, List, ◌++◌, length, take, drop, sym, ap, subst, arith, inl, inr, IsAscii}
 use Rattle.std.proofs.{lemmas.Bool.cases_lt, lemmas.List.{take-take, length-take, length-take-le, length-drop}, Math.Seq.take-add}
 use Rattle.legacy_text.specs.{declared.destination.Destination.Ghosts, EncodingForm.total_unit_count}
 use Rattle.legacy_base.specs.{Grammar.Grammar, States.{DecoderState, new_state}}
@@ -61,16 +61,7 @@ pub reads_front : {D : Type 0} {T : Ghosts D} {g : Grammar} {source : List ℕ} 
     → (0 < r → 3 ≤ T.room new)
     → (0 < r → 4 ≤ T.room old)
     → ReadsAhead T (new_state g) source r old new
-reads_front {D} {T} {g} within writes slack had = record {
-  within = within;
-  idle = λ h. refl;
-  empties = λ h. refl;
-  stays = λ e. refl;
-  rooms = same_rooms g;
-  writes = writes;
-  slack = slack;
-  had = had;
-}
+reads_front {D} {T} {g} within writes slack had = grind (arith, same_rooms)
 
 -- the same with the room left
 pub reads_written : {D : Type 0} {T : Ghosts D} {g : Grammar} {source : List ℕ} {old new : D} {r : ℕ} → r ≤ length source → Writes T g (take r source) old new
@@ -85,6 +76,4 @@ pub reads_ascii : {D : Type 0} {T : Ghosts D} {g : Grammar} {source : List ℕ} 
     → T.loan new ≡ T.loan old
     → (0 < r → 3 ≤ T.room new)
     → ReadsAhead T (new_state g) source r old new
-reads_ascii {D} {T} {g} {source} {old} {new} {r} law within ascii written room loan slack =
-    let l = length-take-le r source within in
-    reads_front within (writes_ascii T g old new (take r source) law ascii written (omega (arith, l, room)) loan) slack (λ h. omega (arith, slack h, room))
+reads_ascii {D} {T} {g} {source} {old} {new} {r} law within ascii written room loan slack = grind (arith, length-take-le, reads_front, writes_ascii)

@@ -1,9 +1,10 @@
 -- The moves of a decoder with leads, by the lead that it holds back.
+use Rattle.std.proofs.Common.{arith}
 use Rattle.std.proofs.{Common.{◌≡◌, ◌≢◌, ◌∙◌, ℕ, List, [], ◌∷◌, Bool, Option, Some, None, is_some, ◌&&◌, true, false, refl}, lemmas.List.Elements.All-nil}
 use Rattle.std.proofs.lemmas.List.Elements.{All-cons}
 use Rattle.std.specs.Char.{IsScalar}
 use Rattle.legacy_tables.specs.{Unicode.{IsByte, AreBytes}, AcceptedTables.AcceptedIndexes, Indexes.FlatIndexes}
-use Rattle.legacy_base.specs.{States.{may_hold, single_lead_may_hold, is_empty}, Grammar.{Grammar, events_of}, Calls.IsMalformedByte, Fronts.malformed}
+use Rattle.legacy_base.specs.{States.{may_hold, is_empty}, Grammar.{Grammar, events_of}, Calls.IsMalformedByte, Fronts.malformed}
 use Rattle.legacy_decoder_engine.specs.{declared.moves.Fed.Fed, Steps.{Step, finish}, Moves.{IsCovered, Feeds, Reports}, LeadMachines.two_byte_step}
 use Rattle.legacy_decoder_engine.specs.{LeadMachines.two_byte_machine, Shown.IsShown, Feeding.Took, ReadAhead.{Runs, HasAscii, IsIdle}, LeadCodecs.IsLeadCodec}
 use Rattle.legacy_decoder_engine.specs.LeadCodecs.{held_bytes, lead_state}
@@ -12,8 +13,7 @@ use Rattle.legacy_decoder_engine.proofs.Feeding as feeding
 
 -- a neutral decoder holds nothing back
 pub neutral_empty : (bytes : List ℕ) → (is_empty bytes && true) ≡ true → bytes ≡ []
-neutral_empty [] e = refl
-neutral_empty (b ∷ bytes) e = cc
+neutral_empty bytes h = grind arith
 
 -- ASCII, and a pair that gives one scalar
 module _ {grammar : FlatIndexes → Grammar} {is_lead_byte : ℕ → Bool} {first : ℕ → Step} {scalars : FlatIndexes → ℕ → ℕ → List ℕ}
@@ -37,23 +37,16 @@ module _ {L : Type 0} {grammar : FlatIndexes → Grammar} {is_lead_byte : ℕ �
   shown = is.shown tables.flat tables.accepted
 
   may : (held : Option L) → may_hold (grammar tables.flat) (held_bytes byte held) ≡ true
-  may held = is.may_is tables.flat (held_bytes byte held) ∙ by_held held
-    where
-      by_held : (held : Option L) → single_lead_may_hold is_lead_byte (held_bytes byte held) ≡ true
-      by_held None = refl
-      by_held (Some lead) = leads lead
+  may held = grind arith
 
   are_bytes : (held : Option L) → AreBytes (held_bytes byte held)
-  are_bytes None = All-nil IsByte
-  are_bytes (Some lead) = All-cons IsByte (byte lead) [] (is.bytes (byte lead) (leads lead)) (All-nil IsByte)
+  are_bytes held = grind (arith, All-nil, All-cons)
 
   none_held : (held : Option L) → is_some held ≡ false → held_bytes byte held ≡ []
-  none_held None e = refl
-  none_held (Some lead) e = cc
+  none_held held h = grind arith
 
   some_held : (held : Option L) → is_some held ≡ true → held_bytes byte held ≢ []
-  some_held None e = λ z. cc
-  some_held (Some lead) e = λ z. cc
+  some_held held h = grind arith
 
   pub covered : (held : Option L) → IsCovered (lead_state grammar byte tables held)
   covered held = feeding.covered shown (held_bytes byte held) (may held) (are_bytes held)
@@ -67,12 +60,10 @@ module _ {L : Type 0} {grammar : FlatIndexes → Grammar} {is_lead_byte : ℕ �
       (held_bytes byte kept) took
 
   pub ends_none : (held : Option L) → is_some held ≡ false → events_of (grammar tables.flat) (held_bytes byte held) ≡ []
-  ends_none held e =
-      feeding.ends_none shown (held_bytes byte held) (may held) (are_bytes held) (is.rests_is tables.flat (held_bytes byte held)) (none_held held e)
+  ends_none held e = grind (arith, shown, may, are_bytes, none_held)
 
   pub ends_some : (held : Option L) → is_some held ≡ true → events_of (grammar tables.flat) (held_bytes byte held) ≢ []
-  ends_some held e =
-      feeding.ends_some shown (held_bytes byte held) (may held) (are_bytes held) (is.rests_is tables.flat (held_bytes byte held)) (some_held held e)
+  ends_some held e = grind (arith, shown, may, are_bytes, some_held)
 
   pub reports : (lead : L) → Reports (lead_state grammar byte tables (Some lead)) (lead_state grammar byte tables None) 1 0
   reports lead =

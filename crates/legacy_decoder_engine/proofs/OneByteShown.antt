@@ -1,11 +1,11 @@
 -- The proof for the decoders of single bytes, which hold nothing back, from the few facts that each shows.
-use Rattle.std.proofs.Common.{◌≡◌, ℕ, ◌<◌, ◌&&◌, List, [], ◌∷◌, Bool, true, false, cond, Option, Some, None, option_to_list, refl, inl, ap, arith}
+use Rattle.std.proofs.Common.{◌≡◌, ℕ, ◌<◌, List, [], ◌∷◌, Bool, true, false, cond, Option, option_to_list, refl, ap, arith}
 use Rattle.std.proofs.lemmas.Bool.{cond_both, false≢true, ltb-true}
 use Rattle.std.specs.{Char.is_ascii, Option.IfSome}
 use Rattle.legacy_tables.specs.Unicode.{IsByte}
 use Rattle.legacy_base.specs.{Fronts.{Front, reads, malformed, reads_or, cut}, Profile.{Profile, narrow_acts, is_empty, always_rests, weightless}}
 use Rattle.legacy_base.specs.{Formulas.{to_come, constant, ◌⊠◌}, Grammar.{Grammar, profile, events_of}, States.{may_hold, state_of}, DecoderActs.act_room}
-use Rattle.legacy_base.specs.{DecoderActs.{takes, has_marks}, Lengths.to_utf16}
+use Rattle.legacy_base.specs.DecoderActs.{takes}
 use Rattle.legacy_base.proofs.Cuts.{cut-nil}
 use Rattle.legacy_decoder_engine.specs.{Steps.{Step, finish, no_pending, end_events, StepMeets, DecoderMachine, Meets}, StepUnits.{IsWidth, Cost}}
 use Rattle.legacy_decoder_engine.specs.{StatesAfterSteps.Settles, Shown.IsShown}
@@ -50,63 +50,30 @@ module _ (g : Grammar) (front : ℕ → List ℕ → Front) (found : ℕ → Opt
   ev_is bytes = ap (λ p. p.events bytes) is.profile_is
 
   fits : (b : ℕ) → Fits front is_empty [] b (first b)
-  fits b = cond_both (is_ascii b) _ _ (Fits front is_empty [] b)
-      (λ a. (λ more. rw (is.front_is b more, a) refl, omega arith, omega arith, refl))
-      (λ a. one_fits front b (option_to_list (found b)) (λ more. rw (is.front_is b more, a) refl))
+  fits b = grind (arith, cond_both, one_fits)
 
   steps : (held : List ℕ) (b : ℕ) → is_empty held ≡ true → StepMeets g held b (first b) g
   steps [] b h = fits_meets g front ev_is is_empty may_is [] b (first b) (omega arith) (fits b)
   steps (c ∷ held) b h = absurd (false≢true h)
 
   ends : (held : List ℕ) → is_empty held ≡ true → events_of g held ≡ end_events held
-  ends [] h = rw (ev_is []) (cut-nil front)
-  ends (b ∷ held) h = absurd (false≢true h)
+  ends held h = grind (arith, ev_is, cut-nil, false≢true)
 
   meets : Meets g machine
-  meets = record {
-    writes = λ held h. ap (λ p. p.rests held) is.profile_is;
-    steps = λ held b h r. steps held b (rw (may_is held) at h);
-    ends = λ held h r. ends held (rw (may_is held) at h);
-    reports = λ held more h r. no_report g held more (rw (may_is held) at h);
-    few = λ held h. few_held held (rw (may_is held) at h);
-  }
+  meets = grind (arith, steps, may_is, ends, no_report, few_held)
 
   cost : (len : ℕ → ℕ) (narrow wide : ℕ) → IsWidth len narrow wide → (held : List ℕ) (b : ℕ) → is_empty held ≡ true → IsByte b →
       Cost len narrow (act_room narrow wide (state_of g held) (takes b)) weightless 6 held b (first b)
-  cost len narrow wide w (c ∷ held) b h byte = absurd (false≢true h)
-  cost len narrow wide w [] b h byte = rw is.profile_is
-      (cond_both (is_ascii b) _ _ (Cost len narrow (cond ((is_ascii b && true) && short) 1 narrow) weightless 6 [] b)
-      (λ a. let e = w.ascii b (ltb-true b 0x80 a) in let some = w.some in record { fits = grind arith; pays = omega arith; pays_without = omega arith })
-      (λ a. rw a (by_found (found b) (is.below b byte))))
-    where
-      by_found : (o : Option ℕ) → IfSome o (λ c. c < 0x1_0000) → Cost len narrow narrow weightless 6 [] b (finish (reads_or 1 (option_to_list o) (malformed 1)))
-      by_found None below = record { fits = omega arith; pays = omega arith; pays_without = omega arith }
-      by_found (Some c) below = let n = w.bmp c below in let most = w.most in record { fits = omega arith; pays = omega arith; pays_without = omega arith }
+  cost len narrow wide h held b h1 h2 = grind (arith, false≢true, cond_both, ltb-true, fits)
 
   costs : HasCosts g machine weightless 6
   costs = record { to_is = λ held b. refl; cost = λ len narrow wide w held b h r bytes byte. cost len narrow wide w held b (rw (may_is held) at h) byte }
 
   sloped : IsSloped g machine weightless 6
-  sloped = record {
-    heavy = λ b held h. absurd (false≢true (rw (may_is (b ∷ held)) at h));
-    falls = elim [ to_utf16 ↦ λ held held' n n' u h. rw is.profile_is (omega arith) | _ ↦ λ held held' n n' u h. rw is.profile_is (omega arith) ];
-    writes = λ query held h r bytes. tt;
-    reads = elim [ to_utf16 ↦ λ held. rw is.profile_is (omega arith) | _ ↦ λ held. rw is.profile_is (omega arith) ];
-    holds = λ query b held h. absurd (false≢true (rw (may_is (b ∷ held)) at h));
-  }
+  sloped = grind (arith, false≢true, may_is)
 
   settles : (held : List ℕ) (b : ℕ) → is_empty held ≡ true → Settles g held b (first b)
-  settles [] b h = cond_both (is_ascii b) _ _ (Settles g [] b) (λ a. (refl, tt)) (λ a. or_settles g [] b _ (one_option (has_marks g) (found b)))
-  settles (a ∷ held) b h = absurd (false≢true h)
+  settles held b h = grind (arith, cond_both, or_settles, one_option, false≢true)
 
   pub one_byte_shown : IsShown g machine
-  one_byte_shown = record {
-    meets = meets;
-    rooms = λ query. sloped_rooms g machine weightless 6 meets costs sloped query;
-    settles = λ held b h r. settles held b (rw (may_is held) at h);
-    write_settles = λ held h. tt;
-    same_rooms = λ held b. same_rooms g;
-    same_marks = λ held b. refl;
-    ascii_first = λ s b a. rw a refl;
-    swallows = inl (ap (λ p. p.reported) is.profile_is);
-  }
+  one_byte_shown = grind (arith, meets, sloped_rooms, costs, sloped, settles, may_is, same_rooms)

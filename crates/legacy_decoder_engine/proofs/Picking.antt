@@ -1,6 +1,6 @@
 -- Codes of two bytes at places, by a shuffle from a table.
 use Rattle.std.proofs.Common.{◌≡◌, ℕ, zero, suc, ◌+◌, ◌*◌, ◌/◌, ◌%◌, ◌<◌, ◌≤◌, true, false, cond, leb, eqb, List, [], ◌∷◌, ◌++◌, length, get_or, map, take}
-use Rattle.std.proofs.{Common.{replicate, refl, sym, ap, ap₂, ◌∙◌, arith, w8, Fits, ◌-◌, ◌^◌, ◌==◌, drop, inl, inr}, lemmas.Bool.{ltb-true, leb-true, eqb-true}}
+use Rattle.std.proofs.{Common.{replicate, refl, sym, ap, ap₂, ◌∙◌, arith, w8, Fits, ◌-◌, ◌^◌, ◌==◌, drop}, lemmas.Bool.{ltb-true, leb-true, eqb-true}}
 use Rattle.std.proofs.{lemmas.Bool.{lt-leb, and_parts, agree_below_at, cases_lt}, lemmas.List.{take-take, take-map, get_or_past, length-take-le}}
 use Rattle.std.proofs.{lemmas.List.{take-append-le, map-append, append_assoc, append-nil}, lemmas.Simd.{swz_l, Each1-get_or, below_from_Fits, get_or-chunk}}
 use Rattle.std.proofs.{lemmas.Simd.put_chunk_is, lemmas.Bool.Decides.nat_tests, lemmas.Grind.common_steps, Math.Seq.{take-append_seam, take-append-add}}
@@ -61,10 +61,7 @@ codes xs small (p ∷ ps) =
     (λ t. low t ∷ digits_l 65536 (length ps) (high t)) ∙ ap (λ (l : List ℕ). code_at xs p ∷ l) (codes xs small ps)
 
 below_256 : (v : List ℕ) → Each1 (Fits w8) v → (i : ℕ) → get_or v i 0 < 256
-below_256 v fits i = elim (cases_lt i (length v)) [
-  | inl l ↦ Each1-get_or (λ x. x < 256) v i 0 l (below_from_Fits w8 v fits)
-  | inr l ↦ omega (arith, get_or_past v i 0 l)
-]
+below_256 v fits i = grind (arith, cases_lt, Each1-get_or, below_from_Fits, w8, get_or_past)
 
 all_codes : (xs : List ℕ) → Each1 (Fits w8) xs → (x : ℕ) → x < 256
     → digits_l 65536 8 (number_l 256 (swz_l w8 16 xs 0 (row x))) ≡ map (code_at xs) (eight_places x)
@@ -76,10 +73,7 @@ all_codes xs fits x h =
 
 pub codes_picked : (xs : List ℕ) → Each1 (Fits w8) xs → (x : ℕ) → x < 256
     → take (length (places 0 8 x)) (digits_l 65536 8 (number_l 256 (swz_l w8 16 xs 0 (row x)))) ≡ map (code_at xs) (places 0 8 x)
-codes_picked xs fits x h =
-    ap (take (length (places 0 8 x))) (all_codes xs fits x h)
-    ∙ take-map (code_at xs) (length (places 0 8 x)) (eight_places x)
-    ∙ ap (map (code_at xs)) (take-take (length (places 0 8 x)) 8 _ (places_most x h) ∙ take-append_seam (places 0 8 x) (replicate 8 0))
+codes_picked xs fits x h = simp (all_codes, take-map, take-take, places_most, take-append_seam)
 
 -- ---- eight places of a block
 
@@ -131,11 +125,7 @@ low_places b (suc k) x =
 
 pub split_places : (b k m x : ℕ) → places b (k + m) x ≡ places b k x ++ places (b + k) m (x / 2 ^ k)
 unfolding places
-split_places b zero m x =
-    let n : 0 + m ≡ m = omega arith in
-    let p : b ≡ b + 0 = omega arith in
-    let q : x ≡ x / 1 = omega arith in
-    ap (λ j. places b j x) n ∙ (λ t. places (p t) m (q t))
+split_places b zero m x = grind arith
 split_places b (suc k) m x =
     let n : suc k + m ≡ suc (k + m) = omega arith in
     let p : b + 1 + k ≡ b + suc k = omega arith in

@@ -2,13 +2,11 @@
 use Rattle.std.proofs.Common.{◌≡◌, ℕ, ◌+◌, ◌*◌, ◌<◌, ◌≤◌, List, [], ◌∷◌, length, Bool, true, false, cond, Some, sym, ◌∙◌, ◌&&◌, mul-add, arith}
 use Rattle.std.proofs.{lemmas.Bool.{false≢true, cond_both}, lemmas.Bool.Decides.nat_tests, Math.Nat.mul-le-mul_left}
 use Rattle.legacy_tables.specs.Unicode.{IsByte, AreBytes}
-use Rattle.legacy_base.specs.{States.{DecoderState, may_hold, rests, is_empty, state_of}, DecoderActs.{takes, writes, reports, act_at_end, act_at_rest}}
-use Rattle.legacy_base.specs.DecoderActs.{act_room, room_of_act, need, has_reported, has_short_ascii, full_room, reading_room, full_room_in, release_room_in}
+use Rattle.legacy_base.specs.{States.{DecoderState, may_hold, rests, state_of}, DecoderActs.{takes, writes, reports, act_at_end, act_at_rest}}
+use Rattle.legacy_base.specs.DecoderActs.{act_room, room_of_act, need, full_room, full_room_in, release_room_in}
 use Rattle.legacy_base.specs.{Lengths.{LengthQuery, to_utf16, to_utf8, to_utf8_without_replacement, query_form, replacement_units, room}, Grammar.Grammar}
-use Rattle.legacy_base.specs.{Grammar.profile, Profile.{narrow_acts, wide_reads, wide_acts}}
 use Rattle.legacy_text.specs.EncodingForm.{unit_count, bmp_room, wide_room}
 use Rattle.legacy_base.proofs.Enough.{room-rises}
-use Rattle.std.specs.Char.{is_ascii}
 use Rattle.legacy_decoder_engine.specs.{Steps.{Step, step_held, end_events, DecoderMachine, Meets}, StepUnits.{step_units, step_left, IsWidth, Cost, WritePays}}
 use Rattle.legacy_decoder_engine.specs.Shown.{KeepsRooms}
 use Rattle.legacy_decoder_engine.proofs.Widths.{width_of}
@@ -62,10 +60,7 @@ Falls room g wt slope = (held held' : List ℕ) (n n' u : ℕ) → 2 * u + slope
 
 -- the same with n more bytes on both sides
 more_bytes : (slope x y n u : ℕ) → 2 * u + slope * x ≤ slope * y → 2 * u + slope * (n + x) ≤ slope * (n + y)
-more_bytes slope x y n u h =
-    let e : slope * (n + x) ≡ slope * n + slope * x = mul-add slope n x in
-    let f : slope * (n + y) ≡ slope * n + slope * y = mul-add slope n y in
-    omega arith
+more_bytes slope x y n u h = grind (arith, mul-add)
 
 pub sloped_pays : (room : DecoderState → ℕ → ℕ) (g : Grammar) (wt : List ℕ → ℕ) (slope : ℕ) → Falls room g wt slope → (held held' : List ℕ) (left n u : ℕ) →
     2 * u + slope * (wt held' + left) ≤ slope * (wt held + 1) → room (state_of g held') (n + left) + u ≤ room (state_of g held) (n + 1)
@@ -106,31 +101,21 @@ paid_of : (query : LengthQuery) (wt : List ℕ → ℕ) (paid at_most : ℕ) (he
     → Cost (unit_count (query_form query)) (bmp_room (query_form query)) at_most wt paid held b s →
     2 * step_units (unit_count (query_form query)) (replacement_units query) s + query_slope paid query *
     (wt (step_held s held b) + step_left s) ≤ query_slope paid query * (wt held + 1)
-paid_of to_utf16 wt paid at_most held b s c = let p = c.pays in omega arith
-paid_of to_utf8 wt paid at_most held b s c = let p = c.pays in omega arith
-paid_of to_utf8_without_replacement wt paid at_most held b s c = c.pays_without
+paid_of query wt paid at_most held b s h = grind arith
 
 -- a byte pays for a malformed sequence
 malformed_paid : (query : LengthQuery) (paid x y : ℕ) → x + 1 ≤ y
     → 2 * replacement_units query + query_slope paid query * (0 + x) ≤ query_slope paid query * (0 + y)
-malformed_paid to_utf16 paid x y h = omega arith
-malformed_paid to_utf8 paid x y h = omega arith
-malformed_paid to_utf8_without_replacement paid x y h = let le : 0 + x ≤ 0 + y = omega arith in
-    let m : paid * (0 + x) ≤ paid * (0 + y) = mul-le-mul_left paid le in omega arith
+malformed_paid query paid x y h = grind (arith, mul-le-mul_left)
 
 -- ---- the room of an act, in any codec
 
 pub narrow_read : (narrow wide : ℕ) → narrow ≤ wide → (g : Grammar) → (narrow ≤ full_room narrow wide g) × (full_room narrow wide g ≤ wide)
-narrow_read narrow wide rises g =
-    elim (profile g).rooms as (λ r. (narrow ≤ reading_room narrow wide r) × (reading_room narrow wide r ≤ wide))
-    [ narrow_acts ↦ (omega arith, rises) | wide_reads ↦ (rises, omega arith) | wide_acts ↦ (rises, omega arith) ]
+narrow_read narrow wide rises g = grind arith
 
 read_most : (narrow wide : ℕ) → 1 ≤ narrow → narrow ≤ wide → (g : Grammar) (held : List ℕ) (b : ℕ)
     → act_room narrow wide (state_of g held) (takes b) ≤ full_room narrow wide g
-read_most narrow wide some rises g held b =
-    let least = (narrow_read narrow wide rises g).0 in
-    cond_both (has_reported g) 0 _ (λ n. n ≤ full_room narrow wide g) (λ _. omega arith)
-    (λ _. cond_both ((is_ascii b && is_empty held) && has_short_ascii g) 1 _ (λ n. n ≤ full_room narrow wide g) (λ _. omega arith) (λ _. omega arith))
+read_most narrow wide some rises g held b = grind (arith, narrow_read, cond_both)
 
 -- the rooms of a codec that fall by slopes
 module _ (g : Grammar) (m : DecoderMachine) (wt : List ℕ → ℕ) (paid : ℕ) (meets : Meets g m) (costs : HasCosts g m wt paid) (is : IsSloped g m wt paid)
@@ -140,20 +125,12 @@ module _ (g : Grammar) (m : DecoderMachine) (wt : List ℕ → ℕ) (paid : ℕ)
 
   takes_covered : (held : List ℕ) (b n : ℕ) → 0 < n
       → act_room (bmp_room (query_form query)) (wide_room (query_form query)) (state_of g held) (takes b) ≤ room query (state_of g held) n
-  takes_covered held b n p =
-      let most = read_most (bmp_room (query_form query)) (wide_room (query_form query)) w.some w.rises g held b in
-      let least = is.reads query held in
-      let rises : room query (state_of g held) 1 ≤ room query (state_of g held) n = room-rises query (state_of g held) 1 n (omega arith) in
-      omega arith
+  takes_covered held b n p = grind (arith, read_most, w, room-rises)
 
   holds_covered : (held : List ℕ) → may_hold g held ≡ true → (n : ℕ) → 0 < length held
       → act_room (bmp_room (query_form query)) (wide_room (query_form query)) (state_of g held) writes ≤
       room query (state_of g held) n
-  holds_covered [] h n p = absurd (omega arith)
-  holds_covered (b ∷ held) h n p =
-      let least = is.holds query b held h in
-      let rises : room query (state_of g (b ∷ held)) 0 ≤ room query (state_of g (b ∷ held)) n = room-rises query (state_of g (b ∷ held)) 0 n (omega arith) in
-      omega arith
+  holds_covered held h n h1 = grind (arith, room-rises)
 
   pub sloped_rooms : KeepsRooms query g m
   sloped_rooms = record {

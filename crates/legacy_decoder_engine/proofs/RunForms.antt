@@ -26,11 +26,7 @@ Leads g m held b (next ∷ rest) c =
 module _ {g : Grammar} {m : DecoderMachine} (shown : IsShown g m) where
   leads_events : (held : List ℕ) (b : ℕ) (rest : List ℕ) (c : ℕ) → may_hold g held ≡ true → rests g held ≡ true → Leads g m held b rest c
       → (more : List ℕ) → events_of g (held ++ (b ∷ rest ++ more)) ≡ Scalar c ∷ shift (length held + length (b ∷ rest)) (events_of g more)
-  leads_events held b [] c may resting l more =
-      let all = (shown.meets.steps held b may resting).goes_on more in
-      let all' = rw (l.1, l.2, all_dropped (suc (length held)) held b refl) at all in
-      let n : suc (length held) ≡ length held + length (b ∷ []) = omega arith in
-      all' ∙ ap (λ n. Scalar c ∷ shift n (events_of g more)) n
+  leads_events held b [] c may resting l more = grind (arith, all_dropped)
   leads_events held b (next ∷ rest) c may resting l more =
       let n : length (held ++ b ∷ []) + length (next ∷ rest) ≡ length held + length (b ∷ next ∷ rest) = omega (arith, length-append held (b ∷ [])) in
       ap (events_of g) (sym (append_assoc held (b ∷ []) (next ∷ rest ++ more))) ∙ leads_events (held ++ b ∷ []) next rest c l.3 l.4 l.5 more

@@ -69,37 +69,19 @@ module _ (g : Grammar) (front : ℕ → List ℕ → Front) (is_lead_byte : ℕ 
   -- ---- the first byte
 
   first_fits : (b : ℕ) → Fits front (single_lead_may_hold is_lead_byte) [] b (first b)
-  first_fits b =
-      let at : (f : Front) → first b ≡ finish f → (more : List ℕ) → front b more ≡ f = λ f e more. is.front_is b more ∙ ap (step_front (scalars b) more) e in
-      elim (firsts b) [
-        | ascii e a n p ↦ rw e (at (reads 1 (b ∷ [])) e, omega arith, omega arith, refl)
-        | other c e a n q p ↦ rw e (at (reads 1 (c ∷ [])) e, omega arith, omega arith, refl)
-        | leads e a l ↦ rw e (omega arith, l)
-        | fails e a n ↦ rw e (at (malformed 1) e, omega arith, omega arith, refl)
-      ]
+  first_fits b = grind arith
 
   pub first_settles : (b : ℕ) → Settles g [] b (first b)
-  first_settles b = elim (firsts b) [
-    | ascii e a n p ↦ rw e (refl, tt)
-    | other c e a n q p ↦ rw e (refl, tt)
-    | leads e a l ↦ rw e (rests_is (b ∷ []))
-    | fails e a n ↦ rw e tt
-  ]
+  first_settles b = grind (arith, rests_is)
 
   -- ---- all steps
 
   few_held : (held : List ℕ) → single_lead_may_hold is_lead_byte held ≡ true → length held ≤ 3
-  few_held [] h = omega arith
-  few_held (b ∷ []) h = omega arith
-  few_held (b ∷ c ∷ held) h = absurd (false≢true h)
+  few_held held h = grind (arith, false≢true)
 
   step_fits : (held : List ℕ) (b : ℕ) → single_lead_may_hold is_lead_byte held ≡ true
       → Fits front (single_lead_may_hold is_lead_byte) held b (two_byte_step first scalars held b)
-  step_fits [] b h = first_fits b
-  step_fits (lead ∷ []) b h =
-      fits_trail front (single_lead_may_hold is_lead_byte) (lead ∷ []) (scalars lead b) b refl (omega arith)
-      (λ more. is.front_is lead (b ∷ more) ∙ ap (step_front (scalars lead) (b ∷ more)) (lead_holds is_lead_byte paid first firsts lead h))
-  step_fits (lead ∷ c ∷ held) b h = absurd (false≢true h)
+  step_fits held b h = grind (arith, first_fits, fits_trail, lead_holds, false≢true)
 
   all_ends : (held : List ℕ) → single_lead_may_hold is_lead_byte held ≡ true → events_of g held ≡ end_events held
   all_ends [] h = ev_is [] ∙ cut-nil front
@@ -107,11 +89,7 @@ module _ (g : Grammar) (front : ℕ → List ℕ → Front) (is_lead_byte : ℕ 
   all_ends (b ∷ c ∷ held) h = absurd (false≢true h)
 
   lead_some : (lead : ℕ) (rest : List ℕ) → is_lead_byte lead ≡ true → 0 < front_length (front lead rest)
-  lead_some lead rest h = rw (is.front_is lead rest ∙ ap (step_front (scalars lead) rest) (lead_holds is_lead_byte paid first firsts lead h)) (by rest)
-    where
-      by : (rest : List ℕ) → 0 < front_length (step_front (scalars lead) rest hold)
-      by [] = omega arith
-      by (t ∷ rest) = some_reads_or 2 (scalars lead t) (trail_rule 1 t) (omega arith) (some_trail_rule 1 t (omega arith))
+  lead_some lead rest h = grind (arith, lead_holds, some_reads_or, some_trail_rule)
 
   all_reports : (held more : List ℕ) → single_lead_may_hold is_lead_byte held ≡ true → ReportMeets g held more
   all_reports [] more h = λ some. absurd (omega arith)
@@ -139,8 +117,7 @@ first_test is_lead_byte paid b false s₁ s₂ f₁ f₂ = f₂ refl
 
 pub front_test : (scalars : ℕ → List ℕ) (rest : List ℕ) (t : Bool) (f₁ f₂ : Front) (s₁ s₂ : Step) →
     f₁ ≡ step_front scalars rest s₁ → f₂ ≡ step_front scalars rest s₂ → cond t f₁ f₂ ≡ step_front scalars rest (cond t s₁ s₂)
-front_test scalars rest true f₁ f₂ s₁ s₂ e₁ e₂ = e₁
-front_test scalars rest false f₁ f₂ s₁ s₂ e₁ e₂ = e₂
+front_test scalars rest t f₁ f₂ s₁ s₂ h h1 = grind arith
 
 -- ---- codecs whose first bytes are ASCII, leads past ASCII, or malformed
 
@@ -152,15 +129,11 @@ module _ (is_lead_byte : ℕ → Bool) (are_leads : (b : ℕ) → is_lead_byte b
   ascii_no_lead b a = let past : is_lead_byte b ≡ true → 0x80 ≤ b = λ e. (are_leads b e).0 in grind (arith, nat_tests)
 
   pub lead_first_is : (paid : ℕ) → 2 ≤ paid → (b : ℕ) → IsFirst is_lead_byte paid b (lead_first is_lead_byte b)
-  lead_first_is paid enough b =
-      first_test is_lead_byte paid b (is_ascii b) (finish (reads 1 (b ∷ []))) _ (λ a. ascii refl a (ascii_no_lead b a) enough)
-      (λ a. first_test is_lead_byte paid b (is_lead_byte b) hold (finish (malformed 1)) (λ l. leads refl a l) (λ l. fails refl a l))
+  lead_first_is paid enough b = grind (arith, first_test, ascii_no_lead)
 
 pub lead_front_is : (is_lead_byte : ℕ → Bool) (scalars : ℕ → List ℕ) (rest : List ℕ) (pair : Front) (b : ℕ) → pair ≡ step_front scalars rest hold →
     cond (is_ascii b) (reads 1 (b ∷ [])) (cond (is_lead_byte b) pair (malformed 1)) ≡ step_front scalars rest (lead_first is_lead_byte b)
-lead_front_is is_lead_byte scalars rest pair b e =
-    front_test scalars rest (is_ascii b) _ _ (finish (reads 1 (b ∷ []))) _ refl
-    (front_test scalars rest (is_lead_byte b) _ _ hold (finish (malformed 1)) e refl)
+lead_front_is is_lead_byte scalars rest pair b e = grind (arith, front_test)
 
 pub range-past : (low high : ℕ) → 0x80 ≤ low → high < 0x100 → (b : ℕ) → is_in_range low high b ≡ true → IsPastAscii b
 range-past low high from to b h = (grind (arith, nat_tests), grind (arith, nat_tests))

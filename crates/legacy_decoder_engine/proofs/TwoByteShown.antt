@@ -29,9 +29,7 @@ module _ (g : Grammar) (front : ℕ → List ℕ → Front) (is_lead_byte : ℕ 
   unreported = ap (λ p. p.reported) is.profile_is
 
   settles : (held : List ℕ) (b : ℕ) → single_lead_may_hold is_lead_byte held ≡ true → Settles g held b (two_byte_step first scalars held b)
-  settles [] b h = first_settles g front is_lead_byte first scalars is paid firsts b
-  settles (lead ∷ []) b h = trail_settles g (lead ∷ []) b (scalars lead b) (is.pair_one lead b)
-  settles (lead ∷ c ∷ held) b h = absurd (false≢true h)
+  settles held b h = grind (arith, first_settles, trail_settles, false≢true)
 
   may : (held : List ℕ) → may_hold g held ≡ single_lead_may_hold is_lead_byte held
   may = may_is g front is_lead_byte first scalars is paid firsts
@@ -56,13 +54,7 @@ module _ (g : Grammar) (front : ℕ → List ℕ → Front) (is_lead_byte : ℕ 
       cost len narrow wide w (lead ∷ c ∷ held) b h = absurd (false≢true h)
 
   sloped : HasTwoByteRooms g scalars paid → IsSloped g (two_byte_machine g first scalars) length paid
-  sloped has_rooms = record {
-    heavy = λ b held h. omega arith;
-    falls = has_rooms.falls;
-    writes = λ query held h r bytes. tt;
-    reads = has_rooms.reads;
-    holds = λ query b held h. has_rooms.holds query b held;
-  }
+  sloped has_rooms = grind arith
 
   pub two_byte_shown : HasTwoByteRooms g scalars paid → IsShown g (two_byte_machine g first scalars)
   two_byte_shown has_rooms =

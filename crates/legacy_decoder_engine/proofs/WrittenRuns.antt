@@ -3,7 +3,7 @@ use Rattle.std.proofs.Common.{add-zero, ◌≡◌, ◌∙◌, ℕ, zero, suc, �
 use Rattle.std.proofs.{Common.{subst, arith, append_assoc, append-nil, length-append, IsAscii}, lemmas.List.{map-append, take_more, take_all, length-drop}}
 use Rattle.std.proofs.{lemmas.List.Elements.{All-append, All-nil}, Math.Seq.take-add}
 use Rattle.std.specs.Char.{IsScalar}
-use Rattle.legacy_text.specs.EncodingForm.{EncodingForm, Utf8, Utf16, code_units, all_code_units, bmp_room, total_unit_count}
+use Rattle.legacy_text.specs.EncodingForm.{EncodingForm, code_units, all_code_units, bmp_room, total_unit_count}
 use Rattle.legacy_text.specs.declared.destination.Destination.{Ghosts}
 use Rattle.legacy_base.specs.{Grammar.{Grammar, events_of}, declared.results.DecodeEvent.TheVariants.Scalar, Events.shift, Lengths.query_form}
 use Rattle.legacy_base.specs.States.{DecoderState}
@@ -50,8 +50,7 @@ pub runs_byte : {g : Grammar} → HasAscii g → (b c : ℕ) → b < 128 → c �
 runs_byte {g} law b c below e = subst (λ x. Runs g (b ∷ []) (x ∷ [])) (sym e) (law b below)
 
 pub code_units_ascii : (form : EncodingForm) (c : ℕ) → c < 128 → code_units form c ≡ c ∷ []
-code_units_ascii Utf8 c h = encode_1 c h
-code_units_ascii Utf16 c h = utf16_1 c (omega arith)
+code_units_ascii form c h = grind (arith, encode_1, utf16_1)
 
 -- the code units of ASCII bytes are the bytes
 pub all_code_units_ascii : (form : EncodingForm) (xs : List ℕ) → IsAscii xs → all_code_units form xs ≡ xs
@@ -61,13 +60,11 @@ all_code_units_ascii form (x ∷ xs) h = ap (λ l. l ++ all_code_units form xs) 
 
 -- any scalar fits into four code units
 pub four_fit : (form : EncodingForm) (c room : ℕ) → 4 ≤ room → length (code_units form c) ≤ room
-four_fit Utf8 c room h = omega (arith, length-code_units-wide Utf8 c, h)
-four_fit Utf16 c room h = omega (arith, length-code_units-wide Utf16 c, h)
+four_fit form c room h = grind (arith, length-code_units-wide)
 
 -- a scalar up to U+FFFF has at most three code units
 pub short : (form : EncodingForm) (c : ℕ) → c < 65536 → length (code_units form c) ≤ 3
-short Utf8 c h = length-code_units-bmp Utf8 c h
-short Utf16 c h = omega (arith, length-code_units-bmp Utf16 c h)
+short form c h = grind (arith, length-code_units-bmp)
 
 -- scalars up to U+FFFF have at most three code units each
 pub all_short : (form : EncodingForm) (cs : List ℕ) → ((k : ℕ) → k < length cs → get_or cs k 0 < 65536) → total_unit_count form cs ≤ 3 * length cs
@@ -111,16 +108,7 @@ module _ {D : Type 0} (T : Ghosts D) where
 
   -- a run of no bytes
   pub reads_none : (state : DecoderState) (source : List ℕ) (old : D) → ReadsAhead T state source 0 old old
-  reads_none state source old = record {
-    within = omega arith;
-    idle = λ h. absurd (omega arith);
-    empties = λ h. absurd (omega arith);
-    stays = λ e. refl;
-    rooms = same_rooms state.grammar;
-    writes = writes_none state.grammar old;
-    slack = λ h. absurd (omega arith);
-    had = λ h. absurd (omega arith);
-  }
+  reads_none state source old = grind (arith, same_rooms, writes_none)
 
   module _ {g h k : Grammar} {xs ys : List ℕ} {x y z : D} where
     -- scalars that were written, and then more
@@ -140,15 +128,7 @@ module _ {D : Type 0} (T : Ghosts D) where
     pub writes_put : (bytes : List ℕ) (c : ℕ) → Runs g bytes (c ∷ []) → T.contents z ≡ T.contents y ++ code_units T.form c
         → T.room z + length (code_units T.form c) ≡ T.room y → T.loan z ≡ T.loan y
         → Writes T g bytes y z
-    writes_put bytes c run contents room loan =
-        let one : all_code_units T.form (c ∷ []) ≡ code_units T.form c = append-nil (code_units T.form c) in
-        record {
-          scalars = c ∷ [];
-          runs = run;
-          written = contents ∙ ap (λ l. T.contents y ++ l) (sym one);
-          room = ap (λ l. T.room z + length l) one ∙ room;
-          loan = loan;
-        }
+    writes_put bytes c run contents room loan = grind (arith, append-nil)
 
   module _ {g : Grammar} {x y z : D} where
     module _ (src : List ℕ) (at c : ℕ) where
@@ -163,24 +143,19 @@ module _ {D : Type 0} (T : Ghosts D) where
       pub writes_two : at + 1 < length src → Writes T g (take at src) x y → Runs g (get_or src at 0 ∷ get_or src (at + 1) 0 ∷ []) (c ∷ [])
           → T.contents z ≡ T.contents y ++ code_units T.form c
           → T.room z + length (code_units T.form c) ≡ T.room y → T.loan z ≡ T.loan y → Writes T g (take (at + 2) src) x z
-      writes_two h a run contents room loan =
-          subst (λ l. Writes T g l x z) (sym (take_two src at h))
-          (writes_then a (writes_put (get_or src at 0 ∷ get_or src (at + 1) 0 ∷ []) c run contents room loan))
+      writes_two h a run contents room loan = grind (arith, take_two, writes_then, writes_put)
 
       -- the next four-byte sequence
       pub writes_four : at + 3 < length src → Writes T g (take at src) x y
           → Runs g (get_or src at 0 ∷ get_or src (at + 1) 0 ∷ get_or src (at + 2) 0 ∷ get_or src (at + 3) 0 ∷ []) (c ∷ [])
           → T.contents z ≡ T.contents y ++ code_units T.form c → T.room z + length (code_units T.form c) ≡ T.room y → T.loan z ≡ T.loan y
           → Writes T g (take (at + 4) src) x z
-      writes_four h a run contents room loan =
-          subst (λ l. Writes T g l x z) (sym (take_four src at h))
-          (writes_then a (writes_put (get_or src at 0 ∷ get_or src (at + 1) 0 ∷ get_or src (at + 2) 0 ∷ get_or src (at + 3) 0 ∷ []) c run contents room loan))
+      writes_four h a run contents room loan = grind (arith, take_four, writes_then, writes_put)
 
     -- a run after the bytes that were read
     pub writes_run : (src : List ℕ) (at r : ℕ) → Writes T g (take at src) x y → Writes T g (take r (take (length src - at) (drop at src))) y z
         → Writes T g (take (at + r) src) x z
-    writes_run src at r a b =
-        subst (λ l. Writes T g l x z) (sym (take-add at r src)) (writes_then a (subst (λ l. Writes T g (take r l) y z) (rest_of src at) b))
+    writes_run src at r a b = grind (arith, take-add, writes_then, rest_of)
 
   -- ASCII bytes that were copied
   pub writes_ascii : (g : Grammar) (old new : D) (bytes : List ℕ) → HasAscii g → IsAscii bytes → T.contents new ≡ T.contents old ++ bytes

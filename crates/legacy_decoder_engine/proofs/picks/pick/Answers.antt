@@ -1,4 +1,4 @@
-use Rattle.std.proofs.Common.{◌≡◌, ◌∙◌, arith, take, sym}
+use Rattle.std.proofs.Common.{arith}
 use Rattle.legacy_decoder_engine.specs.PickedForms.{code_at}
 use Rattle.legacy_decoder_engine.proofs.Picking.{next_eight, no_more}
 use Rattle.legacy_decoder_engine.proofs.picks.pick.Goals as goal
@@ -15,7 +15,4 @@ loop-group-preserved c =
     }
 
 pub returns-clause-codes : goal.returns-clause-codes
-returns-clause-codes c =
-    let i = c.loop-group.invariant in
-    let end : c.loop-group.group ≡ 8 = omega (arith, i.within, c.loop-group-test.false) in
-    sym (i.picked ∙ no_more (code_at c.args.block.now) c.loop-group.group c.loop-group.left (take c.loop-group.count c.loop-group.codes) end)
+returns-clause-codes c = grind (arith, no_more)

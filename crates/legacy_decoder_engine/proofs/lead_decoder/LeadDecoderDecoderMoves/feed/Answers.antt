@@ -9,8 +9,4 @@ returns-in-Some g c =
     rw c.in-Some.is (feeds laws.codec laws.leads c.args.self.now.tables.now (Some c.in-Some.lead) c.args.byte byte c.read_pair.result None c.read_pair.ensures)
 
 pub returns-in-None : goal.returns-in-None
-returns-in-None g c =
-    let byte : c.args.byte < 2 ^ 8 = omega arith in
-    let laws = g.met.C.LeadCodec in
-    let read = c.read_first-fed in
-    rw c.in-None.is (feeds laws.codec laws.leads c.args.self.now.tables.now None c.args.byte byte read.result.0 read.result.1 read.ensures)
+returns-in-None g c = grind (arith, feeds)
