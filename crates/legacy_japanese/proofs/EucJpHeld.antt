@@ -9,7 +9,7 @@ use Rattle.legacy_decoder_engine.specs.{Steps.finish, Moves.{IsCovered, Feeds, R
 use Rattle.legacy_decoder_engine.specs.{ReadAhead.{HasAscii, IsPair}, LaneRows.row_place, declared.moves.Fed.Fed}
 use Rattle.legacy_tables.proofs.Accepted.{jis0208-below, jis0212-below, jis0208-scalars, length-jis0208}
 use Rattle.legacy_decoder_engine.proofs.{RunForms.{pair_runs, has_ascii, ascii_is}, Widths.idx_below, LanePlaces.entry_is}
-use Rattle.legacy_japanese.specs.{declared.euc_jp.decoder.Held.TheVariants.{Nothing, Katakana, Jis0212, Lead, Jis0212Lead}, declared.euc_jp.decoder.Held.Held}
+use Rattle.legacy_japanese.specs.{declared.euc_jp.decoder.Held.TheVariants.Nothing, declared.euc_jp.decoder.Held.Held}
 use Rattle.legacy_japanese.specs.{declared.euc_jp.held_lead.EucJpLead.EucJpLead, EucJpHeld.held_bytes, EucJpMachine.{euc_jp_first, euc_jp_step, euc_jp_machine}}
 use Rattle.legacy_japanese.proofs.EucJpShown.{euc_jp_shown}
 use Rattle.legacy_decoder_engine.proofs.Feeding as moves
@@ -24,11 +24,7 @@ first_byte : (b : ℕ) → b < 2 ^ 8 → AreBytes (b ∷ [])
 first_byte b byte = All-cons IsByte b [] byte (All-nil IsByte)
 
 are_bytes : (held : Held) → AreBytes (held_bytes held)
-are_bytes Nothing = All-nil IsByte
-are_bytes Katakana = first_byte 0x8E (omega arith)
-are_bytes Jis0212 = first_byte 0x8F (omega arith)
-are_bytes (Lead lead) = first_byte lead.byte (of_lead lead).3
-are_bytes (Jis0212Lead lead) = All-cons IsByte 0x8F (lead.byte ∷ []) (omega arith) (first_byte lead.byte (of_lead lead).3)
+are_bytes held = grind (arith, All-nil, first_byte, of_lead, All-cons)
 
 -- ---- pairs
 
@@ -36,12 +32,10 @@ lead_other : (b : ℕ) → is_euc_jp_lead b ≡ true → (is_ascii b ≡ false) 
 lead_other b is = grind (arith, nat_tests)
 
 pair_below : (index : List ℕ) (lead trail c : ℕ) → IsNarrowIndex index → euc_jp_scalars index lead trail ≡ c ∷ [] → c < 0x1_0000
-pair_below index lead trail c narrow e =
-    cond_both (is_in_range 0xA1 0xFE trail) _ [] (λ scalars. scalars ≡ c ∷ [] → c < 0x1_0000) (λ t. idx_below index _ c narrow) (λ t none. cc) e
+pair_below index lead trail c narrow e = grind (arith, cond_both, idx_below)
 
 bytes-some : (held : Held) → (held ≡ Nothing → ⊥) → held_bytes held ≢ []
-bytes-some Nothing n = absurd (n refl)
-bytes-some _ n = λ e. cc
+bytes-some held h = grind arith
 
 module _ (tables : AcceptedIndexes) where
   abbrev g : Grammar

@@ -3,7 +3,7 @@ use Rattle.std.proofs.{Common.{◌≡◌, ℕ, ◌+◌, ◌-◌, ◌*◌, ◌≤
 use Rattle.std.proofs.{lemmas.Bool.{eqb-true, and_parts, or_parts, ltb-true, cond_both}, lemmas.Bool.Decides.nat_tests}
 use Rattle.std.specs.{Int.is_in_range, Char.is_ascii}
 use Rattle.legacy_base.specs.{EucJp.{euc_jp_front, euc_jp_katakana, euc_jp_second, euc_jp_third, euc_jp_pair, euc_jp_scalars, euc_jp_weight}, Fronts.malformed}
-use Rattle.legacy_base.specs.{Fronts.{reads_or, trail_rule, cut}, Grammar.{euc_jp, events_of}, DecoderActs.{act_room, takes}, Lengths.to_utf16}
+use Rattle.legacy_base.specs.{Fronts.{reads_or, trail_rule, cut}, Grammar.{euc_jp, events_of}, DecoderActs.{act_room, takes}}
 use Rattle.legacy_base.specs.States.{is_euc_jp_lead, euc_jp_may_hold, state_of}
 use Rattle.legacy_tables.specs.Unicode.{is_katakana_byte, katakana_of}
 use Rattle.legacy_base.proofs.{Cuts.cut-nil, FrontLaws.euc_jp_front-of}
@@ -119,10 +119,7 @@ module _ (jis0208 jis0212 : List ℕ) where
 
   step_shows : IsNarrowIndex jis0208 → IsNarrowIndex jis0212 → (held : List ℕ) (b : ℕ) → euc_jp_may_hold held ≡ true →
       Shows held b (euc_jp_step jis0208 jis0212 held b)
-  step_shows n m [] b h = first_shows b
-  step_shows n m (lead ∷ []) b h = second_shows n lead b h
-  step_shows n m (first ∷ lead ∷ []) b h = third_shows m first lead b h
-  step_shows n m (first ∷ lead ∷ c ∷ held) b h = absurd (false≢true h)
+  step_shows h h1 held b h2 = grind (arith, first_shows, second_shows, third_shows, false≢true)
 
   -- ---- the end of input
 
@@ -152,17 +149,10 @@ module _ (jis0208 jis0212 : List ℕ) where
 
   room_is : (len : ℕ → ℕ) (narrow wide : ℕ) (held : List ℕ) (b : ℕ) →
       act_room narrow wide (state_of (euc_jp jis0208 jis0212) held) (takes b) ≡ most held b narrow
-  room_is len narrow wide [] b = first_room (is_ascii b) 1 narrow
-  room_is len narrow wide (a ∷ held) b = held_room_is (is_ascii b) true 1 narrow
+  room_is len narrow wide held b = grind (arith, first_room, held_room_is)
 
   sloped : IsSloped (euc_jp jis0208 jis0212) (euc_jp_machine jis0208 jis0212) euc_jp_weight 3
-  sloped = record {
-    heavy = λ b held h. omega arith;
-    falls = elim [ to_utf16 ↦ λ held held' n n' u h. omega arith | _ ↦ λ held held' n n' u h. omega arith ];
-    writes = λ query held h r bytes. tt;
-    reads = elim [ to_utf16 ↦ λ held. omega arith | _ ↦ λ held. omega arith ];
-    holds = elim [ to_utf16 ↦ λ b held h. omega arith | _ ↦ λ b held h. omega arith ];
-  }
+  sloped = grind arith
 
   pub euc_jp_shown : IsNarrowIndex jis0208 → IsNarrowIndex jis0212 → IsShown (euc_jp jis0208 jis0212) (euc_jp_machine jis0208 jis0212)
   euc_jp_shown n m =

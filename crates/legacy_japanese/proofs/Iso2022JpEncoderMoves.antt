@@ -1,8 +1,8 @@
 -- The moves of the ISO-2022-JP encoder, by its tables and by a list of pairs.
-use Rattle.std.proofs.Common.{◌≡◌, ◌∙◌, ℕ, ◌+◌, List, [], ◌∷◌, ◌++◌, refl, sym, ap, arith, Bool, true, false, IsTrue, ◌||◌, Option, Some, eqb, map, ◌⊎◌, inl}
+use Rattle.std.proofs.Common.{◌≡◌, ◌∙◌, ℕ, ◌+◌, List, [], ◌∷◌, ◌++◌, refl, sym, arith, Bool, true, false, IsTrue, ◌||◌, Option, Some, eqb, map, ◌⊎◌, inl}
 use Rattle.std.proofs.{Common.{inr, ◌/◌, ◌%◌}, lemmas.Bool.{lt-ltb, cases_Bool, false≢true}, lemmas.Bool.Decides.nat_tests}
 use Rattle.legacy_base.specs.{declared.results.EncodeEvent.EncodeEvent, Iso2022Jp.{iso_2022_jp_code, iso_2022_jp_reported, escape_to, escape_between}}
-use Rattle.legacy_base.specs.{Iso2022Jp.mode_behind, EncoderProfile.{EncoderMode, in_ascii, in_roman, in_two_byte}, Beginnings.BeginsWith}
+use Rattle.legacy_base.specs.{Iso2022Jp.mode_behind, EncoderProfile.{EncoderMode, in_ascii, in_two_byte}, Beginnings.BeginsWith}
 use Rattle.legacy_base.specs.{EncodeEvents.code_events, Encoders.{encoder_profile, iso_2022_jp, is_pending}}
 use Rattle.legacy_base.proofs.Iso2022JpEncoding.{text_events, text_events-here, text_events-escape, text_events-end, text_events-open, mode_for, mode_for-twice}
 use Rattle.legacy_base.proofs.Iso2022JpEncoding.{code-short, at_special, at_neutral, IsWritten}
@@ -61,13 +61,7 @@ module _ (jis0208 katakana_index : List ℕ) where
     -- the scalar needs another mode
     pub escapes : (new : Mode) → mode_for jis0208 katakana_index (mode_of mode) c ≡ mode_of new → (mode_of mode ≡ mode_of new → ⊥)
         → Moves (state_in jis0208 katakana_index mode) c (state_in jis0208 katakana_index new) (escape_move new)
-    escapes new e n = record {
-      events = λ more ended. grind (arith, text_events-escape jis0208 katakana_index (mode_of mode) (mode_of new) c e n more ended);
-      own = λ x. grind arith;
-      fits = grind arith;
-      asks = rw e (grind (arith, true-differs (mode_of mode) (mode_of new) n));
-      goes = ap (λ m. record { codec = iso_2022_jp jis0208 katakana_index; mode = m }) (sym e);
-    }
+    escapes new e n = grind (arith, text_events-escape, true-differs)
 
   -- ---- the end
 
@@ -107,9 +101,7 @@ module _ (jis0208 katakana_index : List ℕ) where
 
   pub finishes : (mode : Mode) → is_pending (state_in jis0208 katakana_index mode) ≡ true
       → Finishes (state_in jis0208 katakana_index mode) (state_in jis0208 katakana_index modes.Ascii)
-  finishes modes.Ascii p = cc
-  finishes modes.Roman p = record { events = escape_first in_roman (λ e. cc) refl; done = refl }
-  finishes modes.TwoByte p = record { events = escape_first in_two_byte (λ e. cc) refl; done = refl }
+  finishes mode h = grind (arith, escape_first)
 
   -- ---- the mode and move of a scalar
 

@@ -1,7 +1,7 @@
 -- The length formulas of the ISO-2022-JP encoder are enough for its scalars and for the escapes before them.
-use Rattle.std.proofs.{Common.{◌≡◌, ℕ, ◌+◌, ◌-◌, ◌≤◌, List, [], ◌∷◌, length, arith, Bool, true, false, Some, Option}, lemmas.Bool.Decides.nat_tests}
+use Rattle.std.proofs.{Common.{◌≡◌, ℕ, ◌+◌, ◌-◌, ◌≤◌, List, length, arith, Bool, true, false, Option}, lemmas.Bool.Decides.nat_tests}
 use Rattle.legacy_text.specs.EncodingForm.{EncodingForm, Utf8, unit_count}
-use Rattle.legacy_base.specs.Iso2022Jp.{iso_2022_jp_encoder, iso_2022_jp_code, is_pair, is_two_byte_scalar, keeps_mode, is_roman_scalar, escape_between}
+use Rattle.legacy_base.specs.Iso2022Jp.{iso_2022_jp_encoder, iso_2022_jp_code, is_pair, is_two_byte_scalar, is_roman_scalar, escape_between}
 use Rattle.legacy_base.specs.{EncodeEvents.code_length, EncoderProfile.{EncoderProfile, EncoderMode, in_ascii}, Lengths.{number, value}}
 use Rattle.legacy_base.proofs.{SameUnits.some_unit, Iso2022JpEncoding.{mode_by, mode_for-by, code-short}}
 use Rattle.legacy_encoder_engine.specs.Moves.{differs}
@@ -11,8 +11,7 @@ two_bytes_in : (form : EncodingForm) (c : ℕ) → 128 ≤ c → form ≡ Utf8 �
 two_bytes_in form c h e = rw e (two_units c h)
 
 short_by : (own : Option (List ℕ)) → is_pair own ≡ false → code_length own ≤ 2 → code_length own ≤ 1
-short_by (Some (x ∷ y ∷ [])) e h = cc
-short_by _ e h = omega arith
+short_by own h h1 = grind arith
 
 module _ (jis0208 katakana_index : List ℕ) where
   abbrev encoder : EncoderProfile
@@ -65,17 +64,8 @@ module _ (jis0208 katakana_index : List ℕ) where
 
   pub escape_low : (mode : EncoderMode) (c : ℕ) → differs mode (encoder.mode_for mode c) ≡ true → (form : EncodingForm) (t : ℕ)
       → room form (encoder.mode_for mode c) t + (3 + code_length (encoder.code c)) ≤ room form mode (unit_count form c + t)
-  escape_low mode c n form t =
-      let own = encoder.code c in
-      let is = mode_for-by jis0208 katakana_index mode c in
-      let short = code-short jis0208 katakana_index c in
-      rw is (low_by (is_pair own) (keeps_mode jis0208 katakana_index c) (is_roman_scalar c) mode form t (unit_count form c) (code_length own)
-      (rw is at n) short (λ e. short_by own e short) (some_unit form c) (λ f e. two_bytes_in form c (pair_past c e) f)
-      (λ f e. two_bytes_in form c (roman_past c e) f))
+  escape_low mode c n form t = grind (arith, mode_for-by, code-short, low_by, short_by, some_unit, two_bytes_in, pair_past, roman_past)
 
   pub escape_enough : (mode : EncoderMode) (c : ℕ) → differs mode (encoder.mode_for mode c) ≡ true → (form : EncodingForm) (t : ℕ)
       → 3 + encoder.scalar_room c ≤ room form mode (unit_count form c + t)
-  escape_enough mode c n form t =
-      enough_by (is_pair (encoder.code c)) (keeps_mode jis0208 katakana_index c) (is_roman_scalar c) mode form t (unit_count form c)
-      (rw (mode_for-by jis0208 katakana_index mode c) at n) (some_unit form c) (λ f e. two_bytes_in form c (pair_past c e) f)
-      (λ f e. two_bytes_in form c (roman_past c e) f)
+  escape_enough mode c n form t = grind (arith, enough_by, mode_for-by, some_unit, two_bytes_in, pair_past, roman_past)

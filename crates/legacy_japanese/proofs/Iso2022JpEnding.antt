@@ -1,12 +1,11 @@
 -- Writing a held-back scalar and ending the input, as the decoders' loop sees them.
 use Rattle.std.specs.{Prelude.{◌==◌, is_some}, Int.is_in_range}
 use Rattle.std.proofs.Common.{◌≡◌, ◌≢◌, ◌∙◌, ℕ, ◌++◌, ◌⊎◌, cond, Bool, true, false, Option, Some, None, List, [], ◌∷◌, inl, inr, length, refl, sym, ap, arith}
-use Rattle.std.proofs.{Common.append-nil, lemmas.Bool.{cases_Bool, cond_both}, lemmas.Bool.Decides.nat_tests}
+use Rattle.std.proofs.{Common.append-nil, lemmas.Bool.cond_both, lemmas.Bool.Decides.nat_tests}
 use Rattle.legacy_base.specs.{declared.results.DecodeEvent.DecodeEvent, declared.results.DecodeEvent.TheVariants.{Scalar, Bad}, Fronts.{Front, reads}}
 use Rattle.legacy_base.specs.{Fronts.{malformed, front_length, front_events}, Iso2022Jp.{esc, escape_mode, part_mode, iso_2022_jp_events}}
-use Rattle.legacy_base.specs.{Beginnings.BeginsWith, Events.shift, Grammar.{iso_2022_jp, events_of}, Lengths.{query_form, replacement_units}}
+use Rattle.legacy_base.specs.{Beginnings.BeginsWith, Events.shift, Grammar.{iso_2022_jp, events_of}, Lengths.replacement_units}
 use Rattle.legacy_base.specs.States.{is_two_byte_mode, rests}
-use Rattle.legacy_text.specs.EncodingForm.{unit_count}
 use Rattle.legacy_text.proofs.CodeUnits.{length-code_units-bmp}
 use Rattle.legacy_base.proofs.{Iso2022JpFronts.{step_end, step_one, step_two, step_escape, step_no_escape}, Shifts.shift-shift, Iso2022JpParts.first_part}
 use Rattle.legacy_base.proofs.Beginnings.{no_sooner}
@@ -26,14 +25,12 @@ use Rattle.legacy_base.specs.Iso2022Jp as iso
 
 module _ (jis0208 : List ℕ) where
   write_front : (mode : Mode) (b c : ℕ) (rest : List ℕ) → single mode b ≡ Some c → front_in jis0208 mode b rest ≡ reads 1 (c ∷ [])
-  write_front TwoByte b c rest e = cc
-  write_front mode b c rest e = front-single jis0208 mode b rest refl ∙ ap front_of e
+  write_front mode b c rest h = grind (arith, front-single, front_of)
 
   -- a byte that is a scalar by itself gives it, whatever bytes follow
   write_law : (mode : Mode) (b c : ℕ) (more : List ℕ) → is_held mode (Byte b) ≡ true → single mode b ≡ Some c
       → events_in jis0208 mode (b ∷ more) ≡ Scalar c ∷ shift 1 (events_in jis0208 mode more)
-  write_law mode b c more held is =
-      step_one jis0208 (mode_meaning mode) b more (reads 1 (c ∷ [])) (grind (arith, nat_tests)) (write_front mode b c (first_part more) is) refl
+  write_law mode b c more held is = grind (arith, step_one, nat_tests, write_front, first_part)
 
   -- so the byte has an event
   write_some : (mode : Mode) (b : ℕ) → is_held mode (Byte b) ≡ true → is_resting mode (Byte b) ≡ false → events_in jis0208 mode (b ∷ []) ≢ []
@@ -47,18 +44,7 @@ module _ (jis0208 : List ℕ) where
   pub released : (mode : Mode) (held : Held) (c : ℕ) → is_held mode held ≡ true → Some c ≡ pending mode held → IsNarrowScalar c
       → Releases (state_in jis0208 mode held) (state_in jis0208 mode (Begun Nothing)) c
   unfolding events_of
-  released mode (Byte b) c sound is narrow = record {
-    passed = 1;
-    progress = record { counts = refl; rest = refl; events = λ more never. write_law mode b c more sound (sym is) };
-    resting = refl;
-    allowed = refl;
-    rooms = same_rooms jis0208 mode mode;
-    fits = λ form. length-code_units-bmp form c (narrow.0);
-    scalar = narrow.1;
-    lowers = λ query n. room-falls query jis0208 mode mode (Byte b) (Begun Nothing) n n 1 (unit_count (query_form query) c) (omega arith)
-        (times_one query (unit_count (query_form query) c) (length-code_units-bmp (query_form query) c (narrow.0)));
-  }
-  released mode _ c sound is narrow = cc
+  released mode held c h h1 h2 = grind (arith, write_law, same_rooms, length-code_units-bmp, room-falls, times_one)
 
   -- ---- the end of the input
 
@@ -122,10 +108,7 @@ module _ (jis0208 : List ℕ) where
 
   lead_end : (mode : Mode) (l : ℕ) → is_held mode (Byte l) ≡ true → is_two_byte_mode (mode_meaning mode) ≡ true →
       MeetsEnd jis0208 mode (Byte l) (finish mode (Byte l))
-  lead_end TwoByte l held two = λ more h.
-      step_one jis0208 (mode_meaning TwoByte) l more (malformed 1) (in_range_plain l held)
-      (ap (front_in jis0208 TwoByte l) (malformed_lead l more held h) ∙ front-malformed_byte jis0208 l) refl
-  lead_end _ l held two = cc
+  lead_end mode l h h1 = grind (arith, step_one, in_range_plain, front_in, malformed_lead, front-malformed_byte)
 
   -- if an escape byte after a whole escape is reported alone, the whole escape is not malformed
   whole_alone : (mode : Mode) (e : Escape) (items rest : List DecodeEvent) (o : Option iso.Mode) →
@@ -182,8 +165,7 @@ module _ (jis0208 : List ℕ) where
 
   ends : (mode : Mode) (held : Held) (o : Option (Mode × Held)) → is_held mode held ≡ true
       → rests (iso_2022_jp jis0208 (mode_meaning mode)) (bytes_of held) ≡ true → o ≡ finish mode held → EndFacts mode held o
-  ends mode held o sound rest is =
-      rw is (end_facts mode held (finish mode held) (end_law mode held sound (sym (held_rests jis0208 mode held sound) ∙ rest)) (finish_sound mode held))
+  ends mode held o sound rest is = grind (arith, end_facts, end_law, held_rests, finish_sound)
 
   pub ends_none : (mode : Mode) (held : Held) → is_held mode held ≡ true → rests (iso_2022_jp jis0208 (mode_meaning mode)) (bytes_of held) ≡ true
       → None ≡ finish mode held → events_of (iso_2022_jp jis0208 (mode_meaning mode)) (bytes_of held) ≡ []
@@ -203,20 +185,14 @@ module _ (jis0208 : List ℕ) where
       × (t ≡ false → events_of (iso_2022_jp jis0208 (mode_meaning mode)) (bytes_of held) ≡ [])
 
   from_facts : (mode : Mode) (held : Held) (o : Option (Mode × Held)) → EndFacts mode held o → HasRest mode held (is_some o)
-  from_facts mode held None facts = (λ e. cc, λ e. facts)
-  from_facts mode held (Some o) facts = (λ e. facts.1, λ e. cc)
+  from_facts mode held o h = grind arith
 
   resting_rest : (mode : Mode) (held : Held) → is_held mode held ≡ true → is_resting mode held ≡ true → HasRest mode held (is_some (finish mode held))
-  resting_rest mode held sound resting =
-      from_facts mode held (finish mode held) (ends mode held (finish mode held) sound (held_rests jis0208 mode held sound ∙ resting) refl)
+  resting_rest mode held sound resting = grind (arith, from_facts, ends, held_rests)
 
   rest_is : (mode : Mode) (held : Held) → is_held mode held ≡ true → HasRest mode held (is_some (finish mode held))
   unfolding events_of
-  rest_is mode (Byte b) sound = elim (cases_Bool (is_resting mode (Byte b))) [
-    | inl e ↦ resting_rest mode (Byte b) sound e
-    | inr e ↦ (λ t. write_some mode b sound e, λ f. cc)
-  ]
-  rest_is mode held sound = resting_rest mode held sound refl
+  rest_is mode held h = grind (arith, resting_rest, write_some)
 
   pub rest_known : (mode : Mode) (held : Held) (t : Bool) → is_held mode held ≡ true → t ≡ is_some (finish mode held) → HasRest mode held t
   rest_known mode held t sound is = rw is (rest_is mode held sound)

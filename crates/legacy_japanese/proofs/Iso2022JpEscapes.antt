@@ -1,14 +1,13 @@
 -- The runs of ISO-2022-JP before and after an escape.
-use Rattle.std.proofs.Common.{◌≡◌, ◌≢◌, ◌∙◌, ℕ, suc, ◌+◌, ◌-◌, ◌<◌, List, ◌∷◌, ◌++◌, length, map, take, drop, get_or, refl, sym, ap, subst, arith, append-nil}
+use Rattle.std.proofs.Common.{◌≡◌, ◌≢◌, ◌∙◌, ℕ, ◌+◌, ◌-◌, ◌<◌, List, ◌∷◌, ◌++◌, length, take, drop, get_or, refl, sym, ap, subst, arith, append-nil}
 use Rattle.std.proofs.{Common.length-drop, Math.Seq.{drop-cons, take-add}, lemmas.Grind.common_steps, lemmas.Bool.ne_eqb, lemmas.List.drop-drop}
 use Rattle.legacy_text.specs.{declared.destination.Destination.Ghosts, EncodingForm.all_code_units}
-use Rattle.legacy_base.specs.{declared.results.DecodeEvent.TheVariants.Scalar, States.DecoderState, Events.shift, Grammar.{iso_2022_jp, events_of}}
+use Rattle.legacy_base.specs.{States.DecoderState, Grammar.{iso_2022_jp, events_of}}
 use Rattle.legacy_base.specs.Iso2022Jp.{esc}
 use Rattle.legacy_base.proofs.{Iso2022JpParts.no_escape, Shifts.{shift-append, shift-shift, shift-scalars}}
 use Rattle.legacy_decoder_engine.specs.ReadAhead.{RunsTo, Runs, ReadsTo, ReadsAhead}
 use Rattle.legacy_decoder_engine.proofs.{AheadRuns.reads_nothing, JoinedRuns.reads_then, WrittenRuns.rest_of}
 use Rattle.legacy_japanese.specs.{declared.iso_2022_jp.steps.Mode.Mode, declared.iso_2022_jp.steps.Escape.Escape}
-use Rattle.legacy_japanese.specs.{declared.iso_2022_jp.steps.Start.TheVariants.Nothing, declared.iso_2022_jp.steps.Held.TheVariants.Begun}
 use Rattle.legacy_japanese.specs.{Iso2022JpMachine.{mode_meaning, mode_of, second_of, third_of}, Iso2022JpRuns.{run_state, HasEscape}}
 use Rattle.legacy_japanese.proofs.{Iso2022JpRooms.{same_rooms, room-falls}, Iso2022JpLaw.events_in, Iso2022JpStep.escape_alone}
 
@@ -17,22 +16,8 @@ escape_runs : (jis0208 : List ℕ) (mode : Mode) (e : Escape) (x : ℕ) (bytes d
     Runs (iso_2022_jp jis0208 (mode_meaning (mode_of e))) (x ∷ bytes) ds
     → RunsTo (iso_2022_jp jis0208 (mode_meaning mode)) (iso_2022_jp jis0208 (mode_meaning (mode_of e))) (esc ∷ second_of e ∷ third_of e ∷ x ∷ bytes) ds
 unfolding events_of
-escape_runs jis0208 mode e x bytes ds alone runs = record {
-  events = λ more.
-      let left = events_in jis0208 (mode_of e) more in
-      escape_alone jis0208 mode e (x ∷ bytes ++ more) (no_escape x (bytes ++ more) (ne_eqb x esc alone))
-      ∙ ap (shift 3) (runs.events more)
-      ∙ shift-append 3 (map Scalar ds) (shift (length (x ∷ bytes)) left)
-      ∙ ap (λ es. es ++ shift 3 (shift (length (x ∷ bytes)) left)) (shift-scalars 3 ds)
-      ∙ ap (λ es. map Scalar ds ++ es) (shift-shift 3 (length (x ∷ bytes)) left)
-      ∙ ap (λ n. map Scalar ds ++ shift n left) (omega arith);
-  scalar = runs.scalar;
-  lowers = λ query n.
-      let inner = runs.lowers query n in
-      let outer = room-falls query jis0208 mode (mode_of e) (Begun Nothing) (Begun Nothing) (n + suc (suc (suc (suc (length bytes))))) (n + suc (length bytes))
-      3 0 (omega arith) (omega arith) in
-      omega arith;
-}
+escape_runs jis0208 mode e x bytes ds alone runs =
+    grind (arith, events_in, escape_alone, no_escape, ne_eqb, shift-append, shift-scalars, shift-shift, room-falls)
 
 -- the bytes of a run after three others, and those of an escape and the run after it
 run_bytes : (source : List ℕ) (read : ℕ) → 3 < length source → 0 < read → take read (drop 3 source) ≡ get_or source 3 0 ∷ take (read - 1) (drop 4 source)
@@ -40,9 +25,7 @@ run_bytes source read within some = grind (arith, common_steps, drop-cons source
 
 escape_bytes : (e : Escape) (source : List ℕ) (read : ℕ) → HasEscape e source → 0 < read
     → take (3 + read) source ≡ esc ∷ second_of e ∷ third_of e ∷ get_or source 3 0 ∷ take (read - 1) (drop 4 source)
-escape_bytes e source read has some =
-    take-add 3 read source ∙ ap (λ bytes. bytes ++ take read (drop 3 source)) has.begins
-    ∙ ap (λ bytes. esc ∷ second_of e ∷ third_of e ∷ bytes) (run_bytes source read has.within some)
+escape_bytes e source read has some = grind (arith, take-add, run_bytes)
 
 module _ {D : Type 0} {T : Ghosts D} where
   -- an escape and a run of its mode

@@ -1,13 +1,13 @@
 -- The machine's steps, as the decoders' loop sees them.
 use Rattle.std.specs.{Prelude.if◌then◌else◌, Char.IsScalar}
-use Rattle.std.proofs.Common.{◌≡◌, ◌≢◌, ◌∙◌, ℕ, ◌+◌, ◌*◌, ◌≤◌, true, All, None, List, [], ◌∷◌, ◌++◌, length, map, refl, sym, ap, arith, append-nil}
+use Rattle.std.proofs.Common.{◌≡◌, ◌≢◌, ◌∙◌, ℕ, ◌+◌, ◌*◌, ◌≤◌, true, All, None, List, [], ◌∷◌, ◌++◌, length, map, sym, ap, arith, append-nil}
 use Rattle.std.proofs.lemmas.List.Elements.{All-cons, All-nil}
 use Rattle.legacy_base.specs.{declared.results.DecodeEvent.TheVariants.Scalar, DecoderActs.HadRoom, States.rests, Grammar.{iso_2022_jp, events_of}}
 use Rattle.legacy_base.specs.Lengths.{LengthQuery, query_form}
 use Rattle.legacy_text.specs.EncodingForm.{EncodingForm, bmp_room, total_unit_count}
 use Rattle.legacy_decoder_engine.specs.Moves.{fed_scalars, fed_malformed, fed_units, unread_byte, FedHolds, Feeds}
 use Rattle.legacy_japanese.specs.{declared.iso_2022_jp.steps.Mode.Mode, declared.iso_2022_jp.steps.Held.Held, declared.iso_2022_jp.steps.Action.Action}
-use Rattle.legacy_japanese.specs.{declared.iso_2022_jp.steps.Outcome.Outcome, declared.iso_2022_jp.steps.Action.TheVariants.{Holds, Writes}}
+use Rattle.legacy_japanese.specs.declared.iso_2022_jp.steps.Outcome.{Outcome}
 use Rattle.legacy_japanese.specs.{Iso2022JpMoves.{state_in, is_left, move_events, rooms_of, fed_by, fed_of, IsNarrow}, Iso2022JpMachine.mode_meaning}
 use Rattle.legacy_japanese.specs.Iso2022JpMachine.{bytes_of, is_held, read}
 use Rattle.legacy_japanese.proofs.{Iso2022JpRooms.{same_rooms, read_room-is, one_fits, room-falls, replacement_fits, times_one}, Iso2022JpLaw.HasSizes}
@@ -22,34 +22,26 @@ left_is : (move : Action) (back b : ℕ) (more : List ℕ) → (if is_left move 
 left_is move back b more = grind arith
 
 scalars_fit : (form : EncodingForm) (move : Action) (back : ℕ) → IsNarrow move → total_unit_count form (fed_scalars (fed_by move back)) ≤ bmp_room form
-scalars_fit form (Writes c) back h = one_fits form c (h.0)
-scalars_fit form _ back h = omega arith
+scalars_fit form move back h = grind (arith, one_fits)
 
 had_room : (form : EncodingForm) (jis0208 : List ℕ) (mode : Mode) (free : ℕ) (move : Action) (back : ℕ) → bmp_room form ≤ free
     → HadRoom form (iso_2022_jp jis0208 (mode_meaning mode)) None free (fed_scalars (fed_by move back))
 unfolding HadRoom
-had_room form jis0208 mode free (Writes c) back h = (λ wants. h, tt)
-had_room form jis0208 mode free _ back h = tt
+had_room form jis0208 mode free move back h = grind arith
 
 are_scalars : (move : Action) (back : ℕ) → IsNarrow move → All IsScalar (fed_scalars (fed_by move back))
-are_scalars (Writes c) back h = All-cons IsScalar c [] (h.1) (All-nil IsScalar)
-are_scalars _ back h = All-nil IsScalar
+are_scalars move back h = grind (arith, All-cons, All-nil)
 
 units_paid : (query : LengthQuery) (move : Action) (back : ℕ) → IsNarrow move
     → total_unit_count (query_form query) (fed_scalars (fed_by move back)) + fed_units query (fed_by move back) ≤ bmp_room (query_form query) * rooms_of move
-units_paid query Holds back h = omega arith
-units_paid query (Writes c) back h = let l = times_one query (total_unit_count (query_form query) (c ∷ [])) (one_fits (query_form query) c (h.0)) in omega arith
-units_paid query _ back h = let l = replacement_fits query in omega arith
+units_paid query move back h = grind (arith, times_one, one_fits, replacement_fits)
 
 nothing_held : (move : Action) (mode : Mode) (held : Held) (back : ℕ) → RestsAfter move mode held → fed_scalars (fed_by move back) ≢ [] → bytes_of held ≡ []
-nothing_held (Writes c) mode held back rest some = ap bytes_of rest
-nothing_held _ mode held back rest some = absurd (some refl)
+nothing_held move mode held back h h1 = grind arith
 
 holds_back : (jis0208 : List ℕ) (k : ℕ) (move : Action) (mode : Mode) (held : Held) → is_held mode held ≡ true → HasSizes k move (bytes_of held)
     → RestsAfter move mode held → FedHolds k (state_in jis0208 mode held) (fed_by move (length (bytes_of held)))
-holds_back jis0208 k Holds mode held kept sizes rest = held_rests jis0208 mode held kept ∙ rest
-holds_back jis0208 k (Writes c) mode held kept sizes rest = rw rest refl
-holds_back jis0208 k _ mode held kept sizes rest = record { some = sizes.0; few = omega arith; near = sizes.3; held = refl; within = omega arith }
+holds_back jis0208 k move mode held h h1 h2 = grind (arith, held_rests)
 
 -- ---- a step
 

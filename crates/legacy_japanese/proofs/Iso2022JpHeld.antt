@@ -1,9 +1,9 @@
 -- The machine holds back only bytes that the grammar may hold back, with the same weight.
-use Rattle.std.proofs.Common.{◌≡◌, ℕ, ◌+◌, ◌≤◌, true, Option, Some, None, List, length, drop, refl, arith, lit≤}
+use Rattle.std.proofs.Common.{◌≡◌, ℕ, ◌+◌, ◌≤◌, true, Option, Some, None, List, length, drop, arith, lit≤}
 use Rattle.legacy_base.specs.{Grammar.iso_2022_jp, Lengths.weight, States.{may_hold, rests}}
-use Rattle.legacy_japanese.specs.{declared.iso_2022_jp.steps.Mode.Mode, declared.iso_2022_jp.steps.Start.TheVariants.Nothing}
-use Rattle.legacy_japanese.specs.{declared.iso_2022_jp.steps.Held.Held, declared.iso_2022_jp.steps.Held.TheVariants.{Begun, Whole}}
-use Rattle.legacy_japanese.specs.{Iso2022JpMachine.{mode_meaning, bytes_of, finish, is_held, is_resting, mode_of}, Iso2022JpMoves.weight_of}
+use Rattle.legacy_japanese.specs.declared.iso_2022_jp.steps.Mode.{Mode}
+use Rattle.legacy_japanese.specs.declared.iso_2022_jp.steps.Held.{Held}
+use Rattle.legacy_japanese.specs.{Iso2022JpMachine.{mode_meaning, bytes_of, finish, is_held, is_resting}, Iso2022JpMoves.weight_of}
 use Rattle.legacy_japanese.proofs.{Iso2022JpLaw.ended, Iso2022JpStep.second_kept}
 
 -- ---- the held-back bytes
@@ -37,8 +37,4 @@ EndsSound held None = Unit {0}
 EndsSound held (Some o) = SoundEnd held o.0 o.1
 
 pub finish_sound : (mode : Mode) (held : Held) → EndsSound held (finish mode held)
-finish_sound mode (Begun Nothing) = tt
-finish_sound mode (Whole e Nothing) = tt
-finish_sound mode (Whole e _) =
-    record { kept = first_of (cc, assumption (second_kept (mode_of e))); suffix = refl; fits = lit≤ tt; short = lit≤ tt; room = lit≤ tt }
-finish_sound mode _ = record { kept = first_of (cc, assumption (second_kept mode)); suffix = refl; fits = lit≤ tt; short = lit≤ tt; room = lit≤ tt }
+finish_sound mode held = grind (arith, second_kept, lit≤)

@@ -1,5 +1,5 @@
 -- The decoder holds back a whole escape at once.
-use Rattle.std.proofs.Common.{◌≡◌, ℕ, ◌≤◌, List, [], ◌∷◌, take, refl, sym, subst, arith}
+use Rattle.std.proofs.Common.{◌≡◌, ℕ, ◌≤◌, List, [], ◌∷◌, take, refl, arith}
 use Rattle.legacy_text.specs.EncodingForm.{EncodingForm, bmp_room}
 use Rattle.legacy_base.specs.Iso2022Jp.{esc}
 use Rattle.legacy_decoder_engine.specs.Moves.{HoldsBytes}
@@ -39,5 +39,4 @@ module _ (form : EncodingForm) (free : ℕ) (enough : bmp_room form ≤ free) (j
   -- the escape at the beginning of the source
   pub holds_escape : (e : Escape) (source : List ℕ) → HasEscape e source →
       HoldsBytes form free (run_state jis0208 mode) (take 3 source) (state_in jis0208 mode (Whole e Nothing))
-  holds_escape e source has = subst (λ bytes. HoldsBytes form free (run_state jis0208 mode) bytes (state_in jis0208 mode (Whole e Nothing))) (sym has.begins)
-      (holds_whole e)
+  holds_escape e source has = grind (arith, holds_whole)

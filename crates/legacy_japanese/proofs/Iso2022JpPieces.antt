@@ -1,5 +1,5 @@
 -- Copying a piece of ASCII: the output after it, and the scalars written as themselves.
-use Rattle.std.proofs.{Common.{◌≡◌, ℕ, ◌+◌, ◌-◌, ◌≤◌, ◌<◌, List, ◌++◌, length, take, drop, slice_index, get_or-take, refl, arith}, Math.Seq.take-append_seam}
+use Rattle.std.proofs.{Common.{◌≡◌, ℕ, ◌+◌, ◌-◌, ◌≤◌, ◌<◌, List, ◌++◌, length, take, drop, slice_index, get_or-take, arith}, Math.Seq.take-append_seam}
 use Rattle.std.proofs.{Math.Seq.drop-append_seam, lemmas.List.{take-take, length-take-le, drop-take}, lemmas.Grind.common_steps}
 use Rattle.legacy_text.specs.UnitCodes.{WritesCodes}
 use Rattle.legacy_japanese.specs.Iso2022JpEncoder.{HasNoControl, IsOwnByte}
@@ -22,16 +22,7 @@ module _ (start n limit : ℕ) (dst new more : List ℕ) (from : start ≤ limit
 -- ASCII without controls is written as itself
 pub own_bytes : (left old : List ℕ) (n : ℕ) → n ≤ length left → ((k : ℕ) → slice_index (take n left) k < 0x80)
     → HasNoControl (take n left) → WritesCodes IsOwnByte left n old (old ++ take n left)
-own_bytes left old n within ascii none =
-    let long = length-take-le n left within in
-    record {
-      bytes = take n left;
-      new_is = refl;
-      count = long;
-      each = λ k h.
-          let same : slice_index (take n left) k ≡ slice_index left k = get_or-take n left k 0 h in
-          (same, rw same at (ascii k), rw same at (none k (omega (arith, long))));
-    }
+own_bytes left old n within ascii none = grind (arith, length-take-le, slice_index, get_or-take)
 
 -- a front of bytes without controls has no control
 pub front_without : (n m : ℕ) (bytes : List ℕ) → n ≤ m → HasNoControl (take m bytes) → HasNoControl (take n bytes)

@@ -1,14 +1,14 @@
 -- The runs of ISO-2022-JP.
-use Rattle.std.proofs.Common.{inl, inr, ◌≡◌, ◌∙◌, ℕ, suc, ◌+◌, ◌-◌, ◌*◌, ◌<◌, ◌≤◌, true, Option, Some, None, List, [], ◌∷◌, ◌++◌, length, take, get_or, refl}
+use Rattle.std.proofs.Common.{◌≡◌, ◌∙◌, ℕ, suc, ◌+◌, ◌-◌, ◌*◌, ◌<◌, ◌≤◌, Option, Some, List, [], ◌∷◌, ◌++◌, length, take, get_or, refl}
 use Rattle.std.proofs.{Common.{sym, ap, arith}, lemmas.Bool.{cases_lt, ne_eqb}, lemmas.Bool.Decides.nat_tests, lemmas.List.{length-take, length-take-le}}
 use Rattle.std.proofs.{lemmas.List.get_or-take, lemmas.List.Elements.{All-nil, All-cons, All-from_get_or}, lemmas.Str.Ascii.IsAscii-from_all}
-use Rattle.std.specs.{Prelude.{All, IsAscii, IfSome}, Char.{IsScalar, is_ascii}, Int.is_in_range}
-use Rattle.legacy_text.specs.{declared.destination.Destination.Ghosts, EncodingForm.{EncodingForm, code_units, total_unit_count}}
-use Rattle.legacy_base.specs.{Iso2022Jp.{esc, ascii, two_byte, iso_2022_jp_front}, Fronts.reads, Grammar.{iso_2022_jp, events_of}, Lengths.query_form}
+use Rattle.std.specs.{Prelude.{All, IsAscii, IfSome}, Char.IsScalar}
+use Rattle.legacy_text.specs.{declared.destination.Destination.Ghosts, EncodingForm.{EncodingForm, code_units}}
+use Rattle.legacy_base.specs.{Iso2022Jp.{ascii, two_byte, iso_2022_jp_front}, Grammar.{iso_2022_jp, events_of}}
 use Rattle.legacy_tables.specs.Indexes.{idx}
 use Rattle.legacy_base.proofs.Iso2022JpFronts.{step_one, step_two}
-use Rattle.legacy_japanese.specs.{declared.iso_2022_jp.steps.Mode.TheVariants.{Ascii, TwoByte}, declared.iso_2022_jp.steps.Start.TheVariants.Nothing}
-use Rattle.legacy_japanese.specs.{declared.iso_2022_jp.steps.Held.TheVariants.Begun, declared.iso_2022_jp.places.TheConstants.{LEADS, TRAILS}}
+use Rattle.legacy_japanese.specs.declared.iso_2022_jp.steps.Mode.TheVariants.{Ascii}
+use Rattle.legacy_japanese.specs.declared.iso_2022_jp.places.TheConstants.{LEADS, TRAILS}
 use Rattle.legacy_japanese.specs.{Iso2022JpMoves.IsNarrowScalar, Iso2022JpRuns.{ArePlain, IsPlain, run_state}, Jis0208Places.{jis_lead_place, jis_trail_place}}
 use Rattle.legacy_decoder_engine.specs.{ReadAhead.{Runs, IsPair, ReadsAhead}, Places.IsTableOf}
 use Rattle.legacy_decoder_engine.proofs.{WrittenRuns.{runs_none, runs_more, code_units_ascii, all_code_units_ascii}, PairPlaces.idx_past}
@@ -28,15 +28,7 @@ jis_trails_are = refl
 
 plain_runs : (jis0208 : List ℕ) (b : ℕ) → IsPlain b → Runs (iso_2022_jp jis0208 ascii) (b ∷ []) (b ∷ [])
 unfolding events_of iso_2022_jp_front
-plain_runs jis0208 b h = record {
-  events = λ more.
-      let ascii_byte : is_ascii b ≡ true = grind (arith, nat_tests) in
-      step_one jis0208 ascii b more (reads 1 (b ∷ [])) (ne_eqb b esc h.3) (rw (ne_eqb b 0x0E h.1, ne_eqb b 0x0F h.2, ascii_byte) refl) refl;
-  scalar = All-cons IsScalar b [] (grind (arith, nat_tests)) (All-nil IsScalar);
-  lowers = λ query n.
-      room-falls query jis0208 Ascii Ascii (Begun Nothing) (Begun Nothing) (n + 1) n 1 (total_unit_count (query_form query) (b ∷ [])) (omega arith)
-      (times_one query (total_unit_count (query_form query) (b ∷ [])) (one_fits (query_form query) b (omega (arith, h.0))));
-}
+plain_runs jis0208 b h = grind (arith, nat_tests, step_one, ne_eqb, All-cons, All-nil, room-falls, times_one, one_fits)
 
 plain_bytes : (jis0208 : List ℕ) (bytes : List ℕ) → All IsPlain bytes → Runs (iso_2022_jp jis0208 ascii) bytes bytes
 plain_bytes jis0208 [] h = runs_none (iso_2022_jp jis0208 ascii)
@@ -48,46 +40,25 @@ plain_bytes jis0208 (b ∷ bytes) h = runs_more (iso_2022_jp jis0208 ascii) (b �
 pub pair_run : (jis0208 : List ℕ) (a b c : ℕ) → 0x21 ≤ a → a ≤ 0x7E → 0x21 ≤ b → b ≤ 0x7E → c < 0x1_0000 → IsScalar c
     → idx jis0208 ((a - 0x21) * 94 + (b - 0x21)) ≡ Some c → IsPair (iso_2022_jp jis0208 two_byte) a b c
 unfolding events_of iso_2022_jp_front
-pair_run jis0208 a b c low high low' high' narrow scalar is = (
-  narrow,
-  record {
-    events = λ more.
-        let lead : is_in_range 0x21 0x7E a ≡ true = grind (arith, nat_tests) in
-        let trail : is_in_range 0x21 0x7E b ≡ true = grind (arith, nat_tests) in
-        step_two jis0208 two_byte a b more (reads 2 (c ∷ [])) (ne_eqb a esc (λ e. omega arith)) (ne_eqb b esc (λ e. omega arith)) (rw (lead, trail, is) refl)
-        refl;
-    scalar = All-cons IsScalar c [] scalar (All-nil IsScalar);
-    lowers = λ query n.
-        room-falls query jis0208 TwoByte TwoByte (Begun Nothing) (Begun Nothing) (n + 2) n 1 (total_unit_count (query_form query) (c ∷ [])) (omega arith)
-        (times_one query (total_unit_count (query_form query) (c ∷ [])) (one_fits (query_form query) c narrow));
-  },
-)
+pair_run jis0208 a b c low high low' high' narrow scalar is = grind (arith, nat_tests, step_two, ne_eqb, All-cons, All-nil, room-falls, times_one, one_fits)
 
 -- the scalar of two bytes
 pub pair_scalar : (jis0208 : List ℕ) (a b : ℕ) → 0x21 ≤ a → a ≤ 0x7E → 0x21 ≤ b → b ≤ 0x7E → (pointer : ℕ) → pointer ≡ (a - 0x21) * 94 + (b - 0x21)
     → (found : Option ℕ) → found ≡ idx jis0208 pointer → IfSome found IsNarrowScalar → IfSome found (λ c. IsPair (iso_2022_jp jis0208 two_byte) a b c)
-pair_scalar jis0208 a b low high low' high' pointer at None is narrow = tt
-pair_scalar jis0208 a b low high low' high' pointer at (Some c) is narrow =
-    pair_run jis0208 a b c low high low' high' narrow.0 narrow.1 (ap (λ p. idx jis0208 p) (sym at) ∙ sym is)
+pair_scalar jis0208 a b h h1 h2 h3 pointer h4 found h5 h6 = grind (arith, pair_run)
 
 -- the scalar of two bytes, by the sum of their places
 pub placed_scalar : (jis0208 : List ℕ) → length jis0208 ≤ 65535 → (a b : ℕ) (found : Option ℕ) → found ≡ idx jis0208 (jis_lead_place a + jis_trail_place b)
     → IfSome found IsNarrowScalar → IfSome found (λ c. IsPair (iso_2022_jp jis0208 two_byte) a b c)
 unfolding jis_lead_place jis_trail_place
-placed_scalar jis0208 short a b found is narrow = elim (cases_lt (jis_lead_place a + jis_trail_place b) 65535) [
-  | inl h ↦
-      let both : (0x21 ≤ a) × (a ≤ 0x7E) × (0x21 ≤ b) × (b ≤ 0x7E) = grind (arith, nat_tests) in
-      pair_scalar jis0208 a b both.0 both.1 both.2 both.3 (jis_lead_place a + jis_trail_place b) (grind (arith, nat_tests)) found is narrow
-  | inr h ↦ rw (is, idx_past jis0208 (jis_lead_place a + jis_trail_place b) (omega arith)) tt
-]
+placed_scalar jis0208 short a b found is narrow = grind (arith, cases_lt, nat_tests, pair_scalar, idx_past)
 
 -- ---- a run of plain bytes
 
 -- a front of a front
 pub plain_front : (source : List ℕ) (n count : ℕ) → count ≤ length (take n source) → ArePlain (take n source) count →
     (count ≤ length source) × (count ≤ n) × ArePlain source count
-plain_front source n count within plain =
-    let l = length-take n source in (omega arith, omega arith, λ k h. rw (get_or-take n source k 0 (omega arith)) at (plain k h))
+plain_front source n count within plain = grind (arith, length-take, get_or-take)
 
 -- the code units of a run, one for each byte
 pub plain_units : (form : EncodingForm) (source : List ℕ) (count at : ℕ) → count ≤ length source → ArePlain source count → at < count

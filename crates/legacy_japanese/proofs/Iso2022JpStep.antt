@@ -3,7 +3,7 @@ use Rattle.std.specs.{Prelude.{◌==◌, if◌then◌else◌, option_to_list}, I
 use Rattle.std.proofs.Common.{◌≡◌, ℕ, suc, ◌+◌, ◌-◌, ◌*◌, ◌≤◌, true, false, leb, Option, Some, None, List, [], ◌∷◌, ◌++◌, length, refl, sym, ap, ◌∙◌}
 use Rattle.std.proofs.{Common.{append_assoc, length-append, arith, lit≤}, lemmas.Bool.{eqb-true, ne_eqb, leb-true, and_parts, cond_both}}
 use Rattle.std.proofs.lemmas.Bool.Decides.{nat_tests}
-use Rattle.legacy_base.specs.{declared.results.DecodeEvent.TheVariants.Bad, Fronts.{Front, reads, malformed, reads_or}, Iso2022Jp.{esc, escape_mode, part_mode}}
+use Rattle.legacy_base.specs.{Fronts.{Front, reads, malformed, reads_or}, Iso2022Jp.{esc, escape_mode, part_mode}}
 use Rattle.legacy_base.specs.{Iso2022Jp.iso_2022_jp_front, Events.shift, States.is_two_byte_mode}
 use Rattle.legacy_tables.specs.Indexes.{idx}
 use Rattle.legacy_base.proofs.{Iso2022JpFronts.{step_one, step_two, step_no_escape, step_escape, escape_ahead}, Shifts.{shift-append, shift-shift, shift-zero}}
@@ -32,9 +32,7 @@ in_range_plain b h = let low = leb-true 0x21 b (and_parts (leb 0x21 b) (leb b 0x
 -- a move with three more bytes before it
 three_further : (k : ℕ) (move : Action) (held : List ℕ) → HasSizes k move held
     → (shift 3 (move_events k move) ≡ move_events (suc (suc (suc k))) move) × HasSizes (suc (suc (suc k))) move held
-three_further k (Reports a) held h = (ap (λ place. Bad place a ∷ []) (let fits = h.2 in omega arith), (h.0, h.1, omega arith, h.3))
-three_further k Leaves held h = (ap (λ place. Bad place 1 ∷ []) (let fits = h.2 in omega arith), (h.0, h.1, omega arith, h.3))
-three_further k _ held h = (refl, tt)
+three_further k move held h = grind arith
 
 -- the front of a byte that has this scalar, or none
 abbrev pub front_of : Option ℕ → Front
@@ -93,8 +91,7 @@ module _ (jis0208 : List ℕ) where
   pub front-single : (mode : Mode) (b : ℕ) (rest : List ℕ) → is_two_byte_mode (mode_meaning mode) ≡ false →
       front_in jis0208 mode b rest ≡ front_of (single mode b)
   unfolding iso_2022_jp_front
-  front-single TwoByte b rest h = cc
-  front-single _ b rest h = grind arith
+  front-single mode b rest h = grind arith
 
   -- a byte that is malformed alone
   alone_step : (mode : Mode) (b : ℕ) → (b == esc) ≡ false → ((rest : List ℕ) → front_in jis0208 mode b rest ≡ malformed 1)
@@ -176,13 +173,10 @@ module _ (jis0208 : List ℕ) where
   Completed a b None = escape_mode a b ≡ None
 
   completed_dollar : (b : ℕ) → Completed 0x24 b (completes Dollar b)
-  completed_dollar b = cond_both (b == 0x40) _ _ (Completed 0x24 b) (λ h. (refl, sym (eqb-true b 0x40 h)))
-      (λ h. cond_both (b == 0x42) _ _ (Completed 0x24 b) (λ k. (refl, sym (eqb-true b 0x42 k))) (λ k. rw (h, k)))
+  completed_dollar b = grind (arith, cond_both, eqb-true)
 
   completed_paren : (b : ℕ) → Completed 0x28 b (completes Paren b)
-  completed_paren b = cond_both (b == 0x42) _ _ (Completed 0x28 b) (λ h. (refl, sym (eqb-true b 0x42 h)))
-      (λ h. cond_both (b == 0x4A) _ _ (Completed 0x28 b) (λ k. (refl, sym (eqb-true b 0x4A k)))
-      (λ k. cond_both (b == 0x49) _ _ (Completed 0x28 b) (λ l. (refl, sym (eqb-true b 0x49 l))) (λ l. rw (h, k, l))))
+  completed_paren b = grind (arith, cond_both, eqb-true)
 
   malformed_step : (mode : Mode) (b : ℕ) → (b == 0x24) ≡ false → (b == 0x28) ≡ false → IsStep mode (Begun EscapeByte) b (moves Leaves mode (Begun Nothing))
   malformed_step mode b h k = record {

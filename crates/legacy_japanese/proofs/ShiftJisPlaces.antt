@@ -1,8 +1,8 @@
 -- The tables contain the places of leads and trails; index jis0208 is read at their sum.
-use Rattle.std.proofs.Common.{◌≡◌, ◌∙◌, ℕ, ◌+◌, ◌-◌, ◌*◌, ◌≤◌, List, [], length, Bool, false, cond, Some, None, refl, ap, arith}
+use Rattle.std.proofs.Common.{◌≡◌, ℕ, ◌+◌, ◌≤◌, List, [], length, Bool, cond, Some, None, refl, arith}
 use Rattle.std.proofs.lemmas.Bool.Decides.{nat_tests}
-use Rattle.std.specs.{Int.is_in_range, Option.option_map_or}
-use Rattle.legacy_base.specs.ShiftJis.{is_shift_jis_lead, shift_jis_lead_part, shift_jis_scalars}
+use Rattle.std.specs.Option.{option_map_or}
+use Rattle.legacy_base.specs.ShiftJis.{is_shift_jis_lead, shift_jis_scalars}
 use Rattle.legacy_decoder_engine.specs.Places.{IsTableOf}
 use Rattle.legacy_japanese.specs.{ShiftJisPlaces.{shift_jis_lead_place, shift_jis_trail_place}, ShiftJisMachine.shift_jis_pair_scalars}
 use Rattle.legacy_japanese.specs.declared.shift_jis.places.TheConstants.{LEADS, TRAILS}
@@ -25,11 +25,4 @@ pub shift_jis_entry : (index : List ℕ) → length index ≤ 65535 → (lead tr
     shift_jis_scalars index (shift_jis_lead_place lead + shift_jis_trail_place trail)
     ≡ cond (is_shift_jis_lead lead) (shift_jis_pair_scalars index lead trail) []
 unfolding shift_jis_lead_place shift_jis_trail_place
-shift_jis_entry index short lead trail =
-    let base = shift_jis_lead_part lead * 188 in
-    let low = is_in_range 0x40 0x7E trail in
-    let high = is_in_range 0x80 0xFC trail in
-    pair_entry (shift_jis_scalars index) (λ p h. let other : is_in_range 8836 10715 p ≡ false = grind (arith, nat_tests) in
-    rw (other, none_past index short p h) refl)
-    (is_shift_jis_lead lead) low high base (trail - 0x40) (trail - 0x41)
-    ∙ ap (λ found. cond (is_shift_jis_lead lead) found []) (of_pointer (shift_jis_scalars index) low high (base + (trail - 0x40)) (base + (trail - 0x41)))
+shift_jis_entry index short lead trail = grind (arith, pair_entry, nat_tests, none_past, of_pointer)

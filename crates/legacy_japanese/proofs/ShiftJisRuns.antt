@@ -1,8 +1,8 @@
 -- Byte sequences of Shift_JIS that give one scalar.
-use Rattle.std.proofs.{Common.{◌≡◌, ◌≤◌, ◌<◌, ◌^◌, ◌+◌, ◌-◌, ◌==◌, ℕ, List, [], ◌∷◌, Option, Some, None, false, true, cond, refl, arith}, lemmas.Bool.cond_both}
+use Rattle.std.proofs.{Common.{◌≡◌, ◌≤◌, ◌<◌, ◌^◌, ◌+◌, ◌-◌, ◌==◌, ℕ, List, [], ◌∷◌, Option, false, true, cond, refl, arith}, lemmas.Bool.cond_both}
 use Rattle.std.proofs.lemmas.Bool.Decides.{nat_tests}
-use Rattle.std.specs.{Char.{IsScalar, is_ascii}, Int.is_in_range, Option.option_map_or, Prelude.option_to_list}
-use Rattle.legacy_tables.specs.{AcceptedTables.AcceptedIndexes, Indexes.idx, Unicode.{is_katakana_byte, katakana_of}}
+use Rattle.std.specs.{Char.{IsScalar, is_ascii}, Int.is_in_range, Option.option_map_or}
+use Rattle.legacy_tables.specs.{AcceptedTables.AcceptedIndexes, Unicode.{is_katakana_byte, katakana_of}}
 use Rattle.legacy_base.specs.{Grammar.shift_jis, ShiftJis.{is_shift_jis_lead, shift_jis_pointer, shift_jis_scalars}}
 use Rattle.legacy_tables.proofs.Accepted.{jis0208-below}
 use Rattle.legacy_decoder_engine.specs.{ReadAhead.Runs, StepUnits.IsNarrowIndex}
@@ -10,15 +10,10 @@ use Rattle.legacy_decoder_engine.proofs.{LeadHeld.pair, PairPlaces.found, RunFor
 use Rattle.legacy_japanese.specs.{ShiftJisMachine.shift_jis_pair_scalars, ShiftJisShown.shift_jis_codec}
 
 private_use_below : (p c : ℕ) → is_in_range 8836 10715 p ≡ true → (0xE000 + (p - 8836)) ∷ [] ≡ c ∷ [] → c < 0x1_0000
-private_use_below p c t e =
-    let high : p ≤ 10715 = grind (arith, nat_tests) in
-    let same : 0xE000 + (p - 8836) ≡ c = cc in
-    omega arith
+private_use_below p c t e = grind (arith, nat_tests)
 
 scalar_below : (jis0208 : List ℕ) (o : Option ℕ) (c : ℕ) → IsNarrowIndex jis0208 → option_map_or (shift_jis_scalars jis0208) o [] ≡ c ∷ [] → c < 0x1_0000
-scalar_below jis0208 None c narrow e = cc
-scalar_below jis0208 (Some p) c narrow e = cond_both (is_in_range 8836 10715 p) ((0xE000 + (p - 8836)) ∷ []) (option_to_list (idx jis0208 p))
-    (λ scalars. scalars ≡ c ∷ [] → c < 0x1_0000) (private_use_below p c) (λ t. idx_below jis0208 p c narrow) e
+scalar_below jis0208 o c h h1 = grind (arith, cond_both, private_use_below, idx_below)
 
 module _ (tables : AcceptedIndexes) where
   -- a lead and a trail

@@ -4,7 +4,7 @@ use Rattle.std.proofs.lemmas.{Bool.or_parts, Bool.Decides.nat_tests}
 use Rattle.std.specs.{Int.is_in_range, Option.option_map_or, Char.is_ascii}
 use Rattle.legacy_base.specs.ShiftJis.{shift_jis_front, shift_jis_pair, is_shift_jis_lead, shift_jis_scalars, shift_jis_pointer}
 use Rattle.legacy_base.specs.{Fronts.Front, Fronts.reads, Fronts.malformed, Grammar.shift_jis, Lengths.to_utf16}
-use Rattle.legacy_tables.specs.{Unicode.is_katakana_byte, Unicode.katakana_of, Indexes.idx}
+use Rattle.legacy_tables.specs.{Unicode.is_katakana_byte, Unicode.katakana_of}
 use Rattle.legacy_decoder_engine.specs.{Steps.hold, Steps.finish, StepUnits.units, StepUnits.IsWidth, StepUnits.IsNarrowIndex, StatesAfterSteps.IsOneOrMarked}
 use Rattle.legacy_decoder_engine.specs.LeadCodecs.{IsLeadCodec}
 use Rattle.legacy_japanese.specs.ShiftJisMachine.{shift_jis_first, shift_jis_pair_scalars}
@@ -39,14 +39,10 @@ first_is b =
 front_is : (jis0208 : List ℕ) (b : ℕ) (rest : List ℕ) (pair : Front) → pair ≡ step_front (shift_jis_pair_scalars jis0208 b) rest hold →
     cond (is_ascii b || b == 0x80) (reads 1 (b ∷ [])) (cond (is_katakana_byte b) (reads 1 (katakana_of b ∷ [])) (cond (is_shift_jis_lead b) pair (malformed 1)))
     ≡ step_front (shift_jis_pair_scalars jis0208 b) rest (shift_jis_first b)
-front_is jis0208 b rest pair e =
-    let test = front_test (shift_jis_pair_scalars jis0208 b) rest in
-    test (is_ascii b || b == 0x80) _ _ (finish (reads 1 (b ∷ []))) _ refl
-    (test (is_katakana_byte b) _ _ (finish (reads 1 (katakana_of b ∷ []))) _ refl (test (is_shift_jis_lead b) _ _ hold (finish (malformed 1)) e refl))
+front_is jis0208 b rest pair e = grind (arith, front_test)
 
 one : (jis0208 : List ℕ) (o : Option ℕ) → IsOneOrMarked false (option_map_or (shift_jis_scalars jis0208) o [])
-one jis0208 None = tt
-one jis0208 (Some p) = one_test false (is_in_range 8836 10715 p) ((0xE000 + (p - 8836)) ∷ []) _ tt (one_option false (idx jis0208 p))
+one jis0208 o = grind (arith, one_test, one_option)
 
 pointer_below : (p : ℕ) → is_in_range 8836 10715 p ≡ true → p ≤ 10715
 pointer_below p h = grind (arith, nat_tests)
@@ -61,11 +57,7 @@ module _ (len : ℕ → ℕ) (narrow wide : ℕ) (w : IsWidth len narrow wide) w
 
 is : (jis0208 : List ℕ) → IsTwoByte (shift_jis jis0208) (shift_jis_front jis0208) is_shift_jis_lead shift_jis_first (shift_jis_pair_scalars jis0208)
 unfolding shift_jis_front shift_jis_pair
-is jis0208 = record {
-  profile_is = refl;
-  front_is = λ b. elim [ [] ↦ front_is jis0208 b [] _ refl | t ∷ rest ↦ front_is jis0208 b (t ∷ rest) _ refl ];
-  pair_one = λ lead t. one jis0208 (shift_jis_pointer lead t);
-}
+is jis0208 = grind (arith, front_is, one)
 
 rooms : (jis0208 : List ℕ) → IsNarrowIndex jis0208 → HasTwoByteRooms (shift_jis jis0208) (shift_jis_pair_scalars jis0208) 6
 rooms jis0208 accepted = record {

@@ -4,13 +4,7 @@ use Rattle.legacy_japanese.proofs.{Iso2022JpEncoderMoves.{serves, own_byte}, Iso
 use Rattle.legacy_japanese.proofs.iso_2022_jp.ascii.AsciiCodes.copy_piece.Goals as goal
 
 pub returns-then-has_any_control : goal.returns-then-has_any_control
-returns-then-has_any_control g c =
-    let e = c.copy_ascii-count.ensures in
-    let dst = c.args.dst.now in
-    let within : c.args.limit ≤ length dst = omega (arith, c.requires.to) in
-    rw (front_same c.args.start c.copy_ascii-count.result c.args.limit dst c.copy_ascii-count.new.dst _ c.requires.from within c.copy_ascii-count.auto.dst
-    e.fits e.bytes)
-    (encodes_none _ _ _ _ _ _ _ (omega (arith, c.requires.from, within)))
+returns-then-has_any_control g c = grind (arith, front_same, encodes_none)
 
 pub returns : goal.returns
 returns g c =
