@@ -1,7 +1,7 @@
 -- The gb18030 decoder holds back only what its machine may hold back, and its moves are the machine's.
 use Rattle.std.proofs.Common.{◌≡◌, ◌≢◌, ◌∙◌, ℕ, ◌+◌, ◌/◌, ◌%◌, ◌^◌, ◌<◌, ◌≤◌, List, [], ◌∷◌, length, get_or, Bool, true, false, refl, sym, ap, arith, Some}
-use Rattle.std.proofs.{Common.◌==◌, lemmas.Bool.Decides.nat_tests, lemmas.List.Elements.{All-nil, All-cons}}
-use Rattle.std.specs.{Prelude.option_to_list, Int.is_in_range, Char.{IsScalar, is_ascii, is_ascii_digit}}
+use Rattle.std.proofs.{lemmas.Bool.Decides.nat_tests, lemmas.List.Elements.{All-nil, All-cons}}
+use Rattle.std.specs.{Prelude.option_to_list, Int.is_in_range, Char.{IsScalar, is_ascii_digit}}
 use Rattle.legacy_tables.specs.{Unicode.{IsByte, AreBytes}, Indexes.{idx, range}, AcceptedTables.AcceptedIndexes}
 use Rattle.legacy_base.specs.{Calls.IsMalformedByte, Gb18030.{gb18030_scalars, gb18030_range_pointer}, States.{is_lead, gb18030_may_hold, is_neutral, rests}}
 use Rattle.legacy_base.specs.{States.{DecoderState, state_of}, Grammar.{Grammar, gb18030, events_of}}
@@ -14,7 +14,7 @@ use Rattle.legacy_decoder_engine.specs.{declared.held_lead.Lead.Lead, declared.m
 use Rattle.legacy_decoder_engine.specs.{ReadAhead.{HasAscii, IsIdle, IsPair}, Feeding.Took, Places.lead_place, Shown.IsShown}
 use Rattle.legacy_decoder_engine.proofs.{LeadHeld.neutral_empty, RunForms.{pair_runs, four_runs, has_ascii, ascii_is}, Widths.idx_below, LanePlaces.entry_is}
 use Rattle.legacy_decoder_engine.proofs.PairPlaces.{found}
-use Rattle.legacy_chinese.proofs.{Gb18030Places.gb18030_entry, EntryScalars.scalar_at, Gb18030Shown.gb18030_shown}
+use Rattle.legacy_chinese.proofs.{Gb18030Places.gb18030_entry, EntryScalars.scalar_at, Gb18030Meets.lead_other, Gb18030Shown.gb18030_shown}
 use Rattle.legacy_tables.specs.declared.tables.IndexName.TheVariants as names
 use Rattle.legacy_decoder_engine.proofs.Feeding as moves
 
@@ -52,9 +52,6 @@ are_bytes (Digit digit) = one digit.byte [] (of_digit digit).2 (All-nil IsByte)
 are_bytes (DigitLead digit lead) = one digit.byte (lead.byte ∷ []) (of_digit digit).2 (one lead.byte [] (of_lead lead).2 (All-nil IsByte))
 
 -- ---- pairs
-
-lead_other : (b : ℕ) → is_lead b ≡ true → (is_ascii b ≡ false) × ((b == 0x80) ≡ false) × (is_ascii_digit b ≡ false)
-lead_other b is = (grind (arith, nat_tests), grind (arith, nat_tests), grind (arith, nat_tests))
 
 digit_no_trail : (b : ℕ) → is_ascii_digit b ≡ true → (is_in_range 0x40 0x7E b ≡ false) × (is_in_range 0x80 0xFE b ≡ false)
 digit_no_trail b is = (grind (arith, nat_tests), grind (arith, nat_tests))

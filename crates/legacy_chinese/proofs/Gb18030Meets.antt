@@ -10,8 +10,9 @@ use Rattle.legacy_chinese.specs.Gb18030Machine.{gb18030_pending, gb18030_first, 
 use Rattle.legacy_base.proofs.{Cuts.cut-nil, FrontLaws.gb18030_front-of}
 use Rattle.legacy_decoder_engine.proofs.FrontMoves.{HasFront, Fits, fits_test, fits_trail, fits_meets, write_meets, end_meets, report_meets}
 
-lead_not_ascii : (b : ℕ) → is_lead b ≡ true → (is_ascii b ≡ false) × ((b == 0x80) ≡ false)
-lead_not_ascii b h = (grind (arith, nat_tests), grind (arith, nat_tests))
+-- a lead is no other first byte
+pub lead_other : (b : ℕ) → is_lead b ≡ true → (is_ascii b ≡ false) × ((b == 0x80) ≡ false) × (is_ascii_digit b ≡ false)
+lead_other b is = (grind (arith, nat_tests), grind (arith, nat_tests), grind (arith, nat_tests))
 
 digit_is_ascii : (b : ℕ) → is_ascii_digit b ≡ true → is_ascii b ≡ true
 digit_is_ascii b h = grind (arith, nat_tests)
@@ -49,7 +50,7 @@ module _ (index : List ℕ) (ranges : List (ℕ × ℕ)) where
 
   front_lead : (b : ℕ) (rest : List ℕ) → is_lead b ≡ true → front b rest ≡ gb18030_second index ranges b rest
   unfolding gb18030_front
-  front_lead b rest h = let a = lead_not_ascii b h in rw (a.0, a.1, h)
+  front_lead b rest h = let a = lead_other b h in rw (a.0, a.1, h)
 
   first_fits : (b : ℕ) → Fits front gb18030_may_hold [] b (gb18030_first b)
   unfolding gb18030_front

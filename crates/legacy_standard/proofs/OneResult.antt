@@ -1,6 +1,5 @@
 -- More turns do not change the result of a run that has finished.
-use Rattle.std.proofs.Common.{◌≡◌, ℕ, zero, suc, ◌+◌, ◌-◌, ◌≤◌, List, [], ◌∷◌, ◌++◌, length, Option, Some, None, refl, arith}
-use Rattle.std.specs.Prelude.{option_map}
+use Rattle.std.proofs.Common.{◌≡◌, ℕ, zero, suc, ◌+◌, ◌-◌, ◌≤◌, List, [], ◌∷◌, ◌++◌, length, Option, Some, None, arith}
 use Rattle.legacy_base.specs.{declared.results.DecodeEvent.DecodeEvent, Grammar.{Grammar, events_of}}
 use Rattle.legacy_standard.specs.{Queue.{Item, byte, end_of_queue, Handled, Outcome}, Processing.{act_on, process, Processes}}
 use Rattle.legacy_tables.specs.Unicode.{AreBytes}
@@ -9,10 +8,6 @@ use Rattle.legacy_tables.specs.Unicode.{AreBytes}
 abbrev pub Agrees : {E : Type 0} → Option (List E) → Option (List E) → Type 0
 Agrees None x = Unit {0}
 Agrees (Some events) x = x ≡ Some events
-
-pub agrees-map : {E : Type 0} (f : List E → List E) (x y : Option (List E)) → Agrees x y → Agrees (option_map f x) (option_map f y)
-agrees-map f None y h = tt
-agrees-map f (Some events) y h = rw h refl
 
 module _ {S : Type 0} (handler : S → Item → Handled S) where
   agrees-act : (go more : S → ℕ → ℕ → List ℕ → Option (List DecodeEvent)) →
