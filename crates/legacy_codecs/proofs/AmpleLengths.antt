@@ -1,7 +1,7 @@
 -- A run is finished if its outputs are wide and many enough.
-use Rattle.std.proofs.Common.{◌≡◌, ◌∙◌, ℕ, ◌+◌, ◌-◌, ◌≤◌, List, [], ◌∷◌, length, map, refl, sym, ap, arith, length-append, All, Bool, true, false, IsTrue}
+use Rattle.std.proofs.Common.{◌≡◌, ℕ, ◌+◌, ◌-◌, ◌≤◌, List, [], ◌∷◌, length, refl, arith, length-append, All, Bool, true, false, IsTrue}
 use Rattle.std.proofs.{lemmas.List.length-map, lemmas.List.Elements.All-get_or, lemmas.Option.{slice_get_within, get_or_from_slice_get}}
-use Rattle.legacy_base.specs.{declared.results.DecodeEvent.DecodeEvent, declared.results.DecodeEvent.TheVariants.Scalar}
+use Rattle.legacy_base.specs.declared.results.DecodeEvent.{DecodeEvent}
 use Rattle.legacy_base.specs.{declared.results.DecoderResult.DecoderResult, declared.results.DecoderResult.TheVariants.{InputEmpty, OutputFull, Malformed}}
 use Rattle.legacy_base.specs.{Events.shift, States.DecoderState, Calls.{DecoderCall, reported_events, out_events}}
 use Rattle.legacy_text.specs.EncodingForm.{EncodingForm, wide_room, total_unit_count}
@@ -14,9 +14,7 @@ use Rattle.legacy_codecs.proofs.RunEvents.{Reaches-events}
 -- a call's report adds its events after those of its scalars
 out-some : (seen : ℕ) (scalars : List ℕ) (answer : DecoderResult) →
     length (out_events seen scalars answer) ≡ length scalars + length (reported_events seen answer)
-out-some seen scalars answer =
-    let event : ℕ → DecodeEvent = λ x. Scalar x in
-    length-append (map event scalars) (reported_events seen answer) ∙ ap (λ n. n + length (reported_events seen answer)) (length-map scalars event)
+out-some seen scalars answer = grind (arith, length-append, length-map)
 
 -- if code units were written, there is a scalar
 some_scalar : (form : EncodingForm) (scalars : List ℕ) → 1 ≤ total_unit_count form scalars → 1 ≤ length scalars
@@ -58,10 +56,4 @@ pub is_finished : {form : EncodingForm} (before : DecoderState)
     (pieces : List (List ℕ)) {lengths : List ℕ} {calls : ℕ} {finished : Bool} {items : List DecodeEvent} {after : DecoderState} →
     IsRun form (place_before before pieces) lengths calls finished items after → HasAmpleLengths form before pieces lengths → IsTrue finished
 is_finished before pieces {finished = true} r h = refl
-is_finished before pieces {finished = false} r h =
-    let few = calls-few r.reaches h.wide refl in
-    let left = shift r.passed (events_ahead r.place) in
-    let whole = ap length (sym (place_before-ahead before pieces) ∙ Reaches-events r.reaches) ∙ length-append r.events left in
-    let fewer = calls_are_fewer before pieces _ _ _ _ (length r.events) _ h few (omega arith) in
-    let calls_are = r.all refl in
-    absurd (omega arith)
+is_finished before pieces {finished = false} r h = grind (arith, calls-few, events_ahead, place_before-ahead, Reaches-events, length-append, calls_are_fewer)

@@ -1,8 +1,8 @@
 -- A run of an encoder is finished if its outputs are wide and many enough.
-use Rattle.std.proofs.Common.{◌≡◌, ◌∙◌, ℕ, ◌+◌, ◌≤◌, List, ◌++◌, length, map, refl, sym, ap, arith, length-append, All, Bool, true, false, IsTrue}
+use Rattle.std.proofs.Common.{◌≡◌, ℕ, ◌+◌, ◌≤◌, List, ◌++◌, length, map, refl, arith, length-append, All, Bool, true, false, IsTrue}
 use Rattle.std.proofs.{lemmas.List.length-map, lemmas.List.Elements.All-get_or, lemmas.Option.{slice_get_within, get_or_from_slice_get}}
 use Rattle.legacy_base.specs.{declared.results.EncodeEvent.EncodeEvent, declared.results.EncodeEvent.TheVariants.Byte}
-use Rattle.legacy_base.specs.{declared.results.EncoderResult.EncoderResult, declared.results.EncoderResult.TheVariants.{InputEmpty, OutputFull, Unmappable}}
+use Rattle.legacy_base.specs.declared.results.EncoderResult.{EncoderResult}
 use Rattle.legacy_base.specs.{Encoders.EncoderState, EncoderCalls.{EncoderCall, reported}}
 use Rattle.legacy_base.proofs.EncoderLaws.{encoder_need-small}
 use Rattle.legacy_codecs.specs.{Pieces.{RunPlace, is_none, place_before, place_behind, ends_run}, EncodeRuns.{is_input_empty, EncodeReaches, IsEncodeRun}}
@@ -11,21 +11,13 @@ use Rattle.legacy_codecs.proofs.{Places.{later_less, calls_are_fewer}, EncodeRun
 
 -- a call's report adds its events after those of its bytes
 out-length : (bytes : List ℕ) (answer : EncoderResult) → length (map Byte bytes ++ reported answer) ≡ length bytes + length (reported answer)
-out-length bytes answer =
-    let event : ℕ → EncodeEvent = λ b. Byte b in
-    length-append (map event bytes) (reported answer) ∙ ap (λ n. n + length (reported answer)) (length-map bytes event)
+out-length bytes answer = grind (arith, length-append, length-map)
 
 -- a call that does not end the run gives an event or goes on to the next piece
 progresses : (p : RunPlace EncoderState) (free : ℕ) (after : EncoderState) (answer : EncoderResult) (left bytes : List ℕ) → 4 ≤ free →
     EncoderCall p.state p.piece (is_none p.later) free after answer left bytes → ends_run p (is_input_empty answer) ≡ false →
     1 + length (place_behind p after (is_input_empty answer) left).later ≤ length (map Byte bytes ++ reported answer) + length p.later
-progresses p free after InputEmpty left bytes w c e = let l = later_less after p.later e in omega arith
-progresses p free after OutputFull left bytes w c e =
-    let lacks = c.output_full refl in
-    let small = encoder_need-small after left (is_none p.later) in
-    let out = out-length bytes OutputFull in
-    omega arith
-progresses p free after (Unmappable d) left bytes w c e = let out = out-length bytes (Unmappable d) in omega arith
+progresses p free after answer left bytes h h1 h2 = grind (arith, later_less, encoder_need-small, out-length)
 
 -- so there are at most as many calls as events and pieces
 calls-few : {from : RunPlace EncoderState} {lengths : List ℕ} {calls : ℕ} {events : List EncodeEvent} {finished : Bool} {p : RunPlace EncoderState} →
@@ -46,8 +38,4 @@ pub encode_is_finished : (before : EncoderState) (pieces : List (List ℕ)) {len
     IsEncodeRun (place_before before pieces) lengths calls finished items after → HasAmpleOutputs before pieces lengths → IsTrue finished
 encode_is_finished before pieces {finished = true} r h = refl
 encode_is_finished before pieces {finished = false} {items = items} r h =
-    let few = calls-few r.reaches h.wide refl in
-    let whole = ap length (sym (place_before-encoded before pieces) ∙ reaches-encoded r.reaches) ∙ length-append items (encoded_ahead r.place) in
-    let fewer = calls_are_fewer before pieces _ _ _ _ (length items) _ h few (omega arith) in
-    let calls_are = r.all refl in
-    absurd (omega arith)
+    grind (arith, calls-few, place_before-encoded, reaches-encoded, length-append, encoded_ahead, calls_are_fewer)

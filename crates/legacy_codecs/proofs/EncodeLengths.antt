@@ -1,6 +1,6 @@
 -- Calls of an encoder that fill one output leave the room that the rest of the text needs.
-use Rattle.std.proofs.Common.{◌≡◌, ◌≢◌, ℕ, ◌+◌, ◌-◌, ◌≤◌, List, length, refl, arith, Bool, false}
-use Rattle.legacy_base.specs.{declared.results.EncoderResult.EncoderResult, declared.results.EncoderResult.TheVariants.{InputEmpty, OutputFull, Unmappable}}
+use Rattle.std.proofs.Common.{◌≡◌, ◌≢◌, ℕ, ◌+◌, ◌-◌, ◌≤◌, List, length, arith, Bool, false}
+use Rattle.legacy_base.specs.{declared.results.EncoderResult.EncoderResult, declared.results.EncoderResult.TheVariants.{InputEmpty, OutputFull}}
 use Rattle.legacy_base.specs.{Encoders.{EncoderState, encoder_room}, EncoderCalls.GoesOn}
 use Rattle.legacy_text.specs.EncodingForm.{EncodingForm, total_unit_count}
 use Rattle.legacy_base.proofs.EncoderLaws.{encoder_room-rises, encoder_room-answer}
@@ -8,9 +8,7 @@ use Rattle.legacy_codecs.specs.{EncodeFilling.{NextEncodeCall, EncodeFills, Enco
 
 -- calls go on after a call that returns neither OutputFull nor, at the end of a text, InputEmpty
 goes_on : (last : Bool) (answer : EncoderResult) → answer ≢ OutputFull → (answer ≡ InputEmpty → last ≡ false) → GoesOn last answer
-goes_on last InputEmpty n e = e refl
-goes_on last OutputFull n e = n refl
-goes_on last (Unmappable c) n e = tt
+goes_on last answer h h1 = grind arith
 
 module _ {form : EncodingForm} {before : EncoderState} {units free : ℕ} {after : EncoderState} {answer : EncoderResult} {read : ℕ} {bytes : List ℕ}
     (n : NextEncodeCall form before units free after answer read bytes) (enough : encoder_room form before units ≤ free) where

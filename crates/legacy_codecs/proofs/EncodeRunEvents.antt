@@ -1,9 +1,9 @@
 -- What the calls of an encoder's run give together.
-use Rattle.std.proofs.Common.{◌≡◌, ◌∙◌, ℕ, ◌+◌, List, [], ◌∷◌, ◌++◌, map, refl, sym, ap, append_assoc, append-nil, subst, Bool, true, false, IsTrue, Some, inl}
-use Rattle.std.proofs.lemmas.Bool.{false≢true}
+use Rattle.std.proofs.Common.{arith, ◌≡◌, ◌∙◌, ℕ, ◌+◌, List, [], ◌++◌, map, refl, sym, ap, append_assoc, append-nil, subst, Bool, true, false, IsTrue}
+use Rattle.std.proofs.{Common.{Some, inl}, lemmas.Bool.false≢true}
 use Rattle.std.specs.Prelude.{slice_get}
 use Rattle.legacy_base.specs.{declared.results.EncodeEvent.EncodeEvent, declared.results.EncodeEvent.TheVariants.Byte}
-use Rattle.legacy_base.specs.{declared.results.EncoderResult.EncoderResult, declared.results.EncoderResult.TheVariants.{InputEmpty, OutputFull, Unmappable}}
+use Rattle.legacy_base.specs.{declared.results.EncoderResult.EncoderResult, declared.results.EncoderResult.TheVariants.InputEmpty}
 use Rattle.legacy_base.specs.{Encoders.{EncoderState, encoded}, EncoderCalls.{EncoderCall, reported}}
 use Rattle.legacy_base.proofs.EncoderLaws.{end-encoded, told_end-last}
 use Rattle.legacy_codecs.specs.{Pieces.{joined, RunPlace, is_none, place_before, place_behind, ends_run}, EncodeRuns.{is_input_empty, EncodeReaches}}
@@ -25,15 +25,12 @@ abbrev pub encoded_ahead : RunPlace EncoderState → List EncodeEvent
 encoded_ahead p = encoded p.state (p.piece ++ joined p.later) true
 
 pub place_before-encoded : (s : EncoderState) (pieces : List (List ℕ)) → encoded_ahead (place_before s pieces) ≡ encoded s (joined pieces) true
-place_before-encoded s [] = refl
-place_before-encoded s (p ∷ ps) = refl
+place_before-encoded s pieces = grind arith
 
 -- after a call the same scalars are ahead, without those that it read
 place_behind-encoded : (p : RunPlace EncoderState) (after : EncoderState) (answer : EncoderResult) (left : List ℕ) → (answer ≡ InputEmpty → left ≡ []) →
     encoded after (left ++ joined p.later) true ≡ encoded_ahead (place_behind p after (is_input_empty answer) left)
-place_behind-encoded p after InputEmpty left h = ap (λ l. encoded after (l ++ joined p.later) true) (h refl) ∙ sym (place_before-encoded after p.later)
-place_behind-encoded p after OutputFull left h = refl
-place_behind-encoded p after (Unmappable c) left h = refl
+place_behind-encoded p after answer left h = grind (arith, place_before-encoded)
 
 module _ {from : RunPlace EncoderState} {lengths : List ℕ} where
   -- the events up to a place, and then those of what is ahead, are all events
@@ -51,25 +48,13 @@ module _ {from : RunPlace EncoderState} {lengths : List ℕ} where
   -- a finished run is past all pieces, and the end has nothing left to write
   pub reaches-finished : {calls : ℕ} {events : List EncodeEvent} {finished : Bool} {p : RunPlace EncoderState} →
       EncodeReaches from lengths calls events finished p → finished ≡ true → (p ≡ place_before p.state []) × HasNoEnd p.state
-  reaches-finished begun h = absurd (false≢true h)
-  reaches-finished (called calls events p r free e after InputEmpty left bytes c) h =
-      let end : place_before after p.later ≡ place_before after [] = ap (place_before after) (last_empty p.later h) in
-      let state : (place_before after p.later).state ≡ after = place_before-state after p.later in
-      (end ∙ ap (λ s. place_before s []) (sym state), subst HasNoEnd (sym state) ((c.input_empty refl).1 h))
-  reaches-finished (called calls events p r free e after OutputFull left bytes c) h = absurd (false≢true h)
-  reaches-finished (called calls events p r free e after (Unmappable d) left bytes c) h = absurd (false≢true h)
+  reaches-finished h h1 = grind (arith, false≢true, last_empty, place_before-state)
 
 -- the events of a run are a prefix of all events
 pub is_encode_beginning : (before : EncoderState) (pieces : List (List ℕ)) {lengths : List ℕ} {calls : ℕ} {finished : Bool} {items : List EncodeEvent}
     {after : EncoderState} →
     IsEncodeRun (place_before before pieces) lengths calls finished items after → IsEncodeBeginning before pieces finished items
-is_encode_beginning before pieces r = record {
-  rest = encoded_ahead r.place;
-  whole = sym (place_before-encoded before pieces) ∙ reaches-encoded r.reaches;
-  all = λ e.
-      let done = reaches-finished r.reaches e in
-      ap encoded_ahead done.0 ∙ end-encoded r.place.state ∙ ap (map Byte) done.1;
-}
+is_encode_beginning before pieces r = grind (arith, place_before-encoded, reaches-encoded, reaches-finished, end-encoded)
 
 -- after a finished run nothing is left to write
 pub no_end_left : {from : RunPlace EncoderState} {lengths : List ℕ} {calls : ℕ} {finished : Bool} {items : List EncodeEvent} {after : EncoderState} →

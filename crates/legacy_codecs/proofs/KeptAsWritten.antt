@@ -12,6 +12,4 @@ kept_is form kept scalars before z p q e = all_units_same form kept scalars p q 
 -- at most as many scalars were kept as code units were free
 pub kept_within : (form : EncodingForm) (kept scalars before : List ℕ) (free : ℕ) → before ≡ [] →
     all_code_units form kept ≡ all_code_units form before ++ all_code_units form scalars → total_unit_count form scalars ≤ free → length kept ≤ free
-kept_within form kept scalars before free z e fits =
-    let units = ap length (e ∙ ap (λ l. all_code_units form l ++ all_code_units form scalars) z) in
-    omega (arith, length-le-all_code_units form kept)
+kept_within form kept scalars before free z e fits = grind (arith, length-le-all_code_units)

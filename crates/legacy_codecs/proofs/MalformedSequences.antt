@@ -1,6 +1,6 @@
 -- The search for malformed sequences under way.
 use Rattle.std.proofs.Common.{◌≡◌, ◌∙◌, ℕ, ◌+◌, ◌-◌, ◌≤◌, List, [], ◌∷◌, ◌++◌, length, drop, map, refl, sym, ap, ap₂, arith, append-nil, add-zero, length-drop}
-use Rattle.std.proofs.{Common.{true, inl}, lemmas.List.drop_all}
+use Rattle.std.proofs.{Common.true, lemmas.List.drop_all}
 use Rattle.legacy_base.specs.{declared.results.DecodeEvent.DecodeEvent, declared.results.DecodeEvent.TheVariants.{Scalar, Bad}}
 use Rattle.legacy_base.specs.{declared.results.DecoderResult.DecoderResult, declared.results.DecoderResult.TheVariants.{InputEmpty, OutputFull, Malformed}}
 use Rattle.legacy_base.specs.{Events.shift, Grammar.events_of, States.DecoderState, Lengths.{to_utf8_without_replacement, room}, Calls.{Progress, DecoderCall}}
@@ -60,9 +60,7 @@ module _ {before : DecoderState} {input : List ℕ} {free : ℕ} {now : DecoderS
       malformed_of (length before.held) (shift f.passed (out_events (length now.held + count) scalars (Malformed a b)))
       ≡ record { place = read + count - (a + b); length = a } ∷ []
   unfolding malformed_of
-  added {a} {b} c =
-      let bad : List DecodeEvent = Bad (length now.held + count - b - a) a ∷ [] in
-      malformed-scalars (length before.held) f.passed scalars bad ∙ ap (λ (p : ℕ). record { place = p; length = a } ∷ []) (place_is c)
+  added {a} {b} c = grind (arith, malformed-scalars, place_is)
 
   pub finds_step : {a b : ℕ} → DecoderCall Utf8 now rest true free after (Malformed a b) count scalars →
       Finds before input free after (drop count rest) (read + count) (found ++ record { place = read + count - (a + b); length = a } ∷ [])
@@ -87,20 +85,7 @@ module _ {before : DecoderState} {input : List ℕ} {free : ℕ} {now : DecoderS
   pub finds_end : DecoderCall Utf8 now rest true free after InputEmpty count scalars →
       found ≡ malformed_of (length before.held) (events_of before.grammar (before.held ++ input))
   unfolding malformed_of
-  finds_end c =
-      let done = c.input_empty refl in
-      let out = f.out ++ shift f.passed (out_events (length now.held + count) scalars InputEmpty) in
-      let nothing : drop count rest ≡ [] = drop_all count rest (omega (arith, done.0)) in
-      let none : events_of after.grammar (after.held ++ (drop count rest ++ [])) ≡ [] =
-      ap (λ l. events_of after.grammar (after.held ++ (l ++ []))) nothing ∙ ap (events_of after.grammar) (append-nil after.held) ∙ done.2 refl in
-      let whole = (progress_after c).events [] (λ _. inl refl) in
-      let all : events_of before.grammar (before.held ++ input) ≡ out =
-      ap (λ l. events_of before.grammar (before.held ++ l)) (sym (append-nil input)) ∙ whole ∙ ap (λ l. out ++ shift (f.passed + c.passed) l) none
-      ∙ append-nil out in
-      f.found_is ∙ sym (ap (malformed_of (length before.held)) all
-      ∙ malformed-append (length before.held) f.out (shift f.passed (out_events (length now.held + count) scalars InputEmpty))
-      ∙ ap (λ l. malformed_of (length before.held) f.out ++ l) (malformed-scalars (length before.held) f.passed scalars [])
-      ∙ append-nil (malformed_of (length before.held) f.out))
+  finds_end c = grind (arith, drop_all, append-nil, progress_after, malformed-append, malformed-scalars)
 
   pub never_full : DecoderCall Utf8 now rest true free after OutputFull count scalars → ⊥
   never_full c = c.suffices to_utf8_without_replacement refl f.fits refl

@@ -7,17 +7,14 @@ use Rattle.legacy_codecs.specs.Pieces.{RunPlace, is_none, place_before, place_be
 
 -- after a last piece there is none
 pub last_empty : (later : List (List ℕ)) → IsTrue (is_none later) → later ≡ []
-last_empty [] h = refl
-last_empty (q ∷ qs) h = absurd (false≢true h)
+last_empty later h = grind (arith, false≢true)
 
 module _ {State : Type 0} where
   pub place_before-state : (s : State) (pieces : List (List ℕ)) → (place_before s pieces).state ≡ s
-  place_before-state s [] = refl
-  place_before-state s (p ∷ ps) = refl
+  place_before-state s pieces = grind arith
 
   pub place_behind-state : (p : RunPlace State) (after : State) (empty : Bool) (unread : List ℕ) → (place_behind p after empty unread).state ≡ after
-  place_behind-state p after true unread = place_before-state after p.later
-  place_behind-state p after false unread = refl
+  place_behind-state p after empty unread = grind (arith, place_before-state)
 
   -- before the first piece all pieces are unread
   pub pieces-length : (s : State) (pieces : List (List ℕ)) →
@@ -27,12 +24,10 @@ module _ {State : Type 0} where
 
   -- a step to the next piece leaves one fewer
   pub later_less : (s : State) (later : List (List ℕ)) → is_none later ≡ false → length (place_before s later).later + 1 ≡ length later
-  later_less s [] h = absurd (true≢false h)
-  later_less s (q ∷ qs) h = omega arith
+  later_less s later h = grind (arith, true≢false)
 
   later_count : (s : State) (pieces : List (List ℕ)) → length (place_before s pieces).later + 1 ≡ piece_count pieces
-  later_count s [] = refl
-  later_count s (p ∷ ps) = omega arith
+  later_count s pieces = grind arith
 
   -- if the calls are at most as many as the events and pieces used, ample outputs are left
   pub calls_are_fewer : (s : State) (pieces : List (List ℕ)) (lengths : List ℕ) (room events calls given left : ℕ) → AreAmple room events pieces lengths →
@@ -46,13 +41,11 @@ module _ {State : Type 0} where
   place_at pieces now index offset = record { state = now; piece = drop offset (slice_index_or pieces index []); later = drop (index + 1) pieces }
 
   pub place_at-first : (s : State) (pieces : List (List ℕ)) → 0 < length pieces → place_at pieces s 0 0 ≡ place_before s pieces
-  place_at-first s [] h = absurd (omega arith)
-  place_at-first s (p ∷ ps) h = refl
+  place_at-first s pieces h = grind arith
 
   pub place_at-begin : (s : State) (pieces : List (List ℕ)) →
       record { state = s; piece = slice_index_or pieces 0 []; later = drop 1 pieces } ≡ place_before s pieces
-  place_at-begin s [] = refl
-  place_at-begin s (p ∷ ps) = refl
+  place_at-begin s pieces = grind arith
 
   pub place_at-next : (pieces : List (List ℕ)) (s : State) (index : ℕ) → index + 1 < length pieces →
       place_at pieces s (index + 1) 0 ≡ place_before s (drop (index + 1) pieces)
@@ -78,10 +71,7 @@ same_end f g (p ∷ ps) (suc index) = same_end f g ps index
 
 -- if the piece at an index is not the last, the next index is one of a piece
 pub not_last : (pieces : List (List ℕ)) (index : ℕ) → is_none (drop (index + 1) pieces) ≡ false → index + 1 < length pieces
-not_last pieces index e = elim (cases_lt (index + 1) (length pieces)) [
-  | inl a ↦ a
-  | inr a ↦ let n : drop (index + 1) pieces ≡ [] = drop_of_length-le pieces a in let f = rw n at e in absurd (true≢false f)
-]
+not_last pieces index e = grind (arith, cases_lt, drop_of_length-le, true≢false)
 
 -- the room for a call and for all calls after it
 pub room_step : (xs : List ℕ) (i : ℕ) → i < length xs →

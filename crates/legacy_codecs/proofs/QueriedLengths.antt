@@ -20,9 +20,7 @@ module _ (query : LengthQuery) (before : DecoderState) (bytes free : ℕ) (after
       rw (rest, all) at low
 
   next-suffices : room query before bytes ≤ free → answer ≢ OutputFull
-  next-suffices h =
-      let r = room-rises query before (length n.source) bytes n.some in
-      n.call.suffices query refl (omega arith)
+  next-suffices h = grind (arith, room-rises)
 
 fills-room : {query : LengthQuery} {from : DecoderState} {bytes free : ℕ} {s : DecoderState} {to_come left : ℕ} →
     Fills query from bytes free s to_come left → room query from bytes ≤ free → room query s to_come ≤ left

@@ -44,19 +44,12 @@ pub ruleset decimal_lengths = (length-decimal_one, length-decimal_more, length-d
 -- one digit more is written before those that are written already
 pub digit_before : (text : List ℕ) (place rest : ℕ) (all : List ℕ) → 10 ≤ rest → rest < 2 ^ 64 → 1 ≤ place → place ≤ length text →
     decimal rest ++ drop place text ≡ all → decimal (rest / 10) ++ drop (place - 1) (set text (place - 1) (48 + rest % 10)) ≡ all
-digit_before text place rest all h k one within e =
-    let at : place - 1 < length text = omega arith in
-    let next : place - 1 + 1 ≡ place = omega arith in
-    rw (drop-set text (place - 1) (48 + rest % 10) at, next)
-    (sym (append_assoc (decimal (rest / 10)) ((48 + rest % 10) ∷ []) (drop place text)) ∙ ap (λ l. l ++ drop place text) (sym (decimal_step rest h k)) ∙ e)
+digit_before text place rest all h k one within e = grind (arith, drop-set, append_assoc, decimal, decimal_step)
 
 -- the first digit is written before the others
 pub first_digit : (text : List ℕ) (place rest : ℕ) (all : List ℕ) → rest < 10 → 1 ≤ place → place ≤ length text →
     decimal rest ++ drop place text ≡ all → drop (place - 1) (set text (place - 1) (48 + rest)) ≡ all
-first_digit text place rest all h one within e =
-    let at : place - 1 < length text = omega arith in
-    let next : place - 1 + 1 ≡ place = omega arith in
-    rw (drop-set text (place - 1) (48 + rest) at, next) (ap (λ l. l ++ drop place text) (sym (decimal_digit rest h)) ∙ e)
+first_digit text place rest all h one within e = grind (arith, drop-set, decimal_digit)
 
 -- the two bytes before the digits
 pub marks_before : (text : List ℕ) (place : ℕ) → 2 ≤ place → place ≤ length text →

@@ -29,14 +29,10 @@ found_after found OutputFull = found
 found_after found (Unmappable c) = true
 
 referenced-reported : (answer : EncoderResult) → referenced_bytes (reported answer) ≡ reported_bytes answer
-referenced-reported InputEmpty = refl
-referenced-reported OutputFull = refl
-referenced-reported (Unmappable c) = append-nil (reference c)
+referenced-reported answer = grind (arith, append-nil)
 
 found-reported : (found : Bool) (answer : EncoderResult) → (found || has_unmappable (reported answer)) ≡ found_after found answer
-found-reported found InputEmpty = or-false found
-found-reported found OutputFull = or-false found
-found-reported found (Unmappable c) = or-true found
+found-reported found answer = grind (arith, or-false, or-true)
 
 -- the events of a call
 abbrev pub out_events : List ℕ → EncoderResult → List EncodeEvent
@@ -44,20 +40,11 @@ out_events bytes answer = map Byte bytes ++ reported answer
 
 referenced-call : (out : List EncodeEvent) (bytes : List ℕ) (answer : EncoderResult) →
     referenced_bytes (out ++ out_events bytes answer) ≡ referenced_bytes out ++ (bytes ++ reported_bytes answer)
-referenced-call out bytes answer =
-    let byte : ℕ → EncodeEvent = λ b. Byte b in
-    let one : referenced_bytes (out_events bytes answer) ≡ bytes ++ reported_bytes answer =
-    referenced-append (map byte bytes) (reported answer) ∙ ap (λ l. l ++ referenced_bytes (reported answer)) (referenced-of_bytes bytes)
-    ∙ ap (λ l. bytes ++ l) (referenced-reported answer) in
-    referenced-append out (out_events bytes answer) ∙ ap (λ l. referenced_bytes out ++ l) one
+referenced-call out bytes answer = grind (arith, referenced-append, referenced-of_bytes, referenced-reported)
 
 found-call : (out : List EncodeEvent) (bytes : List ℕ) (answer : EncoderResult) →
     found_after (has_unmappable out) answer ≡ has_unmappable (out ++ out_events bytes answer)
-found-call out bytes answer =
-    let byte : ℕ → EncodeEvent = λ b. Byte b in
-    let one : has_unmappable (out_events bytes answer) ≡ has_unmappable (reported answer) =
-    has_unmappable-append (map byte bytes) (reported answer) ∙ ap (λ b. b || has_unmappable (reported answer)) (has_unmappable-of_bytes bytes) in
-    sym (has_unmappable-append out (out_events bytes answer) ∙ ap (λ b. has_unmappable out || b) one ∙ found-reported (has_unmappable out) answer)
+found-call out bytes answer = grind (arith, has_unmappable-append, has_unmappable-of_bytes, found-reported)
 
 -- a call with no text reports no unmappable scalar
 pub nothing_reported : {before : EncoderState} {last : Bool} {free : ℕ} {after : EncoderState} {c : ℕ} {left bytes : List ℕ} →
@@ -240,11 +227,7 @@ module _ {before : EncoderState} {source : List ℕ} {last : Bool} {free : ℕ} 
     found_if_full : (found : Bool) → (found ≡ false → (now ≡ before) × (left ≡ source) × (bytes ≡ [])) →
         EncoderCall now left last room after OutputFull rest written →
         (form : EncodingForm) (n k : ℕ) → total_unit_count form source ≤ n → encoder_answer form before n ≡ Some k → k + reference_room ≤ free → IsTrue found
-    found_if_full true same c form n k h e f = refl
-    found_if_full false same c form n k h e f =
-        let s = same refl in
-        let none : length bytes ≡ 0 = ap length s.2 in
-        absurd (c.enough form n k (rw s.1 h) (rw s.0 e) (omega arith) refl)
+    found_if_full found h h1 form n k h2 h3 h4 = grind arith
 
     pub referencing_full : EncoderCall now left last room after OutputFull rest written →
         ReplacingEncoderCall before source last free after coder.OutputFull rest (bytes ++ written) found

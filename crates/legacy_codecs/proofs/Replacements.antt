@@ -1,14 +1,14 @@
 -- A call with replacement, in progress.
-use Rattle.std.proofs.Common.{◌≡◌, ◌∙◌, ℕ, ◌+◌, ◌-◌, ◌≤◌, ◌<◌, List, [], ◌∷◌, ◌++◌, length, drop, map, refl, sym, ap, arith, append_assoc, append-nil}
+use Rattle.std.proofs.Common.{◌≡◌, ◌∙◌, ℕ, ◌+◌, ◌-◌, ◌≤◌, ◌<◌, List, [], ◌∷◌, ◌++◌, length, drop, refl, sym, ap, arith, append_assoc, append-nil}
 use Rattle.std.proofs.{Common.{length-append, length-drop, add-zero, Bool, true, false, ◌||◌, IsTrue, All, cond, nat_eq}, Math.Bool.{or-false, or-true}}
 use Rattle.std.proofs.{lemmas.List.drop-drop, Math.Seq.drop-nil, lemmas.List.Elements.{All-append, All-nil, All-cons}}
 use Rattle.std.specs.Char.{IsScalar}
-use Rattle.legacy_base.specs.{declared.results.DecodeEvent.DecodeEvent, declared.results.DecodeEvent.TheVariants.Scalar}
+use Rattle.legacy_base.specs.declared.results.DecodeEvent.{DecodeEvent}
 use Rattle.legacy_base.specs.{declared.results.DecoderResult.DecoderResult, declared.results.DecoderResult.TheVariants.{InputEmpty, OutputFull, Malformed}}
-use Rattle.legacy_base.specs.{Events.shift, Grammar.{Grammar, profile, events_of}, States.DecoderState, DecoderActs.{LacksRoom, reading_room, writing_room}}
-use Rattle.legacy_base.specs.{DecoderActs.{full_room_in, release_room_in}, Profile.Rooms, Lengths.{query_form, replacement_units, answer_units, room}}
+use Rattle.legacy_base.specs.{Events.shift, Grammar.{Grammar, events_of}, States.DecoderState, DecoderActs.LacksRoom}
+use Rattle.legacy_base.specs.{DecoderActs.{full_room_in, release_room_in}, Lengths.{query_form, replacement_units, answer_units, room}}
 use Rattle.legacy_base.specs.Calls.{Progress, DecoderCall, may_report_end, reported_events, out_events}
-use Rattle.legacy_text.specs.EncodingForm.{EncodingForm, Utf8, Utf16, code_units, all_code_units, total_unit_count, bmp_room, wide_room}
+use Rattle.legacy_text.specs.EncodingForm.{EncodingForm, code_units, all_code_units, total_unit_count, bmp_room}
 use Rattle.legacy_text.proofs.CodeUnits.{encode_3, all_code_units-append}
 use Rattle.legacy_base.proofs.{Enough.room-answer, Progress.{stay, at_less, after_that}}
 use Rattle.legacy_codecs.specs.Replacing.{replaced_scalars, has_bad, replacing_query, may_replace_end, ReplacingDecoderCall}
@@ -30,62 +30,38 @@ found_after found OutputFull = found
 found_after found (Malformed a b) = true
 
 replaced-reported : (seen : ℕ) (answer : DecoderResult) → replaced_scalars (reported_events seen answer) ≡ reported_scalars answer
-replaced-reported seen InputEmpty = refl
-replaced-reported seen OutputFull = refl
-replaced-reported seen (Malformed a b) = refl
+replaced-reported seen answer = grind arith
 
 -- what is written for the events of a call
 replaced-call : (k seen : ℕ) (cs : List ℕ) (answer : DecoderResult) → replaced_scalars (shift k (out_events seen cs answer)) ≡ cs ++ reported_scalars answer
-replaced-call k seen cs answer =
-    let event : ℕ → DecodeEvent = λ x. Scalar x in
-    replaced-shift k (out_events seen cs answer) ∙ replaced-append (map event cs) (reported_events seen answer)
-    ∙ ap (λ l. l ++ replaced_scalars (reported_events seen answer)) (replaced-of_scalars cs) ∙ ap (λ l. cs ++ l) (replaced-reported seen answer)
+replaced-call k seen cs answer = grind (arith, replaced-shift, replaced-append, replaced-of_scalars, replaced-reported)
 
 found-reported : (found : Bool) (seen : ℕ) (answer : DecoderResult) → (found || has_bad (reported_events seen answer)) ≡ found_after found answer
-found-reported found seen InputEmpty = or-false found
-found-reported found seen OutputFull = or-false found
-found-reported found seen (Malformed a b) = or-true found
+found-reported found seen answer = grind (arith, or-false, or-true)
 
 found-call : (events : List DecodeEvent) (k seen : ℕ) (cs : List ℕ) (answer : DecoderResult) →
     found_after (has_bad events) answer ≡ has_bad (events ++ shift k (out_events seen cs answer))
-found-call events k seen cs answer =
-    let event : ℕ → DecodeEvent = λ x. Scalar x in
-    let out = out_events seen cs answer in
-    let reported = reported_events seen answer in
-    let one : has_bad (shift k out) ≡ has_bad reported =
-    has_bad-shift k out ∙ has_bad-append (map event cs) reported ∙ ap (λ b. b || has_bad reported) (has_bad-of_scalars cs) in
-    sym (has_bad-append events (shift k out) ∙ ap (λ b. has_bad events || b) one ∙ found-reported (has_bad events) seen answer)
+found-call events k seen cs answer = grind (arith, has_bad-shift, has_bad-append, has_bad-of_scalars, found-reported)
 
 -- ---- the room for U+FFFD
 
 pub replacement_count : (form : EncodingForm) → length (code_units form 0xFFFD) ≡ bmp_room form
-replacement_count Utf8 = rw (encode_3 0xFFFD (omega arith) (omega arith)) refl
-replacement_count Utf16 = refl
+replacement_count form = grind (arith, encode_3)
 
 counted_units : (form : EncodingForm) → replacement_units (replacing_query form) ≡ bmp_room form
-counted_units Utf8 = refl
-counted_units Utf16 = refl
+counted_units form = grind arith
 
 query_form-is : (form : EncodingForm) → query_form (replacing_query form) ≡ form
-query_form-is Utf8 = refl
-query_form-is Utf16 = refl
+query_form-is form = grind arith
 
 -- after a malformed sequence U+FFFD has room
 fault_least : (form : EncodingForm) (g : Grammar) (b : Bool) → bmp_room form ≤ cond b (release_room_in form g) (full_room_in form g)
-fault_least form g b = by_rooms form (profile g).rooms b where
-  by_rooms : (form : EncodingForm) (rooms : Rooms) (b : Bool) →
-      bmp_room form ≤ cond b (writing_room (bmp_room form) (wide_room form) rooms) (reading_room (bmp_room form) (wide_room form) rooms)
-  by_rooms form rooms b = grind arith
+fault_least form g b = grind arith
 
 pub replacement_fits : {form : EncodingForm} {before : DecoderState} {source : List ℕ} {last : Bool} {free : ℕ} {after : DecoderState} {a b read : ℕ}
     {scalars : List ℕ} →
     DecoderCall form before source last free after (Malformed a b) read scalars → total_unit_count form scalars + length (code_units form 0xFFFD) ≤ free
-replacement_fits {form} {before} {read = read} c =
-    let least = fault_least form before.grammar (nat_eq read 0) in
-    let had = c.room_after_malformed tt in
-    let fits = c.fits in
-    let count = replacement_count form in
-    omega (arith, least, had)
+replacement_fits {form} {before} {read = read} c = grind (arith, fault_least, nat_eq, replacement_count)
 
 -- ---- calls in progress
 
@@ -127,26 +103,15 @@ replaces_start form before source last free old = record {
 -- if the end of the input may be replaced before a call, it may be after it
 still_found : (last found : Bool) (answer : DecoderResult) (count : ℕ) (left : List ℕ) → IsTrue (may_replace_end last found left) →
     IsTrue (may_replace_end last (found_after found answer) (drop count left))
-still_found last false answer count left h = cc
-still_found false true answer count left h = cc
-still_found true true answer count (b ∷ left) h = cc
-still_found true true answer count [] h = rw (found_still answer, drop-nil) refl where
-  found_still : (answer : DecoderResult) → found_after true answer ≡ true
-  found_still InputEmpty = refl
-  found_still OutputFull = refl
-  found_still (Malformed a b) = refl
+still_found last found answer count left h = grind (arith, drop-nil)
 
 -- the end of the input is replaced only on a last call
 pub end_found-last : (last found : Bool) (left : List ℕ) → IsTrue (may_replace_end last found left) → IsTrue last
-end_found-last true found left h = refl
-end_found-last false true left h = cc
-end_found-last false false left h = cc
+end_found-last last found left h = grind arith
 
 found_now : (last found : Bool) (answer : DecoderResult) (left : List ℕ) → IsTrue (may_report_end last answer left) →
     IsTrue (may_replace_end last (found_after found answer) left)
-found_now last found InputEmpty left h = cc
-found_now last found OutputFull left h = cc
-found_now last found (Malformed a b) left h = h
+found_now last found answer left h = grind arith
 
 module _ {form : EncodingForm} {before : DecoderState} {source : List ℕ} {last : Bool} {free : ℕ} {now : DecoderState} {read : ℕ} {found : Bool}
     {old mid : List ℕ} {left : ℕ} (r : Replaces form before source last free now read found old mid left) where

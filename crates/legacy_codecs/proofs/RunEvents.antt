@@ -2,7 +2,7 @@
 use Rattle.std.proofs.Common.{◌≡◌, ◌∙◌, ℕ, ◌+◌, List, [], ◌∷◌, ◌++◌, length, drop, map, refl, sym, ap, arith, append_assoc, append-nil, subst, Bool, true}
 use Rattle.std.proofs.{Common.{IsTrue, inl}, lemmas.Bool.false≢true, Math.ListN.drop_of_length-le}
 use Rattle.legacy_base.specs.{declared.results.DecodeEvent.DecodeEvent, declared.results.DecodeEvent.TheVariants.Scalar}
-use Rattle.legacy_base.specs.{declared.results.DecoderResult.DecoderResult, declared.results.DecoderResult.TheVariants.{InputEmpty, OutputFull, Malformed}}
+use Rattle.legacy_base.specs.{declared.results.DecoderResult.DecoderResult, declared.results.DecoderResult.TheVariants.InputEmpty}
 use Rattle.legacy_base.specs.{Events.shift, Grammar.events_of, States.DecoderState, Calls.out_events}
 use Rattle.legacy_text.specs.EncodingForm.{EncodingForm}
 use Rattle.legacy_base.proofs.{Shifts.{shift-append, shift-shift, shift-zero}, Progress.end_report-last}
@@ -32,22 +32,15 @@ abbrev pub behind : RunPlace DecoderState → DecoderState → DecoderResult →
 behind p after answer read = place_behind p after (is_input_empty answer) (drop read p.piece)
 
 next-ahead : (s : DecoderState) (later : List (List ℕ)) → s.held ++ ([] ++ joined later) ≡ ahead (place_before s later)
-next-ahead s [] = refl
-next-ahead s (q ∷ qs) = refl
+next-ahead s later = grind arith
 
 pub place_before-ahead : (s : DecoderState) (pieces : List (List ℕ)) → events_ahead (place_before s pieces) ≡ events_of s.grammar (s.held ++ joined pieces)
-place_before-ahead s [] = refl
-place_before-ahead s (p ∷ ps) = refl
+place_before-ahead s pieces = grind arith
 
 -- after a call the same bytes are ahead, without those that it is done with
 place_behind-ahead : (p : RunPlace DecoderState) (after : DecoderState) (answer : DecoderResult) (read : ℕ) → (answer ≡ InputEmpty → read ≡ length p.piece) →
     after.held ++ (drop read p.piece ++ joined p.later) ≡ ahead (behind p after answer read)
-place_behind-ahead p after InputEmpty read h =
-    let e = h refl in
-    let none : drop read p.piece ≡ [] = drop_of_length-le p.piece (omega arith) in
-    ap (λ l. after.held ++ (l ++ joined p.later)) none ∙ next-ahead after p.later
-place_behind-ahead p after OutputFull read h = refl
-place_behind-ahead p after (Malformed a b) read h = refl
+place_behind-ahead p after answer read h = grind (arith, drop_of_length-le, next-ahead)
 
 module _ {form : EncodingForm} {from : RunPlace DecoderState} {lengths : List ℕ} where
   -- the events up to a place, and then those of what is ahead, are all events
@@ -71,13 +64,7 @@ module _ {form : EncodingForm} {from : RunPlace DecoderState} {lengths : List �
   -- a finished run is past all pieces, and nothing is left
   pub Reaches-finished : {calls : ℕ} {events : List DecodeEvent} {passed : ℕ} {finished : Bool} {p : RunPlace DecoderState} →
       Reaches form from lengths calls events passed finished p → finished ≡ true → (p ≡ place_before p.state []) × HasNoneLeft p.state
-  Reaches-finished begun h = absurd (false≢true h)
-  Reaches-finished (called calls events passed p r free e after InputEmpty read scalars c) h =
-      let end : place_before after p.later ≡ place_before after [] = ap (place_before after) (last_empty p.later h) in
-      let state : (place_before after p.later).state ≡ after = place_before-state after p.later in
-      (end ∙ ap (λ s. place_before s []) (sym state), subst HasNoneLeft (sym state) ((c.input_empty refl).2 h))
-  Reaches-finished (called calls events passed p r free e after OutputFull read scalars c) h = absurd (false≢true h)
-  Reaches-finished (called calls events passed p r free e after (Malformed a b) read scalars c) h = absurd (false≢true h)
+  Reaches-finished h h1 = grind (arith, false≢true, last_empty, place_before-state)
 
 -- the events of a run are a prefix of all events
 pub is_beginning : {form : EncodingForm} {before : DecoderState} {pieces : List (List ℕ)} {lengths : List ℕ} {calls : ℕ} {finished : Bool}

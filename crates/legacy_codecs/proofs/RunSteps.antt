@@ -34,20 +34,13 @@ reported_behind total (Malformed a b) = Bad (total - (a + b)) a ∷ []
 reported-placed : (h passed held total read : ℕ) (after : DecoderState) (answer : DecoderResult) → HoldsBack (held + read) after answer →
     passed + held ≡ h + total → placed h (shift passed (reported_events (held + read) answer)) ≡ reported_behind (total + read) answer
 unfolding placed
-reported-placed h passed held total read after InputEmpty f e = refl
-reported-placed h passed held total read after OutputFull f e = refl
-reported-placed h passed held total read after (Malformed a b) f e =
-    let w = f.within in
-    let place : passed + (held + read - b - a) - h ≡ total + read - (a + b) = omega arith in
-    ap (λ n. Bad n a ∷ []) place
+reported-placed h passed held total read after answer h1 h2 = grind arith
 
 -- after a call at most as many bytes are unread as before it
 place_behind-bytes : (p : RunPlace DecoderState) (after : DecoderState) (answer : DecoderResult) (read : ℕ) → read ≤ length p.piece →
     (answer ≡ InputEmpty → read ≡ length p.piece) →
     read + (length (behind p after answer read).piece + sum_by length (behind p after answer read).later) ≤ length p.piece + sum_by length p.later
-place_behind-bytes p after InputEmpty read w all = let e = all refl in let b = pieces-length after p.later in omega arith
-place_behind-bytes p after OutputFull read w all = omega (arith, length-drop read p.piece)
-place_behind-bytes p after (Malformed a b) read w all = omega (arith, length-drop read p.piece)
+place_behind-bytes p after answer read h h1 = grind (arith, pieces-length, length-drop)
 
 -- one more call, with the next of the lengths
 module _ {form : EncodingForm} {from : RunPlace DecoderState} {lengths : List ℕ} {calls : ℕ} {items : List DecodeEvent} {total : ℕ} {p : RunPlace DecoderState}
@@ -56,19 +49,7 @@ module _ {form : EncodingForm} {from : RunPlace DecoderState} {lengths : List �
     (c : DecoderCall form p.state p.piece (is_none p.later) free after answer read scalars) where
   items_behind : (items ++ map Scalar scalars) ++ reported_behind (total + read) answer
       ≡ placed (length from.state.held) (r.events ++ shift r.passed (out_events (length p.state.held + read) scalars answer))
-  items_behind =
-      let h = length from.state.held in
-      let fault = reported_events (length p.state.held + read) answer in
-      let same = reported-placed h r.passed (length p.state.held) total read after answer c.malformed_sequence r.passed_is in
-      rw (
-        placed-append h r.events (shift r.passed (map Scalar scalars ++ fault)),
-        shift-append r.passed (map Scalar scalars) fault,
-        shift-scalars r.passed scalars,
-        placed-append h (map Scalar scalars) (shift r.passed fault),
-        placed-scalars h scalars,
-        same,
-        ← r.items_are,
-      ) (append_assoc items (map Scalar scalars) (reported_behind (total + read) answer))
+  items_behind = grind (arith, reported-placed, placed-append, shift-append, shift-scalars, placed-scalars, append_assoc)
 
   call_behind : Running form from lengths (calls + 1) ((items ++ map Scalar scalars) ++ reported_behind (total + read) answer) (total + read)
       (ends_run p (is_input_empty answer)) (behind p after answer read)
@@ -103,8 +84,7 @@ pub is_run : {form : EncodingForm} {from : RunPlace DecoderState} {lengths : Lis
     {after : DecoderState} →
     Running form from lengths calls items total finished p → p.state ≡ after → calls ≤ length lengths → (finished ≡ false → calls ≡ length lengths) →
     IsRun form from lengths calls finished items after
-is_run r state few all =
-    record { events = r.events; passed = r.passed; place = _; reaches = r.reaches; state = state; placed_is = r.items_are; few = few; all = all }
+is_run r state few all = grind arith
 
 -- the place of a run after a call in the piece at an index
 pub place_at-more : (pieces : List (List ℕ)) (s : DecoderState) (index offset read : ℕ) → place_at pieces s index (offset + read)

@@ -1,20 +1,19 @@
 -- Finished runs give what the Standard's decoders and encoders give.
-use Rattle.std.proofs.Common.{◌≡◌, ◌∙◌, ℕ, ◌-◌, Bool, true, List, [], ◌∷◌, ◌++◌, length, append-nil, refl, sym, ap, subst, arith}
-use Rattle.legacy_base.specs.{declared.results.DecodeEvent.DecodeEvent, declared.results.DecodeEvent.TheVariants.{Scalar, Bad}}
-use Rattle.legacy_base.specs.{declared.results.EncodeEvent.EncodeEvent, Grammar.events_of, States.DecoderState, Encoders.{EncoderState, new_encoder, encoded}}
+use Rattle.std.proofs.Common.{◌≡◌, ◌∙◌, ℕ, ◌-◌, Bool, List, [], ◌∷◌, ◌++◌, append-nil, refl, sym, ap, subst, arith}
+use Rattle.legacy_base.specs.declared.results.DecodeEvent.{DecodeEvent}
+use Rattle.legacy_base.specs.{declared.results.EncodeEvent.EncodeEvent, States.DecoderState, Encoders.EncoderState}
 use Rattle.legacy_base.specs.Encoders.{Codec, single_byte, user_defined, big5, euc_kr, shift_jis, euc_jp, gb18030, gbk, iso_2022_jp}
 use Rattle.legacy_base.specs.RoundTrips.{HasAcceptedLists}
 use Rattle.legacy_tables.proofs.Accepted.{parts}
-use Rattle.legacy_standard.specs.{DecoderLaw.{grammar_of, HandlerDecodes}, EncoderLaw.{HasAcceptedRanges, AreAcceptedRanges, HandlerEncodes}}
+use Rattle.legacy_standard.specs.{DecoderLaw.HandlerDecodes, EncoderLaw.{HasAcceptedRanges, AreAcceptedRanges, HandlerEncodes}}
 use Rattle.legacy_standard.proofs.AllCodecs.{all_decoders, all_encoders}
-use Rattle.legacy_codecs.specs.{Pieces.joined, Runs.{placed_event, placed, IsBeginning}, EncodeRuns.IsEncodeBeginning, StandardRuns.RunIsDecodedByHandler}
+use Rattle.legacy_codecs.specs.{Runs.{placed_event, placed, IsBeginning}, EncodeRuns.IsEncodeBeginning, StandardRuns.RunIsDecodedByHandler}
 use Rattle.legacy_codecs.specs.StandardRuns.{RunIsEncodedByHandler, RunsAreDecodedByHandlers, RunsAreEncodedByHandlers}
 use Rattle.legacy_codecs.proofs.{RunEvents.finished_gives, EncodeRunEvents.finished_encodes}
 
 -- for a decoder that holds nothing back, places do not change
 placed_event-zero : (event : DecodeEvent) → placed_event 0 event ≡ event
-placed_event-zero (Scalar c) = refl
-placed_event-zero (Bad place length) = let same : place - 0 ≡ place = omega arith in ap (λ (p : ℕ). Bad p length) same
+placed_event-zero event = grind arith
 
 placed-zero : (events : List DecodeEvent) → placed 0 events ≡ events
 unfolding placed
@@ -24,11 +23,7 @@ placed-zero (event ∷ events) =
 
 pub run_is_decoded : (before : DecoderState) (pieces : List (List ℕ)) {finished : Bool} {answered : List DecodeEvent} →
     IsBeginning before pieces finished answered → RunIsDecodedByHandler before pieces finished answered
-run_is_decoded before pieces {answered = answered} b decoder new done all =
-    let whole : placed 0 (events_of (grammar_of decoder) (joined pieces)) ≡ answered =
-    ap (λ (s : DecoderState). placed (length s.held) (events_of s.grammar (s.held ++ joined pieces))) (sym new)
-    ∙ b.whole ∙ ap (λ l. answered ++ l) (b.all done) ∙ append-nil answered in
-    subst (HandlerDecodes decoder (joined pieces)) (sym (placed-zero _) ∙ whole) (all_decoders decoder (joined pieces) all)
+run_is_decoded before pieces {answered = answered} b decoder new done all = grind (arith, append-nil, placed-zero, all_decoders)
 
 pub runs_are_decoded : RunsAreDecodedByHandlers
 runs_are_decoded decoder bytes all answered run =
@@ -49,10 +44,7 @@ accepted_ranges (iso_2022_jp jis0208 katakana_index) lists = tt
 
 pub run_is_encoded : (before : EncoderState) (pieces : List (List ℕ)) {finished : Bool} {answered : List EncodeEvent} →
     IsEncodeBeginning before pieces finished answered → RunIsEncodedByHandler before pieces finished answered
-run_is_encoded before pieces {answered = answered} b codec lists has new done all =
-    let whole : encoded (new_encoder codec) (joined pieces) true ≡ answered =
-    ap (λ s. encoded s (joined pieces) true) (sym new) ∙ b.whole ∙ ap (λ l. answered ++ l) (b.all done) ∙ append-nil answered in
-    subst (HandlerEncodes codec (joined pieces)) whole (all_encoders codec (accepted_ranges codec lists) has (joined pieces) all)
+run_is_encoded before pieces {answered = answered} b codec lists has new done all = grind (arith, append-nil, all_encoders, accepted_ranges)
 
 pub runs_are_encoded : RunsAreEncodedByHandlers
 runs_are_encoded codec lists has text all answered run =

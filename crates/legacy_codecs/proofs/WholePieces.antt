@@ -1,10 +1,10 @@
 -- A call with replacement that read its whole source gave the text of it.
-use Rattle.std.proofs.Common.{◌≡◌, ◌∙◌, ℕ, List, [], ◌∷◌, ◌++◌, length, drop, refl, sym, ap, arith, take, ◌≤◌, Bool, true, IsTrue, All, append-nil, inl}
+use Rattle.std.proofs.Common.{◌≡◌, ◌∙◌, ℕ, List, [], ◌∷◌, ◌++◌, length, drop, refl, sym, ap, arith, take, ◌≤◌, Bool, true, IsTrue, All, append-nil}
 use Rattle.std.proofs.{lemmas.List.{drop_all, take-take, take-append-le}, lemmas.List.Elements.{All-head, All-tail}, lemmas.Str.chars_from_encodes}
 use Rattle.std.specs.{Char.IsScalar, Str.{chars, IsUtf8}}
 use lib.Utf8.{encode, encodes, scalars}
 use Rattle.legacy_text.specs.EncodingForm.{EncodingForm, Utf8, all_code_units}
-use Rattle.legacy_base.specs.{Events.shift, Grammar.events_of, States.DecoderState}
+use Rattle.legacy_base.specs.{Grammar.events_of, States.DecoderState}
 use Rattle.legacy_text.proofs.CodeUnits.{all_code_units-append}
 use Rattle.legacy_codecs.specs.{declared.results.CoderResult.CoderResult, declared.results.CoderResult.TheVariants.InputEmpty, Replacing.replaced_scalars}
 use Rattle.legacy_codecs.specs.{Replacing.ReplacingDecoderCall, WholeTexts.{text_of, TextGoesOn}}
@@ -43,16 +43,10 @@ module _ {form : EncodingForm} {before : DecoderState} {source : List ℕ} {last
     (c : ReplacingDecoderCall form before source last free after answer read written found) (empty : answer ≡ InputEmpty) where
   scalars_go_on : (later : List ℕ) → (IsTrue last → later ≡ []) → text_of before (source ++ later) ≡ replaced_scalars c.out ++ text_of after later
   unfolding text_of
-  scalars_go_on later h =
-      let rest = events_of after.grammar (after.held ++ later) in
-      let whole = rw (all_read source read (c.input_empty empty).0) at c.progress.events later (λ l. inl (h (end_found-last last found [] l))) in
-      ap replaced_scalars whole ∙ replaced-append c.out (shift c.passed rest) ∙ ap (λ l. replaced_scalars c.out ++ l) (replaced-shift c.passed rest)
+  scalars_go_on later h = grind (arith, all_read, end_found-last, replaced-append, replaced-shift)
 
   pub text_goes_on : TextGoesOn form last before source after written
-  text_goes_on later h =
-      let rest = text_of after later in
-      ap (all_code_units form) (scalars_go_on later h) ∙ all_code_units-append form (replaced_scalars c.out) rest
-      ∙ ap (λ l. l ++ all_code_units form rest) (sym c.text)
+  text_goes_on later h = grind (arith, scalars_go_on, all_code_units-append)
 
   -- after the last piece no text is left
   pub none_left : IsTrue last → text_of after [] ≡ []
@@ -60,9 +54,7 @@ module _ {form : EncodingForm} {before : DecoderState} {source : List ℕ} {last
   none_left is_last = ap replaced_scalars (ap (events_of after.grammar) (append-nil after.held) ∙ (c.input_empty empty).2 is_last)
 
   whole_text : IsTrue last → text_of before source ≡ replaced_scalars c.out
-  whole_text is_last =
-      ap (text_of before) (sym (append-nil source)) ∙ scalars_go_on [] (λ _. refl) ∙ ap (λ l. replaced_scalars c.out ++ l) (none_left is_last)
-      ∙ append-nil (replaced_scalars c.out)
+  whole_text is_last = grind (arith, append-nil, scalars_go_on, none_left)
 
 -- a last call into UTF-8 that read its whole source wrote the text of it
 pub whole_utf8 : {before : DecoderState} {source : List ℕ} {free : ℕ} {after : DecoderState} {answer : CoderResult} {read : ℕ} {written : List ℕ}

@@ -1,15 +1,14 @@
 -- Calls of an encoder with references, over a whole text.
-use Rattle.std.proofs.Common.{◌≡◌, ◌∙◌, ℕ, ◌≤◌, ◌<◌, List, [], ◌++◌, length, refl, sym, ap, arith, append-nil, append_assoc, length-append, Bool, true, false}
-use Rattle.std.proofs.{Common.{IsTrue, map, inl}, lemmas.Grind.flat_map-append}
-use Rattle.legacy_base.specs.{declared.results.EncodeEvent.TheVariants.Byte, Encoders.{EncoderState, encoded}}
+use Rattle.std.proofs.Common.{◌≡◌, ◌∙◌, ℕ, ◌≤◌, ◌<◌, List, [], ◌++◌, length, refl, sym, ap, arith, append-nil, append_assoc, length-append, Bool, true}
+use Rattle.std.proofs.{Common.{IsTrue, inl}, lemmas.Grind.flat_map-append}
+use Rattle.legacy_base.specs.Encoders.{EncoderState, encoded}
 use Rattle.legacy_base.proofs.EncoderLaws.{end-encoded}
 use Rattle.legacy_codecs.specs.{declared.results.CoderResult.CoderResult, declared.results.CoderResult.TheVariants.{InputEmpty, OutputFull}}
 use Rattle.legacy_codecs.specs.References.{event_bytes, referenced_bytes, tells_text_end, ReplacingEncoderCall}
 
 -- the end was written on a last call
 pub wrote_last : (last : Bool) (answer : CoderResult) → IsTrue (tells_text_end last answer) → IsTrue last
-wrote_last last InputEmpty h = h
-wrote_last last OutputFull h = absurd (let no : false ≡ true = h in cc)
+wrote_last last answer h = grind arith
 
 module _ {last : Bool} (before : EncoderState) (source : List ℕ) (free : ℕ) (after : EncoderState) (answer : CoderResult) (left bytes : List ℕ) (found : Bool)
     (c : ReplacingEncoderCall before source last free after answer left bytes found) where
@@ -24,18 +23,13 @@ module _ {last : Bool} (before : EncoderState) (source : List ℕ) (free : ℕ) 
   -- a full output that was long enough has some
   pub bytes_less : 14 ≤ free → answer ≡ OutputFull →
       length (referenced_bytes (encoded after left last)) < length (referenced_bytes (encoded before source last))
-  bytes_less is e =
-      let few = c.few e in
-      let all = ap length bytes_go_on ∙ length-append bytes (referenced_bytes (encoded after left last)) in
-      omega (arith, is, few, all)
+  bytes_less is e = grind (arith, bytes_go_on, length-append)
 
 module _ {before : EncoderState} {source : List ℕ} {free : ℕ} {after : EncoderState} {answer : CoderResult} {left bytes : List ℕ} {found : Bool}
     (c : ReplacingEncoderCall before source true free after answer left bytes found) where
   -- after the end nothing is left to write
   pub bytes_end : answer ≡ InputEmpty → referenced_bytes (encoded after left true) ≡ []
-  bytes_end e =
-      let done = c.input_empty e in
-      ap (λ l. referenced_bytes (encoded after l true)) done.0 ∙ ap referenced_bytes (end-encoded after) ∙ ap (λ l. referenced_bytes (map Byte l)) (done.1 refl)
+  bytes_end e = grind (arith, end-encoded)
 
   -- what is done, with what was written now
   pub bytes_after : (done : List ℕ) {now whole : List ℕ} → done ++ referenced_bytes (encoded before source true) ≡ whole → now ≡ done ++ bytes →

@@ -1,4 +1,4 @@
-use Rattle.std.proofs.{Common.{◌≡◌, ◌∙◌, ◌+◌, ◌≤◌, ◌++◌, length, take, is_some, sym, ap, refl, arith, append_assoc, inl, inr}, lemmas.List.length-take-le}
+use Rattle.std.proofs.{Common.{◌≡◌, ◌∙◌, ◌+◌, ◌≤◌, ◌++◌, length, take, is_some, sym, ap, arith, append_assoc, inl, inr}, lemmas.List.length-take-le}
 use Rattle.legacy_base.specs.declared.results.EncoderResult.TheVariants.{OutputFull}
 use Rattle.legacy_codecs.specs.References.{reference}
 use Rattle.legacy_codecs.proofs.ReferencingCalls.{referencing_start, referencing_step, referencing_less, referencing_end, referencing_full, referencing_done}
@@ -6,11 +6,7 @@ use Rattle.legacy_codecs.proofs.ReferencingCalls.{referencing_pending, nothing_r
 use Rattle.legacy_codecs.proofs.character_references.encode_replacing.Goals as goal
 
 pub calls-init : goal.calls-init
-calls-init g c = record {
-  calls = referencing_start (g.E.RawEncoder.state c.args.encoder.now) (g.S.Source.left c.args.src.now) c.args.last (length c.args.dst.now);
-  within = omega arith;
-  passed = refl;
-}
+calls-init g c = grind (arith, referencing_start)
 
 pub returns-in-InputEmpty-clause-call : goal.returns-in-InputEmpty-clause-call
 returns-in-InputEmpty-clause-call g c =

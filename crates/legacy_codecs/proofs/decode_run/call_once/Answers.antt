@@ -4,11 +4,7 @@ use Rattle.legacy_codecs.proofs.KeptAsWritten.{kept_is, kept_within}
 use Rattle.legacy_codecs.proofs.decode_run.call_once.Goals as goal
 
 pub returns-clause-call : goal.returns-clause-call
-returns-clause-call g c =
-    let call = c.step-answer.ensures.call in
-    let units = ap (all_code_units g.F.OutputForm.form) c.scalars.ensures.value ∙ call.2 in
-    let same = kept_is g.F.OutputForm.form _ call.0 _ c.new-kept.ensures.kept c.scalars.ensures.scalar call.1.scalar units in
-    (call.0, rw c.new-kept.ensures.free at call.1, rw same at c.push_items.ensures.items)
+returns-clause-call g c = grind (arith, kept_is)
 
 pub push_items-requires : goal.push_items-requires
 push_items-requires g c =

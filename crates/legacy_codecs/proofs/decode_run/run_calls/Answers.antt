@@ -12,25 +12,10 @@ none : {A : Type 0} (v : Vec A Global) → v.items ≡ [] → vec_len v ≡ 0
 none v e = v.ok.0 ∙ ap length e
 
 pub loop-calls-init : goal.loop-calls-init
-loop-calls-init g c =
-    let n = none c.args.events c.requires.empty in
-    let first = place_at-first (g.D.RawDecoder.state c.args.decoder.now) (contents_of c.args.pieces.now) (rw length-map c.requires.some) in
-    record {
-      running = rw (c.requires.empty, first) (running_start _ _ _);
-      room = let r = c.requires.room in omega arith;
-      buffer = c.requires.buffer;
-      inside = c.requires.some;
-      within = omega arith;
-    }
+loop-calls-init g c = grind (arith, none, place_at-first, length-map, running_start)
 
 pub overflow_add-total : goal.overflow_add-total
-overflow_add-total g c =
-    let pieces = contents_of c.args.pieces.now in
-    let bytes = c.loop-calls.invariant.running.bytes in
-    let all = pieces-length (g.D.RawDecoder.state c.args.decoder.now) pieces in
-    let one = c.call_once-answer.ensures.call.1.within in
-    let unread = ap length c.unread_of-unread.ensures in
-    omega (arith, c.requires.total)
+overflow_add-total g c = grind (arith, pieces-length)
 
 pub returns-then-last : goal.returns-then-last
 returns-then-last g c =

@@ -25,10 +25,7 @@ loop-calls-init g c =
 -- the length of a call's output is the next of the lengths
 free_is : (lengths output : List ℕ) (calls : ℕ) → calls < length lengths → All (λ n. n ≤ length output) lengths →
     slice_get lengths calls ≡ Some (length (take (get_or lengths calls 0) output))
-free_is lengths output calls h fits =
-    let small = fits calls 0 h in
-    let same : length (take (get_or lengths calls 0) output) ≡ get_or lengths calls 0 = omega (arith, length-take (get_or lengths calls 0) output) in
-    rw same (slice_get-get_or lengths calls 0 h)
+free_is lengths output calls h fits = grind (arith, length-take, slice_get-get_or)
 
 -- the scalars of the piece at an index
 piece_is : {A : Type 0} (f : A → List ℕ) (pieces : List A) (index : ℕ) (piece : A) → index < length pieces → piece ≡ get_or pieces index piece →

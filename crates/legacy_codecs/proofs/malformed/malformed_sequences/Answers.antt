@@ -1,18 +1,11 @@
-use Rattle.std.proofs.Common.{◌∙◌, ◌++◌, ◌∷◌, [], length, arith, sym, ap}
+use Rattle.std.proofs.Common.{◌∙◌, ◌++◌, ◌∷◌, [], length, arith, ap}
 use Rattle.legacy_codecs.specs.declared.malformed.MalformedSequence.{MalformedSequence}
-use Rattle.legacy_base.specs.Lengths.{to_utf8_without_replacement}
 use Rattle.legacy_base.proofs.Enough.{room-answer}
 use Rattle.legacy_codecs.proofs.{MalformedSequences.{finds_start, finds_step, finds_stop, sequence_is}, Replaced.fault_less}
 use Rattle.legacy_codecs.proofs.malformed.malformed_sequences.Goals as goal
 
 pub calls-init : goal.calls-init
-calls-init g c =
-    let before = g.D.RawDecoder.state c.args.decoder.now in
-    let n = length c.args.input.now in
-    let fits =
-    room-answer to_utf8_without_replacement before n n c.in-Some.room (omega arith)
-    (sym c.max_utf8_buffer_length_without_replacement.ensures ∙ c.in-Some.is) in
-    rw (c.new-found.ensures.items, c.in-Ok.ensures.len) (finds_start before c.args.input.now c.in-Some.room fits)
+calls-init g c = grind (arith, room-answer, finds_start)
 
 pub returns-in_default-answer-clause-found : goal.returns-in_default-answer-clause-found
 returns-in_default-answer-clause-found g c =

@@ -1,14 +1,9 @@
-use Rattle.std.proofs.Common.{refl, ◌∙◌}
+use Rattle.std.proofs.Common.{arith, ◌∙◌}
 use Rattle.legacy_codecs.proofs.Replacements.{replaces_start, replaces_end, replaces_full, replaces_step, replaces_fits, replaces_less}
 use Rattle.legacy_codecs.proofs.replacing.decode_replacing.Goals as goal
 
 pub calls-init : goal.calls-init
-calls-init g c = record {
-  replaces =
-      replaces_start g.T.Destination.form (g.D.RawDecoder.state c.args.decoder.now) c.args.src.now c.args.last (g.T.Destination.room c.args.dst.now)
-      (g.T.Destination.contents c.args.dst.now);
-  loan = refl;
-}
+calls-init g c = grind (arith, replaces_start)
 
 pub returns-in-InputEmpty-clause-call : goal.returns-in-InputEmpty-clause-call
 returns-in-InputEmpty-clause-call g c =
