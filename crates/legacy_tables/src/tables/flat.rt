@@ -32,7 +32,7 @@ impl<'a> Model for FlatTables<'a> {
 impl<'a> FlatTables<'a> {
     ghost use Rattle.legacy_tables.specs.TableChecks.{table_fault};
     ghost use Rattle.legacy_tables.specs.Tables.{flat_indexes, index_list, is_narrow_index};
-    ghost use Rattle.std.specs.Prelude.{true};
+    ghost use Rattle.std.specs.Prelude.{true, false, length};
 
     /// Returns what `Tables::new` does.
     pub(super) fn new(indexes: &Indexes<'a>) -> Result<FlatTables<'a>, TableError>
@@ -49,7 +49,8 @@ impl<'a> FlatTables<'a> {
     /// For other names it returns an empty list.
     #[inline]
     pub fn narrow(&self, name: IndexName) -> &[u16]
-        ensures { is_narrow_index name ≡ true → result.now ≡ index_list self.now.flat name }
+        ensures list { is_narrow_index name ≡ true → result.now ≡ index_list self.now.flat name }
+        ensures other { is_narrow_index name ≡ false → length result.now ≡ 0 }
     {
         match name {
             IndexName::EucKr => self.given.euc_kr,

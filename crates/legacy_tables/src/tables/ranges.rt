@@ -1,9 +1,9 @@
 //! The ranges of gb18030, and the pointers of one range, which a run of four-byte sequences keeps.
-ghost use Rattle.std.specs.Prelude.{◌≡◌, ◌≢◌, ℕ, ◌+◌, ◌<◌, ◌≤◌, None, IfSome};
+ghost use Rattle.std.specs.Prelude.{◌≡◌, ◌≢◌, ℕ, ◌+◌, ◌-◌, ◌<◌, ◌≤◌, None, IfSome};
 ghost use Rattle.std.specs.Prelude.{length, slice_index_or};
 ghost use Rattle.legacy_tables.specs.Indexes.{range};
 ghost use Rattle.legacy_tables.specs.Pointers.{range_pointer_of};
-ghost use Rattle.legacy_tables.specs.RangeParts.{IsRangePart};
+ghost use Rattle.legacy_tables.specs.RangeParts.{IsRangePart, IsPartAt, IsPartWith};
 ghost use Rattle.legacy_tables.specs.TableChecks.{range_order_fault, range_value_fault};
 
 use super::checks::end_of;
@@ -41,7 +41,8 @@ impl RangePart {
 #[inline(always)]
 fn offset(first: u32, number: u32, count: u32) -> Option<u32>
     requires { first + count ≤ 0x1_0000_0000 }
-    ensures { IfSome result (λ at. (first + at ≡ number) × (at < count)) }
+    ensures among { IfSome result (λ at. (first + at ≡ number) × (at < count)) }
+    ensures outside { result ≡ None → first ≤ number → first + count ≤ number }
 {
     let at = number.wrapping_sub(first);
     if at < count { Some(at) } else { None }
@@ -86,7 +87,8 @@ impl<'a> Ranges<'a> {
     /// Returns the pointers of the range at a place, or no pointers past the last range.
     #[inline(always)]
     pub fn part_at(&self, place: usize) -> RangePart
-        ensures { IsRangePart self.now.list.now result }
+        ensures part { IsRangePart self.now.list.now result }
+        ensures at { IsPartAt self.now.list.now place result }
     {
         if place >= self.list.len() {
             return RangePart::none();
@@ -116,7 +118,8 @@ impl<'a> Ranges<'a> {
     /// If there is no such range, it returns the pointers of the first range.
     #[inline]
     pub fn part_with(&self, scalar: char) -> RangePart
-        ensures { IsRangePart self.now.list.now result }
+        ensures part { IsRangePart self.now.list.now result }
+        ensures with_scalar { IsPartWith self.now.list.now scalar result }
     {
         self.part_at(ranges_up_to(self.list, u32::from(scalar) as usize).saturating_sub(1))
     }
@@ -126,7 +129,9 @@ impl<'a> Ranges<'a> {
     pub fn scalar_in(&self, part: RangePart, pointer: usize) -> Option<char>
         requires part { IsRangePart self.now.list.now part }
         requires small { pointer < 0x1_0000_0000 }
-        ensures { IfSome result (λ c. range self.now.list.now pointer ≡ Some c) }
+        ensures given { IfSome result (λ c. range self.now.list.now pointer ≡ Some c) }
+        ensures outside { result ≡ None → part.first ≤ pointer → pointer < part.first + part.count →
+            pointer ≡ 7457 }
     {
         let at = offset(part.first, pointer as u32, part.count)?;
         if pointer == 7457 {
@@ -141,7 +146,9 @@ impl<'a> Ranges<'a> {
     pub fn pointer_in(&self, part: RangePart, scalar: char) -> Option<usize>
         requires part { IsRangePart self.now.list.now part }
         requires free { scalar ≢ 0xE7C7 }
-        ensures { IfSome result (λ p. range_pointer_of self.now.list.now scalar ≡ Some p) }
+        ensures given { IfSome result (λ p. range_pointer_of self.now.list.now scalar ≡ Some p) }
+        ensures outside { result ≡ None → part.scalar ≤ scalar → scalar < part.scalar + part.count →
+            part.first + (scalar - part.scalar) ≡ 7457 }
     {
         let at = offset(part.scalar, u32::from(scalar), part.count)?;
         let pointer = part.first + at;

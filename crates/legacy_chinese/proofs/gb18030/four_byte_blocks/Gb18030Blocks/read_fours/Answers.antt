@@ -13,7 +13,7 @@ loop-at-init g c =
       omega arith,
       writes_none g.T.Destination (gb18030 flat.gb18030 flat.ranges) c.args.dst.now,
       c.ranges-ranges.ensures,
-      c.part_at-part.ensures,
+      c.part_at-part.ensures.part,
     )
 
 pub returns-then-src-at-lt128 : goal.returns-then-src-at-lt128

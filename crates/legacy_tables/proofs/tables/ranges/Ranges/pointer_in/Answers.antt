@@ -1,9 +1,9 @@
 use Rattle.std.proofs.Common.{◌≡◌, ◌≢◌, ◌+◌, ◌-◌, arith}
 use Rattle.legacy_tables.proofs.tables.ranges.Ranges.pointer_in.Goals as goal
 
-pub returns : goal.returns
-returns c =
-    let at = c.in_ok-at.ensures in
+pub returns-clause-given : goal.returns-clause-given
+returns-clause-given c =
+    let at = c.in_ok-at.ensures.among in
     let number = c.from.ensures in
     let same : c.in_ok-at.at ≡ c.args.scalar - c.args.part.scalar = omega (arith, at.0, number) in
     let other : c.args.part.first + (c.args.scalar - c.args.part.scalar) ≢ 7457 = λ e. c.if-pointer-eq7457.false (omega (arith, same, e)) in
