@@ -1,11 +1,17 @@
 -- The runs of x-user-defined.
-use Rattle.std.proofs.Common.{◌≡◌, ◌∙◌, Bool, true, false, cond, ℕ, ◌+◌, ◌-◌, ◌%◌, ◌<◌, ◌^◌, ◌==◌, [], ◌∷◌, bit_and, bit_xor, refl, ap, arith}
-use Rattle.std.proofs.{lemmas.Bool.{agree_below_at, eqb-true}, lemmas.Bool.Decides.nat_tests, lemmas.List.Elements.All-nil}
+use Rattle.std.proofs.Common.{◌≡◌, ◌∙◌, Bool, true, false, cond, ℕ, zero, suc, ◌+◌, ◌-◌, ◌%◌, ◌<◌, ◌≤◌, ◌^◌, ◌==◌, List, [], ◌∷◌, ◌++◌, bit_and, bit_xor, refl}
+use Rattle.std.proofs.Common.{ap, arith, IsAscii, length, take, drop, get_or, All}
+use Rattle.std.proofs.{lemmas.Bool.{agree_below_at, eqb-true}, lemmas.Bool.Decides.nat_tests, lemmas.List.Elements.{All-nil, All-from_get_or}}
+use Rattle.std.proofs.lemmas.List.{take_more, take_all, length-drop, get_or-drop}
 use Rattle.legacy_tables.specs.Unicode.{IsByte}
 use Rattle.legacy_base.specs.{States.new_state, Grammar.user_defined, Fronts.reads}
 use Rattle.std.specs.Char.{IsScalar, is_ascii}
-use Rattle.legacy_decoder_engine.specs.{declared.moves.Fed.TheVariants.One, ReadAhead.{IsSingle, HasAscii}, Steps.finish, Moves.Feeds, Feeding.Took}
-use Rattle.legacy_decoder_engine.proofs.RunForms.{ascii_is, single_runs, has_ascii}
+use Rattle.legacy_text.specs.{declared.destination.Destination.Ghosts, EncodingForm.{code_units, all_code_units, total_unit_count}}
+use Rattle.legacy_decoder_engine.specs.{declared.moves.Fed.TheVariants.One, ReadAhead.{Runs, IsSingle, HasAscii, ReadsAhead}, Steps.finish}
+use Rattle.legacy_decoder_engine.specs.{Moves.Feeds, Feeding.Took}
+use Rattle.legacy_decoder_engine.proofs.{RunForms.{ascii_is, single_runs, has_ascii}, JoinedRuns.{reads_more, reads_written, reads_ascii}}
+use Rattle.legacy_decoder_engine.proofs.WrittenRuns.{runs_none, runs_more, rest_of, all_short, short, writes_one}
+use Rattle.legacy_miscellaneous.specs.UserDefinedUnits.{unit_of_byte}
 use Rattle.legacy_miscellaneous.proofs.UserDefinedShown.{user_defined_shown}
 use Rattle.legacy_decoder_engine.proofs.Feeding as moves
 
@@ -15,7 +21,7 @@ user_defined_ascii = has_ascii user_defined_shown (λ b. refl) (λ b h. let a = 
 -- ---- the scalar of a byte
 
 abbrev scalar_is : ℕ → ℕ → Type 0
-scalar_is b c = c ≡ cond (is_ascii b) b (0xF780 + (b - 0x80))
+scalar_is b c = c ≡ unit_of_byte b
 
 -- each byte is a run of its own
 pub is_single : (b c : ℕ) → b < 2 ^ 8 → IsScalar c → scalar_is b c → IsSingle user_defined b c
@@ -30,14 +36,70 @@ feeds b c byte scalar e = moves.feeds user_defined_shown [] refl (All-nil IsByte
     takes true e = record { answer = ap One e; holds = refl; scalar = scalar }
     takes false e = record { answer = ap One e; holds = refl; scalar = scalar }
 
--- ---- the scalar of a byte by its bits
+-- ---- the unit of a byte by its bits
 
-bits_are : (b : ℕ) → b < 256 → bit_and ((bit_xor b 128 + 65408) % 65536) 63487 ≡ cond (is_ascii b) b (0xF780 + (b - 0x80))
-bits_are b h = eqb-true _ _ (agree_below_at (λ b. bit_and ((bit_xor b 128 + 65408) % 65536) 63487 == cond (is_ascii b) b (0xF780 + (b - 0x80))) (λ _. true) 256
-    b refl h)
+pub bits_are : (b : ℕ) → b < 256 → bit_and ((bit_xor b 128 + 65408) % 65536) 63487 ≡ unit_of_byte b
+bits_are b h = eqb-true _ _ (agree_below_at (λ b. bit_and ((bit_xor b 128 + 65408) % 65536) 63487 == unit_of_byte b) (λ _. true) 256 b refl h)
 
-pub bits_scalar : (b : ℕ) → b < 256 → IsScalar (bit_and ((bit_xor b 128 + 65408) % 65536) 63487)
-bits_scalar b h = rw (bits_are b h) (grind (arith, nat_tests))
+-- each unit is a scalar
+pub unit_scalar : (b : ℕ) → b < 256 → IsScalar (unit_of_byte b)
+unit_scalar b h = grind (arith, nat_tests)
 
-pub bits_is : (b c : ℕ) → b < 256 → c ≡ bit_and ((bit_xor b 128 + 65408) % 65536) 63487 → scalar_is b c
-bits_is b c h e = e ∙ bits_are b h
+-- ---- eight bytes at once
+
+-- the first bytes are a run
+units_run : (source units : List ℕ) (r : ℕ) → ((k : ℕ) → get_or source k 0 < 2 ^ 8) → r ≤ length source → r ≤ length units →
+    ((k : ℕ) → k < r → get_or units k 0 ≡ unit_of_byte (get_or source k 0)) → Runs user_defined (take r source) (take r units)
+units_run source units zero bytes within room are = runs_none user_defined
+units_run source units (suc r) bytes within room are =
+    let b : ℕ = get_or source r 0 in
+    let u : ℕ = get_or units r 0 in
+    let is = are r (omega arith) in
+    let one = (is_single b u (bytes r) (rw is (unit_scalar b (bytes r))) is).1 in
+    let more : suc r ≡ r + 1 = omega arith in
+    rw (more, take_more units r 0 (omega arith), take_more source r 0 (omega arith))
+    (runs_more user_defined (take r source) (b ∷ []) (take r units) (u ∷ []) (units_run source units r bytes (omega arith) (omega arith)
+    (λ k h. are k (omega arith))) one)
+
+-- each byte of the rest of a source is a byte
+pub rest_bytes : (source : List ℕ) (at : ℕ) → ((k : ℕ) → get_or source k 0 < 2 ^ 8) → (k : ℕ) → get_or (take (length source - at) (drop at source)) k 0 < 2 ^ 8
+rest_bytes source at bytes k = rw (rest_of source at, get_or-drop at source k 0) (bytes (at + k))
+
+-- the units of eight bytes are scalars
+pub units_are_scalars : (source units : List ℕ) → ((k : ℕ) → get_or source k 0 < 2 ^ 8) → length units ≡ 8 →
+    ((k : ℕ) → k < 8 → get_or units k 0 ≡ unit_of_byte (get_or source k 0)) → All IsScalar units
+units_are_scalars source units bytes long are =
+    All-from_get_or IsScalar units 0 (λ k h. rw (are k (omega arith)) (unit_scalar (get_or source k 0) (bytes k)))
+
+-- eight more bytes are read, and their units are written
+pub eight_more : {D : Type 0} (T : Ghosts D) (source units : List ℕ) {old mid new : D} (at : ℕ) → ((k : ℕ) → get_or source k 0 < 2 ^ 8) →
+    at + 8 ≤ length source → length units ≡ 8 → ReadsAhead T (new_state user_defined) source at old mid → 35 ≤ T.room mid →
+    ((k : ℕ) → k < 8 → get_or units k 0 ≡ unit_of_byte (get_or (take (length source - at) (drop at source)) k 0)) →
+    T.contents new ≡ T.contents mid ++ all_code_units T.form units → T.room new + total_unit_count T.form units ≡ T.room mid → T.loan new ≡ T.loan mid →
+    ReadsAhead T (new_state user_defined) source (at + 8) old new
+eight_more T source units {old} {mid} {new} at bytes within long before enough are contents room loan =
+    let rest : List ℕ = take (length source - at) (drop at source) in
+    let is_rest : rest ≡ drop at source = rest_of source at in
+    let longer : length rest ≡ length source - at = ap length is_rest ∙ length-drop at source in
+    let low = rest_bytes source at bytes in
+    let all : take 8 units ≡ units = take_all 8 units (omega arith) in
+    let few = all_short T.form units (λ k h. (is_single (get_or rest k 0) (get_or units k 0) (low k)
+    (rw (are k (omega arith)) (unit_scalar (get_or rest k 0) (low k))) (are k (omega arith))).0) in
+    let run = units_run rest units 8 low (omega arith) (omega arith) are in
+    reads_more before (reads_written (omega arith) (record { scalars = units; runs = rw all at run; written = contents; room = room; loan = loan })
+    (omega (arith, few, room)) (omega arith))
+
+-- ---- ASCII, and a byte after it
+
+module _ {D : Type 0} (T : Ghosts D) (source : List ℕ) (r : ℕ) (old mid : D) (few : r ≤ 64) (long : 64 < length source) (ascii : IsAscii (take r source))
+    (enough : 70 ≤ T.room old) (contents : T.contents mid ≡ T.contents old ++ take r source) (room : T.room mid + r ≡ T.room old)
+    (loan : T.loan mid ≡ T.loan old)
+  where
+    pub reads_front : ReadsAhead T (new_state user_defined) source r old mid
+    reads_front = reads_ascii user_defined_ascii (omega arith) ascii contents room loan (λ h. omega (arith, room))
+
+    pub reads_byte : (new : D) (c : ℕ) → r < 64 → IsSingle user_defined (get_or source r 0) c → T.contents new ≡ T.contents mid ++ code_units T.form c
+        → T.room new + length (code_units T.form c) ≡ T.room mid → T.loan new ≡ T.loan mid → ReadsAhead T (new_state user_defined) source (r + 1) old new
+    reads_byte new c less single more less_room same =
+        reads_written (omega arith) (writes_one T source r c (omega arith) reads_front.writes single.1 more less_room same)
+        (omega (arith, room, less_room, short T.form c single.0)) (omega arith)

@@ -1,3 +1,4 @@
 //! x-user-defined.
+mod blocks;
 pub mod decoder;
 pub mod encoder;

@@ -2,7 +2,7 @@ use Rattle.std.proofs.Common.{arith}
 use Rattle.legacy_base.specs.Grammar.{user_defined}
 use Rattle.legacy_decoder_engine.proofs.WrittenRuns.{writes_none, writes_one, one_unit}
 use Rattle.legacy_miscellaneous.proofs.UserDefinedRuns.{is_single}
-use Rattle.legacy_miscellaneous.proofs.user_defined.decoder.read_units.Goals as goal
+use Rattle.legacy_miscellaneous.proofs.user_defined.blocks.read_units.Goals as goal
 
 pub loop-at-init : goal.loop-at-init
 loop-at-init g c = (omega arith, omega arith, writes_none g.T.Destination user_defined c.args.dst.now)

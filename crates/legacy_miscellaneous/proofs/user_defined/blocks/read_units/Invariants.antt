@@ -1,7 +1,7 @@
 use Rattle.std.proofs.Common.{◌≡◌, ◌+◌, ◌-◌, ◌≤◌, take}
 use Rattle.legacy_base.specs.Grammar.{user_defined}
 use Rattle.legacy_decoder_engine.specs.ReadAhead.{Writes}
-use Rattle.legacy_miscellaneous.proofs.user_defined.decoder.read_units.Given as goal
+use Rattle.legacy_miscellaneous.proofs.user_defined.blocks.read_units.Given as goal
 
 -- each byte that was read was written as one unit
 abbrev pub invariant-loop-at : goal.invariant-loop-at
