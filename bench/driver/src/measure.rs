@@ -33,6 +33,11 @@ pub fn thread_time() -> Duration {
     Duration::new(time.seconds as u64, time.nanoseconds as u32)
 }
 
+/// The most times that a call is timed, for each time that it is made at least.
+///
+/// A call that only checks tables takes too little time to reach `LEAST_TIME` soon.
+const MOST_CALLS: usize = 40;
+
 /// The wanted number of calls that begin and end while the core is at rest.
 const RESTED: usize = 3;
 
@@ -55,7 +60,7 @@ impl Times {
 
     fn is_done(&self, times: usize) -> bool {
         let is_enough = self.rested >= RESTED && self.count >= times && self.all >= LEAST_TIME * times as u32;
-        is_enough || (self.count >= 2 && self.all >= MOST_TIME)
+        is_enough || self.count >= MOST_CALLS * times || (self.count >= 2 && self.all >= MOST_TIME)
     }
 }
 
