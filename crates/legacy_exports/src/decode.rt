@@ -7,7 +7,7 @@ use crate::codec::codec_of_number;
 use crate::indexes::{IndexSlices, RANGE_LIMIT, range_pairs, single_byte_table, tables_with};
 use crate::pieces::{Reading, decode_times};
 use crate::unit::CodeUnit;
-use legacy_base::RawDecoder;
+use legacy_base::{RawDecoder, SingleByteTable, Tables};
 use legacy_encodings::{AnyDecoder, DecoderTask};
 use legacy_index_files::Codec;
 
@@ -19,6 +19,23 @@ impl<C: Calls, U: CodeUnit> DecoderTask<U> for Reading<C, &[u8]> {
     fn run<D: RawDecoder>(&self, decoder: &mut D, output: &mut [U]) -> usize {
         decode_times(decoder, self, output)
     }
+}
+
+/// Decodes by the codec's decoder over these tables as `decode_times` does.
+///
+/// Returns `None` if the codec is single-byte and `single_byte` is `None`.
+fn decode_over<'a, C: Calls, U: CodeUnit>(
+    codec: Codec,
+    tables: &'a Tables<'a>,
+    single_byte: Option<&'a SingleByteTable>,
+    reading: &Reading<C, &[u8]>,
+    output: &mut [U],
+) -> Option<usize>
+    ensures units { IfSome result (λ written. written ≤ length output.new) }
+    ensures taken { IsSome result ↔ (codec ≡ Codec.SingleByte → IsSome single_byte.entry) }
+{
+    let mut decoder = AnyDecoder::new(codec, tables, single_byte)?;
+    Some(decoder.lend(reading, output))
 }
 
 /// Decodes by the codec's decoder as `decode_times` does.
@@ -40,8 +57,7 @@ pub fn decode<C: Calls, U: CodeUnit>(
     let pairs = range_pairs(indexes.ranges);
     let tables = tables_with(indexes, &pairs[..range_count])?;
     let table = single_byte_table(indexes.single_byte);
-    let mut decoder = AnyDecoder::new(codec, &tables, table.as_ref())?;
-    Some(decoder.lend(&reading, output))
+    decode_over(codec, &tables, table.as_ref(), &reading, output)
 }
 
 /// Decodes by the codec of this number as `decode` does.

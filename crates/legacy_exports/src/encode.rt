@@ -1,5 +1,6 @@
 //! The encoder of a codec.
-ghost use Rattle.std.specs.Prelude.{◌≡◌, ◌≤◌, ◌⊎◌, ◌↔◌, length, IfSome, IsSome};
+ghost use Rattle.std.specs.Prelude.{◌≡◌, ◌≤◌, ◌⊎◌, ◌↔◌, length, true, IfSome, IsSome};
+ghost use Rattle.legacy_index_files.specs.Encodings.{has_encoder};
 ghost use Rattle.legacy_exports.specs.AcceptedIndexes.{AreTakenToEncode, IsRefusedToEncode, IsTakenToEncode};
 
 use crate::calls::{CallEnd, Calls};
@@ -7,7 +8,7 @@ use crate::codec::codec_of_number;
 use crate::indexes::{IndexSlices, RANGE_LIMIT, range_pairs, single_byte_table, tables_with};
 use crate::pieces::Reading;
 use crate::source_texts::Text;
-use legacy_base::RawEncoder;
+use legacy_base::{RawEncoder, SingleByteTable, Tables};
 use legacy_encodings::{AnyEncoder, EncoderTask, ListedEncoder};
 use legacy_index_files::Codec;
 
@@ -82,6 +83,29 @@ impl<C: Calls, T: Text> EncoderTask for Reading<C, T> {
     }
 }
 
+/// Encodes by the codec's encoder over these tables as `encode_times` does.
+///
+/// Returns `None` if the codec has no encoder, or is single-byte and `single_byte` is `None`. An
+/// encoder of pairs caches them in the room if it is long enough.
+fn encode_over<'a, C: Calls, T: Text>(
+    codec: Codec,
+    tables: &'a Tables<'a>,
+    single_byte: Option<&'a SingleByteTable>,
+    reading: &Reading<C, T>,
+    output: &mut [u8],
+    room: &mut [u16],
+) -> Option<usize>
+    ensures units { IfSome result (λ written. written ≤ length output.new) }
+    ensures taken { IsSome result ↔ ((has_encoder codec ≡ true)
+        × (codec ≡ Codec.SingleByte → IsSome single_byte.entry)) }
+{
+    let mut encoder = AnyEncoder::new(codec, tables, single_byte)?;
+    if let Some(mut listed) = ListedEncoder::new(&encoder, room) {
+        return Some(listed.lend(reading, output));
+    }
+    Some(encoder.lend(reading, output))
+}
+
 /// Encodes by the codec's encoder as `encode_times` does.
 ///
 /// Returns `None` if the codec has no encoder or the indexes are refused. An encoder of pairs lists
@@ -103,11 +127,7 @@ pub fn encode<C: Calls, T: Text>(
     let pairs = range_pairs(indexes.ranges);
     let tables = tables_with(indexes, &pairs[..range_count])?;
     let table = single_byte_table(indexes.single_byte);
-    let mut encoder = AnyEncoder::new(codec, &tables, table.as_ref())?;
-    if let Some(mut listed) = ListedEncoder::new(&encoder, room) {
-        return Some(listed.lend(&reading, output));
-    }
-    Some(encoder.lend(&reading, output))
+    encode_over(codec, &tables, table.as_ref(), &reading, output, room)
 }
 
 /// Encodes by the codec of this number as `encode` does.
