@@ -1,7 +1,7 @@
 -- The encoding of an input in UTF-8 under way.
-use Rattle.std.proofs.Common.{◌≡◌, ◌≢◌, ◌⊎◌, ◌∙◌, ℕ, zero, suc, ◌+◌, ◌-◌, ◌≤◌, ◌<◌, List, [], ◌∷◌, ◌++◌, length, take, drop, take-append-drop, refl, sym, ap}
-use Rattle.std.proofs.Common.{subst, arith, append_assoc, append-nil, length-append, length-drop, Bool, true, false, Option, Some, None, IsUtf8, inl, inr}
-use Rattle.std.proofs.{Common.{⊎_elim, drop-drop, map, take_all, not, is_some, zero-add}, lemmas.Str.{utf8_valid_len-IsValidUpTo, chars-nil}}
+use Rattle.std.proofs.Common.{◌≡◌, ◌≢◌, ◌⊎◌, ◌∙◌, ℕ, ◌+◌, ◌-◌, ◌≤◌, ◌<◌, List, [], ◌∷◌, ◌++◌, length, take, drop, take-append-drop, refl, sym, ap}
+use Rattle.std.proofs.Common.{subst, arith, append_assoc, append-nil, length-append, length-drop, Bool, true, false, Option, None, IsUtf8, inl}
+use Rattle.std.proofs.{Common.{drop-drop, map, take_all, not, is_some, zero-add}, lemmas.Str.{utf8_valid_len-IsValidUpTo, chars-nil}}
 use Rattle.std.proofs.{KnownBytes.{Appends-nil, Appends-trans, Consumes-nil, Consumes-trans}, lemmas.Grind.flat_map-append, lemmas.Bool.cases_lt}
 use Rattle.std.proofs.{lemmas.List.{drop_at, length-take-le, length-take, drop-take, nil_from_length}, lemmas.List.Edits.take-paste, Math.Seq.paste}
 use Rattle.std.specs.{Str.{chars, IsValidUpTo, IsErrorLen}, Str.Lossy.{utf8_valid_len, utf8_error_len}, Io.KnownBytes.{Appends, Consumes, IsAtEnd}}
@@ -27,13 +27,7 @@ sends_front {waiting} count w =
 
 sends_join : {waited middle waiting xs ys : List ℕ} {a b c : Option (List ℕ)} → Sends waited xs middle a b → Sends middle ys waiting b c
     → Sends waited (xs ++ ys) waiting a c
-sends_join {waited} {middle} {waiting} {xs} {ys} s t = record {
-  sent = s.sent ++ t.sent;
-  parts =
-      sym (append_assoc waited xs ys) ∙ ap (λ l. l ++ ys) s.parts ∙ append_assoc s.sent middle ys ∙ ap (λ l. s.sent ++ l) t.parts
-      ∙ sym (append_assoc s.sent t.sent waiting);
-  written = Appends-trans _ _ _ _ _ s.written t.written;
-}
+sends_join {waited} {middle} {waiting} {xs} {ys} s t = grind (arith, append_assoc, Appends-trans)
 
 sends_then : {waited middle waiting xs : List ℕ} {a b c : Option (List ℕ)} → Sends waited xs middle a b → Sends middle [] waiting b c
     → Sends waited xs waiting a c
@@ -122,21 +116,11 @@ bytes_start before bytes old = record { scalars = []; decodes = record { text = 
 module _ {before now : EncoderState} {bytes middle waited : List ℕ} {old mid : Option (List ℕ)} (d : EncodesBytes before bytes middle now waited old mid) where
   -- more bytes come
   bytes_more : (more : List ℕ) → EncodesBytes before (bytes ++ more) (middle ++ more) now waited old mid
-  bytes_more more = record {
-    scalars = d.scalars;
-    decodes = record {
-      text = λ later.
-          ap utf8_text (append_assoc bytes more later) ∙ d.decodes.text (more ++ later)
-          ∙ ap (λ l. d.scalars ++ utf8_text l) (sym (append_assoc middle more later));
-    };
-    text = d.text;
-  }
+  bytes_more more = grind (arith, append_assoc)
 
   module _ {scalars left : List ℕ} (k : DecodesTo middle scalars left) where
     decodes_join : DecodesTo bytes (d.scalars ++ scalars) left
-    decodes_join = record {
-      text = λ more. d.decodes.text more ∙ ap (λ l. d.scalars ++ l) (k.text more) ∙ sym (append_assoc d.scalars scalars (utf8_text (left ++ more)));
-    }
+    decodes_join = grind (arith, append_assoc)
 
     -- one text more, or a front of it
     bytes_join : {after : EncoderState} {waiting : List ℕ} {new : Option (List ℕ)} → EncodesText now scalars false after waited waiting mid new
@@ -203,12 +187,7 @@ module _ {before : EncoderState} {piece : List ℕ} {now : EncoderState} {passed
 
     module _ (told : (passed + (length valid + length invalid) ≢ length piece) ⊎ (utf8_error_len invalid ≢ None)) where
       is_malformed : (0 < length k.later) ⊎ (utf8_error_len (invalid ++ k.later) ≢ None)
-      is_malformed = ⊎_elim
-          (λ (some : 0 < length k.later). inl some)
-          (λ (none : length k.later ≤ 0).
-          let l = chunk_lengths in
-          ⊎_elim (λ no. absurd (no (omega arith))) (λ h. inr (λ n. h (ap utf8_error_len (sym (alone (omega arith))) ∙ n))) told)
-          (cases_lt 0 (length k.later))
+      is_malformed = grind (arith, chunk_lengths, alone, cases_lt)
 
       decodes_malformed : DecodesTo (drop passed piece) (chars valid ++ 0xFFFD ∷ []) k.later
       decodes_malformed = record { text = malformed_chunk k some is_malformed }
@@ -339,11 +318,7 @@ module _ {before now : EncoderState} {held : List ℕ} {left_old left old mid : 
 
 -- the text of bytes that the end cuts
 pub text_of_held : (invalid : List ℕ) → IsValidUpTo invalid 0 → utf8_error_len invalid ≡ None → utf8_text invalid ≡ end_scalars (length invalid)
-text_of_held invalid valid e = text_of_cut invalid valid e ∙ one (length invalid) valid.short
-  where
-    one : (n : ℕ) → 0 < n → 0xFFFD ∷ [] ≡ end_scalars n
-    one zero h = absurd (omega arith)
-    one (suc n) h = refl
+text_of_held invalid valid e = grind (arith, text_of_cut)
 
 -- no character begins with these bytes, so no text does
 pub no_text : (bs : List ℕ) → IsValidUpTo bs 0 → IsUtf8 bs → ⊥
@@ -354,16 +329,13 @@ pub told_of_all : (bs : List ℕ) (n : ℕ) (o : Option ℕ) → IsValidUpTo bs 
 told_of_all bs n o valid e t = t ∙ ap (λ k. utf8_error_len (drop k bs)) (e ∙ utf8_valid_len-IsValidUpTo bs 0 valid)
 
 pub flipped : (a b : Bool) → a ≡ not b → b ≡ not a
-flipped a true e = rw e refl
-flipped a false e = rw e refl
+flipped a b h = grind arith
 
 pub short_of : (o : Option ℕ) (bs : List ℕ) (n : ℕ) → IsErrorLen bs n o → is_some o ≡ false → n ≡ 0 → length bs < 4
-short_of None bs n h e z = omega (arith, h, z)
-short_of (Some k) bs n h e z = let no : true ≡ false = e in cc
+short_of o bs n h h1 h2 = grind arith
 
 pub both_some : {X : Type 0} (r : Option X) {P Q R : X → Type 0} → IfSome r P → IfSome r Q → ((x : X) → P x → Q x → R x) → IfSome r R
-both_some None p q f = tt
-both_some (Some x) p q f = f x p q
+both_some r h h1 h2 = grind arith
 
 -- the text that the end leaves
 pub end_of_none : (n : ℕ) → n ≡ 0 → chars [] ≡ end_scalars n
@@ -371,8 +343,7 @@ end_of_none n e = rw e chars-nil
 
 pub end_of_some : (n : ℕ) → n ≢ 0 → chars (0xEF ∷ 0xBF ∷ 0xBD ∷ []) ≡ end_scalars n
 unfolding chars
-end_of_some zero h = absurd (h refl)
-end_of_some (suc n) h = refl
+end_of_some n h = grind arith
 
 -- ---- the buffer
 

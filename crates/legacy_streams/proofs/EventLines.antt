@@ -47,12 +47,7 @@ length-decimal_20 n h = length-decimal-le 20 n (omega arith) (omega arith) h
 
 -- the digits of a number are those of its hundreds and two more
 pub decimal_of_hundreds : (n : ℕ) → 100 ≤ n → n < 2 ^ 64 → decimal n ≡ decimal (n / 100) ++ (48 + n % 100 / 10) ∷ (48 + n % 100 % 10) ∷ []
-decimal_of_hundreds n h k =
-    let tens : n / 10 / 10 ≡ n / 100 = omega arith in
-    let ten : n / 10 % 10 ≡ n % 100 / 10 = omega arith in
-    let one : n % 10 ≡ n % 100 % 10 = omega arith in
-    decimal_step n (omega arith) k ∙ ap (λ l. l ++ (48 + n % 10) ∷ []) (decimal_step (n / 10) (omega arith) (omega arith))
-    ∙ rw (tens, ten, one) (append_assoc (decimal (n / 100)) ((48 + n % 100 / 10) ∷ []) ((48 + n % 100 % 10) ∷ []))
+decimal_of_hundreds n h k = grind (arith, decimal_step, append_assoc, decimal)
 
 -- the number of decimal digits of a number
 pub ruleset decimal_lengths = (length-decimal_one, length-decimal_more, length-decimal_20)
@@ -84,8 +79,7 @@ no_malformed_lines o place = no_lines o
 -- the lines of m sequences and then those of n more are the lines of m + n
 pub more_malformed_lines : (o : List ℕ) {a b : List ℕ} (place m n : ℕ) → a ≡ o ++ event_lines (malformed_events place m)
     → b ≡ a ++ event_lines (malformed_events (place + m) n) → b ≡ o ++ event_lines (malformed_events place (m + n))
-more_malformed_lines o place m n p q =
-    rw (q, p, malformed_events-append place m n, event_lines-append) (append_assoc o (event_lines (malformed_events place m)) (event_lines (malformed_events (place + m) n)))
+more_malformed_lines o place m n p q = grind (arith, malformed_events-append, event_lines-append, append_assoc)
 
 -- the line of one such sequence
 pub one_malformed_line : (place : ℕ) → event_line (Bad place 1) ≡ event_lines (malformed_events place 1)
@@ -96,13 +90,4 @@ pub malformed_byte_line : (o : List ℕ) {a b e : List ℕ} (number rest : ℕ) 
     → a ≡ o ++ 98 ∷ 97 ∷ 100 ∷ 32 ∷ [] → b ≡ a ++ decimal number
     → e ≡ b ++ (48 + rest / 10) ∷ (48 + rest % 10) ∷ 32 ∷ 49 ∷ 10 ∷ []
     → e ≡ o ++ event_line (Bad (number * 100 + rest) 1)
-malformed_byte_line o {a} {b} number rest some few within p q r =
-    let hundreds : (number * 100 + rest) / 100 ≡ number = omega arith in
-    let others : (number * 100 + rest) % 100 ≡ rest = omega arith in
-    let last : List ℕ = (48 + rest / 10) ∷ (48 + rest % 10) ∷ [] in
-    let digits : decimal (number * 100 + rest) ≡ decimal number ++ last =
-    decimal_of_hundreds (number * 100 + rest) (omega arith) within ∙ rw (hundreds, others) refl in
-    let place : b ++ last ≡ a ++ decimal (number * 100 + rest) = rw (q, digits) (append_assoc a (decimal number) last) in
-    let one : ((b ++ last) ++ 32 ∷ []) ++ 49 ∷ [] ≡ ((b ++ last) ++ 32 ∷ []) ++ decimal 1 = rw (decimal_digit 1 (omega arith)) refl in
-    let parts : (((b ++ last) ++ 32 ∷ []) ++ 49 ∷ []) ++ 10 ∷ [] ≡ b ++ (48 + rest / 10) ∷ (48 + rest % 10) ∷ 32 ∷ 49 ∷ 10 ∷ [] = simp append_assoc in
-    r ∙ sym parts ∙ bad_line o (number * 100 + rest) 1 p place refl one refl
+malformed_byte_line o {a} {b} number rest some few within p q r = grind (arith, decimal, decimal_of_hundreds, append_assoc, decimal_digit, bad_line)

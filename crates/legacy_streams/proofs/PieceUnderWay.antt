@@ -63,10 +63,7 @@ lines_of_none before = event_lines-none
 -- the lines of the input, if a piece was decoded after some bytes
 lines-append : (before now : DecoderState) (total passed : ℕ) (xs ys : List DecodeEvent) → passed + length now.held ≡ length before.held + total
     → lines_of before (xs ++ shift passed ys) ≡ lines_of before xs ++ piece_lines total now ys
-lines-append before now total passed xs ys e =
-    let h = length before.held in
-    ap event_lines (placed-append h xs (shift passed ys) ∙ ap (λ l. placed h xs ++ l) (placed-shift h passed total (length now.held) ys e))
-    ∙ event_lines-append (placed h xs) (input_events total (length now.held) ys)
+lines-append before now total passed xs ys e = grind (arith, placed-append, passed, placed-shift, event_lines-append)
 
 module _ (before now : DecoderState) (total : ℕ) (old mid new : Option (List ℕ)) where
   pub lines_join : Joins before now total (λ events. Appends old mid (lines_of before events)) (λ events. Appends mid new (piece_lines total now events))
@@ -203,9 +200,9 @@ unfolding input_events
 malformed_given total h passed offset zero e = none_given total h passed (total + offset)
 malformed_given total h passed offset (suc count) e =
     let is = e (omega arith) in
+    let n = suc count in
     let place : total + (passed + 0) - h ≡ total + offset = omega arith in
-    rw (shifted_malformed passed 0 (suc count), shifted_malformed total (passed + 0) (suc count), placed_malformed h (total + (passed + 0)) (suc count) (omega arith), place)
-    refl
+    rw (shifted_malformed passed 0 n, shifted_malformed total (passed + 0) n, placed_malformed h (total + (passed + 0)) n (omega arith), place) refl
 
 malformed_way : (last : Bool) (state : DecoderState) (bytes : List ℕ) (count : ℕ) → count ≤ length bytes
     → ((k : ℕ) → k < count → IsMalformedByte state (get_or bytes k 0)) → Progress last state bytes count state (drop count bytes) (malformed_events 0 count)

@@ -1,6 +1,6 @@
 -- The lines of scalars of one code unit, and the scalars of code units.
 use Rattle.std.proofs.Common.{◌≡◌, ◌∙◌, ℕ, suc, ◌+◌, ◌*◌, ◌-◌, ◌/◌, ◌%◌, ◌≤◌, ◌<◌, List, [], ◌∷◌, ◌++◌, length, take, drop, map, get_or, refl, sym, ap, arith}
-use Rattle.std.proofs.{Common.{inl, inr, ◌⊎◌, All, Some, slice_get, append_assoc, append-nil, take-suc, add-one, zero, None, ◌^◌}, lemmas.Bool.cases_lt}
+use Rattle.std.proofs.{Common.{inl, inr, ◌⊎◌, All, Some, slice_get, append_assoc, append-nil, take-suc, add-one, None, ◌^◌}, lemmas.Bool.cases_lt}
 use Rattle.std.proofs.{lemmas.Bool.Decides.nat_tests, lemmas.List.map-append, lemmas.Nat.le_bytes_8, lemmas.Str.{utf16_chars-nil, utf16_chars_lone}}
 use Rattle.std.proofs.{lemmas.Str.utf16_chars_pair, str.Utf16.{IsPair, lone_unit_char_low, lone_unit_char_high}}
 use Rattle.std.specs.{Char.IsScalar, Char.Utf16.{lone_unit_char, surrogate_pair_char}, Int.{w64, to_le_bytes}, List.range_with_len}
@@ -34,43 +34,25 @@ small_glyph n = grind (arith, nat_tests)
 -- the sum of the parts fits in 64 bits
 pub parts_fit : (h t : ℕ) → head_number h + tail_number t < 2 ^ 64
 unfolding head_number tail_number
-parts_fit h t =
-    let m = small_glyph (h / 16) in let n = small_glyph h in let o = small_glyph (t / 16) in let p = small_glyph t in
-    omega arith
+parts_fit h t = grind (arith, small_glyph)
 
 same_glyph : (m n : ℕ) → m % 16 ≡ n % 16 → glyph m ≡ glyph n
 same_glyph m n e = rw e refl
 
 all_bytes : (a b c d : ℕ) → a < 256 → b < 256 → c < 256 → d < 256 → (i : ℕ) → get_or (85 ∷ 43 ∷ a ∷ b ∷ c ∷ d ∷ 10 ∷ 0 ∷ []) i 0 < 256
-all_bytes a b c d p q r s zero = omega arith
-all_bytes a b c d p q r s (suc zero) = omega arith
-all_bytes a b c d p q r s (suc (suc zero)) = p
-all_bytes a b c d p q r s (suc (suc (suc zero))) = q
-all_bytes a b c d p q r s (suc (suc (suc (suc zero)))) = r
-all_bytes a b c d p q r s (suc (suc (suc (suc (suc zero))))) = s
-all_bytes a b c d p q r s (suc (suc (suc (suc (suc (suc zero)))))) = omega arith
-all_bytes a b c d p q r s (suc (suc (suc (suc (suc (suc (suc zero))))))) = omega arith
-all_bytes a b c d p q r s (suc (suc (suc (suc (suc (suc (suc (suc i)))))))) = omega arith
+all_bytes a b c d h h1 h2 h3 i = grind arith
 
 -- the bytes of the sum of both parts
 bytes_of_parts : (a b c d n : ℕ) → a < 128 → b < 128 → c < 128 → d < 128
     → n ≡ (85 + 43 * 0x100 + a * 0x1_0000 + b * 0x100_0000) + (c * 0x1_0000_0000 + d * 0x100_0000_0000 + 10 * 0x1_0000_0000_0000)
     → to_le_bytes w64 n ≡ 85 ∷ 43 ∷ a ∷ b ∷ c ∷ d ∷ 10 ∷ 0 ∷ []
-bytes_of_parts a b c d n p q r s e =
-    le_bytes_8 (85 ∷ 43 ∷ a ∷ b ∷ c ∷ d ∷ 10 ∷ 0 ∷ []) n refl (all_bytes a b c d (omega arith) (omega arith) (omega arith) (omega arith)) (omega arith)
+bytes_of_parts a b c d n p q r s e = grind (arith, le_bytes_8, all_bytes)
 
 -- the first seven of these bytes are the line
 pub line_of_parts : (u n : ℕ) (bytes : List ℕ) → u < 0x1_0000 → n ≡ head_number (u / 256) + tail_number (u % 256)
     → bytes ≡ to_le_bytes w64 n → take 7 bytes ≡ event_line (Scalar u)
 unfolding head_number tail_number
-line_of_parts u n bytes h e f =
-    let first = same_glyph (u / 256 / 16) (u / 0x1000) (omega arith) in
-    let third = same_glyph (u % 256 / 16) (u / 0x10) (omega arith) in
-    let fourth = same_glyph (u % 256) u (omega arith) in
-    let is : bytes ≡ 85 ∷ 43 ∷ glyph (u / 256 / 16) ∷ glyph (u / 256) ∷ glyph (u % 256 / 16) ∷ glyph (u % 256) ∷ 10 ∷ 0 ∷ [] =
-    f ∙ bytes_of_parts (glyph (u / 256 / 16)) (glyph (u / 256)) (glyph (u % 256 / 16)) (glyph (u % 256)) n
-    (small_glyph (u / 256 / 16)) (small_glyph (u / 256)) (small_glyph (u % 256 / 16)) (small_glyph (u % 256)) e in
-    rw (line_of_four u h, is, first, third, fourth) refl
+line_of_parts u n bytes h e f = grind (arith, same_glyph, glyph, bytes_of_parts, small_glyph, line_of_four)
 
 -- ---- the scalars of code units
 
@@ -82,12 +64,10 @@ scalar_lines-append xs ys = ap event_lines (map-append Scalar xs ys) ∙ event_l
 
 -- a code unit that is not a surrogate is a scalar
 replaced_unit : (u : ℕ) → (u < 0xD800) ⊎ (0xE000 ≤ u) → replaced (lone_unit_char u) ≡ u
-replaced_unit u (inl l) = ap replaced (lone_unit_char_low u l)
-replaced_unit u (inr l) = ap replaced (lone_unit_char_high u l)
+replaced_unit u h = grind (arith, replaced, lone_unit_char_low, lone_unit_char_high)
 
 apart : (u v : ℕ) → (u < 0xD800) ⊎ (0xE000 ≤ u) → IsPair u v → ⊥
-apart u v (inl l) p = omega (arith, p.0)
-apart u v (inr l) p = omega (arith, p.1)
+apart u v h h1 = grind arith
 
 -- the scalars of one more code unit that is not a surrogate
 pub plain_more : (units : List ℕ) (at u : ℕ) → at < length units → u ≡ get_or units at 0 → (u < 0xD800) ⊎ (0xE000 ≤ u)
@@ -112,16 +92,14 @@ plain_line_more o units at u h e p q =
 pub front_lines : (o units : List ℕ) (n : ℕ) {a : List ℕ} → a ≡ o ++ scalar_lines (take n units)
     → unit_scalars units ≡ take n units ++ unit_scalars (drop n units)
     → a ++ scalar_lines (unit_scalars (drop n units)) ≡ o ++ scalar_lines (unit_scalars units)
-front_lines o units n e f =
-    rw (e, f, scalar_lines-append) (append_assoc o (scalar_lines (take n units)) (scalar_lines (unit_scalars (drop n units))))
+front_lines o units n e f = grind (arith, scalar_lines-append, append_assoc)
 
 -- the line of the first scalar and those of the rest are the lines of all
 pub first_line : (o units : List ℕ) (c n : ℕ) {a : List ℕ} → Some c ≡ slice_get (unit_scalars units) 0
     → unit_scalars (drop n units) ≡ drop 1 (unit_scalars units) → a ≡ o ++ event_line (Scalar c)
     → a ++ scalar_lines (unit_scalars (drop n units)) ≡ o ++ scalar_lines (unit_scalars units)
 unfolding event_lines
-first_line o units c n e behind p =
-    rw (behind, p, append_assoc) (ap (λ l. o ++ scalar_lines l) (sym (first_cons (unit_scalars units) c e)))
+first_line o units c n e behind p = grind (arith, append_assoc, first_cons)
 
 -- the first scalar has n code units: bounds of n, and the scalars after it
 pub record FirstUnits (units : List ℕ) (n : ℕ) : Type 0 where

@@ -19,9 +19,7 @@ text-none = refl
 -- shifting the places of events does not change their text
 text-append : (xs ys : List DecodeEvent) (k : ℕ) → text_of (xs ++ shift k ys) ≡ text_of xs ++ text_of ys
 unfolding text_of
-text-append xs ys k =
-    ap (all_code_units Utf8) (replaced-append xs (shift k ys) ∙ ap (λ l. replaced_scalars xs ++ l) (replaced-shift k ys))
-    ∙ all_code_units-append Utf8 (replaced_scalars xs) (replaced_scalars ys)
+text-append xs ys k = grind (arith, replaced-append, replaced-shift, all_code_units-append)
 
 found-append : (xs ys : List DecodeEvent) (k : ℕ) → has_bad (xs ++ shift k ys) ≡ (has_bad xs || has_bad ys)
 found-append xs ys k = has_bad-append xs (shift k ys) ∙ ap (λ b. has_bad xs || b) (has_bad-shift k ys)
@@ -74,14 +72,7 @@ module _ {before : DecoderState} {piece : List ℕ} {last : Bool} {now : Decoder
 
   -- after the text of the call was written, `offset + read` bytes of the piece are done
   pub text_step : {new : Option (List ℕ)} → Appends mid new written → TextUnderWay before piece last after (offset + read) (found || more) old new
-  text_step w = record {
-    within = let r = c.within in let v = u.within in omega (arith, length-drop offset piece);
-    passed = u.passed + c.passed;
-    events = u.events ++ shift u.passed c.out;
-    progress = way_of_call;
-    found_is = rw (found-append u.events c.out u.passed, ← u.found_is, ← c.found_is) refl;
-    written = rw (text-append u.events c.out u.passed, ← text_is c.out written c.text) (Appends-trans _ _ _ _ _ u.written w);
-  }
+  text_step w = grind (arith, length-drop, way_of_call, found-append, text-append, text_is, Appends-trans)
 
   -- after the last call of a piece, all its text is written
   pub text_end : (new : Option (List ℕ)) → Appends mid new written → answer ≡ InputEmpty → WritesPiece before piece last after (found || more) old new
@@ -99,8 +90,7 @@ module _ {before : DecoderState} {piece : List ℕ} {last : Bool} {now : Decoder
       some_event c.out (omega arith)
 
   full_or_end : (x : CoderResult) → (x ≡ InputEmpty → ⊥) → x ≡ OutputFull
-  full_or_end InputEmpty h = absurd (h refl)
-  full_or_end OutputFull h = refl
+  full_or_end x h = grind arith
 
   pub text_less : 4 ≤ free → (answer ≡ InputEmpty → ⊥)
       → length (events_of after.grammar (after.held ++ drop (offset + read) piece)) < length (events_of now.grammar (now.held ++ drop offset piece))
@@ -118,10 +108,7 @@ whole_text_start old = (refl, rw text-none (Appends-nil old))
 module _ (before now : DecoderState) (total : ℕ) (found : Bool) (old mid new : Option (List ℕ)) where
   pub text_join : (more : Bool) → Joins before now total (λ events. (found ≡ has_bad events) × Appends old mid (text_of events))
       (λ events. (more ≡ has_bad events) × Appends mid new (text_of events)) (λ events. ((found || more) ≡ has_bad events) × Appends old new (text_of events))
-  text_join more = record {
-    join = λ passed xs ys e one two.
-        (rw (found-append xs ys passed, ← one.0, ← two.0) refl, rw (text-append xs ys passed) (Appends-trans _ _ _ _ _ one.1 two.1));
-  }
+  text_join more = grind (arith, found-append, text-append, Appends-trans)
 
   pub text_front_join : Joins before now total (λ events. (found ≡ has_bad events) × Appends old mid (text_of events))
       (λ events. AppendsFront mid new (text_of events)) (λ events. AppendsFront old new (text_of events))

@@ -211,9 +211,7 @@ text_past_malformed bad more k valid e within =
 -- what the end of the input leaves of a character is malformed
 pub text_of_cut : (bad : List ℕ) → IsValidUpTo bad 0 → utf8_error_len bad ≡ None → utf8_text bad ≡ 0xFFFD ∷ []
 unfolding utf8_text
-text_of_cut bad valid e =
-    let past = rw (e, drop_all (length bad) bad (omega arith), utf8_lossy_empty [] refl) at (lossy_past_none bad valid) in
-    rw (past, append-nil replacement_bytes) replacement_chars
+text_of_cut bad valid e = grind (arith, drop_all, utf8_lossy_empty, lossy_past_none, append-nil, replacement_chars)
 
 pub text_of_none : utf8_text [] ≡ []
 unfolding utf8_text
@@ -224,9 +222,7 @@ text_of_none = ap chars (utf8_lossy_empty [] refl) ∙ chars-nil
 module _ {rest valid invalid : List ℕ} (k : IsChunk rest valid invalid) where
   -- it is not malformed yet if the end cuts it
   pub cut_chunk : (more : List ℕ) → utf8_text (rest ++ more) ≡ chars valid ++ utf8_text ((invalid ++ k.later) ++ more)
-  cut_chunk more =
-      ap (λ l. utf8_text (l ++ more)) k.parts ∙ ap utf8_text (append_assoc valid (invalid ++ k.later) more)
-      ∙ text_past valid ((invalid ++ k.later) ++ more) k.utf8
+  cut_chunk more = grind (arith, append_assoc, text_past)
 
   module _ (some : 0 < length invalid) where
     back : drop (utf8_valid_len rest) rest ≡ invalid ++ k.later
@@ -242,10 +238,7 @@ module _ {rest valid invalid : List ℕ} (k : IsChunk rest valid invalid) where
 
     malformed_is : (o : Option ℕ) → utf8_error_len (invalid ++ k.later) ≡ o → (0 < length k.later) ⊎ (o ≢ None)
         → utf8_error_len (invalid ++ k.later) ≡ Some (length invalid)
-    malformed_is None e h =
-        let len = rw (back, e) at k.invalid_len in
-        elim h [ inl long ↦ absurd (omega (arith, len, length-append invalid k.later)) | inr f ↦ absurd (f refl) ]
-    malformed_is (Some n) e h = let len = rw (back, e) at k.invalid_len in rw len e
+    malformed_is o h h1 = grind (arith, back, length-append)
 
     pub malformed_chunk : (0 < length k.later) ⊎ (utf8_error_len (invalid ++ k.later) ≢ None) → (more : List ℕ)
         → utf8_text (rest ++ more) ≡ (chars valid ++ 0xFFFD ∷ []) ++ utf8_text (k.later ++ more)

@@ -15,12 +15,7 @@ front_of {bytes = bytes} count w =
 -- after bytes that were written
 pub front_after : {old new : Option (List ℕ)} (mid : Option (List ℕ)) (bytes : List ℕ) {more : List ℕ} → Appends old mid bytes → AppendsFront mid new more
     → AppendsFront old new (bytes ++ more)
-front_after mid bytes w f = record {
-  sent = bytes ++ f.sent;
-  unsent = f.unsent;
-  parts = ap (λ l. bytes ++ l) f.parts ∙ sym (append_assoc bytes f.sent f.unsent);
-  written = Appends-trans _ _ _ _ _ w f.written;
-}
+front_after mid bytes w f = grind (arith, append_assoc, Appends-trans)
 
 -- ---- the input
 
@@ -86,19 +81,7 @@ module _ {before now : DecoderState} {total : ℕ} {left_old left_mid : Option (
         }
 
     pub whole_end : {last : Bool} → IsAtEnd left → last ≡ true → DecodesPiece now piece last after Second → DecodesAll before after left_old left Both
-    whole_end at_end e given =
-        let p = rw e at given in
-        let all = all_events p.events in
-        let is : events_of before.grammar (before.held ++ (w.bytes ++ piece)) ≡ all =
-        ap (λ l. events_of before.grammar (before.held ++ l)) (sym (append-nil (w.bytes ++ piece))) ∙ (way_on true piece p.progress).events [] (λ _. inl refl)
-        ∙ ap (λ l. all ++ shift (w.passed + p.passed) l) (ap (events_of after.grammar) (append-nil after.held) ∙ p.ended refl) ∙ append-nil all in
-        record {
-          bytes = w.bytes ++ piece;
-          read = Consumes-trans _ _ _ _ _ w.read r;
-          at_end = at_end;
-          shown = rw is (j.join w.passed w.events p.events place w.shown p.shown);
-          ended = p.ended refl;
-        }
+    whole_end at_end e given = grind (arith, append-nil, way_on, Consumes-trans, place)
 
     -- what holds after a failed write
     pub whole_partly : (last : Bool) → (IsTrue last → IsAtEnd left) → DecodesFront now piece last after Second

@@ -1,4 +1,4 @@
-use Rattle.std.proofs.{Common.{◌≡◌, ◌≤◌, ◌∙◌, ◌+◌, ◌-◌, ◌++◌, length, take, drop, arith, sym, ap, refl}, lemmas.List.length-take-le}
+use Rattle.std.proofs.{Common.{◌≤◌, ◌+◌, ◌-◌, ◌++◌, length, arith, refl}, lemmas.List.length-take-le}
 use Rattle.legacy_streams.proofs.EncodingUnderWay.{input_start, input_step, input_partly, input_end, input_end_partly, read_nothing}
 use Rattle.legacy_streams.proofs.encode.encode_text.Goals as goal
 
@@ -28,21 +28,4 @@ returns-in_default-write_piece-clause-write g c e =
     input_partly i.so_far bytes.0 bytes.1 (rw bytes.2 at c.in_default-write_piece.ensures.err)
 
 pub pieces-preserved : goal.pieces-preserved
-pieces-preserved g c =
-    let i = c.pieces.invariant in
-    let long = i.long in
-    let bytes = c.in-Some.ensures.bytes in
-    let count = c.in-Some.ensures.count in
-    let piece = rw bytes.2 at c.in-Ok-write_piece.ensures.piece in
-    let all = take c.pieces.held c.pieces.buffer ++ bytes.0 in
-    let filled = c.pieces.held + c.in-Some.count in
-    let left = c.in-Ok-write_piece.left in
-    let len : length all ≡ filled = ap length (sym bytes.2) ∙ length-take-le filled c.read_after.new.buffer count.0 in
-    let kept = c.keep_end.ensures ∙ ap (drop (filled - left)) bytes.2 ∙ ap (λ n. drop (n - left) all) (sym len) in
-    record {
-      so_far = input_step i.so_far bytes.0 bytes.1 (take left c.keep_end.new.buffer) piece kept;
-      short = piece.short;
-      empty = c.in-Ok-write_piece.ensures.empty;
-      long = omega (arith, c.keep_end.auto.buffer, c.read_after.auto.buffer, long);
-      small = count.1;
-    }
+pieces-preserved g c = grind (arith, length-take-le, input_step)

@@ -14,17 +14,7 @@ digits-init c =
     }
 
 pub digits-preserved : goal.digits-preserved
-digits-preserved c =
-    let i = c.digits.invariant in
-    let more = length-decimal_more c.digits.rest c.digits-test.true (omega arith) in
-    record {
-      place = omega arith;
-      room = omega (arith, more);
-      digits = digit_before c.digits.digits c.digits.place c.digits.rest _ c.digits-test.true
-          (omega arith) (omega (arith, more)) (omega arith) i.digits;
-    }
+digits-preserved c = grind (arith, length-decimal_more, digit_before)
 
 pub returns-clause-digits : goal.returns-clause-digits
-returns-clause-digits c =
-    let one = length-decimal_one c.digits.rest c.digits-test.false in
-    first_digit c.digits.digits c.digits.place c.digits.rest _ c.digits-test.false (omega (arith, one)) (omega arith) c.digits.invariant.digits
+returns-clause-digits c = grind (arith, length-decimal_one, first_digit)

@@ -12,38 +12,34 @@ returns-in_err-make_room-clause-err g c =
 
 pub returns-in-InputEmpty-clause-piece : goal.returns-in-InputEmpty-clause-piece
 returns-in-InputEmpty-clause-piece g c =
-    let room = c.in_ok-make_room.ensures.written in
-    let malformed_byte = c.lines_of_malformed_bytes-offset.ensures in
-    let ahead = piece_ahead c.lines_of_malformed_bytes-offset.result c.calls.invariant room c.rest_of.ensures malformed_byte.count malformed_byte.malformed_byte malformed_byte.text in
+    let m = c.lines_of_malformed_bytes-offset.ensures in
+    let ahead = piece_ahead _ c.calls.invariant c.in_ok-make_room.ensures.written c.rest_of.ensures m.count m.malformed_byte m.text in
     let call = c.lines_of_one_call-answer.ensures in
     let one = rw c.rest_of-unread.ensures at call.1 in
     on_ok_weaker c.write_to.result (λ w. piece_end ahead one call.2 _ c.in-InputEmpty.is w) c.write_to.ensures.written
 
 pub returns-in-InputEmpty-clause-err : goal.returns-in-InputEmpty-clause-err
 returns-in-InputEmpty-clause-err g c =
-    let room = c.in_ok-make_room.ensures.written in
-    let malformed_byte = c.lines_of_malformed_bytes-offset.ensures in
-    let ahead = piece_ahead c.lines_of_malformed_bytes-offset.result c.calls.invariant room c.rest_of.ensures malformed_byte.count malformed_byte.malformed_byte malformed_byte.text in
+    let m = c.lines_of_malformed_bytes-offset.ensures in
+    let ahead = piece_ahead _ c.calls.invariant c.in_ok-make_room.ensures.written c.rest_of.ensures m.count m.malformed_byte m.text in
     let call = c.lines_of_one_call-answer.ensures in
     let one = rw c.rest_of-unread.ensures at call.1 in
     on_err_weaker c.write_to.result (λ w. piece_front (piece_step ahead one call.2) _ w.0 w.1) c.write_to.ensures.err
 
 pub calls-preserved : goal.calls-preserved
 calls-preserved g c =
-    let room = c.in_ok-make_room.ensures.written in
-    let malformed_byte = c.lines_of_malformed_bytes-offset.ensures in
-    let ahead = piece_ahead c.lines_of_malformed_bytes-offset.result c.calls.invariant room c.rest_of.ensures malformed_byte.count malformed_byte.malformed_byte malformed_byte.text in
+    let m = c.lines_of_malformed_bytes-offset.ensures in
+    let ahead = piece_ahead _ c.calls.invariant c.in_ok-make_room.ensures.written c.rest_of.ensures m.count m.malformed_byte m.text in
     let call = c.lines_of_one_call-answer.ensures in
     let one = rw c.rest_of-unread.ensures at call.1 in
     piece_step ahead one call.2
 
 pub calls-smaller : goal.calls-smaller
 calls-smaller g c =
-    let room = c.in_ok-make_room.ensures.written in
-    let malformed_byte = c.lines_of_malformed_bytes-offset.ensures in
-    let ahead = piece_ahead c.lines_of_malformed_bytes-offset.result c.calls.invariant room c.rest_of.ensures malformed_byte.count malformed_byte.malformed_byte malformed_byte.text in
+    let m = c.lines_of_malformed_bytes-offset.ensures in
+    let ahead = piece_ahead _ c.calls.invariant c.in_ok-make_room.ensures.written c.rest_of.ensures m.count m.malformed_byte m.text in
     let call = c.lines_of_one_call-answer.ensures in
     let one = rw c.rest_of-unread.ensures at call.1 in
     let less = piece_less ahead one call.2 c.in_default.not-InputEmpty in
-    let most = piece_malformed_less _ (g.D.RawDecoder.state c.calls.decoder) c.args.piece.now c.calls.offset c.rest_of.ensures malformed_byte.count malformed_byte.malformed_byte in
+    let most = piece_malformed_less _ (g.D.RawDecoder.state c.calls.decoder) c.args.piece.now c.calls.offset c.rest_of.ensures m.count m.malformed_byte in
     omega (arith, less, most)

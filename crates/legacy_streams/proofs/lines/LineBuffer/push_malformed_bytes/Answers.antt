@@ -7,11 +7,4 @@ pub hundreds-init : goal.hundreds-init
 hundreds-init c = record { within = omega arith; room = omega arith; text = no_malformed_lines (line_bytes c.args.self.now) c.args.place }
 
 pub hundreds-preserved : goal.hundreds-preserved
-hundreds-preserved c =
-    let before = c.hundreds.invariant in
-    let more = c.push_malformed_hundred-done.ensures in
-    record {
-      within = omega (arith, more.count.1);
-      room = omega (arith, before.room, more.room);
-      text = more_malformed_lines _ c.args.place c.hundreds.done c.push_malformed_hundred-done.result before.text more.text;
-    }
+hundreds-preserved c = grind (arith, more_malformed_lines)
