@@ -15,7 +15,7 @@ use Rattle.legacy_index_files.specs.IndexTable.{entries_of, first_malformed, IsI
 use Rattle.legacy_encodings.specs.declared.registry.RegistryError.{RegistryError}
 use Rattle.legacy_encodings.specs.declared.registry.RegistryError.TheVariants.{File, Tables, Sized}
 use Rattle.legacy_codecs.specs.declared.whole.SizedError.TheVariants as sized
-use Rattle.legacy_encodings.specs.SingleByteFiles.{IsSingleByteFile}
+use Rattle.legacy_encodings.specs.SingleByteFiles.{IsSingleByteFile, IsSingleByteFault}
 use Rattle.legacy_codecs.specs.WholeTexts.{text_of}
 
 -- ---- the file of index EUC-KR
@@ -66,3 +66,15 @@ pub record IsTextBySingleByteFile (file input text : List ℕ) : Type 0 where
   pub of_file : IsSingleByteFile file entries
   pub accepted : IsAcceptedTable entries
   pub decodes : text ≡ text_of (new_state (single_byte entries)) input
+
+-- the length query of a new decoder of a single-byte encoding, by the table that a file says, returns `None` for the input
+pub record IsTooLongBySingleByteFile (file input : List ℕ) : Type 0 where
+  pub entries : List ℕ
+  pub of_file : IsSingleByteFile file entries
+  pub accepted : IsAcceptedTable entries
+  pub too_long : query_answer to_utf8 (new_state (single_byte entries)) (length input) ≡ None
+
+-- The condition of each error for the file and the input, as in `IsFaultByFile`.
+abbrev pub IsFaultBySingleByteFile : List ℕ → List ℕ → RegistryError → Type 0
+IsFaultBySingleByteFile file input (Sized sized.TooLong) = IsTooLongBySingleByteFile file input
+IsFaultBySingleByteFile file input error = IsSingleByteFault file error

@@ -1,7 +1,8 @@
 //! The code pages of an old program: index files, and decoding by them.
-ghost use Rattle.std.specs.Prelude.{◌≢◌, string_bytes, Err, IfOk, MatchResult};
+ghost use Rattle.std.specs.Prelude.{◌⊎◌, string_bytes, IfErr, IfOk, MatchResult};
 ghost use Rattle.std.specs.Str.{chars};
-ghost use Rattle.legacy_uses.specs.IndexData.{IsTextByFile, IsFaultByFile, IsTextBySingleByteFile};
+ghost use Rattle.legacy_uses.specs.IndexData.{IsTextByFile, IsFaultByFile};
+ghost use Rattle.legacy_uses.specs.IndexData.{IsTextBySingleByteFile, IsFaultBySingleByteFile};
 
 use legacy_codecs::{EucKrDecoder, decode_whole};
 use legacy_encodings::{Registry, RegistryError};
@@ -39,8 +40,9 @@ pub fn decode_two(
         IsTextByFile files.now.euc_kr.now korean.now (chars (string_bytes texts.0))) }
     ensures western { IfOk result (λ texts.
         IsTextBySingleByteFile files.now.windows_1252.now western.now (chars (string_bytes texts.1))) }
-    ensures known { result ≢ Err RegistryError.Unknown }
-    ensures read { result ≢ Err RegistryError.NoIndex }
+    ensures fault { IfErr result (λ error.
+        IsFaultByFile files.now.euc_kr.now korean.now error
+        ⊎ IsFaultBySingleByteFile files.now.windows_1252.now western.now error) }
 {
     let mut registry = Registry::new(alloc);
     registry

@@ -1,16 +1,49 @@
-use Rattle.std.proofs.{Common.{◌∙◌, ap, refl}, lemmas.Result.err_from_is_err_and}
+use Rattle.std.proofs.{Common.{◌∙◌, ap, inl, inr, refl}, lemmas.Result.err_from_is_err_and}
 use Rattle.legacy_index_files.specs.{declared.index_file.EncoderIndex.TheVariants.Of, declared.index_file.FileIndex.TheVariants.EucKr, OwnedIndexes.owned_lists}
 use Rattle.legacy_index_files.proofs.WellFormed.{well_formed_ok}
-use Rattle.legacy_uses.proofs.{EucKrFiles.holds_euc_kr, TwoFiles.{euc_kr_by_file, euc_kr_known}}
+use Rattle.legacy_uses.proofs.EucKrFiles.{holds_euc_kr, euc_kr_fault_of}
+use Rattle.legacy_uses.proofs.TwoFiles.{euc_kr_by_file, not_decoded_by_euc_kr, not_decoded_by_table, not_read_by_table}
 use Rattle.legacy_uses.proofs.code_pages.decode_two.Goals as goal
 
-pub returns-in_err-korean_text-clause-known : goal.returns-in_err-korean_text-clause-known
-returns-in_err-korean_text-clause-known c = λ e.
-    let p = err_from_is_err_and c.from_residual-in_err-korean_text.result c.from_residual-in_err-korean_text.ensures.1 in
-    let first = p.1 in
-    let second = p.2 in
+pub returns-in_err-read-clause-fault : goal.returns-in_err-read-clause-fault
+returns-in_err-read-clause-fault c =
+    let p = err_from_is_err_and c.from_residual.result c.from_residual.ensures.1 in
+    rw (p.1, p.2) (inl (euc_kr_fault_of c.args.files.now.euc_kr.now c.args.korean.now _ c.in_err-read.ensures.line _ refl))
+
+pub returns-in_err-read_single_byte-clause-fault : goal.returns-in_err-read_single_byte-clause-fault
+returns-in_err-read_single_byte-clause-fault c =
+    let r = c.from_residual-in_err-read_single_byte in
+    let p = err_from_is_err_and r.result r.ensures.1 in
+    rw (p.1, p.2) (inr (not_read_by_table c.args.files.now.windows_1252.now c.args.western.now _ c.in_err-read_single_byte.ensures.table))
+
+pub returns-in_err-coders-clause-fault : goal.returns-in_err-coders-clause-fault
+returns-in_err-coders-clause-fault c =
+    let r = c.from_residual-in_err-coders in
+    let p = err_from_is_err_and r.result r.ensures.1 in
+    let h = holds_euc_kr c.args.files.now.euc_kr.now _ _ c.new-registry.ensures.indexes c.new-registry.ensures.katakana c.in_ok-read.ensures.table
+    (well_formed_ok (Of EucKr) c.args.files.now.euc_kr.now _ c.in_ok-read.ensures.line _ refl) in
+    let same = ap owned_lists c.in_ok-read_single_byte.ensures.indexes ∙ h.only in
+    rw (p.1, p.2) (inl (c.read.new.self.euc_kr.items, h.of_file, rw same at c.in_err-coders.ensures))
+
+pub returns-in_err-korean_text-clause-fault : goal.returns-in_err-korean_text-clause-fault
+returns-in_err-korean_text-clause-fault c =
+    let r = c.from_residual-in_err-korean_text in
+    let p = err_from_is_err_and r.result r.ensures.1 in
+    let h = holds_euc_kr c.args.files.now.euc_kr.now _ _ c.new-registry.ensures.indexes c.new-registry.ensures.katakana c.in_ok-read.ensures.table
+    (well_formed_ok (Of EucKr) c.args.files.now.euc_kr.now _ c.in_ok-read.ensures.line _ refl) in
     let coders = c.in_ok-coders.coders in
-    euc_kr_known coders.tables.flat coders.single_bytes.now c.args.korean.now c.in_err-korean_text.field-0.0 c.in_err-korean_text.ensures (cc)
+    let same = c.in_ok-coders.ensures.0 ∙ ap owned_lists c.in_ok-read_single_byte.ensures.indexes ∙ h.only in
+    rw (p.1, p.2) (inl (not_decoded_by_euc_kr coders.tables.flat coders.single_bytes.now c.args.korean.now c.args.files.now.euc_kr.now
+    c.read.new.self.euc_kr.items h.of_file coders.tables.accepted same _ c.in_err-korean_text.ensures))
+
+pub returns-in_err-western_text-clause-fault : goal.returns-in_err-western_text-clause-fault
+returns-in_err-western_text-clause-fault c =
+    let r = c.from_residual-in_err-western_text in
+    let p = err_from_is_err_and r.result r.ensures.1 in
+    let coders = c.in_ok-coders.coders in
+    let read = rw (c.new-registry.ensures.single_bytes, ← c.in_ok-coders.ensures.1) at c.in_ok-read_single_byte.ensures.table in
+    rw (p.1, p.2) (inr (not_decoded_by_table coders.tables.flat coders.single_bytes.now c.args.files.now.windows_1252.now c.args.western.now read
+    _ c.in_err-western_text.ensures))
 
 pub returns-clause-korean : goal.returns-clause-korean
 returns-clause-korean c =
