@@ -1,7 +1,7 @@
 -- The entry of index Big5 at the sum of a lead's place and a trail's place.
-use Rattle.std.proofs.Common.{◌≡◌, ◌≢◌, ◌∙◌, ℕ, ◌+◌, ◌-◌, ◌*◌, ◌≤◌, List, [], ◌∷◌, length, cond, refl, sym, ap, arith, Bool, false, ◌||◌, ◌==◌, Some}
+use Rattle.std.proofs.Common.{◌≡◌, ◌≢◌, ◌∙◌, ℕ, ◌+◌, ◌-◌, ◌≤◌, List, [], ◌∷◌, length, cond, refl, sym, ap, arith, Bool, false, ◌||◌, ◌==◌, Some}
 use Rattle.std.proofs.{Common.None, lemmas.Bool.{ne_eqb, Decides.nat_tests}}
-use Rattle.std.specs.{Int.is_in_range, Prelude.option_to_list, Option.option_map_or}
+use Rattle.std.specs.{Prelude.option_to_list, Option.option_map_or}
 use Rattle.legacy_tables.specs.{Indexes.{entry_scalar, idx}, TableChecks.must_be_empty, AcceptedTables.AcceptedIndexes, Unicode.IsByte}
 use Rattle.legacy_tables.proofs.Accepted.{length-big5, big5-used}
 use Rattle.legacy_base.specs.{Big5.big5_scalars, States.is_lead, Grammar.big5}
@@ -37,11 +37,7 @@ past index short p h = entry_is index p (grind (arith, nat_tests)) ∙ none_past
 pub big5_at : (index : List ℕ) → length index ≤ 65535 → (lead trail : ℕ) →
     big5_scalars index (big5_lead_place lead + big5_trail_place trail) ≡ cond (is_lead lead) (big5_pair_scalars index lead trail) []
 unfolding big5_lead_place big5_trail_place
-big5_at index short lead trail =
-    pair_entry (big5_scalars index) (past index short) (is_lead lead) (is_in_range 0x40 0x7E trail) (is_in_range 0xA1 0xFE trail)
-    ((lead - 0x81) * 157) (trail - 0x40) (trail - 0x62)
-    ∙ ap (λ l. cond (is_lead lead) l [])
-    (by_range (big5_scalars index) (is_in_range 0x40 0x7E trail) (is_in_range 0xA1 0xFE trail) _ _)
+big5_at index short lead trail = grind (arith, pair_entry, past, by_range)
 
 -- an entry that is not 0 is a scalar
 pub some_entry : (e : ℕ) → e ≢ 0 → Some e ≡ entry_scalar e

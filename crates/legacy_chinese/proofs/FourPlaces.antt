@@ -18,18 +18,12 @@ unfolding digit_part
 digit_read = read DIGITS digit_part refl
 
 part_small : (t : Bool) (n : ℕ) → n ≤ 1_240_000 → cond t n 1_240_000 ≤ 1_240_000
-part_small true n h = h
-part_small false n h = omega arith
+part_small t n h = grind arith
 
 -- the pointer is a number of 32 bits
 pub four_small : (a b c d : ℕ) → a < 256 → b < 256 → c < 256 → d < 256 → four_place a b c d < 0x1_0000_0000
 unfolding lead_part digit_part
-four_small a b c d h i j k =
-    let w = part_small (is_lead a) (10 * (a - 0x81)) (omega arith) in
-    let x = part_small (is_ascii_digit b) (b - 0x30) (omega arith) in
-    let y = part_small (is_lead c) (10 * (c - 0x81)) (omega arith) in
-    let z = part_small (is_ascii_digit d) (d - 0x30) (omega arith) in
-    omega (arith, w, x, y, z)
+four_small a b c d h i j k = grind (arith, part_small)
 
 -- past all pointers there is no scalar
 past_tests : (p : ℕ) → 1_237_576 ≤ p → ((p == 7457) ≡ false) × (is_in_range 189000 1237575 p ≡ false) × (nat_le p 39419 ≡ false)
@@ -74,5 +68,4 @@ four_placed tables a b c d x e = go (is_lead a) (is_ascii_digit b) (is_lead c) (
 pub four_at : (tables : AcceptedIndexes) (list : List (ℕ × ℕ)) (p a b c d x : ℕ) → list ≡ tables.flat.ranges → p ≡ four_place a b c d
     → range list p ≡ Some x
     → Runs (gb18030 tables.flat.gb18030 tables.flat.ranges) (a ∷ b ∷ c ∷ d ∷ []) (x ∷ [])
-four_at tables list p a b c d x same place e =
-    four_placed tables a b c d x (ap (λ l. range l (four_place a b c d)) (sym same) ∙ ap (range list) (sym place) ∙ e)
+four_at tables list p a b c d x same place e = grind (arith, four_placed)

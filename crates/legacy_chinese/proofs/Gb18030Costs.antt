@@ -1,7 +1,7 @@
 -- The output of the steps of gb18030.
-use Rattle.std.proofs.{Common.{◌≡◌, ℕ, ◌+◌, ◌-◌, ◌*◌, ◌≤◌, List, [], ◌∷◌, length, true, cond, ◌==◌, arith}, lemmas.Bool.{false≢true, ltb-true}}
-use Rattle.std.specs.{Int.is_in_range, Char.{is_ascii, is_ascii_digit}}
-use Rattle.legacy_base.specs.{Fronts.{reads, malformed, reads_or}, Gb18030.{gb18030_scalars, gb18030_range_pointer}, States.{is_lead, gb18030_may_hold}}
+use Rattle.std.proofs.{Common.{◌≡◌, ℕ, ◌+◌, ◌-◌, ◌≤◌, List, [], ◌∷◌, length, true, cond, arith}, lemmas.Bool.{false≢true, ltb-true}}
+use Rattle.std.specs.Char.{is_ascii, is_ascii_digit}
+use Rattle.legacy_base.specs.{Fronts.{malformed, reads_or}, Gb18030.{gb18030_scalars, gb18030_range_pointer}, States.{is_lead, gb18030_may_hold}}
 use Rattle.legacy_tables.specs.Indexes.{range}
 use Rattle.legacy_decoder_engine.specs.{Steps.{hold, finish, leave, trail_step}, StepUnits.{units, IsWidth, Cost}}
 use Rattle.legacy_chinese.specs.Gb18030Machine.{gb18030_first, gb18030_step}
@@ -9,21 +9,10 @@ use Rattle.legacy_decoder_engine.proofs.{Widths.{idx_units, option_units}, TwoBy
 
 module _ (len : ℕ → ℕ) (narrow wide : ℕ) (w : IsWidth len narrow wide) where
   pub gb18030_first_cost : (b : ℕ) → Cost len narrow (cond (is_ascii b) 1 wide) length 6 [] b (gb18030_first b)
-  gb18030_first_cost b =
-      cost_test len narrow (cond (is_ascii b) 1 wide) length 6 [] b (is_ascii b) (finish (reads 1 (b ∷ []))) _
-      (λ a. let e : len b ≡ 1 = w.ascii b (ltb-true b 0x80 a) in record { fits = rw a (omega arith); pays = omega arith; pays_without = omega arith })
-      (λ a. cost_test len narrow (cond (is_ascii b) 1 wide) length 6 [] b (b == 0x80) (finish (reads 1 (0x20AC ∷ []))) _
-      (λ e. let q : len 0x20AC ≤ narrow = w.bmp 0x20AC (omega arith) in record { fits = rw a (omega arith); pays = omega arith; pays_without = omega arith })
-      (λ e. cost_test len narrow (cond (is_ascii b) 1 wide) length 6 [] b (is_lead b) hold (finish (malformed 1))
-      (λ l. record { fits = omega arith; pays = omega arith; pays_without = omega arith })
-      (λ l. record { fits = rw a (omega arith); pays = omega arith; pays_without = omega arith })))
+  gb18030_first_cost b = grind (arith, cost_test, ltb-true)
 
   gb18030_units : (index : List ℕ) (lead b : ℕ) → units len (gb18030_scalars index lead b) ≤ wide
-  gb18030_units index lead b =
-      units_test len narrow wide w wide (is_in_range 0x40 0x7E b) _ _
-      (λ e. idx_units len narrow wide w index ((lead - 0x81) * 190 + (b - 0x40)))
-      (λ e. units_test len narrow wide w wide (is_in_range 0x80 0xFE b) _ []
-      (λ f. idx_units len narrow wide w index ((lead - 0x81) * 190 + (b - 0x41))) (λ f. omega arith))
+  gb18030_units index lead b = grind (arith, units_test, idx_units)
 
   pub gb18030_held_cost : (index : List ℕ) (ranges : List (ℕ × ℕ)) (a : ℕ) (held : List ℕ) (b : ℕ) → gb18030_may_hold (a ∷ held) ≡ true →
       Cost len narrow wide length 6 (a ∷ held) b (gb18030_step index ranges (a ∷ held) b)

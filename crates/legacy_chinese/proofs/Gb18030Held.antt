@@ -1,5 +1,5 @@
 -- The gb18030 decoder holds back only what its machine may hold back, and its moves are the machine's.
-use Rattle.std.proofs.Common.{◌≡◌, ◌≢◌, ◌∙◌, ℕ, ◌+◌, ◌/◌, ◌%◌, ◌^◌, ◌<◌, ◌≤◌, List, [], ◌∷◌, length, get_or, Bool, true, false, refl, sym, ap, arith, Some}
+use Rattle.std.proofs.Common.{◌≡◌, ◌≢◌, ◌∙◌, ℕ, ◌+◌, ◌/◌, ◌%◌, ◌^◌, ◌<◌, ◌≤◌, List, [], ◌∷◌, length, get_or, true, false, refl, sym, ap, arith, Some}
 use Rattle.std.proofs.{lemmas.Bool.Decides.nat_tests, lemmas.List.Elements.{All-nil, All-cons}}
 use Rattle.std.specs.{Prelude.option_to_list, Int.is_in_range, Char.{IsScalar, is_ascii_digit}}
 use Rattle.legacy_tables.specs.{Unicode.{IsByte, AreBytes}, Indexes.{idx, range}, AcceptedTables.AcceptedIndexes}
@@ -7,7 +7,7 @@ use Rattle.legacy_base.specs.{Calls.IsMalformedByte, Gb18030.{gb18030_scalars, g
 use Rattle.legacy_base.specs.{States.{DecoderState, state_of}, Grammar.{Grammar, gb18030, events_of}}
 use Rattle.legacy_tables.proofs.Accepted.{gb18030-below, gb18030-scalars, length-gb18030, range-scalar}
 use Rattle.legacy_chinese.specs.{declared.gb18030.decoder.Gb18030Decoder.Gb18030Decoder, declared.gb18030.decoder.Held.Held}
-use Rattle.legacy_chinese.specs.declared.gb18030.decoder.Held.TheVariants.{Nothing, First, Second, Third, Digit, DigitLead}
+use Rattle.legacy_chinese.specs.declared.gb18030.decoder.Held.TheVariants.{Nothing, First, Digit, DigitLead}
 use Rattle.legacy_chinese.specs.{declared.gb18030.digit.Digit.Digit as HeldDigit, Gb18030Decoder.gb18030_state, Gb18030Machine.{gb18030_step, gb18030_machine}}
 use Rattle.legacy_chinese.specs.{Gb18030Held.{held_bytes, is_resting}, Gb18030Places.{gb18030_place, gb18030_trail_place}}
 use Rattle.legacy_decoder_engine.specs.{declared.held_lead.Lead.Lead, declared.moves.Fed.Fed, Moves.{IsCovered, Feeds, Releases, Reports}, ReadAhead.Runs}
@@ -31,25 +31,13 @@ of_digit : (digit : HeldDigit) → (is_ascii_digit digit.byte ≡ true) × (is_l
 of_digit digit = digit_is digit.byte digit.low digit.high
 
 may : (held : Held) → gb18030_may_hold (held_bytes held) ≡ true
-may Nothing = refl
-may (First first) = rw (of_lead first).0 refl
-may (Second first second) = rw ((of_lead first).0, (of_digit second).0) refl
-may (Third first second third) = rw ((of_lead first).0, (of_digit second).0, (of_lead third).0) refl
-may (Digit digit) = rw ((of_digit digit).0, (of_digit digit).1) refl
-may (DigitLead digit lead) = rw ((of_digit digit).0, (of_digit digit).1, (of_lead lead).0) refl
+may held = grind (arith, of_lead, of_digit)
 
 one : (b : ℕ) (bytes : List ℕ) → IsByte b → AreBytes bytes → AreBytes (b ∷ bytes)
 one b bytes byte all = All-cons IsByte b bytes byte all
 
 are_bytes : (held : Held) → AreBytes (held_bytes held)
-are_bytes Nothing = All-nil IsByte
-are_bytes (First first) = one first.byte [] (of_lead first).2 (All-nil IsByte)
-are_bytes (Second first second) = one first.byte (second.byte ∷ []) (of_lead first).2 (one second.byte [] (of_digit second).2 (All-nil IsByte))
-are_bytes (Third first second third) =
-    one first.byte (second.byte ∷ third.byte ∷ []) (of_lead first).2
-    (one second.byte (third.byte ∷ []) (of_digit second).2 (one third.byte [] (of_lead third).2 (All-nil IsByte)))
-are_bytes (Digit digit) = one digit.byte [] (of_digit digit).2 (All-nil IsByte)
-are_bytes (DigitLead digit lead) = one digit.byte (lead.byte ∷ []) (of_digit digit).2 (one lead.byte [] (of_lead lead).2 (All-nil IsByte))
+are_bytes held = grind (arith, All-nil, one, of_lead, of_digit)
 
 -- ---- pairs
 
@@ -57,18 +45,10 @@ digit_no_trail : (b : ℕ) → is_ascii_digit b ≡ true → (is_in_range 0x40 0
 digit_no_trail b is = (grind (arith, nat_tests), grind (arith, nat_tests))
 
 trail_not_digit : (index : List ℕ) (lead trail c : ℕ) → gb18030_scalars index lead trail ≡ c ∷ [] → is_ascii_digit trail ≡ false
-trail_not_digit index lead trail c e = go (is_ascii_digit trail) refl
-  where
-    go : (t : Bool) → is_ascii_digit trail ≡ t → t ≡ false
-    go false is = refl
-    go true is =
-        let none = digit_no_trail trail is in
-        let nothing : gb18030_scalars index lead trail ≡ [] = rw (none.0, none.1) refl in
-        cc
+trail_not_digit index lead trail c e = grind (arith, digit_no_trail)
 
 bytes-some : (held : Held) → (held ≡ Nothing → ⊥) → held_bytes held ≢ []
-bytes-some Nothing n = absurd (n refl)
-bytes-some _ n = λ e. cc
+bytes-some held h = grind arith
 
 short : (tables : AcceptedIndexes) → length tables.flat.gb18030 ≤ 65535
 short tables = let most = length-gb18030 tables.flat tables.accepted in omega arith
@@ -83,12 +63,7 @@ module _ (tables : AcceptedIndexes) where
 
   -- the held-back bytes rest exactly if there is no digit to write
   pub rests-held : (held : Held) → rests g (held_bytes held) ≡ is_resting held
-  rests-held Nothing = refl
-  rests-held (First first) = rw (of_lead first).1 refl
-  rests-held (Second first second) = rw (of_lead first).1 refl
-  rests-held (Third first second third) = rw (of_lead first).1 refl
-  rests-held (Digit digit) = rw (of_digit digit).0 refl
-  rests-held (DigitLead digit lead) = rw (of_digit digit).0 refl
+  rests-held held = grind (arith, of_lead, of_digit)
 
   shown : IsShown g (gb18030_machine tables.flat.gb18030 tables.flat.ranges)
   shown = gb18030_shown tables.flat.gb18030 tables.flat.ranges

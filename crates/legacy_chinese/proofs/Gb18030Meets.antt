@@ -1,11 +1,11 @@
 -- The machine of gb18030 keeps to its grammar.
-use Rattle.std.proofs.Common.{◌≡◌, ℕ, ◌≤◌, List, [], ◌∷◌, ◌++◌, drop, length, Bool, true, false, not, cond, Some, None, refl, ◌∙◌, ◌&&◌, ◌==◌}
+use Rattle.std.proofs.Common.{◌≡◌, ℕ, ◌≤◌, List, [], ◌∷◌, ◌++◌, drop, length, Bool, true, false, not, cond, Some, None, refl, ◌∙◌, ◌==◌}
 use Rattle.std.proofs.{Common.arith, lemmas.Bool.{false≢true, and_from, or_left, or_right, both_ways}}
 use Rattle.std.proofs.lemmas.Bool.Decides.{nat_tests}
 use Rattle.std.specs.Char.{is_ascii, is_ascii_digit}
-use Rattle.legacy_base.specs.{Fronts.{Front, reads, malformed, reads_or, cut}, Grammar.{Grammar, gb18030, events_of}, Gb18030.gb18030_scalars}
+use Rattle.legacy_base.specs.{Fronts.{Front, reads, malformed, reads_or, cut}, Grammar.{Grammar, gb18030, events_of}}
 use Rattle.legacy_base.specs.{Gb18030.{gb18030_fourth, gb18030_third, gb18030_second, gb18030_front}, States.{is_lead, gb18030_may_hold, rests}}
-use Rattle.legacy_decoder_engine.specs.Steps.{hold, finish, leave, PendingMeets, end_events, trail_step, Meets}
+use Rattle.legacy_decoder_engine.specs.Steps.{finish, PendingMeets, end_events, Meets}
 use Rattle.legacy_chinese.specs.Gb18030Machine.{gb18030_pending, gb18030_first, gb18030_step, gb18030_machine}
 use Rattle.legacy_base.proofs.{Cuts.cut-nil, FrontLaws.gb18030_front-of}
 use Rattle.legacy_decoder_engine.proofs.FrontMoves.{HasFront, Fits, fits_test, fits_trail, fits_meets, write_meets, end_meets, report_meets}
@@ -24,8 +24,7 @@ digit_not_lead b h = grind (arith, nat_tests)
 reads_fits : (front : ℕ → List ℕ → Front) (may : List ℕ → Bool) (held : List ℕ) (b : ℕ) (scalars : List ℕ) →
     may (drop 4 (held ++ b ∷ [])) ≡ true → length held ≡ 3 →
     ((more : List ℕ) → HasFront front (held ++ b ∷ more) (reads_or 4 scalars (malformed 4))) → Fits front may held b (finish (reads_or 4 scalars (malformed 4)))
-reads_fits front may held b [] m l h = (h, omega arith, omega arith, m)
-reads_fits front may held b (c ∷ scalars) m l h = (h, omega arith, omega arith, m)
+reads_fits front may held b scalars h h1 h2 = grind arith
 
 -- ---- what may be held back
 
@@ -54,70 +53,37 @@ module _ (index : List ℕ) (ranges : List (ℕ × ℕ)) where
 
   first_fits : (b : ℕ) → Fits front gb18030_may_hold [] b (gb18030_first b)
   unfolding gb18030_front
-  first_fits b =
-      fits_test front gb18030_may_hold [] b (is_ascii b) (finish (reads 1 (b ∷ []))) _
-      (λ a. (λ more. rw a, omega arith, omega arith, refl))
-      (λ a. fits_test front gb18030_may_hold [] b (b == 0x80) (finish (reads 1 (0x20AC ∷ []))) _
-      (λ e. (λ more. rw (a, e), omega arith, omega arith, refl))
-      (λ e. fits_test front gb18030_may_hold [] b (is_lead b) hold (finish (malformed 1))
-      (λ l. (omega arith, or_left (is_lead b) (is_ascii_digit b) l))
-      (λ l. (λ more. rw (a, e, l), omega arith, omega arith, refl))))
+  first_fits b = grind (arith, fits_test, or_left)
 
   second_fits : (first b : ℕ) → is_lead first ≡ true → Fits front gb18030_may_hold (first ∷ []) b (gb18030_step index ranges (first ∷ []) b)
   unfolding gb18030_second
-  second_fits first b l =
-      fits_test front gb18030_may_hold (first ∷ []) b (is_ascii_digit b) hold (trail_step 1 (gb18030_scalars index first b) b)
-      (λ d. (omega arith, or_left (is_lead first && is_ascii_digit b) (is_ascii_digit first && is_lead b) (and_from (is_lead first) (is_ascii_digit b) l d)))
-      (λ d. fits_trail front gb18030_may_hold (first ∷ []) (gb18030_scalars index first b) b refl (omega arith)
-      (λ more. front_lead first (b ∷ more) l ∙ rw d))
+  second_fits first b l = grind (arith, fits_test, or_left, and_from, fits_trail, front_lead)
 
   third_fits : (first second b : ℕ) → is_lead first ≡ true → is_ascii_digit second ≡ true →
       Fits front gb18030_may_hold (first ∷ second ∷ []) b (gb18030_step index ranges (first ∷ second ∷ []) b)
   unfolding gb18030_second gb18030_third
-  third_fits first second b l d =
-      fits_test front gb18030_may_hold (first ∷ second ∷ []) b (is_lead b) hold (leave 1)
-      (λ k. (omega arith, and_from (is_lead first && is_ascii_digit second) (is_lead b) (and_from (is_lead first) (is_ascii_digit second) l d) k))
-      (λ k. (λ more. front_lead first (second ∷ b ∷ more) l ∙ rw (d, k), omega arith, omega arith, or_right (is_lead second) (is_ascii_digit second) d))
+  third_fits first second b l d = grind (arith, fits_test, and_from, front_lead, or_right)
 
   fourth_fits : (first second third b : ℕ) → is_lead first ≡ true → is_ascii_digit second ≡ true → is_lead third ≡ true →
       Fits front gb18030_may_hold (first ∷ second ∷ third ∷ []) b (gb18030_step index ranges (first ∷ second ∷ third ∷ []) b)
   unfolding gb18030_second gb18030_third gb18030_fourth
-  fourth_fits first second third b l d k =
-      fits_test front gb18030_may_hold (first ∷ second ∷ third ∷ []) b (is_ascii_digit b) _ (leave 1)
-      (λ e. reads_fits front gb18030_may_hold (first ∷ second ∷ third ∷ []) b _ refl (omega arith)
-      (λ more. front_lead first (second ∷ third ∷ b ∷ more) l ∙ rw (d, k, e)))
-      (λ e. (
-        λ more. front_lead first (second ∷ third ∷ b ∷ more) l ∙ rw (d, k, e),
-        omega arith,
-        omega arith,
-        or_right (is_lead second && is_ascii_digit third) (is_ascii_digit second && is_lead third) (and_from (is_ascii_digit second) (is_lead third) d k),
-      ))
+  fourth_fits first second third b l d k = grind (arith, fits_test, reads_fits, front_lead, or_right, and_from)
 
   fits : (held : List ℕ) (b : ℕ) → gb18030_may_hold held ≡ true → rests g held ≡ true →
       Fits front gb18030_may_hold held b (gb18030_step index ranges held b)
-  fits [] b h r = first_fits b
-  fits (first ∷ []) b h r = second_fits first b (one_lead first h r)
-  fits (first ∷ second ∷ []) b h r = let p = two_lead first second h r in third_fits first second b p.0 p.1
-  fits (first ∷ second ∷ third ∷ []) b h r = let p = three_lead first second third h in fourth_fits first second third b p.0 p.1 p.2
-  fits (first ∷ second ∷ third ∷ c ∷ held) b h r = absurd (false≢true h)
+  fits held b h h1 = grind (arith, first_fits, second_fits, one_lead, two_lead, third_fits, three_lead, fourth_fits, false≢true)
 
   ev_is : (bytes : List ℕ) → events_of g bytes ≡ cut front 0 0 bytes
   unfolding events_of
   ev_is bytes = refl
 
   few_held : (held : List ℕ) → gb18030_may_hold held ≡ true → length held ≤ 3
-  few_held (a ∷ b ∷ c ∷ d ∷ held) h = absurd (false≢true h)
-  few_held held h = omega arith
+  few_held held h = grind (arith, false≢true)
 
   -- ---- a digit to write
 
   behind_digit : (b : ℕ) (held : List ℕ) → gb18030_may_hold (b ∷ held) ≡ true → is_ascii_digit b ≡ true → gb18030_may_hold held ≡ true
-  behind_digit b [] h d = refl
-  behind_digit b (c ∷ []) h d =
-      let l = digit_not_lead b d in
-      or_left (is_lead c) (is_ascii_digit c) (rw (l, d) at h)
-  behind_digit b (c ∷ e ∷ []) h d = let p = three_lead b c e h in absurd (both_ways (is_lead b) (digit_not_lead b d) p.0)
-  behind_digit b (c ∷ e ∷ f ∷ held) h d = absurd (false≢true h)
+  behind_digit b held h h1 = grind (arith, digit_not_lead, or_left, three_lead, both_ways, false≢true)
 
   digit_front : (b : ℕ) (rest : List ℕ) → is_ascii_digit b ≡ true → front b rest ≡ reads 1 (b ∷ [])
   unfolding gb18030_front
@@ -133,8 +99,7 @@ module _ (index : List ℕ) (ranges : List (ℕ × ℕ)) where
   pending b held h false d = rw d
 
   writes : (held : List ℕ) → gb18030_may_hold held ≡ true → PendingMeets g held (gb18030_pending held)
-  writes [] h = refl
-  writes (b ∷ held) h = pending b held h (is_ascii_digit b) refl
+  writes held h = grind (arith, pending)
 
   -- ---- the end of the input
 

@@ -1,10 +1,9 @@
 -- A pair that is the code of a scalar in gb18030 or in GBK.
-use Rattle.std.proofs.Common.{◌≡◌, ◌≢◌, ℕ, ◌+◌, ◌<◌, ◌≤◌, List, [], ◌∷◌, Option, Some, None, false, option_map, refl, arith}
+use Rattle.std.proofs.Common.{◌≡◌, ◌≢◌, ℕ, ◌+◌, ◌<◌, ◌≤◌, List, [], ◌∷◌, Some, None, option_map, arith}
 use Rattle.std.proofs.{lemmas.Bool.ne_eqb, lemmas.Bool.Decides.nat_tests}
-use Rattle.std.specs.Char.{is_ascii}
-use Rattle.legacy_tables.specs.{Indexes.gb18030_pua_of, Pointers.{gb18030_pointer_of, range_pointer_of}}
+use Rattle.legacy_tables.specs.{Indexes.gb18030_pua_of, Pointers.range_pointer_of}
 use Rattle.legacy_tables.proofs.PointerBounds.{range-bound}
-use Rattle.legacy_base.specs.Gb18030.{gb18030_code, gb18030_pair_bytes, gb18030_range_bytes}
+use Rattle.legacy_base.specs.Gb18030.{gb18030_code, gb18030_range_bytes}
 
 -- a scalar's pointer of four bytes is below their number
 pub pointer_bound : (ranges : List (ℕ × ℕ)) (c p : ℕ) → range_pointer_of ranges c ≡ Some p → p < 1237576
@@ -15,14 +14,4 @@ pub four_past_pairs : (index : List ℕ) (ranges : List (ℕ × ℕ)) (pua : Lis
     → ((lead trail : ℕ) → gb18030_code index ranges pua c ≡ Some (lead ∷ trail ∷ []) → lead + trail ≡ 0)
     → gb18030_code index ranges pua c ≡ option_map gb18030_range_bytes (range_pointer_of ranges c)
 unfolding gb18030_code
-four_past_pairs index ranges pua c past other row none = by_pointer (gb18030_pointer_of index c) refl
-  where
-    ascii : is_ascii c ≡ false
-    ascii = grind (arith, nat_tests)
-
-    by_pointer : (o : Option ℕ) → gb18030_pointer_of index c ≡ o → gb18030_code index ranges pua c ≡ option_map gb18030_range_bytes (range_pointer_of ranges c)
-    by_pointer None e = rw (ascii, ne_eqb c 0xE5E5 other, row, e) refl
-    by_pointer (Some p) e =
-        let pair : gb18030_code index ranges pua c ≡ Some (gb18030_pair_bytes p) = rw (ascii, ne_eqb c 0xE5E5 other, row, e) refl in
-        let sum = none _ _ pair in
-        absurd (omega arith)
+four_past_pairs index ranges pua c past other row none = grind (arith, nat_tests, ne_eqb)

@@ -1,6 +1,6 @@
 -- The entry of index gb18030 at the sum of a lead's place and a trail's place.
-use Rattle.std.proofs.Common.{◌≡◌, ℕ, ◌+◌, ◌-◌, ◌*◌, ◌≤◌, List, [], length, cond, refl}
-use Rattle.std.specs.{Int.is_in_range, Prelude.option_to_list}
+use Rattle.std.proofs.Common.{arith, ◌≡◌, ℕ, ◌+◌, ◌≤◌, List, [], length, cond, refl}
+use Rattle.std.specs.Prelude.{option_to_list}
 use Rattle.legacy_tables.specs.Indexes.{idx}
 use Rattle.legacy_base.specs.{Gb18030.gb18030_scalars, States.is_lead}
 use Rattle.legacy_decoder_engine.specs.Places.{IsTableOf, lead_place}
@@ -14,6 +14,4 @@ gb18030_trails_are = refl
 pub gb18030_entry : (index : List ℕ) → length index ≤ 65535 → (lead trail : ℕ) →
     option_to_list (idx index (lead_place lead + gb18030_trail_place trail)) ≡ cond (is_lead lead) (gb18030_scalars index lead trail) []
 unfolding lead_place gb18030_trail_place
-gb18030_entry index short lead trail =
-    pair_entry (λ p. option_to_list (idx index p)) (none_past index short) (is_lead lead) (is_in_range 0x40 0x7E trail) (is_in_range 0x80 0xFE trail)
-    ((lead - 0x81) * 190) (trail - 0x40) (trail - 0x41)
+gb18030_entry index short lead trail = grind (arith, pair_entry, none_past)

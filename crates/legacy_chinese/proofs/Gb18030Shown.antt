@@ -1,5 +1,5 @@
 -- The steps of gb18030 agree with its grammar.
-use Rattle.std.proofs.Common.{◌≡◌, ℕ, ◌+◌, ◌<◌, ◌≤◌, List, [], ◌∷◌, length, Bool, true, false, cond, Some, None, refl, inl, arith}
+use Rattle.std.proofs.Common.{◌≡◌, ℕ, ◌+◌, ◌<◌, ◌≤◌, List, [], ◌∷◌, length, true, refl, inl, arith}
 use Rattle.std.proofs.lemmas.Bool.Decides.{nat_tests}
 use Rattle.std.specs.Char.{is_ascii, is_ascii_digit}
 use Rattle.legacy_tables.specs.Unicode.{IsByte, AreBytes}
@@ -35,16 +35,10 @@ module _ (index : List ℕ) (ranges : List (ℕ × ℕ)) where
   digit_pays : (len : ℕ → ℕ) (narrow wide : ℕ) → IsWidth len narrow wide → (room : DecoderState → ℕ → ℕ) →
       ((b : ℕ) (held : List ℕ) (n : ℕ) → room (state_of g held) n + 1 ≤ room (state_of g (b ∷ held)) n) →
       (held : List ℕ) → WritePays len narrow wide room g held (gb18030_pending held)
-  digit_pays len narrow wide w room falls [] = tt
-  digit_pays len narrow wide w room falls (b ∷ held) = go (is_ascii_digit b) refl
-    where
-      go : (t : Bool) → is_ascii_digit b ≡ t → WritePays len narrow wide room g (b ∷ held) (cond t (Some (1, b)) None)
-      go true d = let e : len b ≡ 1 = w.ascii b (digit_below b d) in (w.every b, λ n. let f = falls b held n in omega arith)
-      go false d = tt
+  digit_pays len narrow wide h room h1 held = grind (arith, digit_below)
 
   digit_falls : (query : LengthQuery) (b : ℕ) (held : List ℕ) (n : ℕ) → room query (state_of g held) n + 1 ≤ room query (state_of g (b ∷ held)) n
-  digit_falls to_utf16 b held n = omega arith
-  digit_falls _ b held n = omega arith
+  digit_falls query b held n = grind arith
 
   sloped : IsSloped g machine length 6
   sloped = record {
@@ -56,8 +50,7 @@ module _ (index : List ℕ) (ranges : List (ℕ × ℕ)) where
   }
 
   write_settles : (held : List ℕ) → gb18030_may_hold held ≡ true → WriteSettles g held (gb18030_pending held)
-  write_settles [] h = tt
-  write_settles (b ∷ held) h = write_test g (b ∷ held) (is_ascii_digit b) (Some (1, b)) None (gb18030_write index ranges b held h) (λ d. tt)
+  write_settles held h = grind (arith, write_test, gb18030_write)
 
   pub gb18030_shown : IsShown (gb18030 index ranges) (gb18030_machine index ranges)
   gb18030_shown = record {

@@ -1,14 +1,14 @@
 -- A walk over the pointers of index gb18030 lists the codes of the scalars that have the code of their pointer. The
 -- other scalars of gb18030 and GBK are looked up one by one.
 use Rattle.std.proofs.Common.{◌≡◌, ◌∙◌, ℕ, ◌+◌, ◌/◌, ◌<◌, List, [], ◌∷◌, slice_index, Some, None, Option, Bool, true, false, find, ◌||◌, ◌==◌, refl, ap, sym}
-use Rattle.std.proofs.{Common.{subst, arith, option_map, inl, inr}, lemmas.Bool.{le-ltb, cases_Bool}}
+use Rattle.std.proofs.{Common.{subst, arith, option_map}, lemmas.Bool.le-ltb}
 use Rattle.std.specs.Option.{IfSome}
 use Rattle.legacy_tables.specs.{Indexes.{FlatIndexes, gb18030_pua_of}, TableChecks.AreAccepted, Pointers.{gb18030_pointer_of, range_pointer_of}}
 use Rattle.legacy_tables.proofs.{Accepted.gb18030-scalars, PointerBounds.gb18030-bound}
 use Rattle.legacy_base.specs.{Gb18030.{gb18030_code, gbk_code, gb18030_pair_code, gb18030_pair_bytes, gb18030_range_bytes}, Encoders.encoder_profile}
 use Rattle.legacy_encoder_engine.specs.{UnitTurns.two_bytes, CachedPairs.IsNoPair}
 use Rattle.legacy_encoder_engine.proofs.{CachedPairs.{outside-one, outside-first}, WalkedPairs.{GoesByPointers, halves}}
-use Rattle.legacy_chinese.specs.{Gb18030Codec.gb18030_codec, Gb18030List.{GoesByPointer, is_in_rows, gb18030_mark, gb18030_mark-some}}
+use Rattle.legacy_chinese.specs.{Gb18030Codec.gb18030_codec, Gb18030List.{GoesByPointer, is_in_rows, gb18030_mark}}
 use Rattle.legacy_tables.specs.declared.tables.packed.PackedPart.TheVariants as parts
 
 find_none : (rows : List (ℕ × ℕ × ℕ)) (c : ℕ) → is_in_rows rows c ≡ false → find (λ r. r.0 == c) rows ≡ None
@@ -32,8 +32,7 @@ module _ (flat : FlatIndexes) (accepted : AreAccepted flat) where
   pointed : (extended : Bool) (c p : ℕ) → GoesByPointer flat.gb18030_pua c → gb18030_pointer_of flat.gb18030 c ≡ Some p →
       (encoder_profile (gb18030_codec flat extended)).code c ≡ Some (gb18030_pair_bytes p)
   unfolding gb18030_code gbk_code
-  pointed true c p by e = rw (le-ltb c 128 (outside-first 0x80 c by.ascii), outside-one 0xE5E5 c by.e5e5, paired c by, e) refl
-  pointed false c p by e = rw (le-ltb c 128 (outside-first 0x80 c by.ascii), outside-one 0xE5E5 c by.e5e5, outside-one 0x20AC c by.euro, paired c by, e) refl
+  pointed extended c p h h1 = grind (arith, le-ltb, outside-first, outside-one, paired)
 
   -- in gb18030 a scalar without a pointer has four bytes or is unmappable
   four : (c : ℕ) → GoesByPointer flat.gb18030_pua c → gb18030_pointer_of flat.gb18030 c ≡ None →
@@ -46,8 +45,7 @@ module _ (flat : FlatIndexes) (accepted : AreAccepted flat) where
   none c by e = rw (le-ltb c 128 (outside-first 0x80 c by.ascii), outside-one 0xE5E5 c by.e5e5, outside-one 0x20AC c by.euro, paired c by, e) refl
 
   no_two : (o : Option ℕ) (lead trail : ℕ) → option_map gb18030_range_bytes o ≡ Some (lead ∷ trail ∷ []) → ⊥
-  no_two None lead trail e = cc
-  no_two (Some p) lead trail e = cc
+  no_two o lead trail h = grind arith
 
   module _ (extended : Bool) where
     coded : (c p : ℕ) → GoesByPointer flat.gb18030_pua c → gb18030_pointer_of flat.gb18030 c ≡ Some p
@@ -64,19 +62,10 @@ module _ (flat : FlatIndexes) (accepted : AreAccepted flat) where
         go false lead trail is = let f = sym is ∙ none c d e in cc
 
     pub goes-by-pointers : GoesByPointers (gb18030_codec flat extended) parts.Gb18030Order gb18030_mark flat.gb18030 (GoesByPointer flat.gb18030_pua)
-    goes-by-pointers = record {
-      scalars = gb18030-scalars flat accepted;
-      some = gb18030_mark-some;
-      past = λ c d. outside-first 0x80 c d.ascii;
-      coded = coded;
-      uncoded = uncoded;
-    }
+    goes-by-pointers = grind (arith, gb18030-scalars, outside-first, coded, uncoded)
 
 -- an entry has the property after the rows were looked up, if it had it before or is in a row
 pub rows-asked : (Is : ℕ → ℕ → Type 0) (rows : List (ℕ × ℕ × ℕ)) (old new : List ℕ) (c : ℕ) → ((k : ℕ) → is_in_rows rows k ≡ true → Is k (slice_index new k))
     → ((k : ℕ) → is_in_rows rows k ≡ false → slice_index new k ≡ slice_index old k)
     → (is_in_rows rows c ≡ false → Is c (slice_index old c)) → Is c (slice_index new c)
-rows-asked Is rows old new c inside outside before = elim (cases_Bool (is_in_rows rows c)) [
-  | inl e ↦ inside c e
-  | inr e ↦ rw (outside c e) (before e)
-]
+rows-asked Is rows old new c inside outside before = grind arith

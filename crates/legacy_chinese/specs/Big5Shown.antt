@@ -1,11 +1,9 @@
 -- The steps of Big5 agree with its grammar.
-use Rattle.std.proofs.Common.{ℕ, ◌<◌, ◌≤◌, List, [], ◌∷◌, Option, Some, None, true, refl, ◌==◌, arith}
+use Rattle.std.proofs.Common.{ℕ, ◌<◌, ◌≤◌, List, [], ◌∷◌, Option, true, arith}
 use Rattle.std.specs.Option.{option_map_or}
-use Rattle.legacy_base.specs.Big5.{big5_front, big5_pair, big5_scalars, big5_pointer}
-use Rattle.legacy_tables.specs.Indexes.{idx}
+use Rattle.legacy_base.specs.Big5.{big5_front, big5_pair, big5_scalars}
 use Rattle.legacy_base.specs.Grammar.{big5}
 use Rattle.legacy_base.specs.States.{is_lead}
-use Rattle.legacy_base.specs.Lengths.{to_utf16}
 use Rattle.legacy_decoder_engine.specs.LeadMachines.{lead_first}
 use Rattle.legacy_chinese.specs.Big5Machine.{big5_pair_scalars}
 use Rattle.legacy_decoder_engine.specs.StepUnits.{units, IsWidth}
@@ -19,42 +17,21 @@ use Rattle.legacy_decoder_engine.specs.LeadCodecs.{IsLeadCodec}
 
 -- each pointer gives at most one scalar, or a letter and a combining mark
 one : (index : List ℕ) (o : Option ℕ) → IsOneOrMarked true (option_map_or (big5_scalars index) o [])
-one index None = tt
-one index (Some p) =
-    one_test true (p == 1133) (0xCA ∷ 0x304 ∷ []) _ refl
-    (one_test true (p == 1135) (0xCA ∷ 0x30C ∷ []) _ refl
-    (one_test true (p == 1164) (0xEA ∷ 0x304 ∷ []) _ refl
-    (one_test true (p == 1166) (0xEA ∷ 0x30C ∷ []) _ refl (one_option true (idx index p)))))
+one index o = grind (arith, one_test, one_option)
 
 module _ (len : ℕ → ℕ) (narrow wide : ℕ) (w : IsWidth len narrow wide) where
   two_units : (c d : ℕ) → c < 0x800 → d < 0x800 → units len (c ∷ d ∷ []) ≤ wide
   two_units c d h k = let p = w.two c h in let q = w.two d k in omega arith
 
   scalar_units : (index : List ℕ) (o : Option ℕ) → units len (option_map_or (big5_scalars index) o []) ≤ wide
-  scalar_units index None = omega arith
-  scalar_units index (Some p) =
-      units_test len narrow wide w wide (p == 1133) (0xCA ∷ 0x304 ∷ []) _ (λ e. two_units 0xCA 0x304 (omega arith) (omega arith))
-      (λ e. units_test len narrow wide w wide (p == 1135) (0xCA ∷ 0x30C ∷ []) _ (λ e'. two_units 0xCA 0x30C (omega arith) (omega arith))
-      (λ e'. units_test len narrow wide w wide (p == 1164) (0xEA ∷ 0x304 ∷ []) _ (λ f. two_units 0xEA 0x304 (omega arith) (omega arith))
-      (λ f. units_test len narrow wide w wide (p == 1166) (0xEA ∷ 0x30C ∷ []) _ (λ g. two_units 0xEA 0x30C (omega arith) (omega arith))
-      (λ g. idx_units len narrow wide w index p))))
+  scalar_units index o = grind (arith, units_test, two_units, idx_units)
 
 is : (index : List ℕ) → IsTwoByte (big5 index) (big5_front index) is_lead (lead_first is_lead) (big5_pair_scalars index)
 unfolding big5_front big5_pair
-is index = record {
-  profile_is = refl;
-  front_is = λ b. let is = lead_front_is is_lead (big5_pair_scalars index b) in elim [ [] ↦ is [] _ b refl | t ∷ rest ↦ is (t ∷ rest) _ b refl ];
-  pair_one = λ lead t. one index (big5_pointer lead t);
-}
+is index = grind (arith, lead_front_is, one)
 
 rooms : (index : List ℕ) → HasTwoByteRooms (big5 index) (big5_pair_scalars index) 4
-rooms index = record {
-  pair_units = λ len narrow wide w lead b. scalar_units len narrow wide w index (big5_pointer lead b);
-  is_paid = λ len narrow wide w. omega arith;
-  falls = elim [ to_utf16 ↦ λ held held' n n' u h. omega arith | _ ↦ λ held held' n n' u h. omega arith ];
-  reads = elim [ to_utf16 ↦ λ held. omega arith | _ ↦ λ held. omega arith ];
-  holds = elim [ to_utf16 ↦ λ b held. omega arith | _ ↦ λ b held. omega arith ];
-}
+rooms index = grind (arith, scalar_units)
 
 pub big5_codec : IsLeadCodec (λ flat. big5 flat.big5) is_lead (lead_first is_lead) (λ flat. big5_pair_scalars flat.big5)
 big5_codec =

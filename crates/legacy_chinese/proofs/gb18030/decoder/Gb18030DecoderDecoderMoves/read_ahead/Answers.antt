@@ -1,7 +1,5 @@
-use Rattle.std.proofs.Common.{◌∙◌, sym, subst}
-use Rattle.legacy_tables.specs.AcceptedTables.{AcceptedIndexes}
-use Rattle.legacy_base.specs.{Grammar.gb18030, States.new_state}
-use Rattle.legacy_decoder_engine.specs.ReadAhead.{ReadsAhead}
+use Rattle.std.proofs.Common.{arith, ◌∙◌, sym}
+use Rattle.legacy_base.specs.Grammar.{gb18030}
 use Rattle.legacy_decoder_engine.proofs.{JoinedRuns.reads_idle, WrittenRuns.reads_none}
 use Rattle.legacy_chinese.specs.Gb18030Decoder.{gb18030_state}
 use Rattle.legacy_chinese.proofs.Gb18030Held.{ascii, idle}
@@ -11,10 +9,7 @@ pub returns-then-not-in_neutral_state : goal.returns-then-not-in_neutral_state
 returns-then-not-in_neutral_state g c = reads_none g.T.Destination (gb18030_state c.args.self.now) c.args.src.now c.args.dst.now
 
 pub returns-in-Some : goal.returns-in-Some
-returns-in-Some g c =
-    reads_idle (idle c.args.self.now (sym c.in_neutral_state.ensures ∙ c.if-not-in_neutral_state.false))
-    (subst (λ (t : AcceptedIndexes). ReadsAhead g.T.Destination (new_state
-    (gb18030 t.flat.gb18030 t.flat.ranges)) c.args.src.now c.read_flat.result c.args.dst.now c.read_flat.new.dst) c.in-Some.ensures c.read_flat.ensures)
+returns-in-Some g c = grind (arith, reads_idle, idle)
 
 pub returns-in-None : goal.returns-in-None
 returns-in-None g c =

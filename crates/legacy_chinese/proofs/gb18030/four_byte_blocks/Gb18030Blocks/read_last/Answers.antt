@@ -1,31 +1,12 @@
-use Rattle.std.proofs.{Common.{◌-◌, take, drop, length, length-drop, arith}, lemmas.List.length-take}
-use Rattle.legacy_base.specs.Grammar.{gb18030}
+use Rattle.std.proofs.{Common.{◌-◌, length-drop, arith}, lemmas.List.length-take}
 use Rattle.legacy_decoder_engine.proofs.WrittenRuns.{writes_none, writes_put, writes_run, four_fit}
 use Rattle.legacy_chinese.proofs.gb18030.four_byte_blocks.Gb18030Blocks.read_last.Goals as goal
 
 pub loop-at-init : goal.loop-at-init
-loop-at-init g c =
-    let flat = c.args.self.now.tables.now.flat in
-    (omega arith, writes_none g.T.Destination (gb18030 flat.gb18030 flat.ranges) c.args.dst.now, λ h. absurd (omega arith), λ h. absurd (omega arith))
+loop-at-init g c = grind (arith, writes_none)
 
 pub put-requires : goal.put-requires
 put-requires g c = four_fit g.T.Destination.form c.in-Some.scalar _ (omega (arith, c.free.ensures, c.if-free-ge7.true))
 
 pub loop-at-preserved : goal.loop-at-preserved
-loop-at-preserved g c =
-    let T = g.T.Destination in
-    let src = c.args.src.now in
-    let at = c.loop-at.at in
-    let i = c.loop-at.invariant in
-    let e = c.put.ensures in
-    let form = c.in-Some.ensures in
-    let l = length-take (length src - at) (drop at src) in
-    let d = length-drop at src in
-    let rest = take (length src - at) (drop at src) in
-    let put = writes_put T (take c.in-Some.length rest) c.in-Some.scalar form.2 e.contents e.room e.loan in
-    let small = four_fit T.form c.in-Some.scalar 4 (omega arith) in (
-      omega (arith, i.0, form.1, l, d),
-      writes_run T src at c.in-Some.length i.1 put,
-      λ h. omega (arith, c.free.ensures, c.if-free-ge7.true, e.room, small),
-      λ h. omega (arith, c.free.ensures, c.if-free-ge7.true, i.1.room),
-    )
+loop-at-preserved g c = grind (arith, length-take, length-drop, writes_put, four_fit, writes_run)
