@@ -48,7 +48,7 @@ pub trait LaneCodec {
         ensures pairs { ArePairs (grammar tables.now.flat) (entries tables.now.flat) place };
 
     /// Returns the entries at eight places, with 0 for an entry past U+FFFF.
-    fn entries_at(tables: &FlatTables<'_>, places: &[u16]) -> u16x8
+    fn entries_at(tables: &FlatTables<'_>, places: &[u32]) -> u16x8
         requires eight { 8 ≤ length places.now }
         requires within { (k : ℕ) → k < 8 →
             get_or places.now k 0 < length (entries tables.now.flat) }
@@ -81,10 +81,11 @@ fn kept_and_places<C: LaneCodec>(codes: u16x8, last: u16) -> (u16x8, u16x8)
 }
 
 /// What is kept of each code of a block, and the place of its entry.
+// The compiler joins loads of eight places of 16 bits into vectors, and takes each place out of them again.
 #[derive(Drop)]
 struct Lanes {
     kept: [u16; 64],
-    places: [u16; 64],
+    places: [u32; 64],
 }
 
 /// Stores what is kept of the codes in the first `groups` groups of eight, and the places of their entries.
@@ -93,7 +94,7 @@ struct Lanes {
 fn split_codes<C: LaneCodec>(
     codes: &[u16],
     kept: &mut [u16],
-    places: &mut [u16],
+    places: &mut [u32],
     groups: usize,
     last: u16,
 )
@@ -109,27 +110,27 @@ fn split_codes<C: LaneCodec>(
         let at = 8 * group;
         let (first, found) = kept_and_places::<C>(u16x8::from_slice(&codes[at..]), last);
         first.copy_to_slice(&mut kept[at..]);
-        found.copy_to_slice(&mut places[at..]);
+        found.cast::<u32>().copy_to_slice(&mut places[at..]);
         group += 1;
     }
 }
 
 /// Returns the entries at eight places of an index of scalars up to U+FFFF.
 #[inline(always)]
-pub fn narrow_entries(index: &[u16], places: &[u16]) -> u16x8
+pub fn narrow_entries(index: &[u16], places: &[u32]) -> u16x8
     requires eight { 8 ≤ length places.now }
     requires within { (k : ℕ) → k < 8 → get_or places.now k 0 < length index.now }
     ensures { (k : ℕ) → k < 8 → get_or result k 0 ≡ get_or index.now (get_or places.now k 0) 0 }
 {
     u16x8::from_array([
-        index[usize::from(places[0])],
-        index[usize::from(places[1])],
-        index[usize::from(places[2])],
-        index[usize::from(places[3])],
-        index[usize::from(places[4])],
-        index[usize::from(places[5])],
-        index[usize::from(places[6])],
-        index[usize::from(places[7])],
+        index[places[0] as usize],
+        index[places[1] as usize],
+        index[places[2] as usize],
+        index[places[3] as usize],
+        index[places[4] as usize],
+        index[places[5] as usize],
+        index[places[6] as usize],
+        index[places[7] as usize],
     ])
 }
 
@@ -308,7 +309,7 @@ fn read_block<C: LaneCodec, T: Destination>(
 {
     let bytes = u8x64::from_slice(block);
     let past = past_ascii(bytes);
-    if 8 * past.count_ones() as usize <= 3 * limit.min(64) {
+    if 8 * past.count_ones() as usize <= 4 * limit.min(64) {
         return (0, false);
     }
     if C::has_singles(bytes) {
@@ -362,7 +363,7 @@ fn begins_many<C: LaneCodec>(src: &[u8]) -> bool {
     }
     if src.len() >= 64 {
         let block = u8x64::from_slice(src);
-        return past_ascii(block).count_ones() > 24 && !C::has_singles(block);
+        return past_ascii(block).count_ones() > 32 && !C::has_singles(block);
     }
     let past = u8x16::from_slice(src).simd_ge(u8x16::splat(0x80));
     past.to_bitmask().count_ones() > 6

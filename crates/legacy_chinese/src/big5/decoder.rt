@@ -85,7 +85,7 @@ impl LaneCodec for Big5 {
     }
 
     #[inline(always)]
-    fn entries_at(tables: &FlatTables<'_>, places: &[u16]) -> u16x8 {
+    fn entries_at(tables: &FlatTables<'_>, places: &[u32]) -> u16x8 {
         narrowed_entries(tables.wide(), places)
     }
 
@@ -146,20 +146,20 @@ impl LeadCodec for Big5 {
 
 /// Returns the entries at eight places, or only zeros if one of them is past U+FFFF.
 #[inline(always)]
-fn narrowed_entries(index: &[u32], places: &[u16]) -> u16x8
+fn narrowed_entries(index: &[u32], places: &[u32]) -> u16x8
     requires eight { 8 ≤ length places.now }
     requires within { (k : ℕ) → k < 8 → get_or places.now k 0 < length index.now }
     ensures { (k : ℕ) → k < 8 → get_or result k 0 ≢ 0 →
         get_or result k 0 ≡ get_or index.now (get_or places.now k 0) 0 }
 {
-    let a = index[usize::from(places[0])];
-    let b = index[usize::from(places[1])];
-    let c = index[usize::from(places[2])];
-    let d = index[usize::from(places[3])];
-    let e = index[usize::from(places[4])];
-    let f = index[usize::from(places[5])];
-    let g = index[usize::from(places[6])];
-    let h = index[usize::from(places[7])];
+    let a = index[places[0] as usize];
+    let b = index[places[1] as usize];
+    let c = index[places[2] as usize];
+    let d = index[places[3] as usize];
+    let e = index[places[4] as usize];
+    let f = index[places[5] as usize];
+    let g = index[places[6] as usize];
+    let h = index[places[7] as usize];
     if a >= 0x1_0000
         || b >= 0x1_0000
         || c >= 0x1_0000

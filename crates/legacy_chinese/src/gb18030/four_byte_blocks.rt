@@ -120,7 +120,7 @@ impl LaneCodec for Gb18030 {
     }
 
     #[inline(always)]
-    fn entries_at(tables: &FlatTables<'_>, places: &[u16]) -> u16x8 {
+    fn entries_at(tables: &FlatTables<'_>, places: &[u32]) -> u16x8 {
         narrow_entries(tables.narrow(IndexName::Gb18030), places)
     }
 

@@ -347,7 +347,7 @@ impl LaneCodec for EucJp {
     }
 
     #[inline(always)]
-    fn entries_at(tables: &FlatTables<'_>, places: &[u16]) -> u16x8 {
+    fn entries_at(tables: &FlatTables<'_>, places: &[u32]) -> u16x8 {
         narrow_entries(tables.narrow(IndexName::Jis0208), places)
     }
 

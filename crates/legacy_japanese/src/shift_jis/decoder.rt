@@ -138,7 +138,7 @@ impl LaneCodec for ShiftJis {
     }
 
     #[inline(always)]
-    fn entries_at(tables: &FlatTables<'_>, places: &[u16]) -> u16x8 {
+    fn entries_at(tables: &FlatTables<'_>, places: &[u32]) -> u16x8 {
         narrow_entries(tables.narrow(IndexName::Jis0208), places)
     }
 

@@ -78,7 +78,7 @@ impl LaneCodec for EucKr {
     }
 
     #[inline(always)]
-    fn entries_at(tables: &FlatTables<'_>, places: &[u16]) -> u16x8 {
+    fn entries_at(tables: &FlatTables<'_>, places: &[u32]) -> u16x8 {
         narrow_entries(tables.narrow(IndexName::EucKr), places)
     }
 

@@ -1,4 +1,4 @@
-use Rattle.std.proofs.Common.{◌*◌, ◌<◌, get_or, arith}
+use Rattle.std.proofs.{Common.{◌∙◌, ◌*◌, ◌<◌, ℕ, get_or, map, arith}, lemmas.List.map-id}
 use Rattle.legacy_decoder_engine.specs.LaneCodes.{kept_of, place_of}
 use Rattle.legacy_decoder_engine.proofs.LaneUnits.{lane_is, next_eight_stored}
 use Rattle.legacy_decoder_engine.proofs.lanes.split_codes.Goals as goal
@@ -14,7 +14,8 @@ loop-group-preserved g c =
       keeps = next_eight_stored (kept_of pointer c.args.last) l.group codes l.kept c.kept_and_places.result.0 e.kept
           (omega (arith, c.loop-group-test.true, c.requires.codes))
           (omega (arith, c.loop-group-test.true, c.requires.kept, l.auto.kept)) l.invariant.keeps;
-      finds = next_eight_stored (place_of pointer c.args.last) l.group codes l.places c.kept_and_places.result.1 e.places
+      finds = next_eight_stored (place_of pointer c.args.last) l.group codes l.places
+          (map (λ (p : ℕ). p) c.kept_and_places.result.1) (map-id c.kept_and_places.result.1 ∙ e.places)
           (omega (arith, c.loop-group-test.true, c.requires.codes))
           (omega (arith, c.loop-group-test.true, c.requires.places, l.auto.places)) l.invariant.finds;
     }
