@@ -1,5 +1,5 @@
 -- What was written if a read, a write or a flush failed.
-use Rattle.std.proofs.{Common.{◌≡◌, List, ℕ, Bool, Option, ◌⊎◌, inl, inr, refl, Result, Ok, Err, OnErr, OnOk}, KnownBytes.Appends-kept}
+use Rattle.std.proofs.{Common.{◌≡◌, List, ℕ, Bool, Option, inl, inr, refl, Result, Ok, Err, OnErr, OnOk}, KnownBytes.Appends-kept}
 use Rattle.std.specs.Io.KnownBytes.{Keeps}
 use Rattle.legacy_base.specs.{declared.results.DecodeEvent.DecodeEvent, Encoders.EncoderState, States.DecoderState}
 use Rattle.legacy_streams.specs.{declared.recode.RecodeError.RecodeError, declared.recode.RecodeError.TheVariants.{Read, Write}, Streams.AppendsFront}

@@ -1,11 +1,13 @@
 -- The texts of the index files that the command line names.
-use Rattle.std.specs.Prelude.{◌≡◌, ℕ, List, [], ◌∷◌, map, Option, Some, None, if◌then◌else◌}
+use Rattle.std.specs.Prelude.{◌≡◌, ◌⊎◌, ℕ, List, [], ◌∷◌, map, Option, Some, None, if◌then◌else◌}
 use Rattle.std.specs.Option.{option_map}
 use Rattle.std.specs.Borrow.{Bor}
 use Rattle.legacy_index_files.specs.declared.index_file.FileIndex.{FileIndex}
 use Rattle.legacy_index_files.specs.IndexLine.{lines}
 use Rattle.legacy_index_files.specs.IndexTable.{first_malformed}
 use Rattle.legacy_index_files.specs.IndexTexts.{is_index}
+use Rattle.legacy_command.specs.declared.program.Fault.{Fault}
+use Rattle.legacy_command.specs.declared.program.Fault.TheVariants.{Unread, Line}
 use Rattle.legacy_command.specs.Words.{index_named}
 
 -- the contents of each file, or `None` if it cannot be read
@@ -30,3 +32,21 @@ abbrev pub AreWellFormed : List (List ℕ) → List (Option (List ℕ)) → Type
 AreWellFormed (index ∷ file ∷ words) (Some text ∷ files) = IsWellFormed (index_named index) text × AreWellFormed words files
 AreWellFormed (index ∷ file ∷ words) _ = ⊥
 AreWellFormed _ files = Unit {0}
+
+-- the fault says that the file of this name cannot be read
+abbrev pub IsUnread : List ℕ → Fault → Type 0
+IsUnread file (Unread name) = name.now ≡ file
+IsUnread file _ = ⊥
+
+-- the fault gives the name of the file, and the first line of its text that is malformed for the index
+abbrev pub IsLine : Option FileIndex → List ℕ → List ℕ → Fault → Type 0
+IsLine (Some index) file text (Line name n) = (name.now ≡ file) × (first_malformed index 1 (lines text) ≡ Some n)
+IsLine _ file text _ = ⊥
+
+-- The fault is that of the first FILE that cannot be read or has a malformed line, if the words are INDEX and FILE any
+-- number of times and the files are those.
+abbrev pub IsFirstFault : List (List ℕ) → List (Option (List ℕ)) → Fault → Type 0
+IsFirstFault (index ∷ file ∷ words) (Some text ∷ files) fault =
+    IsLine (index_named index) file text fault ⊎ (IsWellFormed (index_named index) text × IsFirstFault words files fault)
+IsFirstFault (index ∷ file ∷ words) _ fault = IsUnread file fault
+IsFirstFault _ files fault = ⊥

@@ -1,8 +1,8 @@
 //! The indexes that the program reads from files.
-ghost use Rattle.std.specs.Prelude.{◌≡◌, [], IfErr, IfOk, OnOk, IsTrue, length};
+ghost use Rattle.std.specs.Prelude.{◌≡◌, ◌⊎◌, [], IfErr, IfOk, OnOk, IsTrue, length};
 ghost use Rattle.legacy_index_files.specs.OwnedIndexes.{HoldsTexts};
 ghost use Rattle.legacy_command.specs.Words.{texts_of, are_indexes};
-ghost use Rattle.legacy_command.specs.IndexTexts.{text_given, contents_of, AreWellFormed};
+ghost use Rattle.legacy_command.specs.IndexTexts.{text_given, contents_of, AreWellFormed, IsFirstFault};
 
 use crate::program::Fault;
 use crate::words::first_index;
@@ -14,7 +14,8 @@ use std::alloc::Global;
 /// The words are INDEX and FILE any number of times. `files` has the contents of each FILE, in the
 /// same order, or `None` if it cannot be read. A missing entry counts as `None`.
 ///
-/// Returns an error if a file cannot be read or has a malformed line, or if allocation fails.
+/// Returns an error if a file cannot be read or has a malformed line, or if allocation fails. The
+/// error gives the first such file, and its first malformed line.
 pub fn read_files<'a>(
     alloc: Global,
     words: &[&'a str],
@@ -24,8 +25,8 @@ pub fn read_files<'a>(
     ensures texts { IfOk result (HoldsTexts (text_given (texts_of words.now) (contents_of files.now))) }
     ensures well_formed { OnOk result
         (AreWellFormed (texts_of words.now) (contents_of files.now)) }
-    ensures fault { AreWellFormed (texts_of words.now) (contents_of files.now)
-        → IfErr result (λ fault. fault ≡ Fault.Memory) }
+    ensures fault { IfErr result (λ fault. (fault ≡ Fault.Memory)
+        ⊎ IsFirstFault (texts_of words.now) (contents_of files.now) fault) }
     ensures katakana { IfOk result (λ indexes. indexes.katakana.items ≡ []) }
 {
     let [_index, file, later_words @ ..] = words else {
