@@ -4,7 +4,7 @@ ghost use Rattle.legacy_base.specs.Grammar.{user_defined};
 ghost use Rattle.legacy_base.specs.States.{new_state};
 
 use super::blocks::{read_text, read_units, scalar_of};
-use legacy_base::{DecoderResult, Destination, RawDecoder};
+use legacy_base::{DecoderStep, Destination, RawDecoder};
 use legacy_decoder_engine::drive::drive_decoder;
 use legacy_decoder_engine::moves::{DecoderMoves, Fed, Room};
 

@@ -1,10 +1,20 @@
 use Rattle.std.proofs.Common.{◌+◌, ◌<◌, length, get_or, ap, arith}
+use Rattle.legacy_base.specs.Grammar.{gb18030}
 use Rattle.legacy_decoder_engine.proofs.{JoinedRuns.reads_front, WrittenRuns.{runs_byte, code_units_ascii, writes_none, writes_one, writes_four, four_fit}}
 use Rattle.legacy_chinese.proofs.{Gb18030Held.ascii, FourPlaces.four_at}
 use Rattle.legacy_chinese.proofs.gb18030.four_byte_blocks.Gb18030Blocks.read_fours.Goals as goal
 
 pub loop-at-init : goal.loop-at-init
-loop-at-init g c = grind (arith, writes_none)
+loop-at-init g c =
+    let flat = c.args.self.now.tables.now.flat in (
+      omega arith,
+      omega (arith, c.min-most.ensures),
+      omega (arith, c.min-most.ensures, c.saturating_sub.ensures, c.free.ensures),
+      omega arith,
+      writes_none g.T.Destination (gb18030 flat.gb18030 flat.ranges) c.args.dst.now,
+      c.ranges-ranges.ensures,
+      c.part_at-part.ensures.part,
+    )
 
 pub returns-then-src-at-lt128 : goal.returns-then-src-at-lt128
 returns-then-src-at-lt128 g c =
@@ -39,7 +49,9 @@ loop-at-preserved-else-src-at-lt128 g c =
     )
 
 pub put-requires-else-byte-lt128 : goal.put-requires-else-byte-lt128
-put-requires-else-byte-lt128 g c = grind (arith, four_fit)
+put-requires-else-byte-lt128 g c =
+    let i = c.loop-at.invariant in
+    four_fit g.T.Destination.form c.in-Some.scalar _ (omega (arith, i.2, i.3, c.loop-at-test.true))
 
 pub loop-at-preserved : goal.loop-at-preserved
 loop-at-preserved g c =
