@@ -9,6 +9,7 @@ abbrev pub two_byte_step : (ℕ → Step) → (ℕ → ℕ → List ℕ) → Lis
 two_byte_step first scalars [] b = first b
 two_byte_step first scalars (lead ∷ held) b = trail_step 1 (scalars lead b) b
 
+-- the machine of a codec, by the step at a first byte and the scalars of a lead and a trail
 abbrev pub two_byte_machine : Grammar → (ℕ → Step) → (ℕ → ℕ → List ℕ) → DecoderMachine
 two_byte_machine g first scalars = record {
   pending = no_pending;

@@ -47,6 +47,7 @@ step_unread s b more = more
 abbrev pub IsMalformedLength : ℕ → Type 0
 IsMalformedLength n = (0 < n) × (n ≤ 4)
 
+-- if it is malformed, it has 1 to 4 bytes
 abbrev pub HasMalformedLength : Front → Type 0
 HasMalformedLength (reads n scalars) = Unit {0}
 HasMalformedLength (malformed n) = IsMalformedLength n
@@ -95,6 +96,7 @@ pub record DecoderMachine : Type 0 where
 abbrev pub no_pending : List ℕ → Option (ℕ × ℕ)
 no_pending held = None
 
+-- if no scalar is to be written first, the grammar goes on from the held-back bytes; otherwise it gives that scalar first
 abbrev pub PendingMeets : Grammar → List ℕ → Option (ℕ × ℕ) → Type 0
 PendingMeets g held None = rests g held ≡ true
 PendingMeets g held (Some (n, c)) = (rests g held ≡ false) × WriteMeets g held n c

@@ -30,6 +30,7 @@ pub trait CommonForms {
     const FOUR_AT_LEAST: usize = 4;
 
     /// Returns what is at the front of the input, given a byte and the byte after it.
+    ///
     /// It is a scalar up to U+FFFF, or `Other` for an uncommon form, which the machine reads.
     fn form(&self, first: u8, second: u8) -> CommonForm
         requires { ready self.now }
@@ -87,6 +88,7 @@ impl<F: CommonForms> Forms for FormsInTurn<'_, F> {
 }
 
 /// Reads common forms from the front of at most `most` bytes, up to an uncommon one.
+///
 /// Returns the number of bytes read, which may be 0. If it reads any, three code units stay free.
 #[inline(always)]
 pub fn read_forms<F: CommonForms, T: Destination>(

@@ -37,6 +37,7 @@ pub trait LaneCodec {
         ensures { (tables : AcceptedIndexes) → HasAscii (grammar tables.flat) };
 
     /// Returns what is at the front of the input, given a byte past ASCII and the byte after it.
+    ///
     /// It is a scalar up to U+FFFF, or `Other` for an uncommon form, which the machine reads.
     fn front(tables: &FlatTables<'_>, lead: u8, trail: u8) -> CommonForm
         requires { 0x80 ≤ lead }
@@ -194,6 +195,7 @@ fn units_at<C: LaneCodec>(
 }
 
 /// Writes the first `few` of eight units, or none if their forms have more than `limit` bytes.
+///
 /// Returns the number of units written, and the number of bytes of their forms.
 #[inline(always)]
 fn put_units<T: Destination>(
@@ -224,6 +226,7 @@ fn put_units<T: Destination>(
 }
 
 /// Writes the first `most` codes, up to one that is uncommon or whose form ends past `limit` bytes.
+///
 /// Stops before a group of eight if fewer than 32 code units are free.
 /// Returns the number of codes written, and the number of bytes of their forms.
 #[inline(always)]
@@ -273,6 +276,7 @@ fn put_codes<C: LaneCodec, T: Destination>(
 }
 
 /// Returns the number of codes of a block to read, given the bits of its bytes past ASCII.
+///
 /// It is all codes if the input ends soon. Otherwise it is whole groups of eight, without those of ASCII at the end.
 #[inline(always)]
 fn codes_read(count: usize, limit: usize, past: u64) -> usize
@@ -287,6 +291,7 @@ fn codes_read(count: usize, limit: usize, past: u64) -> usize
 }
 
 /// Reads the forms at the front of a block with many bytes past ASCII.
+///
 /// Stops at a form that is uncommon or ends past `limit` bytes.
 /// Returns the number of bytes read, and whether another block may follow.
 #[inline(always)]
@@ -354,6 +359,7 @@ fn read_front<C: LaneCodec, T: Destination>(
 }
 
 /// Returns whether many of the first 64 bytes are past ASCII, or of the first 16 if there are fewer than 64.
+///
 /// Returns false if there are fewer than 16 bytes, or if the 64 have forms of one byte past ASCII.
 // Four bytes tell most pieces of ASCII apart, before many are counted.
 #[inline(always)]
@@ -406,6 +412,7 @@ fn begins_uncommon<C: LaneCodec>(src: &[u8]) -> bool
 }
 
 /// Returns whether an uncommon byte follows the form at the front, which is taken to be one ASCII byte or two bytes.
+///
 /// Returns false if there are fewer than three bytes.
 #[inline(always)]
 fn stands_alone<C: LaneCodec>(src: &[u8]) -> bool {
@@ -497,6 +504,7 @@ fn read_last<C: LaneCodec, T: Destination>(
 }
 
 /// Reads ASCII by blocks and other forms one by one from the front, up to an uncommon form or to several pairs in a row.
+///
 /// Returns the number of bytes read, and whether a block with many bytes past ASCII may follow.
 // Most runs of pairs between tags are short. So no block of lanes is tried before five or six forms were read.
 #[inline(always)]
@@ -528,6 +536,7 @@ fn read_few<C: LaneCodec, T: Destination>(
 }
 
 /// Reads blocks with many bytes past ASCII from the front, and then forms of at most 256 bytes one by one.
+///
 /// Returns the number of bytes read, and whether another block may follow.
 // Malformed sequences often follow one another. No block is begun at an uncommon byte.
 #[inline(always)]
@@ -565,6 +574,7 @@ impl<C: LaneCodec> Blocks for LaneForms<'_, '_, C> {
 }
 
 /// Reads blocks of a codec from the front, but nothing at an uncommon byte, and one form if an uncommon byte follows it.
+///
 /// Returns the number of bytes read, which may be 0. If it reads any, three code units stay free.
 // Malformed sequences often follow one another, or have a single form between them. Neither costs a call.
 #[inline(always)]

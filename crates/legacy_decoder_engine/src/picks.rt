@@ -46,6 +46,7 @@ fn row_of(rows: &[[u8; 16]; 256], starts: u8) -> u8x16
 }
 
 /// Returns the codes of two bytes, the first one low, at those of the first eight places that are starts.
+///
 /// Codes without meaning fill the rest of the eight.
 #[inline(always)]
 fn codes_at(bytes: u8x16, starts: u8) -> u16x8
@@ -57,6 +58,7 @@ fn codes_at(bytes: u8x16, starts: u8) -> u16x8
 }
 
 /// Stores the codes at those of eight places of a block that are starts, from place `at` of a list on.
+///
 /// Codes without meaning fill the rest of the eight. Returns the place after the codes at starts.
 #[inline(always)]
 fn put_codes(block: &[u8], from: usize, starts: u8, codes: &mut [u16], at: usize) -> usize
@@ -90,6 +92,7 @@ fn pick(block: &[u8], starts: u64, codes: &mut [u16]) -> usize
 }
 
 /// Stores the codes of the forms that start in a block of 64 bytes, given the bits of the bytes past ASCII.
+///
 /// Returns their number, which is 0 if the starts were not found.
 #[inline(always)]
 pub fn pick_forms(block: &[u8], past: u64, codes: &mut [u16]) -> usize

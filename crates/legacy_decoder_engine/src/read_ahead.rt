@@ -32,6 +32,7 @@ pub trait Forms {
         ensures few { result ≤ units };
 
     /// Reads at most `most` forms, up to an uncommon one, and returns the number of bytes read.
+    ///
     /// The input has bytes for `most` forms, and the output has room for them and three more code units.
     fn read_forms<T: Destination>(&self, src: &[u8], dst: &mut T, most: usize) -> usize
         requires ready { ready self.now }
@@ -44,6 +45,7 @@ pub trait Forms {
 }
 
 /// Reads a run of forms from the front, up to an uncommon one, and returns the number of bytes read, which may be 0.
+///
 /// If it reads any, three code units stay free.
 // Four at a time: the compiler unrolls a loop of that size, so each place has its own branches, and the processor
 // predicts each of them by its own history.
@@ -71,6 +73,7 @@ pub fn read_run<F: Forms, T: Destination>(forms: &F, src: &[u8], dst: &mut T) ->
 }
 
 /// Reads the form at the front, and returns the number of bytes read.
+///
 /// Returns 0 if the form is uncommon, if the input may be too short for it, or if three code units may not stay free.
 #[inline(always)]
 pub fn read_one<F: Forms, T: Destination>(forms: &F, src: &[u8], dst: &mut T) -> usize
@@ -86,12 +89,14 @@ pub fn read_one<F: Forms, T: Destination>(forms: &F, src: &[u8], dst: &mut T) ->
 }
 
 /// Blocks that follow one another, with nothing held back between two of them.
+///
 /// A block is a number of bytes or forms for which room is tested once.
 pub trait Blocks {
     /// The grammar.
     ghost grammar: { Self → Grammar };
 
     /// Reads the block at the front, a part of it, or nothing.
+    ///
     /// Returns the number of bytes read, and whether another block may follow.
     fn read_block<T: Destination>(&self, src: &[u8], dst: &mut T) -> (usize, bool)
         ensures ahead { ReadsAhead T.Destination (new_state (grammar self.now)) src.now result.0
@@ -123,6 +128,7 @@ fn begins_long(src: &[u8]) -> bool {
 }
 
 /// Reads ASCII from the front by blocks of 64 bytes, but no block that ends fewer than 64 bytes before the end.
+///
 /// Returns the number of bytes read, which may be 0, and whether all of them were whole blocks.
 #[inline(always)]
 fn read_wide_blocks<T: Destination>(src: &[u8], dst: &mut T) -> (usize, bool)
@@ -156,6 +162,7 @@ fn read_short_blocks<T: Destination>(src: &[u8], dst: &mut T) -> usize
 }
 
 /// Reads ASCII from the front by blocks, and returns the number of bytes read, which may be 0.
+///
 /// If it reads any, three code units stay free.
 // The byte after a malformed sequence is often past ASCII. No block is begun there.
 #[inline(always)]

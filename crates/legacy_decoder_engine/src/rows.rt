@@ -6,6 +6,7 @@ ghost use Rattle.legacy_decoder_engine.specs.LaneRows.{row_place};
 use std::simd::prelude::*;
 
 /// Returns the pointers of eight codes, the lead low, in an index whose rows have `width` entries.
+///
 /// Leads are `lead` to `lead + leads`, and trails are `trail` to `trail + trails`. Other codes have pointer 65535.
 #[inline(always)]
 pub fn row_pointers(

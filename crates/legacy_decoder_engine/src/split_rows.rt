@@ -6,6 +6,7 @@ ghost use Rattle.legacy_decoder_engine.specs.SplitRows.{lead_place_of, trail_pla
 use std::simd::prelude::*;
 
 /// Returns the places of the leads of eight codes, the lead low, in an index whose rows have `width` entries.
+///
 /// Leads are `lead` to `lead + leads`. The place of any other byte is 65535.
 #[inline(always)]
 pub fn lead_places(codes: u16x8, lead: u16, leads: u16, width: u16) -> u16x8
@@ -19,6 +20,7 @@ pub fn lead_places(codes: u16x8, lead: u16, leads: u16, width: u16) -> u16x8
 }
 
 /// Returns the places of the trails of eight codes, the trail high.
+///
 /// Trails are 40 to 7E and `second` to `last`. The place of any other byte is 65535.
 #[inline(always)]
 pub fn trail_places(codes: u16x8, second: u16, last: u16) -> u16x8

@@ -6,11 +6,13 @@ use Rattle.legacy_base.specs.Grammar.{user_defined}
 use Rattle.legacy_decoder_engine.specs.Steps.{no_pending}
 use Rattle.legacy_decoder_engine.specs.Steps.{Step, finish, DecoderMachine}
 
+-- the step at a byte: ASCII is itself, 80 to FF are U+F780 to U+F7FF
 abbrev pub user_defined_first : ℕ → Step
 user_defined_first b =
     if is_ascii b then finish (reads 1 (b ∷ []))
     else finish (reads 1 ((0xF780 + (b - 0x80)) ∷ []))
 
+-- the machine: each byte is read by itself, and nothing is held back
 abbrev pub user_defined_machine : DecoderMachine
 user_defined_machine = record {
   pending = no_pending;
