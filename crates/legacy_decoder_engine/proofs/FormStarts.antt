@@ -1,12 +1,12 @@
 -- The forms that are picked at their starts are the front of the block.
 use Rattle.std.proofs.Common.{◌≡◌, ◌∙◌, ℕ, zero, suc, ◌+◌, ◌-◌, ◌/◌, ◌%◌, ◌^◌, ◌<◌, ◌≤◌, ◌==◌, min, List, [], ◌∷◌, ◌++◌, Bool, true, false, cond, ltb, leb}
 use Rattle.std.proofs.Common.{length, map, take, get_or, replicate, w8, bit_and, bit_or, bit_xor, refl, sym, ap, subst, arith, append_assoc, append-nil}
-use Rattle.std.proofs.{lemmas.List.{take_more, length-take-le, get_or-map, length-map}, lemmas.Nat.Bits.{bit_at_lowest, bit_at-suc, bit_at-lt, bit_at_and}}
-use Rattle.std.proofs.{lemmas.Nat.Bits.{bit_at_xor, bit_at_or, bit_at_ones}, lemmas.Simd.{bit_mask_l, tops_compared, mask_l-mod, get_or-chunk}}
+use Rattle.std.proofs.{lemmas.List.{take_more, get_or-map, length-map}, lemmas.Nat.Bits.{bit_at_lowest, bit_at-suc, bit_at-lt, bit_at_and}}
+use Rattle.std.proofs.{lemmas.Nat.Bits.{bit_at_xor, bit_at_or, bit_at_ones, shr_and_one}, lemmas.Simd.{bit_mask_l, tops_compared, mask_l-mod, get_or-chunk}}
 use Rattle.std.proofs.lemmas.Bool.Decides.{nat_tests}
 use Rattle.std.specs.Int.{bit_at}
 use lib.Lanes.{mask_l, zip2, top, chunk}
-use Rattle.legacy_decoder_engine.specs.PickedForms.{places, code_at, forms_of, ArePast, AreStarts, IsFront}
+use Rattle.legacy_decoder_engine.specs.PickedForms.{places, code_at, forms_of, ArePast, AreStarts, IsEnd}
 use Rattle.legacy_text.proofs.Ascii.{splat_zip2}
 use Rattle.legacy_decoder_engine.proofs.WrittenRuns.{take_two}
 
@@ -50,8 +50,8 @@ two_bytes : (block rest : List ℕ) (i : ℕ) → i + 1 < length block
     → take i block ++ (get_or block i 0 ∷ get_or block (i + 1) 0 ∷ rest) ≡ take (i + 2) block ++ rest
 two_bytes block rest i h = grind (arith, append_assoc, take_two)
 
-module _ (block : List ℕ) (past starts : ℕ) (long : 72 ≤ length block) (small : (j : ℕ) → get_or block j 0 < 256) (are_past : ArePast past block)
-    (are : AreStarts past starts) where
+module _ (block : List ℕ) (past starts end : ℕ) (long : 72 ≤ length block) (small : (j : ℕ) → get_or block j 0 < 256)
+    (are_past : ArePast past block) (are : AreStarts past starts) (most : end ≤ 64) (is_end : IsEnd past starts end) where
   shifted : (i y : ℕ) → ((k : ℕ) → bit_at y k ≡ bit_at starts (i + k)) → (k : ℕ) → bit_at (y / 2) k ≡ bit_at starts (i + 1 + k)
   shifted i y bits k = let e : i + suc k ≡ i + 1 + k = omega arith in sym (bit_at-suc y k) ∙ bits (suc k) ∙ ap (bit_at starts) e
 
@@ -63,11 +63,19 @@ module _ (block : List ℕ) (past starts : ℕ) (long : 72 ≤ length block) (sm
   ends_next : (i : ℕ) → i < 63 → bit_at starts i ≡ 1 → bit_at past i ≡ 1 → bit_at starts (i + 1) ≡ 0
   ends_next i below a b = grind (arith, bit_at-lt)
 
+  -- a byte follows the first one of two
+  has_second : (m i : ℕ) → i + suc m ≡ end → bit_at starts i ≡ 1 → bit_at past i ≡ 1 → 1 ≤ m
+  has_second zero i e a b =
+      let k : end - 1 ≡ i = omega (arith, e) in
+      let none : min (bit_at starts i) (bit_at past i) ≡ 0 = (λ t. min (bit_at starts (sym k t)) (bit_at past (sym k t))) ∙ is_end (omega (arith, e)) in
+      omega (arith, none, a, b)
+  has_second (suc m) i e a b = omega arith
+
   -- a form that starts at byte i, and those after it
-  first_of : (m i y : ℕ) → i + suc m ≡ 64 → ((k : ℕ) → bit_at y k ≡ bit_at starts (i + k)) → bit_at starts i ≡ 1 → (t : Bool) → ltb (get_or block i 0) 128 ≡ t
-      → ((c : Bool) → (0 < m → bit_at starts (i + 1) ≡ cond c 0 1)
-      → IsFront (take (i + 1 + cond c 1 0) block ++ forms_of (map (code_at block) (places (i + 1) m (y / 2)))) block)
-      → IsFront (take (i + 0) block ++ forms_of (map (code_at block) (places i (suc m) y))) block
+  first_of : (m i y : ℕ) → i + suc m ≡ end → ((k : ℕ) → bit_at y k ≡ bit_at starts (i + k)) → bit_at starts i ≡ 1 → (t : Bool) → ltb (get_or block i 0) 128 ≡ t
+      → ((c : Bool) → cond c 1 0 ≤ m → (0 < m → bit_at starts (i + 1) ≡ cond c 0 1)
+      → take (i + 1 + cond c 1 0) block ++ forms_of (map (code_at block) (places (i + 1) m (y / 2))) ≡ take end block)
+      → take (i + 0) block ++ forms_of (map (code_at block) (places i (suc m) y)) ≡ take end block
   unfolding places
   first_of m i y e bits is t is_ascii more =
       let z : i + 0 ≡ i = omega arith in
@@ -75,56 +83,81 @@ module _ (block : List ℕ) (past starts : ℕ) (long : 72 ≤ length block) (sm
       let rest = places (i + 1) m (y / 2) in
       let first : code_at block i % 256 ≡ get_or block i 0 = omega (arith, small i, small (i + 1)) in
       let second : code_at block i / 256 ≡ get_or block (i + 1) 0 = omega (arith, small i, small (i + 1)) in
-      let same : take (i + 0) block ++ forms_of (map (code_at block) (cond (y % 2 == 1) (i ∷ rest) rest))
-      ≡ take i block ++ (cond t (get_or block i 0 ∷ []) (get_or block i 0 ∷ get_or block (i + 1) 0 ∷ []) ++ forms_of (map (code_at block) rest)) =
+      let past : bit_at past i ≡ cond t 0 1 = are_past i (omega arith) ∙ ap (λ s. cond s 0 1) is_ascii in
       (λ s. take (z s) block ++ forms_of (map (code_at block) (cond (low s == 1) (i ∷ rest) rest)))
       ∙ (λ s. take i block ++ (cond (ltb (first s) 128) (first s ∷ []) (first s ∷ second s ∷ []) ++ forms_of (map (code_at block) rest)))
       ∙ (λ s. take i block ++
-      (cond (is_ascii s) (get_or block i 0 ∷ []) (get_or block i 0 ∷ get_or block (i + 1) 0 ∷ []) ++ forms_of (map (code_at block) rest))) in
-      let past : bit_at past i ≡ cond t 0 1 = are_past i (omega arith) ∙ ap (λ s. cond s 0 1) is_ascii in
-      subst (λ l. IsFront l block) (sym same) (go t past more)
+      (cond (is_ascii s) (get_or block i 0 ∷ []) (get_or block i 0 ∷ get_or block (i + 1) 0 ∷ []) ++ forms_of (map (code_at block) rest)))
+      ∙ go t past more
     where
       go : (t : Bool) → bit_at past i ≡ cond t 0 1
-          → ((c : Bool) → (0 < m → bit_at starts (i + 1) ≡ cond c 0 1)
-          → IsFront (take (i + 1 + cond c 1 0) block ++ forms_of (map (code_at block) (places (i + 1) m (y / 2)))) block)
-          → IsFront
-          (take i block ++
+          → ((c : Bool) → cond c 1 0 ≤ m → (0 < m → bit_at starts (i + 1) ≡ cond c 0 1)
+          → take (i + 1 + cond c 1 0) block ++ forms_of (map (code_at block) (places (i + 1) m (y / 2))) ≡ take end block)
+          → take i block ++
           (cond t (get_or block i 0 ∷ []) (get_or block i 0 ∷ get_or block (i + 1) 0 ∷ []) ++ forms_of
-          (map (code_at block) (places (i + 1) m (y / 2))))) block
+          (map (code_at block) (places (i + 1) m (y / 2)))) ≡ take end block
       go true p more =
           let rest = forms_of (map (code_at block) (places (i + 1) m (y / 2))) in
           let k : i + 1 ≡ i + 1 + 0 = omega arith in
-          subst (λ l. IsFront l block) (sym (one_byte block rest i (omega arith) ∙ ap (λ k. take k block ++ rest) k))
-          (more false (λ h. starts_next i (omega arith) (omega (arith, p))))
+          one_byte block rest i (omega arith) ∙ ap (λ k. take k block ++ rest) k
+          ∙ more false (omega arith) (λ h. starts_next i (omega arith) (omega (arith, p)))
       go false p more =
           let rest = forms_of (map (code_at block) (places (i + 1) m (y / 2))) in
           let k : i + 2 ≡ i + 1 + 1 = omega arith in
-          subst (λ l. IsFront l block) (sym (two_bytes block rest i (omega arith) ∙ ap (λ k. take k block ++ rest) k))
-          (more true (λ h. ends_next i (omega arith) is p))
+          two_bytes block rest i (omega arith) ∙ ap (λ k. take k block ++ rest) k
+          ∙ more true (has_second m i e is p) (λ h. ends_next i (omega arith) is p)
 
   -- the forms from byte i on; c is true if that byte belongs to the form before it
-  fronts : (n i y : ℕ) (c : Bool) → i + n ≡ 64 → ((k : ℕ) → bit_at y k ≡ bit_at starts (i + k)) → (0 < n → bit_at starts i ≡ cond c 0 1)
-      → IsFront (take (i + cond c 1 0) block ++ forms_of (map (code_at block) (places i n y))) block
+  fronts : (n i y : ℕ) (c : Bool) → i + n ≡ end → ((k : ℕ) → bit_at y k ≡ bit_at starts (i + k)) → cond c 1 0 ≤ n → (0 < n → bit_at starts i ≡ cond c 0 1)
+      → take (i + cond c 1 0) block ++ forms_of (map (code_at block) (places i n y)) ≡ take end block
   unfolding places
-  fronts zero i y c e bits here = grind (arith, length-take-le, nat_tests, append-nil)
-  fronts (suc m) i y true e bits here =
+  fronts zero i y c e bits room here =
+      let k : i + cond c 1 0 ≡ end = omega (arith, e, room) in
+      append-nil (take (i + cond c 1 0) block) ∙ ap (λ k. take k block) k
+  fronts (suc m) i y true e bits room here =
       let z : i + 0 ≡ i = omega arith in
       let is : bit_at starts i ≡ 0 = here (omega arith) in
       let low : y % 2 ≡ 0 = sym (bit_at_lowest y) ∙ bits 0 ∙ ap (bit_at starts) z ∙ is in
       let rest = places (i + 1) m (y / 2) in
       let k : i + 1 + 0 ≡ i + 1 = omega arith in
-      let same : take (i + 1) block ++ forms_of (map (code_at block) (cond (y % 2 == 1) (i ∷ rest) rest)) ≡ take (i + 1 + 0) block ++ forms_of
-      (map (code_at block) rest) =
-      (λ t. take (sym k t) block ++ forms_of (map (code_at block) (cond (low t == 1) (i ∷ rest) rest))) in
-      subst (λ l. IsFront l block) (sym same)
-      (fronts m (i + 1) (y / 2) false (omega arith) (shifted i y bits) (λ h. starts_next i (omega arith) (omega (arith, is))))
-  fronts (suc m) i y false e bits here =
+      (λ t. take (sym k t) block ++ forms_of (map (code_at block) (cond (low t == 1) (i ∷ rest) rest)))
+      ∙ fronts m (i + 1) (y / 2) false (omega arith) (shifted i y bits) (omega arith) (λ h. starts_next i (omega arith) (omega (arith, is)))
+  fronts (suc m) i y false e bits room here =
       let is : bit_at starts i ≡ 1 = here (omega arith) in
-      first_of m i y e bits is (ltb (get_or block i 0) 128) refl (λ c next. fronts m (i + 1) (y / 2) c (omega arith) (shifted i y bits) next)
+      first_of m i y e bits is (ltb (get_or block i 0) 128) refl (λ c room next. fronts m (i + 1) (y / 2) c (omega arith) (shifted i y bits) room next)
 
   -- the forms at the starts are the front of the block
-  pub picked : IsFront (forms_of (map (code_at block) (places 0 64 starts))) block
-  picked = fronts 64 0 starts false (omega arith) (λ k. let z : k ≡ 0 + k = omega arith in ap (bit_at starts) z) (λ h. are.first)
+  pub picked : forms_of (map (code_at block) (places 0 end starts)) ≡ take end block
+  picked =
+      fronts end 0 starts false (omega arith) (λ k. let z : k ≡ 0 + k = omega arith in ap (bit_at starts) z) (omega arith) (λ h. are.first)
+
+-- ---- where the whole forms end
+
+-- a place at which no form of two bytes starts
+bit_is_end : (past starts n : ℕ) → bit_at (bit_and starts past) (n - 1) ≡ 0 → IsEnd past starts n
+bit_is_end past starts n e h = sym (bit_at_and starts past (n - 1)) ∙ e
+
+-- no form of two bytes starts at the byte before one that starts such a form
+before_pair : (past starts n : ℕ) → AreStarts past starts → n < 64 → bit_at (bit_and starts past) n ≡ 1 → IsEnd past starts n
+before_pair past starts zero are h e none = omega (arith, none)
+before_pair past starts (suc i) are h e some =
+    let z : suc i - 1 ≡ i = omega arith in
+    let both : min (bit_at starts (suc i)) (bit_at past (suc i)) ≡ 1 = sym (bit_at_and starts past (suc i)) ∙ e in
+    let next = are.next i (omega (arith, h)) in
+    let none : min (bit_at starts i) (bit_at past i) ≡ 0 =
+    omega (arith, next, both, bit_at-lt starts (suc i), bit_at-lt past (suc i), bit_at-lt starts i, bit_at-lt past i) in
+    (λ t. min (bit_at starts (z t)) (bit_at past (z t))) ∙ none
+
+pub whole_end : (past starts limit : ℕ) → AreStarts past starts → 0 < limit → limit ≤ 64
+    → IsEnd past starts (limit - bit_and (bit_and starts past / 2 ^ (limit - 1)) 1)
+whole_end past starts limit are some most =
+    let x = bit_and starts past in
+    subst (λ b. IsEnd past starts (limit - b)) (sym (shr_and_one x (limit - 1))) (go (bit_at x (limit - 1)) refl (bit_at-lt x (limit - 1)))
+  where
+    go : (b : ℕ) → bit_at (bit_and starts past) (limit - 1) ≡ b → b < 2 → IsEnd past starts (limit - b)
+    go zero e low = let z : limit ≡ limit - 0 = omega arith in subst (IsEnd past starts) z (bit_is_end past starts limit e)
+    go (suc zero) e low = before_pair past starts (limit - 1) are (omega (arith, some, most)) e
+    go (suc (suc b)) e low = omega (arith, low)
 
 -- a byte of the block that is loaded
 pub front_chunk : (xs : List ℕ) (i : ℕ) → i < 64 → get_or (chunk 0 64 xs) i 0 ≡ get_or xs i 0

@@ -2,19 +2,20 @@
 use Rattle.std.proofs.Common.{◌≡◌, ◌≢◌, ◌∙◌, ℕ, zero, suc, ◌+◌, ◌-◌, ◌*◌, ◌/◌, ◌%◌, ◌^◌, ◌<◌, ◌≤◌, min, Bool, true, false, cond, ltb, leb, eqb, All, List, []}
 use Rattle.std.proofs.Common.{◌∷◌, ◌++◌, length, get_or, map, take, drop, replicate, bit_and, bit_or, refl, sym, ap, subst, arith, w16, Fits, length-append}
 use Rattle.std.proofs.{Common.{◌⊎◌, inl, inr}, lemmas.Bool.{ltb-true, ltb-false, cases_lt}, lemmas.Bool.Decides.nat_tests, lemmas.Nat.and_mask}
-use Rattle.std.proofs.lemmas.List.{take-take, take-append-drop, length-take-le, length-map, get_or-take, get_or-drop, get_or-map}
+use Rattle.std.proofs.lemmas.List.{take-take, take-append-drop, take-append-le, length-take, length-take-le, length-map, get_or-take, get_or-drop, get_or-map}
 use Rattle.std.proofs.{lemmas.List.Sums.{sum_by-cons, sum_by-append, count_by-le-length}, lemmas.List.Folds.sum_by-replicate, lemmas.Grind.flat_map-append}
 use Rattle.std.proofs.{Math.Seq.{take-append_seam, take-add}, lemmas.Simd.{tops_compared, length-zip2, get_or-zip2, get_or-sel_l, get_or-replicate}}
-use Rattle.std.proofs.lemmas.Simd.{bitmask_splat, bit_mask_l, ones-mask_l, length-chunk, get_or-chunk, get_or-put_chunk_below, get_or-put_chunk_at}
+use Rattle.std.proofs.lemmas.Simd.{bitmask_splat, bit_mask_l, ones-mask_l, length-chunk, chunk-drop, get_or-chunk, get_or-put_chunk_below, get_or-put_chunk_at}
 use Rattle.std.proofs.lemmas.List.Elements.{All-from_get_or}
 use Rattle.std.specs.{Char.IsScalar, List.count_by, Int.bit_at, Int.RustNames.count_ones}
 use lib.Lanes.{Each1, zip2, sel_l, top, mask_l, chunk, put_chunk}
 use Rattle.legacy_text.specs.{declared.destination.Destination.Ghosts, EncodingForm.{EncodingForm, all_code_units, total_unit_count}}
-use Rattle.legacy_text.proofs.{UnitLanes.of_eight, VectorUnits.unit-below}
+use Rattle.legacy_text.proofs.{UnitLanes.of_eight}
 use Rattle.legacy_base.specs.Grammar.{Grammar}
-use Rattle.legacy_decoder_engine.proofs.{LanePlaces.mask_if, WrittenRuns.{runs_none, runs_more, writes_then, all_short}}
-use Rattle.legacy_decoder_engine.specs.{ReadAhead.{HasAscii, Runs, Writes}, LaneCodes.{kept_of, place_of, unit_at, ArePairs, IsLane, IsForm}}
-use Rattle.legacy_decoder_engine.specs.PickedForms.{form_of, forms_of, IsFront}
+use Rattle.legacy_decoder_engine.proofs.{LanePlaces.mask_if, WrittenRuns.{runs_none, runs_more, writes_none, writes_then, all_short}}
+use Rattle.legacy_decoder_engine.specs.ReadAhead.{HasAscii, Runs, Writes}
+use Rattle.legacy_decoder_engine.specs.LaneCodes.{kept_of, place_of, unit_at, ArePairs, AreLanes, IsLane, IsForm, AreWritten}
+use Rattle.legacy_decoder_engine.specs.PickedForms.{form_of, forms_of}
 
 -- ---- one lane
 
@@ -67,16 +68,16 @@ pub get_from : (at n : ℕ) (xs : List ℕ) (k : ℕ) → k < n → get_or (take
 get_from at n xs k h = get_or-take n (drop at xs) k 0 h ∙ get_or-drop at xs k 0
 
 -- what is kept of a code, and the place of its entry
-pub lane_is : (pointer : ℕ → ℕ) (last code : ℕ) → IsLane pointer code (kept_of pointer last code) (place_of pointer last code)
-lane_is pointer last code = record { first = λ some. grind (arith, nat_tests); place_is = λ h. grind (arith, nat_tests) }
+pub lane_is : (pointer : ℕ → ℕ) (last code : ℕ) → code < 65536 → IsLane pointer code (kept_of pointer last code) (place_of pointer last code)
+lane_is pointer last code small = record { small = small; first = λ some. grind (arith, nat_tests); place_is = λ h. grind (arith, nat_tests) }
 
 -- ---- the units of forms
 
 module _ (g : Grammar) (ascii : HasAscii g) (entries : List ℕ) (pointer : ℕ → ℕ) (pairs : ArePairs g entries pointer) where
-  pub is_form : (code kept place entry unit : ℕ) → code < 65536 → unit < 65536 → IsLane pointer code kept place → place < length entries
+  pub is_form : (code kept place entry unit : ℕ) → unit < 65536 → IsLane pointer code kept place → place < length entries
       → (entry ≢ 0 → entry ≡ get_or entries place 0)
       → unit ≡ unit_at kept entry → unit ≢ 0 → IsForm g code kept unit
-  is_form code kept place entry unit small narrow lane within looked_up is some = go (ltb kept 128) refl is
+  is_form code kept place entry unit narrow lane within looked_up is some = go (ltb kept 128) refl is
     where
       go : (t : Bool) → ltb kept 128 ≡ t → unit ≡ cond t kept entry → IsForm g code kept unit
       go true e is =
@@ -95,7 +96,7 @@ module _ (g : Grammar) (ascii : HasAscii g) (entries : List ℕ) (pointer : ℕ 
           let at : place ≡ pointer code = lane.place_is high in
           let same : unit ≡ get_or entries (pointer code) 0 = is ∙ looked_up (λ z. some (is ∙ z)) ∙ ap (λ p. get_or entries p 0) at in
           let t : ltb (code % 256) 128 ≡ false = ap (λ k. ltb k 128) (sym first) ∙ e in
-          let pair = pairs code small (omega (arith, high, first)) (omega (arith, within, at)) (omega (arith, narrow, same)) (λ z. some (same ∙ z)) in
+          let pair = pairs code lane.small (omega (arith, high, first)) (omega (arith, within, at)) (omega (arith, narrow, same)) (λ z. some (same ∙ z)) in
           record {
             scalar = subst IsScalar (sym same) pair.0;
             runs = rw t (subst (λ u. Runs g (code % 256 ∷ code / 256 ∷ []) (u ∷ [])) (sym same) pair.1.1);
@@ -132,22 +133,26 @@ module _ (g : Grammar) where
       rw (get_or-take n cs k 0 below, get_or-take n ks k 0 below, get_or-take n us k 0 below) (each k below)) in
       (both.0, both.1 ∙ ap (λ m. 2 * m) a)
 
--- ---- the front of a block
-
-front_of : (xs ys block : List ℕ) → IsFront (xs ++ ys) block → IsFront xs block
-front_of xs ys block front =
-    let most : length xs ≤ length (xs ++ ys) = omega (arith, length-append xs ys) in
-    sym (take-take (length xs) (length (xs ++ ys)) block most) ∙ ap (take (length xs)) front ∙ take-append_seam xs ys
+-- ---- the front of the input
 
 forms_split : (n : ℕ) (codes : List ℕ) → forms_of (take n codes) ++ forms_of (drop n codes) ≡ forms_of codes
 forms_split n codes = sym (flat_map-append form_of (take n codes) (drop n codes)) ∙ ap forms_of (take-append-drop n codes)
 
--- fewer forms are also a front of the block
-pub front_part : (n count : ℕ) (codes block : List ℕ) → n ≤ count → IsFront (forms_of (take count codes)) block → IsFront (forms_of (take n codes)) block
-front_part n count codes block most front =
-    subst (λ xs. IsFront (forms_of xs) block) (take-take n count codes most)
-    (front_of (forms_of (take n (take count codes))) (forms_of (drop n (take count codes))) block
-    (subst (λ l. IsFront l block) (sym (forms_split n (take count codes))) front))
+-- the forms of fewer codes are also the front of the input
+pub front_forms : (n count bytes : ℕ) (codes src : List ℕ) → n ≤ count → forms_of (take count codes) ≡ take bytes src
+    → take (length (forms_of (take n codes))) src ≡ forms_of (take n codes)
+front_forms n count bytes codes src most front =
+    let xs = forms_of (take n codes) in
+    let ys = forms_of (drop n (take count codes)) in
+    let all : xs ++ ys ≡ take bytes src = ap (λ l. forms_of l ++ ys) (sym (take-take n count codes most)) ∙ forms_split n (take count codes) ∙ front in
+    let within : length xs ≤ bytes = omega (arith, length-append xs ys, ap length all, length-take bytes src) in
+    sym (take-take (length xs) bytes src within) ∙ ap (take (length xs)) (sym all) ∙ take-append_seam xs ys
+
+-- the forms of the bytes so far, and those of the next bytes
+pub picked_more : (count next at bytes : ℕ) (codes new src part : List ℕ) → forms_of (take count codes) ≡ take at src
+    → forms_of (take next new) ≡ forms_of (take count codes) ++ part → part ≡ take bytes (drop at src) → forms_of (take next new) ≡ take (at + bytes) src
+picked_more count next at bytes codes new src part before more here =
+    more ∙ ap (λ l. l ++ part) before ∙ ap (λ l. take at src ++ l) here ∙ sym (take-add at bytes src)
 
 -- ---- how many lanes are ASCII
 
@@ -172,6 +177,15 @@ ascii_first n ks within = (
   omega (arith, count_by-le-length (λ k. ltb k 128) (take n ks), length-take-le n ks within),
 )
 
+-- eight more of what is kept
+pub ascii_more : (at : ℕ) (ks : List ℕ) (n : ℕ) → at + 8 ≤ length ks → n ≤ 8
+    → count_by (λ k. ltb k 128) (take (at + n) ks) ≡ count_by (λ k. ltb k 128) (take at ks) + count_by (λ k. ltb k 128) (take n (chunk at 8 ks))
+ascii_more at ks n room most =
+    ap (count_by (λ k. ltb k 128)) (take-add at n ks)
+    ∙ sum_by-append (λ k. cond (ltb k 128) 1 0) (take at ks) (take n (drop at ks))
+    ∙ ap (λ (l : List ℕ). count_by (λ k. ltb k 128) (take at ks) + count_by (λ k. ltb k 128) l)
+    (ap (take n) (chunk-drop at 8 ks) ∙ take-append-le n (chunk at 8 ks) (drop (at + 8) ks) (omega (arith, most, length-chunk at 8 ks room)))
+
 -- ---- units that are 0
 
 pub unit_known : (us : List ℕ) → length us ≡ 8 → (k : ℕ) → k < 8
@@ -191,58 +205,84 @@ all_scalars us known = All-from_get_or IsScalar us 0 (λ k h. go (get_or us k 0)
 
 -- ---- groups of eight that are stored
 
--- eight more entries, each a function of the code at its place
-pub next_eight_stored : (f : ℕ → ℕ) (group : ℕ) (codes old found : List ℕ) → found ≡ map f (chunk (8 * group) 8 codes) → 8 * (group + 1) ≤ length codes
-    → 8 * (group + 1) ≤ length old
+-- eight more entries, each a function of the code at its place, if the codes from there on are as they were
+pub next_eight_stored : (f : ℕ → ℕ) (group : ℕ) (codes now old found : List ℕ) → found ≡ map f (chunk (8 * group) 8 now) → 8 * (group + 1) ≤ length now
+    → 8 * (group + 1) ≤ length old → ((k : ℕ) → 8 * group ≤ k → get_or now k 0 ≡ get_or codes k 0)
     → ((k : ℕ) → k < 8 * group → get_or old k 0 ≡ f (get_or codes k 0)) → (k : ℕ) → k < 8 * (group + 1)
     → get_or (put_chunk (8 * group) old found) k 0 ≡ f (get_or codes k 0)
-next_eight_stored f group codes old found is room room' before k h = go (cases_lt k (8 * group))
+next_eight_stored f group codes now old found is room room' same before k h = go (cases_lt k (8 * group))
   where
     go : (k < 8 * group) ⊎ (8 * group ≤ k) → get_or (put_chunk (8 * group) old found) k 0 ≡ f (get_or codes k 0)
     go (inl below) = get_or-put_chunk_below (8 * group) old found k 0 below ∙ before k below
     go (inr above) =
         let j = k - 8 * group in
         let e : 8 * group + j ≡ k = omega arith in
-        let eight : length (chunk (8 * group) 8 codes) ≡ 8 = length-chunk (8 * group) 8 codes (omega arith) in
-        let long : length found ≡ 8 = ap length is ∙ length-map (chunk (8 * group) 8 codes) f ∙ eight in
+        let eight : length (chunk (8 * group) 8 now) ≡ 8 = length-chunk (8 * group) 8 now (omega arith) in
+        let long : length found ≡ 8 = ap length is ∙ length-map (chunk (8 * group) 8 now) f ∙ eight in
         ap (λ n. get_or (put_chunk (8 * group) old found) n 0) (sym e)
         ∙ get_or-put_chunk_at (8 * group) old found j 0 (omega (arith, long)) (omega (arith, long))
-        ∙ ap (λ (l : List ℕ). get_or l j 0) is ∙ get_or-map f (chunk (8 * group) 8 codes) j 0 0 (omega (arith, eight))
-        ∙ ap f (get_or-chunk (8 * group) 8 codes j 0 (omega arith) ∙ ap (λ n. get_or codes n 0) e)
+        ∙ ap (λ (l : List ℕ). get_or l j 0) is ∙ get_or-map f (chunk (8 * group) 8 now) j 0 0 (omega (arith, eight))
+        ∙ ap f (get_or-chunk (8 * group) 8 now j 0 (omega arith) ∙ ap (λ n. get_or now n 0) e ∙ same k above)
 
 -- the codes before a place, and the first ones from there on
 pub forms_at : (at few : ℕ) (codes : List ℕ) → forms_of (take at codes) ++ forms_of (take few (drop at codes)) ≡ forms_of (take (at + few) codes)
 forms_at at few codes = sym (flat_map-append form_of (take at codes) (take few (drop at codes))) ∙ ap forms_of (sym (take-add at few codes))
 
+-- ---- eight lanes from a place on
+
+-- the lanes from a place on, of slices that begin there
+pub lanes_from : (pointer : ℕ → ℕ) (at n most : ℕ) (codes kept places : List ℕ) → at + n ≤ most → most ≤ length kept → most ≤ length places
+    → AreLanes pointer most codes kept places
+    → AreLanes pointer n (drop at codes) (take (length kept - at) (drop at kept)) (take (length places - at) (drop at places))
+lanes_from pointer at n most codes kept places within room room' lanes k h =
+    rw (get_or-drop at codes k 0, get_from at (length kept - at) kept k (omega arith), get_from at (length places - at) places k (omega arith))
+    (lanes (at + k) (omega arith))
+
+-- the forms of units that were looked up there
+pub forms_from : (g : Grammar) (at n most : ℕ) (codes kept us : List ℕ) → at + n ≤ most → most ≤ length kept
+    → ((k : ℕ) → k < n → IsForm g (get_or (drop at codes) k 0) (get_or (take (length kept - at) (drop at kept)) k 0) (get_or us k 0))
+    → (k : ℕ) → k < n → IsForm g (get_or (drop at codes) k 0) (get_or (drop at kept) k 0) (get_or us k 0)
+forms_from g at n most codes kept us within room forms k h =
+    subst (λ x. IsForm g (get_or (drop at codes) k 0) x (get_or us k 0)) (get_or-take (length kept - at) (drop at kept) k 0 (omega arith)) (forms k h)
+
+-- ---- forms that are written
+
+pub none_written : {D : Type 0} (T : Ghosts D) (g : Grammar) (codes kept : List ℕ) (x : D) → AreWritten T g codes kept 0 x x
+none_written T g codes kept x = record { writes = writes_none T g x; counted = refl }
+
 -- the codes so far and the next ones are written
-pub codes_more : {D : Type 0} (T : Ghosts D) (g : Grammar) (codes : List ℕ) (at count bytes read : ℕ) {x y z : D} → bytes ≡ length (forms_of (take at codes))
-    → Writes T g (forms_of (take at codes)) x y
-    → (read ≡ length (forms_of (take count (drop at codes)))) × Writes T g (forms_of (take count (drop at codes))) y z
-    → (bytes + read ≡ length (forms_of (take (at + count) codes))) × Writes T g (forms_of (take (at + count) codes)) x z
-codes_more T g codes at count bytes read {x} {y} {z} so_far written next =
-    let more = forms_at at count codes in (
-      omega (arith, so_far, next.0, ap length more, length-append (forms_of (take at codes)) (forms_of (take count (drop at codes)))),
-      subst (λ l. Writes T g l x z) more (writes_then T written next.1),
-    )
+pub more_written : {D : Type 0} (T : Ghosts D) (g : Grammar) (codes kept : List ℕ) (at count : ℕ) {x y z : D} → AreWritten T g codes kept at x y
+    → AreWritten T g (drop at codes) (drop at kept) count y z → AreWritten T g codes kept (at + count) x z
+more_written T g codes kept at count {x} {y} {z} before next =
+    let more = forms_at at count codes in
+    let first = forms_of (take at codes) in
+    let second = forms_of (take count (drop at codes)) in
+    let n =
+    ap (count_by (λ k. ltb k 128)) (take-add at count kept) ∙ sum_by-append (λ k. cond (ltb k 128) 1 0) (take at kept) (take count (drop at kept)) in
+    record {
+      writes = subst (λ l. Writes T g l x z) more (writes_then T before.writes next.writes);
+      counted = omega (arith, n, before.counted, next.counted, ap length more, length-append first second);
+    }
 
 -- ---- units that a destination writes
 
 -- the first of eight units, which take 24 code units at most
-pub few_units : (form : EncodingForm) (few : ℕ) (us : List ℕ) → length us ≡ 8 → Each1 (Fits w16) us → few ≤ 8 → total_unit_count form (take few us) ≤ 24
-few_units form few us long fits most =
+pub few_units : (form : EncodingForm) (few : ℕ) (us : List ℕ) → length us ≡ 8 → ((k : ℕ) → k < 8 → get_or us k 0 < 65536) → few ≤ 8
+    → total_unit_count form (take few us) ≤ 24
+few_units form few us long small most =
     let n = length-take-le few us (omega (arith, long, most)) in
     omega (
       arith,
       n,
       most,
-      all_short form (take few us) (λ k h. subst (λ u. u < 65536) (sym (get_or-take few us k 0 (omega (arith, h, n)))) (unit-below us k fits)),
+      all_short form (take few us) (λ k h. subst (λ u. u < 65536) (sym (get_or-take few us k 0 (omega (arith, h, n)))) (small k (omega (arith, h, n, most)))),
     )
 
-pub units_written : {D : Type 0} (T : Ghosts D) (few : ℕ) (us ks : List ℕ) {bytes : ℕ} {x y : D} → length us ≡ 8 → length ks ≡ 8 → few ≤ 8
-    → bytes + count_by (λ k. ltb k 128) (take few ks) ≡ 2 * few → T.contents y ≡ T.contents x ++ all_code_units T.form (take few us)
+pub units_written : {D : Type 0} (T : Ghosts D) (few : ℕ) (us : List ℕ) {x y : D} → few ≤ length us
+    → T.contents y ≡ T.contents x ++ all_code_units T.form (take few us)
     → T.room y + total_unit_count T.form (take few us) ≡ T.room x → T.loan y ≡ T.loan x
-    → (g : Grammar) (codes : List ℕ) → few ≤ length codes → ((k : ℕ) → k < few → IsForm g (get_or codes k 0) (get_or ks k 0) (get_or us k 0))
-    → (bytes ≡ length (forms_of (take few codes))) × Writes T g (forms_of (take few codes)) x y
-units_written T few us ks long long' most counted contents room loan g codes within each =
-    let forms = first_forms g few codes ks us within (omega (arith, most, long')) (omega (arith, most, long)) each in
-    (omega (arith, forms.1, counted), record { scalars = take few us; runs = forms.0; written = contents; room = room; loan = loan })
+    → (g : Grammar) (codes kept : List ℕ) → few ≤ length codes → few ≤ length kept
+    → ((k : ℕ) → k < few → IsForm g (get_or codes k 0) (get_or kept k 0) (get_or us k 0)) → AreWritten T g codes kept few x y
+units_written T few us most contents room loan g codes kept within within' each =
+    let forms = first_forms g few codes kept us within within' most each in
+    record { writes = record { scalars = take few us; runs = forms.0; written = contents; room = room; loan = loan }; counted = forms.1 }

@@ -4,7 +4,8 @@ use Rattle.std.proofs.{Common.{replicate, refl, sym, ap, ap₂, ◌∙◌, arith
 use Rattle.std.proofs.{lemmas.Bool.{lt-leb, and_parts, agree_below_at, cases_lt}, lemmas.List.{take-take, take-map, get_or_past, length-take-le}}
 use Rattle.std.proofs.{lemmas.List.{take-append-le, map-append, append_assoc, append-nil}, lemmas.Simd.{swz_l, Each1-get_or, below_from_Fits, get_or-chunk}}
 use Rattle.std.proofs.{lemmas.Simd.put_chunk_is, lemmas.Bool.Decides.nat_tests, lemmas.Grind.common_steps, Math.Seq.{take-append_seam, take-append-add}}
-use Rattle.std.specs.{List.range_with_len, Int.RustNames.count_ones}
+use Rattle.std.proofs.{lemmas.Nat.{and_mask, pow_pos}, lemmas.Nat.Bits.ones_shr, Math.Nat.{div-eq_of_lt, mod-lt}}
+use Rattle.std.specs.{List.range_with_len, Int.RustNames.count_ones, Int.Bits.bit_and}
 use lib.{Lanes.{Each1, number_l, digits_l, all_below, chunk, put_chunk}, Pow.{field, mod-mod-pow, shr-shr}}
 use Rattle.legacy_decoder_engine.specs.{PickedForms.{places, pairs, row, code_at}, declared.pick_rows.TheConstants.PICKED}
 
@@ -154,3 +155,26 @@ next_eight f g x count count_next before after all h e s =
 pub no_more : (f : ℕ → ℕ) (g x : ℕ) (before : List ℕ) → g ≡ 8 → before ++ map f (places (8 * g) (64 - 8 * g) x) ≡ before
 unfolding places
 no_more f g x before e = ap (λ k. before ++ map f (places (8 * k) (64 - 8 * k) x)) e ∙ append-nil before
+
+-- ---- places below an end
+
+no_places : (b n : ℕ) → places b n 0 ≡ []
+unfolding places
+no_places b zero = refl
+no_places b (suc n) = no_places (b + 1) n
+
+places_below : (b k m x : ℕ) → places b (k + m) (x % 2 ^ k) ≡ places b k x
+places_below b k m x =
+    split_places b k m (x % 2 ^ k)
+    ∙ ap (λ j. places b k (x % 2 ^ k) ++ places (b + k) m j) (div-eq_of_lt (mod-lt x (pow_pos k)))
+    ∙ ap (λ (l : List ℕ). places b k (x % 2 ^ k) ++ l) (no_places (b + k) m)
+    ∙ append-nil (places b k (x % 2 ^ k))
+    ∙ low_places b k x
+
+-- the starts below an end
+pub below_end : (end x : ℕ) → end ≤ 64 → places 0 64 (bit_and x ((2 ^ 64 - 1) / 2 ^ (64 - end))) ≡ places 0 end x
+below_end end x h =
+    let n : 64 ≡ end + (64 - end) = omega arith in
+    let k : 64 - (64 - end) ≡ end = omega arith in
+    let m : (2 ^ 64 - 1) / 2 ^ (64 - end) ≡ 2 ^ end - 1 = ones_shr 64 (64 - end) (omega arith) ∙ ap (λ j. 2 ^ j - 1) k in
+    ap (λ j. places 0 64 (bit_and x j)) m ∙ ap (places 0 64) (and_mask x end) ∙ ap (λ j. places 0 j (x % 2 ^ end)) n ∙ places_below 0 end (64 - end) x

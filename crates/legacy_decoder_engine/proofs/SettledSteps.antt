@@ -1,5 +1,5 @@
 -- The states after steps.
-use Rattle.std.proofs.Common.{◌≡◌, ℕ, suc, ◌+◌, List, length, Bool, true, false, cond, Option, option_to_list, arith}
+use Rattle.std.proofs.Common.{◌≡◌, ℕ, suc, List, length, Bool, true, false, cond, Option, option_to_list, arith}
 use Rattle.legacy_base.specs.{Fronts.{malformed, reads_or}, Grammar.Grammar, DecoderActs.has_marks}
 use Rattle.legacy_decoder_engine.specs.{Steps.{Step, finish, trail_step}, StatesAfterSteps.{IsOneOrMarked, Settles}, Shown.WriteSettles}
 

@@ -1,5 +1,5 @@
 -- The code units of scalars in UTF-8 and UTF-16, and the scalars of indexes.
-use Rattle.std.proofs.{Common.{◌≡◌, [], ◌∷◌, ℕ, ◌+◌, ◌<◌, ◌≤◌, List, get_or, Option, arith, option_to_list}, lemmas.Bool.cases_lt}
+use Rattle.std.proofs.{Common.{◌≡◌, [], ◌∷◌, ℕ, ◌<◌, ◌≤◌, List, get_or, Option, arith, option_to_list}, lemmas.Bool.cases_lt}
 use Rattle.std.proofs.{lemmas.Bool.Decides.nat_tests, lemmas.List.Elements.All-get_or, lemmas.List.get_or_past}
 use Rattle.legacy_text.specs.EncodingForm.{EncodingForm, unit_count, bmp_room, wide_room}
 use Rattle.legacy_tables.specs.Indexes.{entry_scalar, idx}

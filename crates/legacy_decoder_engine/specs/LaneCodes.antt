@@ -1,8 +1,9 @@
 -- Eight codes looked up at once: what is kept of each, the place where its entry is looked up, and its unit.
-use Rattle.std.specs.Prelude.{◌≡◌, ◌≢◌, ℕ, List, [], ◌∷◌, ◌+◌, ◌<◌, ◌≤◌, ◌/◌, ◌%◌, ◌||◌, cond, ltb, leb, min, length, get_or}
+use Rattle.std.specs.Prelude.{◌≡◌, ◌≢◌, ℕ, List, [], ◌∷◌, ◌+◌, ◌*◌, ◌<◌, ◌≤◌, ◌/◌, ◌%◌, ◌||◌, cond, ltb, leb, min, length, get_or, take, count_by}
 use Rattle.std.specs.Char.{IsScalar}
 use Rattle.legacy_base.specs.Grammar.{Grammar}
-use Rattle.legacy_decoder_engine.specs.{ReadAhead.IsPair, ReadAhead.Runs, PickedForms.form_of}
+use Rattle.legacy_text.specs.{declared.destination.Destination.Ghosts}
+use Rattle.legacy_decoder_engine.specs.{ReadAhead.IsPair, ReadAhead.Runs, ReadAhead.Writes, PickedForms.{form_of, forms_of}}
 
 -- the first byte of a code if it is ASCII or the pointer is at most `last`, and otherwise 0
 abbrev pub kept_of : (ℕ → ℕ) → ℕ → ℕ → ℕ
@@ -22,13 +23,28 @@ ArePairs grammar entries pointer = (code : ℕ) → code < 0x1_0000 → 0x80 ≤
     get_or entries (pointer code) 0 < 0x1_0000 → get_or entries (pointer code) 0 ≢ 0 →
     IsScalar (get_or entries (pointer code) 0) × IsPair grammar (code % 0x100) (code / 0x100) (get_or entries (pointer code) 0)
 
--- What is kept of a code is its first byte or 0. If it is past ASCII, the place is the code's pointer.
+-- What is kept of a code of two bytes is its first byte or 0. If it is past ASCII, the place is the code's pointer.
 pub record IsLane (pointer : ℕ → ℕ) (code kept place : ℕ) : Type 0 where
+  pub small : code < 0x1_0000
   pub first : kept ≢ 0 → kept ≡ code % 256
   pub place_is : 128 ≤ kept → place ≡ pointer code
+
+-- what is kept of the first n codes, and the places of their entries
+abbrev pub AreLanes : (ℕ → ℕ) → ℕ → List ℕ → List ℕ → List ℕ → Type 0
+AreLanes pointer n codes kept places = (k : ℕ) → k < n → IsLane pointer (get_or codes k 0) (get_or kept k 0) (get_or places k 0)
+
+-- they are kept of some codes
+pub record AreKept (pointer : ℕ → ℕ) (n : ℕ) (kept places : List ℕ) : Type 0 where
+  pub codes : List ℕ
+  pub lanes : AreLanes pointer n codes kept places
 
 -- A unit is the scalar of the form that a code begins with. What is kept of the code gives the form's length.
 pub record IsForm (grammar : Grammar) (code kept unit : ℕ) : Type 0 where
   pub scalar : IsScalar unit
   pub runs : Runs grammar (form_of code) (unit ∷ [])
   pub counted : length (form_of code) + cond (ltb kept 128) 1 0 ≡ 2
+
+-- The forms of the first n codes are written. What is kept of the codes gives the forms' length.
+pub record AreWritten {D : Type 0} (T : Ghosts D) (grammar : Grammar) (codes kept : List ℕ) (n : ℕ) (x y : D) : Type 0 where
+  pub writes : Writes T grammar (forms_of (take n codes)) x y
+  pub counted : length (forms_of (take n codes)) + count_by (λ k. ltb k 128) (take n kept) ≡ 2 * n

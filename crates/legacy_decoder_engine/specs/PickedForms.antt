@@ -1,5 +1,5 @@
 -- The forms of a block of bytes, picked out by the places where they start.
-use Rattle.std.specs.Prelude.{◌≡◌, ℕ, zero, suc, ◌+◌, ◌*◌, ◌/◌, ◌%◌, ◌<◌, List, [], ◌∷◌, ◌++◌, ◌==◌, cond, ltb, min, length, take, replicate, get_or, flat_map}
+use Rattle.std.specs.Prelude.{◌≡◌, ℕ, zero, suc, ◌+◌, ◌-◌, ◌*◌, ◌/◌, ◌%◌, ◌<◌, List, [], ◌∷◌, ◌++◌, ◌==◌, cond, ltb, min, take, replicate, get_or, flat_map}
 use Rattle.std.specs.Int.{bit_at}
 
 -- the places of the bits that are set among the first n, from `base` on
@@ -37,6 +37,6 @@ pub record AreStarts (past starts : ℕ) : Type 0 where
   pub first : bit_at starts 0 ≡ 1
   pub next : (i : ℕ) → i < 63 → (bit_at starts (suc i) + min (bit_at starts i) (bit_at past i)) % 2 ≡ 1
 
--- the bytes are at the front of a block
-abbrev pub IsFront : List ℕ → List ℕ → Type 0
-IsFront bytes block = take (length bytes) block ≡ bytes
+-- no form of two bytes starts at the last of the first n bytes
+abbrev pub IsEnd : ℕ → ℕ → ℕ → Type 0
+IsEnd past starts n = 0 < n → min (bit_at starts (n - 1)) (bit_at past (n - 1)) ≡ 0

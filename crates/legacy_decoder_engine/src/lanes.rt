@@ -1,14 +1,14 @@
 //! Blocks with many bytes past ASCII: their forms are picked out, and looked up eight at a time.
 // The functions that run for each block are always inlined: a call would pass vectors through memory, and would store
 // the destination's place there for each block.
-ghost use Rattle.std.specs.Prelude.{◌≡◌, ◌≢◌, ℕ, ◌+◌, ◌*◌, ◌<◌, ◌≤◌, List, [], ◌∷◌, All, IfSome, true, length, map, take, get_or, count_by, ltb};
+ghost use Rattle.std.specs.Prelude.{◌≡◌, ◌≢◌, ℕ, ◌+◌, ◌*◌, ◌/◌, ◌%◌, ◌<◌, ◌≤◌, ◌++◌, List, [], ◌∷◌, All, IfSome, true, length, map, take, get_or, count_by, ltb};
 ghost use Rattle.std.specs.Char.{IsScalar};
 ghost use Rattle.legacy_tables.specs.AcceptedTables.{AcceptedIndexes};
 ghost use Rattle.legacy_tables.specs.Indexes.{FlatIndexes};
 ghost use Rattle.legacy_base.specs.Grammar.{Grammar};
 ghost use Rattle.legacy_base.specs.States.{new_state};
 ghost use Rattle.legacy_decoder_engine.specs.ReadAhead.{HasAscii, IsCommonForm, ReadsAhead, Runs, Writes};
-ghost use Rattle.legacy_decoder_engine.specs.LaneCodes.{kept_of, place_of, unit_at, ArePairs, IsLane, IsForm};
+ghost use Rattle.legacy_decoder_engine.specs.LaneCodes.{kept_of, place_of, unit_at, ArePairs, AreLanes, AreKept, IsForm, AreWritten};
 ghost use Rattle.legacy_decoder_engine.specs.PickedForms.{forms_of};
 
 use crate::common_forms::{CommonForm, CommonForms, FormsInTurn, read_forms};
@@ -60,6 +60,15 @@ pub trait LaneCodec {
     fn places(codes: u16x8) -> u16x8
         ensures { result ≡ map place codes };
 
+    /// Returns whether `past` bytes past ASCII among these bytes are enough to read them eight codes at a time.
+    // Fewer are enough for a codec with many trails in ASCII.
+    #[inline(always)]
+    fn are_many(past: u32, bytes: usize) -> bool
+        requires { bytes ≤ 64 }
+    {
+        16 * past as usize > 9 * bytes
+    }
+
     /// Returns whether a quick test shows forms of one byte past ASCII in a block. Such a block is read form by form.
     #[inline(always)]
     fn has_singles(block: u8x64) -> bool {
@@ -71,6 +80,7 @@ pub trait LaneCodec {
 /// Returns what is kept of eight codes, and their places in an index whose last place is `last`.
 #[inline(always)]
 fn kept_and_places<C: LaneCodec>(codes: u16x8, last: u16) -> (u16x8, u16x8)
+    ensures small { (k : ℕ) → k < 8 → get_or codes k 0 < 0x1_0000 }
     ensures kept { result.0 ≡ map (kept_of C.place last) codes }
     ensures places { result.1 ≡ map (place_of C.place last) codes }
 {
@@ -81,36 +91,22 @@ fn kept_and_places<C: LaneCodec>(codes: u16x8, last: u16) -> (u16x8, u16x8)
     (known.select(first, u16x8::splat(0)), found.simd_min(end))
 }
 
-/// What is kept of each code of a block, and the place of its entry.
-// The compiler joins loads of eight places of 16 bits into vectors, and takes each place out of them again.
-#[derive(Drop)]
-struct Lanes {
-    kept: [u16; 64],
-    places: [u32; 64],
-}
-
-/// Stores what is kept of the codes in the first `groups` groups of eight, and the places of their entries.
-// This loop runs before the loop of the look-ups: to take a place out of a vector costs more than to load it.
+/// Splits the codes in the first `groups` groups of eight: stores what is kept of each in its place, and the places of
+/// their entries.
+// This loop runs before the loop of the look-ups: to take a place out of a vector costs more than to load it. A place has
+// 32 bits, as the compiler joins loads of eight places of 16 bits into a vector, and takes each place out of it again.
 #[inline(always)]
-fn split_codes<C: LaneCodec>(
-    codes: &[u16],
-    kept: &mut [u16],
-    places: &mut [u32],
-    groups: usize,
-    last: u16,
-)
-    requires codes { 8 * groups ≤ length codes.now }
-    requires kept { 8 * groups ≤ length kept.old }
+fn split_codes<C: LaneCodec>(codes: &mut [u16], places: &mut [u32], groups: usize, last: u16)
+    requires codes { 8 * groups ≤ length codes.old }
     requires places { 8 * groups ≤ length places.old }
-    ensures lanes { (k : ℕ) → k < 8 * groups →
-        IsLane C.place (get_or codes.now k 0) (get_or kept.new k 0) (get_or places.new k 0) }
+    ensures lanes { AreLanes C.place (8 * groups) codes.old codes.new places.new }
     ensures within { (k : ℕ) → k < 8 * groups → get_or places.new k 0 ≤ last }
 {
     let mut group = 0;
     while group < groups {
         let at = 8 * group;
-        let (first, found) = kept_and_places::<C>(u16x8::from_slice(&codes[at..]), last);
-        first.copy_to_slice(&mut kept[at..]);
+        let (kept, found) = kept_and_places::<C>(u16x8::from_slice(&codes[at..]), last);
+        kept.copy_to_slice(&mut codes[at..]);
         found.cast::<u32>().copy_to_slice(&mut places[at..]);
         group += 1;
     }
@@ -145,12 +141,12 @@ fn chosen(kept: u16x8, entries: u16x8) -> u16x8
     kept.simd_lt(u16x8::splat(0x80)).select(kept, entries)
 }
 
-/// Returns the number of bytes of the forms of eight codes, given what is kept of each.
+/// Returns whether none of eight units is 0.
 #[inline(always)]
-fn byte_count(kept: u16x8) -> usize
-    ensures { result + count_by (λ k. ltb k 128) kept ≡ 16 }
+fn are_known(units: u16x8) -> bool
+    ensures { result ≡ true → (k : ℕ) → k < 8 → get_or units k 0 ≢ 0 }
 {
-    16 - kept.simd_lt(u16x8::splat(0x80)).to_bitmask().count_ones() as usize
+    units.simd_eq(u16x8::splat(0)).to_bitmask() == 0
 }
 
 /// Returns the number of units before the first that is 0.
@@ -166,164 +162,157 @@ fn known_count(units: u16x8) -> usize
     (zeros.trailing_zeros() as usize).min(8)
 }
 
-/// Returns what is kept of eight codes from a place on, and their units, with 0 for an uncommon code.
+/// Returns the units of eight codes, with 0 for an uncommon code.
+///
+/// It is given what is kept of the codes, and the places of their entries.
 #[inline(always)]
-fn units_at<C: LaneCodec>(
-    tables: &FlatTables<'_>,
-    codes: &[u16],
-    lanes: &Lanes,
-    at: usize,
-) -> (u16x8, u16x8)
+fn units_of<C: LaneCodec>(tables: &FlatTables<'_>, kept: &[u16], places: &[u32]) -> u16x8
     requires ascii { HasAscii (C.grammar tables.now.flat) }
     requires pairs { ArePairs (C.grammar tables.now.flat) (C.entries tables.now.flat) C.place }
-    requires eight { at + 8 ≤ 64 }
-    requires lanes { (k : ℕ) → k < 8 → IsLane C.place (get_or codes.now (at + k) 0)
-        (get_or lanes.now.kept (at + k) 0) (get_or lanes.now.places (at + k) 0) }
+    requires kept { 8 ≤ length kept.now }
+    requires places { 8 ≤ length places.now }
     requires within { (k : ℕ) → k < 8 →
-        get_or lanes.now.places (at + k) 0 < length (C.entries tables.now.flat) }
-    ensures small { (k : ℕ) → k < 8 → get_or result.1 k 0 < 0x1_0000 }
-    ensures forms { (k : ℕ) → k < 8 → get_or result.1 k 0 ≢ 0 →
-        IsForm (C.grammar tables.now.flat) (get_or codes.now (at + k) 0) (get_or result.0 k 0)
-        (get_or result.1 k 0) }
+        get_or places.now k 0 < length (C.entries tables.now.flat) }
+    ensures small { (k : ℕ) → k < 8 → get_or result k 0 < 0x1_0000 }
+    ensures forms { (codes : List ℕ) → AreLanes C.place 8 codes kept.now places.now →
+        (k : ℕ) → k < 8 → get_or result k 0 ≢ 0 →
+        IsForm (C.grammar tables.now.flat) (get_or codes k 0) (get_or kept.now k 0)
+        (get_or result k 0) }
 {
-    let _ = codes.len();
-    let kept = u16x8::from_slice(&lanes.kept[at..]);
-    (
-        kept,
-        chosen(kept, C::entries_at(tables, &lanes.places[at..])),
-    )
+    let entries = C::entries_at(tables, places);
+    chosen(u16x8::from_slice(kept), entries)
 }
 
-/// Writes the first `few` of eight units, or none if their forms have more than `limit` bytes.
+/// Writes the codes in the first `groups` groups of eight, up to a group with an uncommon code.
 ///
-/// Returns the number of units written, and the number of bytes of their forms.
+/// It is given what is kept of the codes, and the places of their entries. Returns the number of groups written.
 #[inline(always)]
-fn put_units<T: Destination>(
-    units: u16x8,
-    kept: u16x8,
-    few: usize,
-    limit: usize,
+fn put_groups<C: LaneCodec, T: Destination>(
+    tables: &FlatTables<'_>,
+    kept: &[u16],
+    places: &[u32],
+    groups: usize,
     dst: &mut T,
-) -> (usize, usize)
-    requires few { few ≤ 8 }
-    requires scalars { All IsScalar units }
-    requires room { 32 ≤ T.room dst.old }
-    ensures few { result.0 ≤ few }
-    ensures limit { result.1 ≤ limit }
-    ensures writes { (grammar : Grammar) (codes : List ℕ) → few ≤ length codes →
-        ((k : ℕ) → k < few →
-        IsForm grammar (get_or codes k 0) (get_or kept k 0) (get_or units k 0)) →
-        (result.1 ≡ length (forms_of (take result.0 codes)))
-        × Writes T.Destination grammar (forms_of (take result.0 codes)) dst.old dst.new }
-    ensures slack { T.room dst.old ≤ T.room dst.new + 24 }
+) -> usize
+    requires ascii { HasAscii (C.grammar tables.now.flat) }
+    requires pairs { ArePairs (C.grammar tables.now.flat) (C.entries tables.now.flat) C.place }
+    requires kept { 8 * groups ≤ length kept.now }
+    requires places { 8 * groups ≤ length places.now }
+    requires within { (k : ℕ) → k < 8 * groups →
+        get_or places.now k 0 < length (C.entries tables.now.flat) }
+    requires lanes { AreKept C.place (8 * groups) kept.now places.now }
+    requires room { 32 * groups ≤ T.room dst.old }
+    ensures most { result ≤ groups }
+    ensures writes { (codes : List ℕ) → 8 * groups ≤ length codes →
+        AreLanes C.place (8 * groups) codes kept.now places.now →
+        AreWritten T.Destination (C.grammar tables.now.flat) codes kept.now (8 * result) dst.old
+        dst.new }
+    ensures slack { T.room dst.old ≤ T.room dst.new + 24 * result }
 {
-    let bytes = byte_count(first_units(kept, few)) - (8 - few);
-    if bytes > limit {
-        return (0, 0);
+    let mut group = 0;
+    while group < groups {
+        let at = 8 * group;
+        let units = units_of::<C>(tables, &kept[at..], &places[at..]);
+        if !are_known(units) {
+            return group;
+        }
+        dst.put_eight(units);
+        group += 1;
     }
-    dst.put_first(units, few);
-    (few, bytes)
+    group
 }
 
-/// Writes the first `most` codes, up to one that is uncommon or whose form ends past `limit` bytes.
+/// Writes the first `most` codes, up to one that is uncommon, and returns the number of codes written.
 ///
-/// Stops before a group of eight if fewer than 32 code units are free.
-/// Returns the number of codes written, and the number of bytes of their forms.
+/// Stops before a group of eight if fewer than 32 code units are free. Stores what is kept of the codes over them.
 #[inline(always)]
 fn put_codes<C: LaneCodec, T: Destination>(
     tables: &FlatTables<'_>,
-    codes: &[u16],
-    lanes: &mut Lanes,
+    codes: &mut [u16],
+    places: &mut [u32],
     most: usize,
-    limit: usize,
     dst: &mut T,
-) -> (usize, usize)
+) -> usize
     requires ascii { HasAscii (C.grammar tables.now.flat) }
-    requires most { most ≤ 64 }
-    requires codes { 64 ≤ length codes.now }
-    ensures most { result.0 ≤ most }
-    ensures limit { result.1 ≤ limit }
-    ensures bytes { result.1 ≡ length (forms_of (take result.0 codes.now)) }
-    ensures writes { Writes T.Destination (C.grammar tables.now.flat)
-        (forms_of (take result.0 codes.now)) dst.old dst.new }
-    ensures slack { 0 < result.1 → 3 ≤ T.room dst.new }
-    ensures had { 0 < result.1 → 4 ≤ T.room dst.old }
+    requires codes { 8 * ((most + 7) / 8) ≤ length codes.old }
+    requires places { 8 * ((most + 7) / 8) ≤ length places.old }
+    ensures most { result ≤ most }
+    ensures writes { AreWritten T.Destination (C.grammar tables.now.flat) codes.old codes.new result
+        dst.old dst.new }
+    ensures slack { 0 < result → 3 ≤ T.room dst.new }
+    ensures had { 0 < result → 4 ≤ T.room dst.old }
 {
     let entries = C::entry_count(tables);
-    if entries == 0 || dst.free() < 32 {
-        return (0, 0);
+    if entries == 0 {
+        return 0;
     }
     let last = (entries - 1).min(0xFFFF) as u16;
-    let groups = (most + 7) / 8;
-    split_codes::<C>(codes, &mut lanes.kept, &mut lanes.places, groups, last);
+    split_codes::<C>(codes, places, (most + 7) / 8, last);
+    let groups = (most / 8).min(dst.free() / 32);
+    let at = 8 * put_groups::<C, T>(tables, codes, places, groups, dst);
+    if at == most || dst.free() < 32 {
+        return at;
+    }
+    let units = units_of::<C>(tables, &codes[at..], &places[at..]);
+    let few = known_count(units).min(most - at);
+    dst.put_first(units, few);
+    at + few
+}
+
+/// Returns the number of bytes of the forms of eight codes, given what is kept of each.
+#[inline(always)]
+fn byte_count(kept: u16x8) -> usize
+    ensures { result + count_by (λ k. ltb k 128) kept ≡ 16 }
+{
+    16 - kept.simd_lt(u16x8::splat(0x80)).to_bitmask().count_ones() as usize
+}
+
+/// Returns the number of bytes of the forms of the first `count` codes, given what is kept of the codes.
+// Never inlined, because few blocks have an uncommon code.
+#[inline(never)]
+fn byte_total(kept: &[u16], count: usize) -> usize
+    requires { 8 * (count / 8) + 8 ≤ length kept.now }
+    ensures { result + count_by (λ k. ltb k 128) (take count kept.now) ≡ 2 * count }
+{
     let mut bytes = 0;
     let mut group = 0;
-    while 8 * group < most && dst.free() >= 32 {
-        let at = 8 * group;
-        let (kept, units) = units_at::<C>(tables, codes, lanes, at);
-        let long = byte_count(kept);
-        let known = known_count(units);
-        if at + 8 > most || bytes + long > limit || known < 8 {
-            let few = known.min(most - at);
-            let (count, read) = put_units(units, kept, few, limit - bytes, dst);
-            return (at + count, bytes + read);
-        }
-        dst.put_eight(units);
-        bytes += long;
+    while group < count / 8 {
+        bytes += byte_count(u16x8::from_slice(&kept[8 * group..]));
         group += 1;
     }
-    (8 * group, bytes)
+    let rest = count % 8;
+    let last = first_units(u16x8::from_slice(&kept[8 * group..]), rest);
+    bytes + byte_count(last) - (8 - rest)
 }
 
-/// Returns the number of codes of a block to read, given the bits of its bytes past ASCII.
+/// Stores the codes of the forms in a block with many bytes past ASCII, from place `count` of a list on.
 ///
-/// It is all codes if the input ends soon. Otherwise it is whole groups of eight, without those of ASCII at the end.
+/// Leaves out long ASCII at the end. Returns the place after the codes, and the number of bytes of the forms, which is at
+/// most `limit`. It is 0 if few of the first `limit` bytes are past ASCII.
+// Half as many as at the beginning of a run are enough.
 #[inline(always)]
-fn codes_read(count: usize, limit: usize, past: u64) -> usize
-    ensures { result ≤ count }
-{
-    if limit < 72 {
-        return count;
-    }
-    let ascii = past.leading_zeros() as usize;
-    let groups = count.saturating_sub(ascii) / 8 + 1;
-    8 * groups.min(count / 8)
-}
-
-/// Reads the forms at the front of a block with many bytes past ASCII.
-///
-/// Stops at a form that is uncommon or ends past `limit` bytes.
-/// Returns the number of bytes read, and whether another block may follow.
-#[inline(always)]
-fn read_block<C: LaneCodec, T: Destination>(
-    tables: &FlatTables<'_>,
+fn pick_block<C: LaneCodec>(
     block: &[u8],
     limit: usize,
     codes: &mut [u16],
-    lanes: &mut Lanes,
-    dst: &mut T,
-) -> (usize, bool)
-    requires ascii { HasAscii (C.grammar tables.now.flat) }
+    count: usize,
+) -> (usize, usize)
     requires block { 72 ≤ length block.now }
-    requires codes { 64 ≤ length codes.old }
-    ensures limit { result.0 ≤ limit }
-    ensures writes { Writes T.Destination (C.grammar tables.now.flat) (take result.0 block.now)
-        dst.old dst.new }
-    ensures slack { 0 < result.0 → 3 ≤ T.room dst.new }
-    ensures had { 0 < result.0 → 4 ≤ T.room dst.old }
+    requires some { 0 < limit }
+    requires most { limit ≤ 64 }
+    requires room { count + 64 ≤ length codes.old }
+    ensures most { result.0 ≤ count + 64 }
+    ensures limit { result.1 ≤ limit }
+    ensures forms { forms_of (take result.0 codes.new) ≡ forms_of (take count codes.old) ++ take result.1 block.now }
 {
     let bytes = u8x64::from_slice(block);
     let past = past_ascii(bytes);
-    if 8 * past.count_ones() as usize <= 4 * limit.min(64) {
-        return (0, false);
+    if !C::are_many(past.count_ones(), limit / 2) || C::has_singles(bytes) {
+        return (count, 0);
     }
-    if C::has_singles(bytes) {
-        return (0, false);
-    }
-    let count = pick_forms(block, past, codes);
-    let most = codes_read(count, limit, past);
-    let (done, read) = put_codes::<C, T>(tables, codes, lanes, most, limit, dst);
-    (read, done == most)
+    let ascii = past.leading_zeros() as usize;
+    let end = if ascii < 8 { 64 } else { 64 - ascii };
+    pick_forms(block, past, end.clamp(1, limit), codes, count)
 }
 
 /// Returns at most 64 bytes with zeros after them.
@@ -337,25 +326,61 @@ fn padded(src: &[u8]) -> [u8; 72]
     padded
 }
 
-/// Reads a block at the front. It copies the last bytes of the input to an array with zeros after them.
+/// Stores the codes of the forms in blocks with many bytes past ASCII at the front, a block for each 64 codes of room.
+///
+/// It copies the last bytes of the input to an array with zeros after them. Returns the number of codes, and the number
+/// of bytes of their forms.
+#[inline(always)]
+fn pick_blocks<C: LaneCodec>(src: &[u8], codes: &mut [u16]) -> (usize, usize)
+    ensures most { result.0 ≤ length codes.old }
+    ensures read { result.1 ≤ length src.now }
+    ensures forms { forms_of (take result.0 codes.new) ≡ take result.1 src.now }
+{
+    let mut count = 0;
+    let mut at = 0;
+    let mut left = codes.len() / 64;
+    while left > 0 && src.len() - at >= 16 {
+        let rest = &src[at..];
+        let (next, bytes) = if rest.len() >= 72 {
+            pick_block::<C>(rest, 64, codes, count)
+        } else {
+            let most = rest.len().min(64);
+            pick_block::<C>(&padded(&rest[..most]), most, codes, count)
+        };
+        count = next;
+        at += bytes;
+        if bytes == 0 {
+            break;
+        }
+        left -= 1;
+    }
+    (count, at)
+}
+
+/// Reads forms in blocks with many bytes past ASCII from the front, up to an uncommon one, or to the end of the room.
+///
+/// Returns the number of bytes read, and whether another block may follow.
 #[inline(always)]
 fn read_front<C: LaneCodec, T: Destination>(
     tables: &FlatTables<'_>,
     src: &[u8],
     codes: &mut [u16],
-    lanes: &mut Lanes,
+    places: &mut [u32],
     dst: &mut T,
 ) -> (usize, bool)
-    requires codes { 64 ≤ length codes.old }
+    requires eights { length codes.old % 8 ≡ 0 }
+    requires places { length places.old ≡ length codes.old }
     requires ascii { HasAscii (C.grammar tables.now.flat) }
-    ensures { ReadsAhead T.Destination (new_state (C.grammar tables.now.flat)) src.now
+    ensures ahead { ReadsAhead T.Destination (new_state (C.grammar tables.now.flat)) src.now
         result.0 dst.old dst.new }
+    ensures goes_on { result.1 ≡ true → 0 < result.0 }
 {
-    if src.len() >= 72 {
-        return read_block::<C, T>(tables, src, src.len(), codes, lanes, dst);
+    let (count, bytes) = pick_blocks::<C>(src, codes);
+    let done = put_codes::<C, T>(tables, codes, places, count, dst);
+    if done < count {
+        return (byte_total(codes, done), false);
     }
-    let most = src.len().min(64);
-    read_block::<C, T>(tables, &padded(&src[..most]), most, codes, lanes, dst)
+    (bytes, bytes > 0)
 }
 
 /// Returns whether many of the first 64 bytes are past ASCII, or of the first 16 if there are fewer than 64.
@@ -369,13 +394,39 @@ fn begins_many<C: LaneCodec>(src: &[u8]) -> bool {
     }
     if src.len() >= 64 {
         let block = u8x64::from_slice(src);
-        return past_ascii(block).count_ones() > 32 && !C::has_singles(block);
+        return C::are_many(past_ascii(block).count_ones(), 64) && !C::has_singles(block);
     }
     let past = u8x16::from_slice(src).simd_ge(u8x16::splat(0x80));
     past.to_bitmask().count_ones() > 6
 }
 
+/// Reads blocks with many bytes past ASCII from the front, four at a time.
+///
+/// Returns the number of bytes read, which may be 0.
+// A load of codes that were stored in parts waits for these stores. So many are stored before the first is loaded.
+#[inline(always)]
+fn read_long<C: LaneCodec, T: Destination>(
+    tables: &FlatTables<'_>,
+    src: &[u8],
+    dst: &mut T,
+) -> usize
+    requires { HasAscii (C.grammar tables.now.flat) }
+    ensures { ReadsAhead T.Destination (new_state (C.grammar tables.now.flat)) src.now result dst.old dst.new }
+{
+    let mut codes = [0; 256];
+    let mut places = [0; 256];
+    let mut at = 0;
+    loop {
+        let (read, goes_on) = read_front::<C, T>(tables, &src[at..], &mut codes, &mut places, dst);
+        at += read;
+        if !goes_on {
+            return at;
+        }
+    }
+}
+
 /// Reads blocks with many bytes past ASCII from the front, and returns the number of bytes read, which may be 0.
+// Most runs of such blocks between tags are short: the larger arrays are made after a few blocks.
 #[inline(always)]
 fn read_lanes<C: LaneCodec, T: Destination>(
     tables: &FlatTables<'_>,
@@ -388,17 +439,17 @@ fn read_lanes<C: LaneCodec, T: Destination>(
     if !begins_many::<C>(src) {
         return 0;
     }
-    let mut codes = [0; 72];
-    let mut lanes = Lanes {
-        kept: [0; 64],
-        places: [0; 64],
-    };
+    let mut codes = [0; 64];
+    let mut places = [0; 64];
     let mut at = 0;
     loop {
-        let (read, is_whole) = read_front::<C, T>(tables, &src[at..], &mut codes, &mut lanes, dst);
+        let (read, goes_on) = read_front::<C, T>(tables, &src[at..], &mut codes, &mut places, dst);
         at += read;
-        if read == 0 || !is_whole {
+        if !goes_on {
             return at;
+        }
+        if at >= 256 && src.len() - at >= 512 && begins_many::<C>(&src[at..]) {
+            return at + read_long::<C, T>(tables, &src[at..], dst);
         }
     }
 }

@@ -1,8 +1,8 @@
-//! The forms of a block of bytes, picked out by shuffles: where they start, and the code of each.
+//! The forms of a block of bytes, picked out by shuffles: their starts, and the code of each.
 // The functions that run for each vector are always inlined: a call would pass the vectors through memory.
 ghost use Rattle.std.specs.Prelude.{◌≡◌, ℕ, ◌+◌, ◌*◌, ◌<◌, ◌≤◌, ◌++◌, List, IfSome, length, map, take};
 ghost use Rattle.std.specs.List.{range_with_len};
-ghost use Rattle.legacy_decoder_engine.specs.PickedForms.{places, code_at, forms_of, ArePast, AreStarts, IsFront};
+ghost use Rattle.legacy_decoder_engine.specs.PickedForms.{places, code_at, forms_of, ArePast, AreStarts, IsEnd};
 
 use crate::pick_rows::PICKED;
 use std::simd::prelude::*;
@@ -72,38 +72,72 @@ fn put_codes(block: &[u8], from: usize, starts: u8, codes: &mut [u16], at: usize
     at + usize::from(starts).count_ones() as usize
 }
 
-/// Stores the codes at those of the first 64 places of a block that are starts, and returns their number.
+/// Stores the codes at those of the first 64 places of a block that are starts, from place `count` of a list on.
+///
+/// Returns the place after them.
 #[inline(always)]
-fn pick(block: &[u8], starts: u64, codes: &mut [u16]) -> usize
+fn pick(block: &[u8], starts: u64, codes: &mut [u16], count: usize) -> usize
     requires read { 72 ≤ length block.now }
-    requires room { 64 ≤ length codes.old }
-    ensures most { result ≤ 64 }
-    ensures codes { take result codes.new ≡ map (code_at block.now) (places 0 64 starts) }
+    requires room { count + 64 ≤ length codes.old }
+    ensures most { result ≤ count + 64 }
+    ensures written { take result codes.new ≡ take count codes.old ++ map (code_at block.now) (places 0 64 starts) }
 {
-    let mut count = 0;
+    let mut at = count;
     let mut left = starts;
     let mut group = 0;
     while group < 8 {
-        count = put_codes(block, 8 * group, (left % 256) as u8, codes, count);
+        at = put_codes(block, 8 * group, (left % 256) as u8, codes, at);
         left /= 256;
         group += 1;
     }
-    count
+    at
 }
 
-/// Stores the codes of the forms that start in a block of 64 bytes, given the bits of the bytes past ASCII.
-///
-/// Returns their number, which is 0 if the starts were not found.
+/// Returns the number of bytes of the forms that end in the first `limit` bytes, given the starts of all forms.
+// A form that starts at the last of these bytes may have another byte after them.
 #[inline(always)]
-pub fn pick_forms(block: &[u8], past: u64, codes: &mut [u16]) -> usize
+fn whole_forms(past: u64, starts: u64, limit: usize) -> usize
+    requires some { 0 < limit }
+    requires most { limit ≤ 64 }
+    requires starts { AreStarts past starts }
+    ensures most { result ≤ limit }
+    ensures end { IsEnd past starts result }
+{
+    limit - ((starts & past) >> (limit - 1) & 1) as usize
+}
+
+/// Stores the codes of the forms that end in the first `limit` bytes of a block, from place `count` of a list on.
+///
+/// It is given the bits of the bytes past ASCII. Returns the place after the codes, and the number of bytes of the forms,
+/// which is 0 if the starts were not found.
+#[inline(always)]
+pub fn pick_forms(
+    block: &[u8],
+    past: u64,
+    limit: usize,
+    codes: &mut [u16],
+    count: usize,
+) -> (usize, usize)
     requires read { 72 ≤ length block.now }
     requires past { ArePast past block.now }
-    requires room { 64 ≤ length codes.old }
-    ensures most { result ≤ 64 }
-    ensures front { IsFront (forms_of (take result codes.new)) block.now }
+    requires some { 0 < limit }
+    requires most { limit ≤ 64 }
+    requires room { count + 64 ≤ length codes.old }
+    ensures most { result.0 ≤ count + 64 }
+    ensures limit { result.1 ≤ limit }
+    ensures forms { forms_of (take result.0 codes.new) ≡ forms_of (take count codes.old) ++ take result.1 block.now }
 {
     match form_starts(past) {
-        Some(starts) => pick(block, starts, codes),
-        None => 0,
+        Some(starts) => {
+            let end = whole_forms(past, starts, limit);
+            if end == 0 {
+                return (count, 0);
+            }
+            (
+                pick(block, starts & (u64::MAX >> (64 - end)), codes, count),
+                end,
+            )
+        }
+        None => (count, 0),
     }
 }

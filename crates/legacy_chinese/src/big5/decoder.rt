@@ -89,6 +89,12 @@ impl LaneCodec for Big5 {
         narrowed_entries(tables.wide(), places)
     }
 
+    // Two in five trails of common text are ASCII.
+    #[inline(always)]
+    fn are_many(past: u32, bytes: usize) -> bool {
+        8 * past as usize > 3 * bytes
+    }
+
     #[inline(always)]
     fn places(codes: u16x8) -> u16x8 {
         place_sums(

@@ -151,6 +151,12 @@ impl LaneCodec for ShiftJis {
         )
     }
 
+    // A third of the trails of common text are ASCII.
+    #[inline(always)]
+    fn are_many(past: u32, bytes: usize) -> bool {
+        5 * past as usize > 2 * bytes
+    }
+
     // Two bytes of half-width katakana in a row are not both parts of pairs.
     #[inline(always)]
     fn has_singles(block: u8x64) -> bool {

@@ -1,88 +1,68 @@
-use Rattle.std.proofs.{Common.{◌≡◌, ◌∙◌, ◌*◌, ◌+◌, ◌++◌, ℕ, List, ltb, length, take, drop, ap, refl, sym, subst, arith}, lemmas.List.{get_or-drop, length-drop}}
-use Rattle.std.proofs.lemmas.List.{take_all}
-use Rattle.std.specs.List.{count_by}
-use Rattle.legacy_text.specs.EncodingForm.{all_code_units, total_unit_count}
-use Rattle.legacy_decoder_engine.specs.{ReadAhead.Writes, PickedForms.forms_of}
-use Rattle.legacy_decoder_engine.proofs.{LaneUnits.{all_scalars, codes_more, units_written}, WrittenRuns.{writes_none, all_short}}
+use Rattle.std.proofs.Common.{◌≡◌, ◌*◌, ◌+◌, ◌/◌, ◌≤◌, length, drop, arith}
+use Rattle.std.proofs.lemmas.List.{length-drop}
+use Rattle.legacy_decoder_engine.proofs.LaneUnits.{all_scalars, few_units, forms_from, lanes_from, more_written, none_written, units_written}
 use Rattle.legacy_decoder_engine.proofs.lanes.put_codes.Goals as goal
 
 pub returns-then-entries-eq0-clause-writes : goal.returns-then-entries-eq0-clause-writes
-returns-then-entries-eq0-clause-writes g c = writes_none g.T.Destination (g.C.LaneCodec.grammar c.args.tables.now.flat) c.args.dst.now
+returns-then-entries-eq0-clause-writes g c =
+    none_written g.T.Destination (g.C.LaneCodec.grammar c.args.tables.now.flat) c.args.codes.now c.args.codes.now c.args.dst.now
 
-pub loop-group-init : goal.loop-group-init
-loop-group-init g c = record {
-  within = omega arith;
-  limit = omega arith;
-  few = omega arith;
-  bytes = refl;
-  room = omega arith;
-  writes = writes_none g.T.Destination (g.C.LaneCodec.grammar c.args.tables.now.flat) c.args.dst.now;
-}
-
-pub put_units-count-requires-clause-scalars : goal.put_units-count-requires-clause-scalars
-put_units-count-requires-clause-scalars g c =
-    all_scalars c.units_at.result.1 (λ k h some. (c.units_at.ensures.forms k (omega (arith, h, c.units_at.type_inv)) some).scalar)
-
-pub put_eight-requires-clause-scalars : goal.put_eight-requires-clause-scalars
-put_eight-requires-clause-scalars g c =
-    all_scalars c.units_at.result.1 (λ k h some. (c.units_at.ensures.forms k (omega (arith, h, c.units_at.type_inv)) some).scalar)
-
-pub returns-then-at-most-clause-bytes : goal.returns-then-at-most-clause-bytes
-returns-then-at-most-clause-bytes g c =
-    let grammar = g.C.LaneCodec.grammar c.args.tables.now.flat in
-    let codes = c.args.codes.now in
-    let at = 8 * c.loop-group.group in
-    let i = c.loop-group.invariant in
-    let few = c.min-few.ensures in
-    let next =
-    c.put_units-count.ensures.writes grammar (drop at codes) (omega (arith, few, c.requires.most, c.requires.codes, length-drop at codes)) (λ k h.
-    rw (get_or-drop at codes k 0)
-    (c.units_at.ensures.forms k (omega (arith, h, few, c.known_count-known.ensures.most)) (c.known_count-known.ensures.known k (omega (arith, h, few))))) in
-    let more = codes_more g.T.Destination grammar codes at c.put_units-count.result.0 c.loop-group.bytes c.put_units-count.result.1 i.bytes i.writes next in
-    more.0
+pub put_groups-at-requires-clause-lanes : goal.put_groups-at-requires-clause-lanes
+put_groups-at-requires-clause-lanes g c =
+    let most : 8 * c.min-groups.result ≤ 8 * ((c.args.most + 7) / 8) = omega (arith, c.min-groups.ensures) in
+    record { codes = c.args.codes.now; lanes = λ k h. c.split_codes.ensures.lanes k (omega (arith, h, most)) }
 
 pub returns-then-at-most-clause-writes : goal.returns-then-at-most-clause-writes
 returns-then-at-most-clause-writes g c =
-    let grammar = g.C.LaneCodec.grammar c.args.tables.now.flat in
-    let codes = c.args.codes.now in
-    let at = 8 * c.loop-group.group in
-    let i = c.loop-group.invariant in
-    let few = c.min-few.ensures in
-    let next =
-    c.put_units-count.ensures.writes grammar (drop at codes) (omega (arith, few, c.requires.most, c.requires.codes, length-drop at codes)) (λ k h.
-    rw (get_or-drop at codes k 0)
-    (c.units_at.ensures.forms k (omega (arith, h, few, c.known_count-known.ensures.most)) (c.known_count-known.ensures.known k (omega (arith, h, few))))) in
-    let more = codes_more g.T.Destination grammar codes at c.put_units-count.result.0 c.loop-group.bytes c.put_units-count.result.1 i.bytes i.writes next in
-    more.1
+    let most : 8 * c.min-groups.result ≤ 8 * ((c.args.most + 7) / 8) = omega (arith, c.min-groups.ensures) in
+    c.put_groups-at.ensures.writes c.args.codes.now (omega (arith, most, c.requires.codes)) (λ k h. c.split_codes.ensures.lanes k (omega (arith, h, most)))
 
-pub loop-group-preserved : goal.loop-group-preserved
-loop-group-preserved g c =
+pub put_first-requires-clause-scalars : goal.put_first-requires-clause-scalars
+put_first-requires-clause-scalars g c =
+    let at = 8 * c.put_groups-at.result in
+    let all = 8 * ((c.args.most + 7) / 8) in
+    let below : at + 8 ≤ all = omega (arith, c.put_groups-at.ensures.most, c.min-groups.ensures, c.if-at-most.false) in
+    let kept = c.split_codes.new.codes in
+    let places = c.split_codes.new.places in
+    let lanes =
+    lanes_from g.C.LaneCodec.place at 8 all c.args.codes.now kept places below (omega (arith, c.requires.codes, c.split_codes.auto.codes))
+    (omega (arith, c.requires.places, c.split_codes.auto.places)) c.split_codes.ensures.lanes in
+    all_scalars c.units_of-units.result (λ k h some.
+    (c.units_of-units.ensures.forms (drop at c.args.codes.now) lanes k (omega (arith, h, c.units_of-units.type_inv)) some).scalar)
+
+pub returns-clause-writes : goal.returns-clause-writes
+returns-clause-writes g c =
     let T = g.T.Destination in
     let grammar = g.C.LaneCodec.grammar c.args.tables.now.flat in
+    let at = 8 * c.put_groups-at.result in
+    let all = 8 * ((c.args.most + 7) / 8) in
     let codes = c.args.codes.now in
-    let at = 8 * c.loop-group.group in
-    let kept = c.units_at.result.0 in
-    let units = c.units_at.result.1 in
-    let i = c.loop-group.invariant in
-    let e = c.put_eight.ensures in
-    let long : length units ≡ 8 = omega (arith, c.units_at.type_inv) in
-    let kept_long : length kept ≡ 8 = omega (arith, c.units_at.type_inv) in
-    let all = sym (take_all 8 units (omega (arith, long))) in
+    let kept = c.split_codes.new.codes in
+    let places = c.split_codes.new.places in
+    let few = c.min-few.result in
+    let units = c.units_of-units.result in
+    let e = c.put_first.ensures in
+    let long : length units ≡ 8 = omega (arith, c.units_of-units.type_inv) in
+    let some : few ≤ 8 = omega (arith, c.min-few.ensures, c.known_count.ensures.most) in
+    let below : at + 8 ≤ all = omega (arith, c.put_groups-at.ensures.most, c.min-groups.ensures, c.if-at-most.false) in
+    let room : all ≤ length kept = omega (arith, c.requires.codes, c.split_codes.auto.codes) in
+    let most : 8 * c.min-groups.result ≤ all = omega (arith, c.min-groups.ensures) in
+    let here =
+    lanes_from g.C.LaneCodec.place at 8 all codes kept places below room (omega (arith, c.requires.places, c.split_codes.auto.places))
+    c.split_codes.ensures.lanes in
+    let forms =
+    forms_from grammar at few all codes kept units (omega (arith, below, some)) room (λ k h.
+    c.units_of-units.ensures.forms (drop at codes) here k (omega (arith, h, some)) (c.known_count.ensures.known k (omega (arith, h, c.min-few.ensures)))) in
+    let before = c.put_groups-at.ensures.writes codes (omega (arith, most, c.requires.codes)) (λ k h. c.split_codes.ensures.lanes k (omega (arith, h, most))) in
     let next =
-    units_written T 8 units kept long kept_long (omega arith)
-    (omega (arith, c.byte_count-long.ensures, ap (count_by (λ k. ltb k 128)) (take_all 8 kept (omega (arith, kept_long)))))
-    (e.contents ∙ ap (λ (l : List ℕ). T.contents c.loop-group.dst ++ all_code_units T.form l) all)
-    (sym (ap (λ (l : List ℕ). T.room c.put_eight.new.self + total_unit_count T.form l) all) ∙ e.room) e.loan grammar (drop at codes)
-    (omega (arith, c.if-at-most.false, c.requires.most, c.requires.codes, length-drop at codes)) (λ k h.
-    rw (get_or-drop at codes k 0) (c.units_at.ensures.forms k h (c.known_count-known.ensures.known k (omega (arith, h, c.if-known-lt8.false))))) in
-    let more = codes_more T grammar codes at 8 c.loop-group.bytes c.byte_count-long.result i.bytes i.writes next in
-    let eight : at + 8 ≡ 8 * (c.loop-group.group + 1) = omega arith in
-    let most = all_short T.form units (λ k h. c.units_at.ensures.small k (omega (arith, h, long))) in
-    record {
-      within = omega (arith, c.if-at-most.false);
-      limit = omega (arith, c.if-bytes-long.false);
-      few = omega (arith, i.few, c.byte_count-long.ensures);
-      bytes = more.0 ∙ ap (λ n. length (forms_of (take n codes))) eight;
-      room = omega (arith, c.if-free-ge32.true, c.free-in-loop-group.ensures, e.room, most, long);
-      writes = subst (λ n. Writes T grammar (forms_of (take n codes)) c.args.dst.now c.put_eight.new.self) eight more.1;
-    }
+    units_written T few units (omega (arith, long, some)) e.contents e.room e.loan grammar (drop at codes) (drop at kept)
+    (omega (arith, c.requires.codes, below, some, length-drop at codes)) (omega (arith, room, below, some, length-drop at kept)) forms in
+    more_written T grammar codes kept at few before next
+
+pub returns-clause-slack : goal.returns-clause-slack
+returns-clause-slack g c h =
+    let some : c.min-few.result ≤ 8 = omega (arith, c.min-few.ensures, c.known_count.ensures.most) in
+    let n =
+    few_units g.T.Destination.form c.min-few.result c.units_of-units.result (omega (arith, c.units_of-units.type_inv))
+    c.units_of-units.ensures.small some in
+    omega (arith, n, c.put_first.ensures.room, c.free-else-at-most.ensures, c.if-free-lt32.false)

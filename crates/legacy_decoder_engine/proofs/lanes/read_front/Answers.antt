@@ -1,23 +1,32 @@
-use Rattle.std.proofs.{Common.{◌≡◌, ◌≤◌, ◌∙◌, length, take, ap, sym, subst, arith}, lemmas.List.{take-take, length-take-le}}
-use Rattle.legacy_decoder_engine.specs.ReadAhead.{Writes}
-use Rattle.legacy_decoder_engine.proofs.JoinedRuns.{reads_front}
+use Rattle.std.proofs.{Common.{◌≡◌, ◌<◌, ◌≤◌, ◌∙◌, length, take, ap, sym, subst, arith}, lemmas.List.length-take}
+use Rattle.legacy_decoder_engine.specs.{ReadAhead.{Writes}, PickedForms.forms_of}
+use Rattle.legacy_decoder_engine.proofs.{JoinedRuns.reads_front, LaneUnits.front_forms}
 use Rattle.legacy_decoder_engine.proofs.lanes.read_front.Goals as goal
 
-pub returns-then-src-ge72 : goal.returns-then-src-ge72
-returns-then-src-ge72 g c = let e = c.read_block.ensures in reads_front e.limit e.writes e.slack e.had
-
-pub returns : goal.returns
-returns g c =
-    let e = c.read_block-2.ensures in
+pub returns-then-done-count-clause-ahead : goal.returns-then-done-count-clause-ahead
+returns-then-done-count-clause-ahead g c =
+    let grammar = g.C.LaneCodec.grammar c.args.tables.now.flat in
+    let p = c.pick_blocks-count in
+    let e = c.put_codes-done.ensures in
     let src = c.args.src.now in
-    let r = c.read_block-2.result.0 in
-    let most = c.min-most.result in
-    let part = take most src in
-    let within : most ≤ length src = omega (arith, c.min-most.ensures) in
-    let long : length part ≡ most = length-take-le most src within in
-    let same : take r c.padded.result ≡ take r src =
-    sym (take-take r most c.padded.result e.limit) ∙ ap (take r)
-    (ap (λ n. take n c.padded.result) (sym long) ∙ c.padded.ensures) ∙ take-take r most src e.limit in
-    reads_front (omega (arith, e.limit, within))
-    (subst (λ bytes. Writes g.T.Destination (g.C.LaneCodec.grammar c.args.tables.now.flat) bytes c.args.dst.now c.read_block-2.new.dst) same e.writes)
-    e.slack e.had
+    let done = c.put_codes-done.result in
+    let forms = forms_of (take done p.new.codes) in
+    let front = front_forms done p.result.0 p.result.1 p.new.codes src (omega (arith, e.most)) p.ensures.forms in
+    let bytes : c.byte_total.result ≡ length forms = omega (arith, e.writes.counted, c.byte_total.ensures) in
+    let read : take c.byte_total.result src ≡ forms = ap (λ n. take n src) bytes ∙ front in
+    let within : c.byte_total.result ≤ length src = omega (arith, bytes, ap length front, length-take (length forms) src) in
+    reads_front within (subst (λ l. Writes g.T.Destination grammar l c.args.dst.now c.put_codes-done.new.dst) (sym read) e.writes.writes)
+    (λ h. e.slack (omega (arith, h, c.byte_total.ensures))) (λ h. e.had (omega (arith, h, c.byte_total.ensures)))
+
+pub returns-clause-ahead : goal.returns-clause-ahead
+returns-clause-ahead g c =
+    let grammar = g.C.LaneCodec.grammar c.args.tables.now.flat in
+    let p = c.pick_blocks-count in
+    let e = c.put_codes-done.ensures in
+    let src = c.args.src.now in
+    let done : c.put_codes-done.result ≡ p.result.0 = omega (arith, e.most, c.if-done-count.false) in
+    let read : forms_of (take c.put_codes-done.result p.new.codes) ≡ take p.result.1 src = ap (λ n. forms_of (take n p.new.codes)) done ∙ p.ensures.forms in
+    let some : 0 < p.result.1 → 0 < c.put_codes-done.result =
+    λ h. omega (arith, h, e.writes.counted, ap length read, length-take p.result.1 src, p.ensures.read) in
+    reads_front p.ensures.read (subst (λ l. Writes g.T.Destination grammar l c.args.dst.now c.put_codes-done.new.dst) read e.writes.writes)
+    (λ h. e.slack (some h)) (λ h. e.had (some h))

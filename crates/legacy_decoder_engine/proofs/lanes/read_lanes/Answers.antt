@@ -14,15 +14,17 @@ loop-codes-smaller g c =
     let at = c.loop-codes.at in
     omega (
       arith,
-      c.if-read-eq0.false,
-      c.read_front-read.ensures.within,
-      length-take (length c.args.src.now - at)
-          (drop at c.args.src.now),
+      c.read_front-read.ensures.goes_on c.if-not-goes_on.false,
+      c.read_front-read.ensures.ahead.within,
+      length-take (length c.args.src.now - at) (drop at c.args.src.now),
       length-drop at c.args.src.now,
     )
 
 pub loop-codes-preserved : goal.loop-codes-preserved
-loop-codes-preserved g c = reads_more c.loop-codes.invariant c.read_front-read.ensures
+loop-codes-preserved g c = reads_more c.loop-codes.invariant c.read_front-read.ensures.ahead
 
-pub returns-then-read-eq0 : goal.returns-then-read-eq0
-returns-then-read-eq0 g c = reads_more c.loop-codes.invariant c.read_front-read.ensures
+pub returns-then-not-goes_on : goal.returns-then-not-goes_on
+returns-then-not-goes_on g c = reads_more c.loop-codes.invariant c.read_front-read.ensures.ahead
+
+pub returns-then-begins_many : goal.returns-then-begins_many
+returns-then-begins_many g c = reads_more (reads_more c.loop-codes.invariant c.read_front-read.ensures.ahead) c.read_long.ensures

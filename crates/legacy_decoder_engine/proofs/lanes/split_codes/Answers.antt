@@ -1,4 +1,5 @@
-use Rattle.std.proofs.{Common.{◌∙◌, ◌*◌, ◌<◌, ℕ, get_or, map, arith}, lemmas.List.map-id}
+use Rattle.std.proofs.Common.{◌≡◌, ◌∙◌, ◌+◌, ◌-◌, ◌*◌, ◌<◌, ℕ, get_or, map, ap, subst, arith, inl, inr}
+use Rattle.std.proofs.lemmas.{Bool.cases_lt, List.map-id, Simd.{get_or-chunk, get_or-put_chunk_above}}
 use Rattle.legacy_decoder_engine.specs.LaneCodes.{kept_of, place_of}
 use Rattle.legacy_decoder_engine.proofs.LaneUnits.{lane_is, next_eight_stored}
 use Rattle.legacy_decoder_engine.proofs.lanes.split_codes.Goals as goal
@@ -6,25 +7,37 @@ use Rattle.legacy_decoder_engine.proofs.lanes.split_codes.Goals as goal
 pub loop-group-preserved : goal.loop-group-preserved
 loop-group-preserved g c =
     let l = c.loop-group in
-    let codes = c.args.codes.now in
+    let old = c.args.codes.now in
     let pointer = g.C.LaneCodec.place in
     let e = c.kept_and_places.ensures in
+    let i = l.invariant in
     record {
       within = omega (arith, c.loop-group-test.true);
-      keeps = next_eight_stored (kept_of pointer c.args.last) l.group codes l.kept c.kept_and_places.result.0 e.kept
-          (omega (arith, c.loop-group-test.true, c.requires.codes))
-          (omega (arith, c.loop-group-test.true, c.requires.kept, l.auto.kept)) l.invariant.keeps;
-      finds = next_eight_stored (place_of pointer c.args.last) l.group codes l.places
+      small = λ k h. elim (cases_lt k (8 * l.group)) [
+        | inl below ↦ i.small k below
+        | inr above ↦
+            let j = k - 8 * l.group in
+            let e : 8 * l.group + j ≡ k = omega arith in
+            let same = get_or-chunk (8 * l.group) 8 l.codes j 0 (omega arith) ∙ ap (λ n. get_or l.codes n 0) e ∙ i.rest k above in
+            subst (λ n. n < 65536) same (c.kept_and_places.ensures.small j (omega arith))
+      ];
+      rest = λ k h.
+          get_or-put_chunk_above (8 * l.group) l.codes c.kept_and_places.result.0 k 0 (omega (arith, h, c.kept_and_places.type_inv))
+          ∙ i.rest k (omega (arith, h));
+      keeps = next_eight_stored (kept_of pointer c.args.last) l.group old l.codes l.codes c.kept_and_places.result.0 e.kept
+          (omega (arith, c.loop-group-test.true, c.requires.codes, l.auto.codes))
+          (omega (arith, c.loop-group-test.true, c.requires.codes, l.auto.codes)) i.rest i.keeps;
+      finds = next_eight_stored (place_of pointer c.args.last) l.group old l.codes l.places
           (map (λ (p : ℕ). p) c.kept_and_places.result.1) (map-id c.kept_and_places.result.1 ∙ e.places)
-          (omega (arith, c.loop-group-test.true, c.requires.codes))
-          (omega (arith, c.loop-group-test.true, c.requires.places, l.auto.places)) l.invariant.finds;
+          (omega (arith, c.loop-group-test.true, c.requires.codes, l.auto.codes))
+          (omega (arith, c.loop-group-test.true, c.requires.places, l.auto.places)) i.rest i.finds;
     }
 
 pub returns-clause-lanes : goal.returns-clause-lanes
 returns-clause-lanes g c k h =
     let i = c.loop-group.invariant in
     let below : k < 8 * c.loop-group.group = omega (arith, h, c.loop-group-test.false) in
-    rw (i.keeps k below, i.finds k below) (lane_is g.C.LaneCodec.place c.args.last (get_or c.args.codes.now k 0))
+    rw (i.keeps k below, i.finds k below) (lane_is g.C.LaneCodec.place c.args.last (get_or c.args.codes.now k 0) (i.small k below))
 
 pub returns-clause-within : goal.returns-clause-within
 returns-clause-within g c k h =

@@ -9,10 +9,10 @@ loop-group-preserved c =
     let l = c.loop-group in
     record {
       within = omega arith;
-      counted = omega (arith, c.put_codes-count.ensures.most, i.counted);
-      picked = next_eight (code_at c.args.block.now) l.group l.left l.count c.put_codes-count.result l.codes c.put_codes-count.new.codes _
-          (omega arith) i.picked c.put_codes-count.ensures.written;
+      counted = omega (arith, c.put_codes-at.ensures.most, i.counted);
+      picked = next_eight (code_at c.args.block.now) l.group l.left l.at c.put_codes-at.result l.codes c.put_codes-at.new.codes _
+          (omega arith) i.picked c.put_codes-at.ensures.written;
     }
 
-pub returns-clause-codes : goal.returns-clause-codes
-returns-clause-codes c = grind (arith, no_more)
+pub returns-clause-written : goal.returns-clause-written
+returns-clause-written c = grind (arith, no_more)

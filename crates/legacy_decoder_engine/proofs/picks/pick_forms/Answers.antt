@@ -1,10 +1,18 @@
-use Rattle.std.proofs.Common.{subst, sym, arith}
-use Rattle.legacy_decoder_engine.specs.PickedForms.{forms_of, IsFront}
-use Rattle.legacy_decoder_engine.proofs.FormStarts.{picked}
+use Rattle.std.proofs.{Common.{◌∙◌, ◌≤◌, ◌++◌, ap, take, map, List, ℕ, arith}, lemmas.Grind.flat_map-append}
+use Rattle.legacy_decoder_engine.specs.PickedForms.{code_at, form_of, forms_of}
+use Rattle.legacy_decoder_engine.proofs.{FormStarts.picked, Picking.below_end}
 use Rattle.legacy_decoder_engine.proofs.picks.pick_forms.Goals as goal
 
-pub returns-in-Some-clause-front : goal.returns-in-Some-clause-front
-returns-in-Some-clause-front c =
+pub returns-else-end-eq0-clause-forms : goal.returns-else-end-eq0-clause-forms
+returns-else-end-eq0-clause-forms c =
     let block = c.args.block.now in
-    subst (λ codes. IsFront (forms_of codes) block) (sym c.pick.ensures.codes)
-    (picked block c.args.past c.in-Some.starts c.requires.read (λ j. let f = c.type_inv.block j in omega arith) c.requires.past c.in-Some.ensures)
+    let starts = c.in-Some.starts in
+    let end = c.whole_forms-end.result in
+    let most : end ≤ 64 = omega (arith, c.whole_forms-end.ensures.most, c.requires.most) in
+    let before = take c.args.count c.args.codes.now in
+    ap forms_of c.pick.ensures.written
+    ∙ flat_map-append form_of before _
+    ∙ ap (λ ps. forms_of before ++ forms_of (map (code_at block) ps)) (below_end end starts most)
+    ∙ ap (λ (l : List ℕ). forms_of before ++ l)
+    (picked block c.args.past starts end c.requires.read (λ j. let f = c.type_inv.block j in omega arith) c.requires.past c.in-Some.ensures most
+    c.whole_forms-end.ensures.end)

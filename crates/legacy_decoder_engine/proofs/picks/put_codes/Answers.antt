@@ -1,4 +1,4 @@
-use Rattle.std.proofs.Common.{arith, ◌+◌}
+use Rattle.std.proofs.Common.{arith}
 use Rattle.legacy_decoder_engine.proofs.Picking.{codes_stored}
 use Rattle.legacy_decoder_engine.proofs.picks.put_codes.Goals as goal
 

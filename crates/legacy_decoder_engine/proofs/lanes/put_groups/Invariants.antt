@@ -1,0 +1,15 @@
+use Rattle.std.proofs.Common.{ℕ, List, ◌-◌, ◌+◌, ◌*◌, ◌≤◌, length}
+use Rattle.legacy_decoder_engine.specs.LaneCodes.{AreLanes, AreWritten}
+use Rattle.legacy_decoder_engine.proofs.lanes.put_groups.Given as goal
+
+-- the groups of eight so far are written
+abbrev pub invariant-loop-group : goal.invariant-loop-group
+invariant-loop-group g l = record {
+  within : l.group ≤ l.groups;
+  slack : g.T.Destination.room l.fn.dst ≤ g.T.Destination.room l.dst + 24 * l.group;
+  writes : (codes : List ℕ) → 8 * l.groups ≤ length codes → AreLanes g.C.LaneCodec.place (8 * l.groups) codes l.kept l.places
+      → AreWritten g.T.Destination (g.C.LaneCodec.grammar l.tables.flat) codes l.kept (8 * l.group) l.fn.dst l.dst;
+}
+
+abbrev pub decreases-loop-group : goal.decreases-loop-group
+decreases-loop-group g l = l.groups - l.group
