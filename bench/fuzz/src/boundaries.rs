@@ -53,6 +53,9 @@ const TEXT_FILLS: [&[u16]; 5] = [&[0x61], &[0x4E00], &[0xD55C], &[0x3042], &[0x4
 /// The longest of these sources in units.
 const LONGEST: usize = 200;
 
+/// The longest of these sources of a decoder of pairs in bytes: after some blocks of 64 it reads several at once.
+const LONGEST_OF_PAIRS: usize = 1100;
+
 /// The greatest distance of a form's beginning from a multiple of 64.
 const AROUND: usize = 5;
 
@@ -64,10 +67,23 @@ fn source<T: Copy>(fill: &[T], form: &[T], place: usize, length: usize) -> Vec<T
     units
 }
 
+/// Returns the places near the end of a block of 64.
+fn near(block: usize) -> std::ops::Range<usize> {
+    block * 64 - AROUND..block * 64 + AROUND - 2
+}
+
 /// Returns places near multiples of 64, and lengths near them and after the form.
 fn places() -> impl Iterator<Item = (usize, usize)> {
-    let near = |block: usize| block * 64 - AROUND..block * 64 + AROUND - 2;
     (1..=3).flat_map(near).flat_map(|place| [place + 3, place.next_multiple_of(64), LONGEST].map(|length| (place, length)))
+}
+
+/// Returns places in long sources, and lengths near them and after the form.
+fn far_places() -> impl Iterator<Item = (usize, usize)> {
+    (4..=13).flat_map(near).flat_map(|place| [place.next_multiple_of(64), LONGEST_OF_PAIRS].map(|length| (place, length)))
+}
+
+fn is_of_pairs(codec: Codec) -> bool {
+    matches!(codec, Codec::Gbk | Codec::Gb18030 | Codec::Big5 | Codec::EucJp | Codec::ShiftJis | Codec::EucKr)
 }
 
 /// Returns a plan over the Standard's tables that nothing cuts.
@@ -127,6 +143,13 @@ pub fn plans(codec: Codec) -> Vec<Plan> {
                 let units = source(fill, form, place, length);
                 let bytes = units.iter().flat_map(|unit| unit.to_le_bytes()).collect();
                 plans.extend(ways(&whole(codec, true, bytes), plans.len()));
+            }
+        }
+    }
+    if is_of_pairs(codec) {
+        for (place, length) in far_places() {
+            for (form, fill) in forms(codec).iter().flat_map(|form| fills(codec).into_iter().skip(1).map(move |fill| (form, fill))) {
+                plans.extend(ways(&whole(codec, false, source(fill, form, place, length)), plans.len()));
             }
         }
     }
