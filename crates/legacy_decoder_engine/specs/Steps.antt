@@ -96,7 +96,7 @@ pub record DecoderMachine : Type 0 where
 abbrev pub no_pending : List ℕ → Option (ℕ × ℕ)
 no_pending held = None
 
--- if no scalar is to be written first, the grammar goes on from the held-back bytes; otherwise it gives that scalar first
+-- no scalar is to be written first exactly if the held-back bytes wait; otherwise it is the scalar that they begin with
 abbrev pub PendingMeets : Grammar → List ℕ → Option (ℕ × ℕ) → Type 0
 PendingMeets g held None = rests g held ≡ true
 PendingMeets g held (Some (n, c)) = (rests g held ≡ false) × WriteMeets g held n c
