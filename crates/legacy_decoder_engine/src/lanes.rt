@@ -446,37 +446,8 @@ fn begins_many<C: LaneCodec>(src: &[u8]) -> bool {
     past.to_bitmask().count_ones() > 6
 }
 
-/// Reads blocks with many bytes past ASCII from the front, up to a block that ends at `most` bytes or after them.
-///
-/// Reads as many blocks at once as the codes and the places have room for, 64 codes for each. Returns the number of bytes
-/// read, which may be 0, and whether another block may follow.
-// A load of codes that were stored in parts waits for these stores. So many are stored before the first is loaded.
-#[inline(always)]
-fn read_fronts<C: LaneCodec, T: Destination>(
-    tables: &FlatTables<'_>,
-    src: &[u8],
-    most: usize,
-    codes: &mut [u16],
-    places: &mut [u32],
-    dst: &mut T,
-) -> (usize, bool)
-    requires eights { length codes.old % 8 ≡ 0 }
-    requires places { length places.old ≡ length codes.old }
-    requires ascii { HasAscii (C.grammar tables.now.flat) }
-    ensures { ReadsAhead T.Destination (new_state (C.grammar tables.now.flat)) src.now result.0 dst.old dst.new }
-{
-    let mut at = 0;
-    loop {
-        let (read, goes_on) = read_front::<C, T>(tables, &src[at..], codes, places, dst);
-        at += read;
-        if !goes_on || at >= most {
-            return (at, goes_on);
-        }
-    }
-}
-
 /// Reads blocks with many bytes past ASCII from the front, and returns the number of bytes read, which may be 0.
-// Most runs of such blocks are short. So the larger arrays are made late, and fewer codes after a run are picked in vain.
+// A load of codes that were stored in parts waits for these stores. So two blocks are stored before the first is loaded.
 #[inline(always)]
 fn read_lanes<C: LaneCodec, T: Destination>(
     tables: &FlatTables<'_>,
@@ -489,21 +460,16 @@ fn read_lanes<C: LaneCodec, T: Destination>(
     if !begins_many::<C>(src) {
         return 0;
     }
-    let most = if src.len() < 1536 { src.len() } else { 1024 };
-    let (at, goes_on) = read_fronts::<C, T>(tables, src, most, &mut [0; 64], &mut [0; 64], dst);
-    if !goes_on || !begins_many::<C>(&src[at..]) {
-        return at;
+    let mut codes = [0; 128];
+    let mut places = [0; 128];
+    let mut at = 0;
+    loop {
+        let (read, goes_on) = read_front::<C, T>(tables, &src[at..], &mut codes, &mut places, dst);
+        at += read;
+        if !goes_on {
+            return at;
+        }
     }
-    let rest = &src[at..];
-    let (more, _) = read_fronts::<C, T>(
-        tables,
-        rest,
-        rest.len(),
-        &mut [0; 256],
-        &mut [0; 256],
-        dst,
-    );
-    at + more
 }
 
 /// Returns whether a quick test shows that the byte at the front begins no common form, if there is one.
