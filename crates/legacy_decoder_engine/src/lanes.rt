@@ -17,6 +17,7 @@ use crate::read_ahead::{Blocks, read_ascii, read_blocks, read_one};
 use legacy_base::Destination;
 use legacy_tables::FlatTables;
 use legacy_text::first_units;
+use std::cell::Cell;
 use std::marker::PhantomData;
 use std::simd::prelude::*;
 
@@ -42,6 +43,46 @@ pub trait LaneCodec {
     fn front(tables: &FlatTables<'_>, lead: u8, trail: u8) -> CommonForm
         requires { 0x80 ≤ lead }
         ensures { IsCommonForm (grammar tables.now.flat) lead trail result };
+
+    /// Returns whether a form of more than two bytes may be at the front, given its first two bytes.
+    #[inline(always)]
+    fn begins_longer(first: u8, second: u8) -> bool {
+        let _ = (first, second);
+        false
+    }
+
+    /// Reads forms of more than two bytes from the front, and returns the number of bytes read, which may be 0.
+    ///
+    /// It may also read ASCII between them. `guess` is what the codec keeps from one such form to the next.
+    #[inline(always)]
+    fn read_longer<T: Destination>(
+        tables: &FlatTables<'_>,
+        guess: &Cell<usize>,
+        src: &[u8],
+        dst: &mut T,
+    ) -> usize
+        ensures { ReadsAhead T.Destination (new_state (grammar tables.now.flat)) src.now result dst.old dst.new }
+    {
+        let _ = tables;
+        let _ = guess;
+        let _ = src;
+        let _ = dst;
+        0
+    }
+
+    /// Returns the scalar of the form of more than two bytes at the front, and the number of its bytes.
+    ///
+    /// Returns `None` if there is no such form. `guess` is what the codec keeps from one such form to the next.
+    #[inline(always)]
+    fn longer_at(tables: &FlatTables<'_>, guess: &Cell<usize>, src: &[u8]) -> Option<(char, usize)>
+        ensures { IfSome result (λ form. (0 < form.1) × (form.1 ≤ length src.now)
+            × Runs (grammar tables.now.flat) (take form.1 src.now) (form.0 ∷ [])) }
+    {
+        let _ = tables;
+        let _ = guess;
+        let _ = src;
+        None
+    }
 
     /// Returns the number of entries of the index. An entry from U+0001 to U+FFFF is the scalar of its pair.
     fn entry_count(tables: &FlatTables<'_>) -> usize
@@ -93,7 +134,7 @@ fn kept_and_places<C: LaneCodec>(codes: u16x8, last: u16) -> (u16x8, u16x8)
 
 /// Stores what is kept of each of the codes over it, and the places of their entries.
 ///
-/// It splits the codes in the first `groups` groups of eight, for an index whose last place is `last`.
+/// It splits the codes in the first `groups` groups of eight, in an index whose last place is `last`.
 // This loop runs before the loop of the look-ups: to take a place out of a vector costs more than to load it. A place has
 // 32 bits, as the compiler joins loads of eight places of 16 bits into a vector, and takes each place out of it again.
 #[inline(always)]
@@ -386,11 +427,15 @@ fn read_front<C: LaneCodec, T: Destination>(
 
 /// Returns whether many of the first 64 bytes are past ASCII, or of the first 16 if there are fewer than 64.
 ///
-/// Returns false if there are fewer than 16 bytes, or if the 64 have forms of one byte past ASCII.
+/// Returns false if there are fewer than 16 bytes, if the 64 have forms of one byte past ASCII, or if a form of more than
+/// two bytes is at the front.
 // Four bytes tell most pieces of ASCII apart, before many are counted.
 #[inline(always)]
 fn begins_many<C: LaneCodec>(src: &[u8]) -> bool {
     if src.len() < 16 || (src[0] | src[1] | src[14] | src[15]) < 0x80 {
+        return false;
+    }
+    if C::begins_longer(src[0], src[1]) {
         return false;
     }
     if src.len() >= 64 {
@@ -401,33 +446,8 @@ fn begins_many<C: LaneCodec>(src: &[u8]) -> bool {
     past.to_bitmask().count_ones() > 6
 }
 
-/// Reads blocks with many bytes past ASCII from the front, four at a time.
-///
-/// Returns the number of bytes read, which may be 0.
-// A load of codes that were stored in parts waits for these stores. So many are stored before the first is loaded.
-#[inline(always)]
-fn read_long<C: LaneCodec, T: Destination>(
-    tables: &FlatTables<'_>,
-    src: &[u8],
-    dst: &mut T,
-) -> usize
-    requires { HasAscii (C.grammar tables.now.flat) }
-    ensures { ReadsAhead T.Destination (new_state (C.grammar tables.now.flat)) src.now result dst.old dst.new }
-{
-    let mut codes = [0; 256];
-    let mut places = [0; 256];
-    let mut at = 0;
-    loop {
-        let (read, goes_on) = read_front::<C, T>(tables, &src[at..], &mut codes, &mut places, dst);
-        at += read;
-        if !goes_on {
-            return at;
-        }
-    }
-}
-
 /// Reads blocks with many bytes past ASCII from the front, and returns the number of bytes read, which may be 0.
-// Most runs of such blocks between tags are short: the larger arrays are made after a few blocks.
+// A load of codes that were stored in parts waits for these stores. So two blocks are stored before the first is loaded.
 #[inline(always)]
 fn read_lanes<C: LaneCodec, T: Destination>(
     tables: &FlatTables<'_>,
@@ -440,17 +460,14 @@ fn read_lanes<C: LaneCodec, T: Destination>(
     if !begins_many::<C>(src) {
         return 0;
     }
-    let mut codes = [0; 64];
-    let mut places = [0; 64];
+    let mut codes = [0; 128];
+    let mut places = [0; 128];
     let mut at = 0;
     loop {
         let (read, goes_on) = read_front::<C, T>(tables, &src[at..], &mut codes, &mut places, dst);
         at += read;
         if !goes_on {
             return at;
-        }
-        if at >= 256 && src.len() - at >= 512 && begins_many::<C>(&src[at..]) {
-            return at + read_long::<C, T>(tables, &src[at..], dst);
         }
     }
 }
@@ -474,48 +491,75 @@ fn stands_alone<C: LaneCodec>(src: &[u8]) -> bool {
     C::is_uncommon(if src[0] < 0x80 { src[1] } else { src[2] })
 }
 
+/// The least number of bytes of ASCII between tags.
+const LONG_ASCII: usize = 64;
+
+/// The number of bytes that are read form by form before lanes, after long ASCII and at the beginning.
+const LONG_DELAY: usize = 512;
+
+/// The number of bytes that are read form by form before lanes, after a block of lanes.
+const SHORT_DELAY: usize = 12;
+
 /// The common forms of a codec over flat tables, if nothing is held back.
 #[derive(Drop)]
 pub struct LaneForms<'a, 'b, C: LaneCodec> {
-    tables: &'a FlatTables<'b>,
+    tables: FlatTables<'b>,
+    /// What the codec keeps from one form of more than two bytes to the next.
+    guess: &'a Cell<usize>,
+    /// The number of bytes that are read form by form before lanes.
+    delay: Cell<usize>,
     codec: PhantomData<C>,
 }
 
 impl<'a, 'b, C: LaneCodec> LaneForms<'a, 'b, C> {
     /// Returns the common forms over these tables.
+    ///
+    /// `guess` is what the codec keeps from one form of more than two bytes to the next, if it has such forms.
     #[inline(always)]
-    pub fn new(tables: &'a FlatTables<'b>) -> LaneForms<'a, 'b, C>
-        ensures { result.tables.now ≡ tables.now }
+    pub fn new(tables: &FlatTables<'b>, guess: &'a Cell<usize>) -> LaneForms<'a, 'b, C>
+        ensures { result.tables.flat ≡ tables.now.flat }
     {
         LaneForms {
-            tables,
+            tables: tables.copied(),
+            guess,
+            delay: Cell::new(LONG_DELAY),
             codec: PhantomData,
         }
+    }
+
+    /// Returns the number of bytes to read form by form after so many bytes of ASCII.
+    // Text with tags has long ASCII between its runs of pairs, and most of them are too short for lanes.
+    #[inline(always)]
+    fn delay_after(&self, ascii: usize) -> usize {
+        if ascii >= LONG_ASCII {
+            self.delay.set(LONG_DELAY);
+        }
+        self.delay.get()
     }
 }
 
 impl<C: LaneCodec> CommonForms for LaneForms<'_, '_, C> {
-    ghost grammar = { λ forms. C.grammar forms.tables.now.flat };
+    ghost grammar = { λ forms. C.grammar forms.tables.flat };
 
-    ghost ready = { λ forms. HasAscii (C.grammar forms.tables.now.flat) };
+    ghost ready = { λ forms. HasAscii (C.grammar forms.tables.flat) };
 
     #[inline(always)]
     fn form(&self, first: u8, second: u8) -> CommonForm {
         if first < 0x80 {
             CommonForm::Single(char::from(first))
         } else {
-            C::front(self.tables, first, second)
+            C::front(&self.tables, first, second)
         }
     }
 }
 
 /// Returns the scalar at the front of the input, and the number of its bytes, or `None` if the front is uncommon.
 #[inline(always)]
-fn form_at<C: LaneCodec>(tables: &FlatTables<'_>, src: &[u8]) -> Option<(char, usize)>
-    requires ascii { HasAscii (C.grammar tables.now.flat) }
+fn form_at<C: LaneCodec>(forms: &LaneForms<'_, '_, C>, src: &[u8]) -> Option<(char, usize)>
+    requires ascii { HasAscii (C.grammar forms.now.tables.flat) }
     requires some { 0 < length src.now }
     ensures { IfSome result (λ form. (0 < form.1) × (form.1 ≤ length src.now)
-        × Runs (C.grammar tables.now.flat) (take form.1 src.now) (form.0 ∷ [])) }
+        × Runs (C.grammar forms.now.tables.flat) (take form.1 src.now) (form.0 ∷ [])) }
 {
     let byte = src[0];
     if byte < 0x80 {
@@ -524,10 +568,10 @@ fn form_at<C: LaneCodec>(tables: &FlatTables<'_>, src: &[u8]) -> Option<(char, u
     if src.len() < 2 {
         return None;
     }
-    match C::front(tables, byte, src[1]) {
+    match C::front(&forms.tables, byte, src[1]) {
         CommonForm::Pair(c) => Some((c, 2)),
         CommonForm::Single(c) => Some((c, 1)),
-        CommonForm::Other => None,
+        CommonForm::Other => C::longer_at(&forms.tables, forms.guess, src),
     }
 }
 
@@ -535,16 +579,16 @@ fn form_at<C: LaneCodec>(tables: &FlatTables<'_>, src: &[u8]) -> Option<(char, u
 // Any block is longer, so one loop reads every form.
 #[inline(always)]
 fn read_last<C: LaneCodec, T: Destination>(
-    tables: &FlatTables<'_>,
+    forms: &LaneForms<'_, '_, C>,
     src: &[u8],
     dst: &mut T,
 ) -> usize
-    requires { HasAscii (C.grammar tables.now.flat) }
-    ensures { ReadsAhead T.Destination (new_state (C.grammar tables.now.flat)) src.now result dst.old dst.new }
+    requires { HasAscii (C.grammar forms.now.tables.flat) }
+    ensures { ReadsAhead T.Destination (new_state (C.grammar forms.now.tables.flat)) src.now result dst.old dst.new }
 {
     let mut at = 0;
     while at < src.len() && dst.free() >= 7 {
-        match form_at::<C>(tables, &src[at..]) {
+        match form_at(forms, &src[at..]) {
             Some((scalar, length)) => {
                 dst.put(scalar);
                 at += length;
@@ -555,63 +599,55 @@ fn read_last<C: LaneCodec, T: Destination>(
     at
 }
 
-/// Reads ASCII by blocks and other forms one by one from the front, up to an uncommon form or to several pairs in a row.
+/// Reads ASCII by blocks and other forms one by one from the front, up to an uncommon form or to many forms.
 ///
 /// Returns the number of bytes read, and whether a block with many bytes past ASCII may follow.
-// Most runs of pairs between tags are short. So no block of lanes is tried before five or six forms were read.
+// Most runs of pairs between tags are short, and lanes are no faster in them. ASCII counts against the forms fourfold.
 #[inline(always)]
 fn read_few<C: LaneCodec, T: Destination>(
     forms: &LaneForms<'_, '_, C>,
     src: &[u8],
     dst: &mut T,
 ) -> (usize, bool)
-    requires { HasAscii (C.grammar forms.now.tables.now.flat) }
-    ensures ahead { ReadsAhead T.Destination (new_state (C.grammar forms.now.tables.now.flat)) src.now
+    requires { HasAscii (C.grammar forms.now.tables.flat) }
+    ensures ahead { ReadsAhead T.Destination (new_state (C.grammar forms.now.tables.flat)) src.now
         result.0 dst.old dst.new }
     ensures goes_on { result.1 ≡ true → 0 < result.0 }
 {
     let mut at = 0;
+    let mut many = 0usize;
     loop {
-        at += read_ascii(&src[at..], dst);
+        let ascii = read_ascii(&src[at..], dst);
+        at += ascii;
         if src.len() - at < 16 {
-            return (at + read_last::<C, T>(forms.tables, &src[at..], dst), false);
+            return (at + read_last(forms, &src[at..], dst), false);
         }
-        let few = read_forms(forms, &src[at..], 12, dst);
+        let delay = forms.delay_after(ascii);
+        if C::begins_longer(src[at], src[at + 1]) {
+            let longer = C::read_longer(&forms.tables, forms.guess, &src[at..], dst);
+            at += longer;
+            if longer == 0 || delay == SHORT_DELAY {
+                return (at, longer > 0);
+            }
+            continue;
+        }
+        let few = read_forms(forms, &src[at..], delay, dst);
         at += few;
         if few == 0 {
             return (at, false);
         }
-        if few >= 10 {
+        many = many
+            .saturating_sub(ascii.saturating_mul(4))
+            .saturating_add(few);
+        if many.saturating_add(2) >= delay {
             return (at, true);
         }
     }
 }
 
-/// Reads blocks with many bytes past ASCII from the front, and then forms of at most 256 bytes one by one.
-///
-/// Returns the number of bytes read, and whether another block may follow.
-// Malformed sequences often follow one another. No block is begun at an uncommon byte.
-#[inline(always)]
-pub fn read_many<C: LaneCodec, T: Destination>(
-    forms: &LaneForms<'_, '_, C>,
-    src: &[u8],
-    dst: &mut T,
-) -> (usize, bool)
-    ensures ahead { ReadsAhead T.Destination (new_state (C.grammar forms.now.tables.now.flat)) src.now
-        result.0 dst.old dst.new }
-    ensures goes_on { result.1 ≡ true → 0 < result.0 }
-{
-    if begins_uncommon::<C>(src) {
-        return (0, false);
-    }
-    let at = read_lanes::<C, T>(forms.tables, src, dst);
-    let few = read_forms(forms, &src[at..], 256, dst);
-    (at + few, few > 0)
-}
-
-/// Blocks with many bytes past ASCII, and then ASCII and other forms up to several pairs in a row.
+/// Blocks with many bytes past ASCII, and then ASCII and other forms up to many forms.
 impl<C: LaneCodec> Blocks for LaneForms<'_, '_, C> {
-    ghost grammar = { λ forms. C.grammar forms.tables.now.flat };
+    ghost grammar = { λ forms. C.grammar forms.tables.flat };
 
     // Malformed sequences often follow one another. No block is begun at an uncommon byte.
     #[inline(always)]
@@ -619,7 +655,10 @@ impl<C: LaneCodec> Blocks for LaneForms<'_, '_, C> {
         if begins_uncommon::<C>(src) {
             return (0, false);
         }
-        let at = read_lanes::<C, T>(self.tables, src, dst);
+        let at = read_lanes::<C, T>(&self.tables, src, dst);
+        if at >= 64 {
+            self.delay.set(SHORT_DELAY);
+        }
         let (few, goes_on) = read_few(self, &src[at..], dst);
         (at + few, goes_on)
     }
@@ -630,15 +669,13 @@ impl<C: LaneCodec> Blocks for LaneForms<'_, '_, C> {
 /// Returns the number of bytes read, which may be 0. If it reads any, three code units stay free.
 // Malformed sequences often follow one another, or have a single form between them. Neither costs a call.
 #[inline(always)]
-pub fn read_common<C: LaneCodec, B: Blocks, T: Destination>(
+pub fn read_common<C: LaneCodec, T: Destination>(
     forms: &LaneForms<'_, '_, C>,
-    blocks: &B,
     src: &[u8],
     dst: &mut T,
 ) -> usize
-    requires { B.grammar blocks.now ≡ C.grammar forms.now.tables.now.flat }
-    ensures { ReadsAhead T.Destination (new_state (C.grammar forms.now.tables.now.flat)) src.now result
-        dst.old dst.new }
+    ensures { ReadsAhead T.Destination (new_state (C.grammar forms.now.tables.flat)) src.now
+        result dst.old dst.new }
 {
     if begins_uncommon::<C>(src) {
         return 0;
@@ -646,5 +683,5 @@ pub fn read_common<C: LaneCodec, B: Blocks, T: Destination>(
     if stands_alone::<C>(src) {
         return read_one(&FormsInTurn { forms }, src, dst);
     }
-    read_blocks(blocks, src, dst)
+    read_blocks(forms, src, dst)
 }

@@ -18,6 +18,7 @@ use crate::moves::{DecoderMoves, Fed, Room};
 use crate::read_ahead::read_ascii;
 use legacy_base::{DecoderStep, Destination, RawDecoder, Tables};
 use legacy_tables::DecoderTables;
+use std::cell::Cell;
 
 /// A codec whose forms have one byte, or a lead and a trail: the parts that it does not share with the others.
 pub trait LeadCodec: LaneCodec {
@@ -198,8 +199,8 @@ impl<'a, C: LeadCodec> DecoderMoves for LeadDecoder<'a, C> {
         }
         match self.tables.flat() {
             Some(tables) => {
-                let forms = LaneForms::<C>::new(tables);
-                read_common(&forms, &forms, src, dst)
+                let guess = Cell::new(0);
+                read_common(&LaneForms::<C>::new(tables, &guess), src, dst)
             }
             None => read_ascii(src, dst),
         }

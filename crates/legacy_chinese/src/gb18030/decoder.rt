@@ -12,11 +12,12 @@ ghost use Rattle.legacy_decoder_engine.specs.Feeding.{Took};
 ghost use Rattle.legacy_chinese.specs.Gb18030Held.{held_bytes, is_resting};
 
 use super::digit::Digit;
-use super::four_byte_blocks::{guessed_scalar, read_flat};
+use super::four_byte_blocks::{Gb18030, guessed_scalar};
 use super::pair_places::TRAILS;
 use legacy_base::{DecoderStep, Destination, IndexName, RawDecoder, Tables};
 use legacy_decoder_engine::drive::{count_malformed_bytes, drive_decoder};
 use legacy_decoder_engine::held_lead::Lead;
+use legacy_decoder_engine::lanes::{LaneForms, read_common};
 use legacy_decoder_engine::lead_and_trail::malformed_through;
 use legacy_decoder_engine::moves::{DecoderMoves, Fed, Room};
 use legacy_decoder_engine::places::{ROWS_OF_190, pair_pointer};
@@ -310,7 +311,9 @@ impl DecoderMoves for Gb18030Decoder<'_> {
             return 0;
         }
         match self.tables.flat() {
-            Some(tables) => read_flat(tables, &self.guess, src, dst),
+            Some(tables) => {
+                read_common(&LaneForms::<Gb18030>::new(tables, &self.guess), src, dst)
+            }
             None => read_ascii(src, dst),
         }
     }

@@ -26,6 +26,7 @@ use legacy_decoder_engine::read_ahead::read_ascii;
 use legacy_decoder_engine::rows::row_pointers;
 use legacy_decoder_engine::unmapped_trail::unmapped;
 use legacy_tables::{DecoderTables, FlatTables};
+use std::cell::Cell;
 use std::simd::prelude::*;
 
 /// The held-back bytes: the first bytes of a sequence.
@@ -299,8 +300,8 @@ impl DecoderMoves for EucJpDecoder<'_> {
         match self.held {
             Held::Nothing => match self.tables.flat() {
                 Some(tables) => {
-                    let forms = LaneForms::<EucJp>::new(tables);
-                    read_common(&forms, &forms, src, dst)
+                    let guess = Cell::new(0);
+                    read_common(&LaneForms::<EucJp>::new(tables, &guess), src, dst)
                 }
                 None => read_ascii(src, dst),
             },

@@ -44,6 +44,15 @@ impl<'a> FlatTables<'a> {
         Ok(FlatTables { given: *indexes })
     }
 
+    /// Returns a copy of these tables. It borrows the same indexes.
+    // A loop keeps the parts of a copy in registers, and loads those of borrowed tables for each pair.
+    #[inline(always)]
+    pub fn copied(&self) -> FlatTables<'a>
+        ensures { result.flat ≡ self.now.flat }
+    {
+        FlatTables { given: self.given }
+    }
+
     /// Returns the index of the name, if it is one of pairs with entries of 16 bits.
     ///
     /// For other names it returns an empty list.

@@ -4,7 +4,7 @@ use Rattle.legacy_decoder_engine.proofs.lanes.read_last.Goals as goal
 
 pub loop-at-init : goal.loop-at-init
 loop-at-init g c =
-    let grammar = g.C.LaneCodec.grammar c.args.tables.now.flat in
+    let grammar = g.C.LaneCodec.grammar c.args.forms.now.tables.flat in
     (omega arith, writes_none g.T.Destination grammar c.args.dst.now, λ h. absurd (omega arith), λ h. absurd (omega arith))
 
 pub put-requires : goal.put-requires

@@ -5,13 +5,13 @@ use Rattle.legacy_decoder_engine.proofs.lanes.LaneFormsBlocks.read_block.Goals a
 
 pub returns-then-begins_uncommon-clause-ahead : goal.returns-then-begins_uncommon-clause-ahead
 returns-then-begins_uncommon-clause-ahead g c =
-    reads_none g.T.Destination (new_state (g.C.LaneCodec.grammar c.args.self.now.tables.now.flat)) c.args.src.now c.args.dst.now
+    reads_none g.T.Destination (new_state (g.C.LaneCodec.grammar c.args.self.now.tables.flat)) c.args.src.now c.args.dst.now
 
 pub read_lanes-at-requires : goal.read_lanes-at-requires
-read_lanes-at-requires g c = c.begins_uncommon.ensures c.args.self.now.tables.now
+read_lanes-at-requires g c = c.begins_uncommon.ensures c.args.self.now.tables
 
 pub read_few-few-requires : goal.read_few-few-requires
-read_few-few-requires g c = c.begins_uncommon.ensures c.args.self.now.tables.now
+read_few-few-requires g c = c.begins_uncommon.ensures c.args.self.now.tables
 
 pub returns-clause-ahead : goal.returns-clause-ahead
 returns-clause-ahead g c = reads_more c.read_lanes-at.ensures c.read_few-few.ensures.ahead

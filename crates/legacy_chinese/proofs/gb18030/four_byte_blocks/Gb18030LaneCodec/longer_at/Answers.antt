@@ -1,23 +1,13 @@
 use Rattle.std.proofs.{Common.{◌∙◌, [], ◌∷◌, ◌++◌, get_or, sym, ap, subst, arith}, lemmas.List.take_more}
 use Rattle.legacy_base.specs.Grammar.{gb18030}
 use Rattle.legacy_decoder_engine.specs.ReadAhead.{Runs}
-use Rattle.legacy_decoder_engine.proofs.WrittenRuns.{runs_byte, take_two}
-use Rattle.legacy_chinese.proofs.{Gb18030Held.ascii, FourPlaces.four_at}
-use Rattle.legacy_chinese.proofs.gb18030.four_byte_blocks.Gb18030Blocks.form_at.Goals as goal
-
-pub returns-then-byte-lt128 : goal.returns-then-byte-lt128
-returns-then-byte-lt128 c =
-    let tables = c.args.self.now.tables.now in
-    let src = c.args.src.now in (
-      omega arith,
-      omega (arith, c.requires),
-      subst (λ bytes. Runs (gb18030 tables.flat.gb18030 tables.flat.ranges) bytes (c.from.result ∷ [])) (sym (take_more src 0 0 c.requires))
-          (runs_byte (ascii tables) (get_or src 0 0) c.from.result c.if-byte-lt128.true c.from.ensures),
-    )
+use Rattle.legacy_decoder_engine.proofs.WrittenRuns.{take_two}
+use Rattle.legacy_chinese.proofs.FourPlaces.{four_at}
+use Rattle.legacy_chinese.proofs.gb18030.four_byte_blocks.Gb18030LaneCodec.longer_at.Goals as goal
 
 pub returns : goal.returns
 returns c =
-    let tables = c.args.self.now.tables.now in
+    let tables = c.args.tables.now in
     let src = c.args.src.now in
     let pointer = c.four_pointer-pointer in
     let x = c.in-Some.scalar in

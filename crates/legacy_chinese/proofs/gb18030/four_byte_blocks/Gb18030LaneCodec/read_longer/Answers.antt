@@ -2,11 +2,11 @@ use Rattle.std.proofs.Common.{◌+◌, ◌<◌, length, get_or, ap, arith}
 use Rattle.legacy_base.specs.Grammar.{gb18030}
 use Rattle.legacy_decoder_engine.proofs.{JoinedRuns.reads_front, WrittenRuns.{runs_byte, code_units_ascii, writes_none, writes_one, writes_four, four_fit}}
 use Rattle.legacy_chinese.proofs.{Gb18030Held.ascii, FourPlaces.four_at}
-use Rattle.legacy_chinese.proofs.gb18030.four_byte_blocks.Gb18030Blocks.read_fours.Goals as goal
+use Rattle.legacy_chinese.proofs.gb18030.four_byte_blocks.Gb18030LaneCodec.read_longer.Goals as goal
 
 pub loop-at-init : goal.loop-at-init
 loop-at-init g c =
-    let flat = c.args.self.now.tables.now.flat in (
+    let flat = c.args.tables.now.flat in (
       omega arith,
       omega (arith, c.min-most.ensures),
       omega (arith, c.min-most.ensures, c.saturating_sub.ensures, c.free.ensures),
@@ -19,7 +19,7 @@ loop-at-init g c =
 pub returns-then-src-at-lt128 : goal.returns-then-src-at-lt128
 returns-then-src-at-lt128 g c =
     let T = g.T.Destination in
-    let tables = c.args.self.now.tables.now in
+    let tables = c.args.tables.now in
     let src = c.args.src.now in
     let i = c.loop-at.invariant in
     let e = c.put.ensures in
@@ -32,7 +32,7 @@ returns-then-src-at-lt128 g c =
 pub loop-at-preserved-else-src-at-lt128 : goal.loop-at-preserved-else-src-at-lt128
 loop-at-preserved-else-src-at-lt128 g c =
     let T = g.T.Destination in
-    let tables = c.args.self.now.tables.now in
+    let tables = c.args.tables.now in
     let src = c.args.src.now in
     let i = c.loop-at.invariant in
     let e = c.put.ensures in
@@ -56,7 +56,7 @@ put-requires-else-byte-lt128 g c =
 pub loop-at-preserved : goal.loop-at-preserved
 loop-at-preserved g c =
     let T = g.T.Destination in
-    let tables = c.args.self.now.tables.now in
+    let tables = c.args.tables.now in
     let src = c.args.src.now in
     let at = c.loop-at.at in
     let i = c.loop-at.invariant in

@@ -2,13 +2,13 @@ use Rattle.std.proofs.Common.{◌≡◌, ◌+◌, ◌-◌, ◌≤◌, take, leng
 use Rattle.legacy_tables.specs.RangeParts.{IsRangePart}
 use Rattle.legacy_base.specs.Grammar.{gb18030}
 use Rattle.legacy_decoder_engine.specs.ReadAhead.{Writes}
-use Rattle.legacy_chinese.proofs.gb18030.four_byte_blocks.Gb18030Blocks.read_fours.Given as goal
+use Rattle.legacy_chinese.proofs.gb18030.four_byte_blocks.Gb18030LaneCodec.read_longer.Given as goal
 
 -- what was read is written, and took at most one code unit a byte
 abbrev pub invariant-loop-at : goal.invariant-loop-at
 invariant-loop-at g l =
     let T = g.T.Destination in
-    let flat = l.self.tables.now.flat in
+    let flat = l.tables.flat in
     (l.at ≤ l.most)
     × (l.most ≤ length l.src)
     × (l.most ≤ T.room l.fn.dst - 3)
