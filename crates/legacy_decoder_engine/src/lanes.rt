@@ -446,8 +446,33 @@ fn begins_many<C: LaneCodec>(src: &[u8]) -> bool {
     past.to_bitmask().count_ones() > 6
 }
 
+/// Reads blocks with many bytes past ASCII from the front, four at a time.
+///
+/// Returns the number of bytes read, which may be 0.
+// A load of codes that were stored in parts waits for these stores. So many are stored before the first is loaded.
+#[inline(always)]
+fn read_long<C: LaneCodec, T: Destination>(
+    tables: &FlatTables<'_>,
+    src: &[u8],
+    dst: &mut T,
+) -> usize
+    requires { HasAscii (C.grammar tables.now.flat) }
+    ensures { ReadsAhead T.Destination (new_state (C.grammar tables.now.flat)) src.now result dst.old dst.new }
+{
+    let mut codes = [0; 256];
+    let mut places = [0; 256];
+    let mut at = 0;
+    loop {
+        let (read, goes_on) = read_front::<C, T>(tables, &src[at..], &mut codes, &mut places, dst);
+        at += read;
+        if !goes_on {
+            return at;
+        }
+    }
+}
+
 /// Reads blocks with many bytes past ASCII from the front, and returns the number of bytes read, which may be 0.
-// A load of codes that were stored in parts waits for these stores. So two blocks are stored before the first is loaded.
+// Most runs of such blocks between tags are short: the larger arrays are made after a few blocks.
 #[inline(always)]
 fn read_lanes<C: LaneCodec, T: Destination>(
     tables: &FlatTables<'_>,
@@ -460,14 +485,17 @@ fn read_lanes<C: LaneCodec, T: Destination>(
     if !begins_many::<C>(src) {
         return 0;
     }
-    let mut codes = [0; 128];
-    let mut places = [0; 128];
+    let mut codes = [0; 64];
+    let mut places = [0; 64];
     let mut at = 0;
     loop {
         let (read, goes_on) = read_front::<C, T>(tables, &src[at..], &mut codes, &mut places, dst);
         at += read;
-        if !goes_on {
+        if !goes_on || src.len() - at < 16 {
             return at;
+        }
+        if at >= 256 && src.len() - at >= 512 && begins_many::<C>(&src[at..]) {
+            return at + read_long::<C, T>(tables, &src[at..], dst);
         }
     }
 }

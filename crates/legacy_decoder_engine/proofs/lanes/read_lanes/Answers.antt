@@ -25,3 +25,6 @@ loop-codes-preserved g c = reads_more c.loop-codes.invariant c.read_front-read.e
 
 pub returns-then-not-goes_on : goal.returns-then-not-goes_on
 returns-then-not-goes_on g c = reads_more c.loop-codes.invariant c.read_front-read.ensures.ahead
+
+pub returns-then-begins_many : goal.returns-then-begins_many
+returns-then-begins_many g c = reads_more (reads_more c.loop-codes.invariant c.read_front-read.ensures.ahead) c.read_long.ensures
