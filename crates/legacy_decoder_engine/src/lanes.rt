@@ -474,7 +474,7 @@ fn read_long<C: LaneCodec, T: Destination>(
 /// Reads blocks with many bytes past ASCII from the front, and returns the number of bytes read, which may be 0.
 // Most runs of such blocks between tags are short: the larger arrays are made after a few blocks.
 #[inline(always)]
-fn read_lanes<C: LaneCodec, T: Destination>(
+fn read_short<C: LaneCodec, T: Destination>(
     tables: &FlatTables<'_>,
     src: &[u8],
     dst: &mut T,
@@ -482,9 +482,6 @@ fn read_lanes<C: LaneCodec, T: Destination>(
     requires { HasAscii (C.grammar tables.now.flat) }
     ensures { ReadsAhead T.Destination (new_state (C.grammar tables.now.flat)) src.now result dst.old dst.new }
 {
-    if !begins_many::<C>(src) {
-        return 0;
-    }
     let mut codes = [0; 64];
     let mut places = [0; 64];
     let mut at = 0;
@@ -498,6 +495,23 @@ fn read_lanes<C: LaneCodec, T: Destination>(
             return at + read_long::<C, T>(tables, &src[at..], dst);
         }
     }
+}
+
+/// Reads blocks with many bytes past ASCII from the front, if one is there, and returns the number of bytes read.
+// The test is a function of its own, so that it is inlined also if the compiler does not inline the loop.
+#[inline(always)]
+fn read_lanes<C: LaneCodec, T: Destination>(
+    tables: &FlatTables<'_>,
+    src: &[u8],
+    dst: &mut T,
+) -> usize
+    requires { HasAscii (C.grammar tables.now.flat) }
+    ensures { ReadsAhead T.Destination (new_state (C.grammar tables.now.flat)) src.now result dst.old dst.new }
+{
+    if !begins_many::<C>(src) {
+        return 0;
+    }
+    read_short::<C, T>(tables, src, dst)
 }
 
 /// Returns whether a quick test shows that the byte at the front begins no common form, if there is one.
@@ -528,10 +542,62 @@ const LONG_DELAY: usize = 512;
 /// The number of bytes that are read form by form before lanes, after a block of lanes.
 const SHORT_DELAY: usize = 12;
 
-/// The common forms of a codec over flat tables, if nothing is held back.
+/// The common forms of a codec over flat tables.
+// It has a copy of the tables. A loop keeps the parts of a copy in registers, and loads those of borrowed tables for each
+// pair.
 #[derive(Drop)]
-pub struct LaneForms<'a, 'b, C: LaneCodec> {
-    tables: FlatTables<'b>,
+struct LaneForms<'a, C: LaneCodec> {
+    tables: FlatTables<'a>,
+    codec: PhantomData<C>,
+}
+
+impl<'a, C: LaneCodec> LaneForms<'a, C> {
+    /// Returns the common forms over these tables.
+    #[inline(always)]
+    fn new(tables: &FlatTables<'a>) -> LaneForms<'a, C>
+        ensures { result.tables.flat ≡ tables.now.flat }
+    {
+        LaneForms {
+            tables: tables.copied(),
+            codec: PhantomData,
+        }
+    }
+}
+
+impl<C: LaneCodec> CommonForms for LaneForms<'_, C> {
+    ghost grammar = { λ forms. C.grammar forms.tables.flat };
+
+    ghost ready = { λ forms. HasAscii (C.grammar forms.tables.flat) };
+
+    #[inline(always)]
+    fn form(&self, first: u8, second: u8) -> CommonForm {
+        if first < 0x80 {
+            CommonForm::Single(char::from(first))
+        } else {
+            C::front(&self.tables, first, second)
+        }
+    }
+}
+
+/// Reads common forms from the front of at most `most` bytes, up to an uncommon one, and returns the number of bytes read.
+#[inline(always)]
+fn read_in_turn<C: LaneCodec, T: Destination>(
+    tables: &FlatTables<'_>,
+    src: &[u8],
+    most: usize,
+    dst: &mut T,
+) -> usize
+    requires { HasAscii (C.grammar tables.now.flat) }
+    ensures { ReadsAhead T.Destination (new_state (C.grammar tables.now.flat)) src.now result dst.old dst.new }
+{
+    let forms = LaneForms::<C>::new(tables);
+    read_forms(&forms, src, most, dst)
+}
+
+/// The blocks of a codec over flat tables, if nothing is held back.
+#[derive(Drop)]
+pub struct LaneBlocks<'a, 'b, C: LaneCodec> {
+    tables: &'a FlatTables<'b>,
     /// What the codec keeps from one form of more than two bytes to the next.
     guess: &'a Cell<usize>,
     /// The number of bytes that are read form by form before lanes.
@@ -539,16 +605,16 @@ pub struct LaneForms<'a, 'b, C: LaneCodec> {
     codec: PhantomData<C>,
 }
 
-impl<'a, 'b, C: LaneCodec> LaneForms<'a, 'b, C> {
-    /// Returns the common forms over these tables.
+impl<'a, 'b, C: LaneCodec> LaneBlocks<'a, 'b, C> {
+    /// Returns the blocks over these tables.
     ///
     /// `guess` is what the codec keeps from one form of more than two bytes to the next, if it has such forms.
     #[inline(always)]
-    pub fn new(tables: &FlatTables<'b>, guess: &'a Cell<usize>) -> LaneForms<'a, 'b, C>
-        ensures { result.tables.flat ≡ tables.now.flat }
+    pub fn new(tables: &'a FlatTables<'b>, guess: &'a Cell<usize>) -> LaneBlocks<'a, 'b, C>
+        ensures { result.tables.now ≡ tables.now }
     {
-        LaneForms {
-            tables: tables.copied(),
+        LaneBlocks {
+            tables,
             guess,
             delay: Cell::new(LONG_DELAY),
             codec: PhantomData,
@@ -566,28 +632,17 @@ impl<'a, 'b, C: LaneCodec> LaneForms<'a, 'b, C> {
     }
 }
 
-impl<C: LaneCodec> CommonForms for LaneForms<'_, '_, C> {
-    ghost grammar = { λ forms. C.grammar forms.tables.flat };
-
-    ghost ready = { λ forms. HasAscii (C.grammar forms.tables.flat) };
-
-    #[inline(always)]
-    fn form(&self, first: u8, second: u8) -> CommonForm {
-        if first < 0x80 {
-            CommonForm::Single(char::from(first))
-        } else {
-            C::front(&self.tables, first, second)
-        }
-    }
-}
-
 /// Returns the scalar at the front of the input, and the number of its bytes, or `None` if the front is uncommon.
 #[inline(always)]
-fn form_at<C: LaneCodec>(forms: &LaneForms<'_, '_, C>, src: &[u8]) -> Option<(char, usize)>
-    requires ascii { HasAscii (C.grammar forms.now.tables.flat) }
+fn form_at<C: LaneCodec>(
+    tables: &FlatTables<'_>,
+    guess: &Cell<usize>,
+    src: &[u8],
+) -> Option<(char, usize)>
+    requires ascii { HasAscii (C.grammar tables.now.flat) }
     requires some { 0 < length src.now }
     ensures { IfSome result (λ form. (0 < form.1) × (form.1 ≤ length src.now)
-        × Runs (C.grammar forms.now.tables.flat) (take form.1 src.now) (form.0 ∷ [])) }
+        × Runs (C.grammar tables.now.flat) (take form.1 src.now) (form.0 ∷ [])) }
 {
     let byte = src[0];
     if byte < 0x80 {
@@ -596,10 +651,10 @@ fn form_at<C: LaneCodec>(forms: &LaneForms<'_, '_, C>, src: &[u8]) -> Option<(ch
     if src.len() < 2 {
         return None;
     }
-    match C::front(&forms.tables, byte, src[1]) {
+    match C::front(tables, byte, src[1]) {
         CommonForm::Pair(c) => Some((c, 2)),
         CommonForm::Single(c) => Some((c, 1)),
-        CommonForm::Other => C::longer_at(&forms.tables, forms.guess, src),
+        CommonForm::Other => C::longer_at(tables, guess, src),
     }
 }
 
@@ -607,16 +662,17 @@ fn form_at<C: LaneCodec>(forms: &LaneForms<'_, '_, C>, src: &[u8]) -> Option<(ch
 // Any block is longer, so one loop reads every form.
 #[inline(always)]
 fn read_last<C: LaneCodec, T: Destination>(
-    forms: &LaneForms<'_, '_, C>,
+    blocks: &LaneBlocks<'_, '_, C>,
     src: &[u8],
     dst: &mut T,
 ) -> usize
-    requires { HasAscii (C.grammar forms.now.tables.flat) }
-    ensures { ReadsAhead T.Destination (new_state (C.grammar forms.now.tables.flat)) src.now result dst.old dst.new }
+    requires { HasAscii (C.grammar blocks.now.tables.now.flat) }
+    ensures { ReadsAhead T.Destination (new_state (C.grammar blocks.now.tables.now.flat)) src.now result dst.old dst.new }
 {
+    let tables = blocks.tables.copied();
     let mut at = 0;
     while at < src.len() && dst.free() >= 7 {
-        match form_at(forms, &src[at..]) {
+        match form_at::<C>(&tables, blocks.guess, &src[at..]) {
             Some((scalar, length)) => {
                 dst.put(scalar);
                 at += length;
@@ -633,12 +689,12 @@ fn read_last<C: LaneCodec, T: Destination>(
 // Most runs of pairs between tags are short, and lanes are no faster in them. ASCII counts against the forms fourfold.
 #[inline(always)]
 fn read_few<C: LaneCodec, T: Destination>(
-    forms: &LaneForms<'_, '_, C>,
+    blocks: &LaneBlocks<'_, '_, C>,
     src: &[u8],
     dst: &mut T,
 ) -> (usize, bool)
-    requires { HasAscii (C.grammar forms.now.tables.flat) }
-    ensures ahead { ReadsAhead T.Destination (new_state (C.grammar forms.now.tables.flat)) src.now
+    requires { HasAscii (C.grammar blocks.now.tables.now.flat) }
+    ensures ahead { ReadsAhead T.Destination (new_state (C.grammar blocks.now.tables.now.flat)) src.now
         result.0 dst.old dst.new }
     ensures goes_on { result.1 ≡ true → 0 < result.0 }
 {
@@ -648,18 +704,18 @@ fn read_few<C: LaneCodec, T: Destination>(
         let ascii = read_ascii(&src[at..], dst);
         at += ascii;
         if src.len() - at < 16 {
-            return (at + read_last(forms, &src[at..], dst), false);
+            return (at + read_last(blocks, &src[at..], dst), false);
         }
-        let delay = forms.delay_after(ascii);
+        let delay = blocks.delay_after(ascii);
         if C::begins_longer(src[at], src[at + 1]) {
-            let longer = C::read_longer(&forms.tables, forms.guess, &src[at..], dst);
+            let longer = C::read_longer(blocks.tables, blocks.guess, &src[at..], dst);
             at += longer;
             if longer == 0 || delay == SHORT_DELAY {
                 return (at, longer > 0);
             }
             continue;
         }
-        let few = read_forms(forms, &src[at..], delay, dst);
+        let few = read_in_turn::<C, T>(blocks.tables, &src[at..], delay, dst);
         at += few;
         if few == 0 {
             return (at, false);
@@ -674,8 +730,8 @@ fn read_few<C: LaneCodec, T: Destination>(
 }
 
 /// Blocks with many bytes past ASCII, and then ASCII and other forms up to many forms.
-impl<C: LaneCodec> Blocks for LaneForms<'_, '_, C> {
-    ghost grammar = { λ forms. C.grammar forms.tables.flat };
+impl<C: LaneCodec> Blocks for LaneBlocks<'_, '_, C> {
+    ghost grammar = { λ blocks. C.grammar blocks.tables.now.flat };
 
     // Malformed sequences often follow one another. No block is begun at an uncommon byte.
     #[inline(always)]
@@ -683,7 +739,7 @@ impl<C: LaneCodec> Blocks for LaneForms<'_, '_, C> {
         if begins_uncommon::<C>(src) {
             return (0, false);
         }
-        let at = read_lanes::<C, T>(&self.tables, src, dst);
+        let at = read_lanes::<C, T>(self.tables, src, dst);
         if at >= 64 {
             self.delay.set(SHORT_DELAY);
         }
@@ -692,24 +748,38 @@ impl<C: LaneCodec> Blocks for LaneForms<'_, '_, C> {
     }
 }
 
+/// Reads the form at the front, and returns the number of bytes read, which is 0 if the form is uncommon.
+#[inline(always)]
+fn read_alone<C: LaneCodec, T: Destination>(
+    tables: &FlatTables<'_>,
+    src: &[u8],
+    dst: &mut T,
+) -> usize
+    requires { HasAscii (C.grammar tables.now.flat) }
+    ensures { ReadsAhead T.Destination (new_state (C.grammar tables.now.flat)) src.now result dst.old dst.new }
+{
+    let forms = LaneForms::<C>::new(tables);
+    read_one(&FormsInTurn { forms: &forms }, src, dst)
+}
+
 /// Reads blocks of a codec from the front, but nothing at an uncommon byte, and one form if an uncommon byte follows it.
 ///
 /// Returns the number of bytes read, which may be 0. If it reads any, three code units stay free.
 // Malformed sequences often follow one another, or have a single form between them. Neither costs a call.
 #[inline(always)]
 pub fn read_common<C: LaneCodec, T: Destination>(
-    forms: &LaneForms<'_, '_, C>,
+    blocks: &LaneBlocks<'_, '_, C>,
     src: &[u8],
     dst: &mut T,
 ) -> usize
-    ensures { ReadsAhead T.Destination (new_state (C.grammar forms.now.tables.flat)) src.now
+    ensures { ReadsAhead T.Destination (new_state (C.grammar blocks.now.tables.now.flat)) src.now
         result dst.old dst.new }
 {
     if begins_uncommon::<C>(src) {
         return 0;
     }
     if stands_alone::<C>(src) {
-        return read_one(&FormsInTurn { forms }, src, dst);
+        return read_alone::<C, T>(blocks.tables, src, dst);
     }
-    read_blocks(forms, src, dst)
+    read_blocks(blocks, src, dst)
 }

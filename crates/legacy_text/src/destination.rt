@@ -10,6 +10,7 @@ ghost use Rattle.legacy_text.specs.EncodingForm.{bmp_room, wide_room};
 
 use crate::blocks::{ascii_count, wide_ascii_count};
 use crate::eight_units::{put_eight_units, put_first_units};
+use crate::scalar_bytes::put_scalar;
 use crate::short_units::put_short_units;
 use std::simd::prelude::*;
 
@@ -163,43 +164,6 @@ impl<'a> Utf8Destination<'a> {
         Utf8Destination { buffer, filled: 0 }
     }
 
-    #[inline]
-    fn push(&mut self, byte: u8)
-        requires { 0 < utf8_free self.old }
-        ensures written { utf8_written self.new ≡ utf8_written self.old ++ byte ∷ [] }
-        ensures free { utf8_free self.new + 1 ≡ utf8_free self.old }
-        ensures loan { utf8_loan self.new ≡ utf8_loan self.old }
-        ensures filled { self.new.filled ≡ self.old.filled + 1 }
-        ensures kept { take self.old.filled self.new.buffer.now ≡ utf8_written self.old }
-    {
-        let at = self.filled;
-        self.buffer[at] = byte;
-        self.filled = at + 1;
-    }
-
-    /// Writes the one or two bytes of a scalar below U+0800.
-    // The last byte is stored after a lead, or over it if there is none. So there is no branch, which no
-    // pattern in text would predict.
-    #[inline]
-    #[tactic(auto, using(crate::proofs::CodeUnits::encoding))]
-    fn push_short(&mut self, code: u32)
-        requires below { code < 0x800 }
-        requires room { length (encode_utf8 code) ≤ utf8_free self.old }
-        ensures written { utf8_written self.new ≡ utf8_written self.old ++ encode_utf8 code }
-        ensures free { utf8_free self.new + length (encode_utf8 code) ≡ utf8_free self.old }
-        ensures loan { utf8_loan self.new ≡ utf8_loan self.old }
-    {
-        let at = self.filled;
-        let (leads, last) = if code < 0x80 {
-            (0, code)
-        } else {
-            (1, 0x80 + code % 0x40)
-        };
-        self.push((0xC0 + code / 0x40) as u8);
-        self.filled = at + leads;
-        self.push(last as u8);
-    }
-
     /// Stores a block after what was written, keeps its ASCII front, and returns its length.
     // It is always inlined, as `ascii_count` is.
     #[inline(always)]
@@ -278,23 +242,9 @@ impl Destination for Utf8Destination<'_> {
         self.filled
     }
 
-    // Most scalars past ASCII take three bytes: that case is tested first.
     #[inline]
-    #[tactic(auto, using(crate::proofs::CodeUnits::encoding))]
     fn put(&mut self, c: char) {
-        let code = c as u32;
-        if code >= 0x800 && code < 0x1_0000 {
-            self.push((0xE0 + code / 0x1000) as u8);
-            self.push((0x80 + code / 0x40 % 0x40) as u8);
-            self.push((0x80 + code % 0x40) as u8);
-        } else if code < 0x800 {
-            self.push_short(code);
-        } else {
-            self.push((0xF0 + code / 0x4_0000) as u8);
-            self.push((0x80 + code / 0x1000 % 0x40) as u8);
-            self.push((0x80 + code / 0x40 % 0x40) as u8);
-            self.push((0x80 + code % 0x40) as u8);
-        }
+        self.filled = put_scalar(self.buffer, self.filled, c);
     }
 
     #[inline]

@@ -6,6 +6,7 @@
 mod blocks;
 mod destination;
 mod eight_units;
+mod scalar_bytes;
 mod scalar_turns;
 mod short_scalars;
 mod short_units;

@@ -17,7 +17,7 @@ use super::pair_places::TRAILS;
 use legacy_base::{DecoderStep, Destination, IndexName, RawDecoder, Tables};
 use legacy_decoder_engine::drive::{count_malformed_bytes, drive_decoder};
 use legacy_decoder_engine::held_lead::Lead;
-use legacy_decoder_engine::lanes::{LaneForms, read_common};
+use legacy_decoder_engine::lanes::{LaneBlocks, read_common};
 use legacy_decoder_engine::lead_and_trail::malformed_through;
 use legacy_decoder_engine::moves::{DecoderMoves, Fed, Room};
 use legacy_decoder_engine::places::{ROWS_OF_190, pair_pointer};
@@ -312,7 +312,7 @@ impl DecoderMoves for Gb18030Decoder<'_> {
         }
         match self.tables.flat() {
             Some(tables) => {
-                read_common(&LaneForms::<Gb18030>::new(tables, &self.guess), src, dst)
+                read_common(&LaneBlocks::<Gb18030>::new(tables, &self.guess), src, dst)
             }
             None => read_ascii(src, dst),
         }

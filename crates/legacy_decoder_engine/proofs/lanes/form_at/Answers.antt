@@ -6,7 +6,7 @@ use Rattle.legacy_decoder_engine.proofs.lanes.form_at.Goals as goal
 pub returns-then-byte-lt128 : goal.returns-then-byte-lt128
 returns-then-byte-lt128 g c =
     let src = c.args.src.now in
-    let grammar = g.C.LaneCodec.grammar c.args.forms.now.tables.flat in (
+    let grammar = g.C.LaneCodec.grammar c.args.tables.now.flat in (
       omega arith,
       omega (arith, c.requires.some),
       subst (λ bytes. Runs grammar bytes (c.from.result ∷ [])) (sym (take_more src 0 0 c.requires.some))

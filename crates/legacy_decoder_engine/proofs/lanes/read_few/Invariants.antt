@@ -5,7 +5,7 @@ use Rattle.legacy_decoder_engine.proofs.lanes.read_few.Given as goal
 
 -- the scalars of the bytes read are written
 abbrev pub invariant-loop-at : goal.invariant-loop-at
-invariant-loop-at g l = ReadsAhead g.T.Destination (new_state (g.C.LaneCodec.grammar l.forms.tables.flat)) l.src l.at l.fn.dst l.dst
+invariant-loop-at g l = ReadsAhead g.T.Destination (new_state (g.C.LaneCodec.grammar l.blocks.tables.now.flat)) l.src l.at l.fn.dst l.dst
 
 abbrev pub decreases-loop-at : goal.decreases-loop-at
 decreases-loop-at g l = length l.src - l.at

@@ -7,7 +7,7 @@ abbrev pub invariant-loop-at : goal.invariant-loop-at
 invariant-loop-at g l =
     let T = g.T.Destination in
     (l.at ≤ length l.src)
-    × Writes T (g.C.LaneCodec.grammar l.forms.tables.flat) (take l.at l.src) l.fn.dst l.dst
+    × Writes T (g.C.LaneCodec.grammar l.blocks.tables.now.flat) (take l.at l.src) l.fn.dst l.dst
     × (0 < l.at → 3 ≤ T.room l.dst)
     × (0 < l.at → 4 ≤ T.room l.fn.dst)
 

@@ -1,4 +1,4 @@
-use Rattle.std.proofs.{lemmas.Grind.common_steps, Common.{arith, ◌++◌, ap₂}}
+use Rattle.std.proofs.{lemmas.Grind.common_steps, Common.{arith, ap₂}}
 use Rattle.legacy_text.proofs.UnitLanes.{vector_lanes}
 use lib.Lanes.{digits_l, number_l, pick_l}
 use Rattle.legacy_text.proofs.eight_units.unit_lanes.Goals as goal

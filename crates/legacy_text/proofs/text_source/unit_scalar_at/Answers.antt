@@ -1,4 +1,4 @@
-use Rattle.std.proofs.{lemmas.Grind.common_steps, Common.{◌+◌, ◌-◌, arith, sym}}
+use Rattle.std.proofs.{lemmas.Grind.common_steps, Common.{arith, sym}}
 use Rattle.legacy_text.proofs.Texts.{first_none, first_unpaired, first_low, first_high, first_pair}
 use Rattle.legacy_text.proofs.text_source.unit_scalar_at.Goals.{then-high-lt55296-via-then-high-lt55296}
 use Rattle.legacy_text.proofs.text_source.unit_scalar_at.Goals.{then-high-lt55296-via-else-high-lt55296+then-high-ge57344}

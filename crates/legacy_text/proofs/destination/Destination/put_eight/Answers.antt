@@ -1,4 +1,4 @@
-use Rattle.std.proofs.{lemmas.Grind.common_steps, Common.{◌+◌, arith}, lemmas.List.take_all}
+use Rattle.std.proofs.{lemmas.Grind.common_steps, Common.{arith}, lemmas.List.take_all}
 use Rattle.legacy_text.proofs.destination.Destination.put_eight.Goals as goal
 
 pub returns-clause-contents : goal.returns-clause-contents

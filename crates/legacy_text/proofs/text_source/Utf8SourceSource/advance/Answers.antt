@@ -1,4 +1,4 @@
-use Rattle.std.proofs.Common.{arith, ◌+◌}
+use Rattle.std.proofs.Common.{arith}
 use Rattle.legacy_text.proofs.Texts.{utf8_step}
 use Rattle.legacy_text.proofs.text_source.Utf8SourceSource.advance.Goals as goal
 

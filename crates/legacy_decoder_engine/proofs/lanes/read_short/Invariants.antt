@@ -1,7 +1,7 @@
 use Rattle.std.proofs.Common.{◌-◌, length}
 use Rattle.legacy_base.specs.States.{new_state}
 use Rattle.legacy_decoder_engine.specs.ReadAhead.{ReadsAhead}
-use Rattle.legacy_decoder_engine.proofs.lanes.read_lanes.Given as goal
+use Rattle.legacy_decoder_engine.proofs.lanes.read_short.Given as goal
 
 -- the scalars of the bytes read are written
 abbrev pub invariant-loop-codes : goal.invariant-loop-codes
