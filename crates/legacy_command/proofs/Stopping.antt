@@ -1,5 +1,5 @@
 -- What was written if a read, a write or a flush failed.
-use Rattle.std.proofs.{Common.{◌≡◌, List, ℕ, Bool, Option, inl, inr, refl, Result, Ok, Err, OnErr, OnOk}, KnownBytes.Appends-kept}
+use Rattle.std.proofs.{Common.{◌≡◌, List, ℕ, Bool, Option, inl, inr, refl, arith, Result, Ok, Err, OnErr, OnOk}, KnownBytes.Appends-kept}
 use Rattle.std.specs.Io.KnownBytes.{Keeps}
 use Rattle.legacy_base.specs.{declared.results.DecodeEvent.DecodeEvent, Encoders.EncoderState, States.DecoderState}
 use Rattle.legacy_streams.specs.{declared.recode.RecodeError.RecodeError, declared.recode.RecodeError.TheVariants.{Read, Write}, Streams.AppendsFront}
@@ -55,18 +55,7 @@ module _ {b a : DecoderState} {i j : Option (List ℕ)} {Shown Weaker : List Dec
       record { bytes = r.bytes; read = r.read; passed = r.passed; events = r.events; progress = r.progress; shown = weaker _ r.shown; beginning = r.beginning }
 
   weaker_partly : DecodesPartly b a i j Shown → DecodesPartly b a i j Weaker
-  weaker_partly r = record {
-    bytes = r.bytes;
-    read = r.read;
-    last = r.last;
-    at_end = r.at_end;
-    passed = r.passed;
-    left = r.left;
-    events = r.events;
-    progress = r.progress;
-    shown = weaker _ r.shown;
-    beginning = r.beginning;
-  }
+  weaker_partly r = grind (arith, weaker)
 
 module _ (i j o p q : Option (List ℕ)) (k : Keeps p q) where
   front_kept : {bytes : List ℕ} → AppendsFront o p bytes → AppendsFront o q bytes
@@ -88,35 +77,19 @@ module _ (i j o p q : Option (List ℕ)) (k : Keeps p q) where
     sends = record { sent = d.sends.sent; parts = d.sends.parts; written = Appends-kept o p q _ d.sends.written k };
   }
 
+  all_kept : {b a : EncoderState} → EncodesAll b a i j o p → EncodesAll b a i j o q
+  all_kept r = grind (arith, Appends-kept, k)
+
+  beginning_kept : {b a : EncoderState} → EncodesBeginning b a i j o p → EncodesBeginning b a i j o q
+  beginning_kept r = grind (arith, Appends-kept, k)
+
+  partly_kept : {b a : EncoderState} → EncodesPartly b a i j o p → EncodesPartly b a i j o q
+  partly_kept r = grind (arith, up_to_kept)
+
   pub encoded_kept : (b : EncoderState) → EncodesSome b i j o p → EncodesSome b i j o q
-  encoded_kept b (a, inl r) =
-      (a, inl (record { bytes = r.bytes; read = r.read; at_end = r.at_end; written = Appends-kept o p q _ r.written k; ended = r.ended }))
-  encoded_kept b (a, inr (inl r)) = (
-    a,
-    inr (inl (record {
-      bytes = r.bytes;
-      read = r.read;
-      held = r.held;
-      short = r.short;
-      scalars = r.scalars;
-      decodes = r.decodes;
-      events = r.events;
-      goes_on = r.goes_on;
-      written = Appends-kept o p q _ r.written k;
-    })),
-  )
-  encoded_kept b (a, inr (inr r)) = (
-    a,
-    inr (inr (record {
-      bytes = r.bytes;
-      read = r.read;
-      last = r.last;
-      at_end = r.at_end;
-      text = r.text;
-      is_text = r.is_text;
-      front = (r.front.0, r.front.1, up_to_kept r.front.2);
-    })),
-  )
+  encoded_kept b (a, inl r) = (a, inl (all_kept r))
+  encoded_kept b (a, inr (inl r)) = (a, inr (inl (beginning_kept r)))
+  encoded_kept b (a, inr (inr r)) = (a, inr (inr (partly_kept r)))
 
 pub untouched : (program : Program) (words : List (List ℕ)) (files : List (Option (List ℕ))) (i j o p : Option (List ℕ))
     → Untouched i j o p → IsStoppedBy program words files i j o p
