@@ -1,6 +1,7 @@
 -- Decoding a whole input: what holds after each piece.
-use Rattle.std.proofs.Common.{◌≡◌, ◌∙◌, ◌≤◌, ℕ, ◌+◌, List, [], ◌++◌, length, refl, sym, ap, arith, append-nil, length-append, Bool, true, false, IsTrue, Option, inl}
-use Rattle.std.proofs.{Common.{append_assoc, take, drop, take-append-drop}, lemmas.List.length-take-le, KnownBytes.{Appends-trans, Consumes-nil, Consumes-trans, Consumes-kept}}
+use Rattle.std.proofs.Common.{◌≡◌, ◌∙◌, ◌≤◌, ℕ, ◌+◌, List, [], ◌++◌, length, refl, sym, ap, arith, append-nil, length-append, Bool, true, false, IsTrue}
+use Rattle.std.proofs.{Common.{append_assoc, take, drop, take-append-drop, Option, inl}, lemmas.List.length-take-le}
+use Rattle.std.proofs.KnownBytes.{Appends-trans, Consumes-nil, Consumes-trans, Consumes-kept}
 use Rattle.std.specs.Io.KnownBytes.{Appends, Consumes, IsAtEnd, Keeps}
 use Rattle.legacy_base.specs.{declared.results.DecodeEvent.DecodeEvent, Events.shift, Grammar.events_of, States.DecoderState, Calls.Progress}
 use Rattle.legacy_base.proofs.Progress.{stay, after_that, at_last, behind}
