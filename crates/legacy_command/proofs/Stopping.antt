@@ -1,5 +1,5 @@
 -- What was written if a read, a write or a flush failed.
-use Rattle.std.proofs.{Common.{◌≡◌, List, ℕ, Bool, Option, inl, inr, refl, Result, Ok, Err, OnErr, OnOk}, KnownBytes.Appends-kept}
+use Rattle.std.proofs.{Common.{◌≡◌, List, ℕ, Bool, Option, inl, inr, refl, arith, Result, Ok, Err, OnErr, OnOk, IfOk}, KnownBytes.Appends-kept}
 use Rattle.std.specs.Io.KnownBytes.{Keeps}
 use Rattle.legacy_base.specs.{declared.results.DecodeEvent.DecodeEvent, Encoders.EncoderState, States.DecoderState}
 use Rattle.legacy_streams.specs.{declared.recode.RecodeError.RecodeError, declared.recode.RecodeError.TheVariants.{Read, Write}, Streams.AppendsFront}
@@ -34,6 +34,24 @@ pub either : {A E P Q : Type 0} (r : Result A E) → (P → Q) → OnOk r P → 
 either (Ok x) weaker ok err = weaker ok
 either (Err e) weaker ok err = err
 
+-- what is known of a success holds if there was no error
+pub ok_of : {A E P : Type 0} (r : Result A E) → OnErr r ⊥ → OnOk r P → P
+ok_of (Ok x) none ok = ok
+ok_of (Err e) none ok = absurd none
+
+-- the same if a flush after it succeeded
+pub flushed_ok : {A B E F : Type 0} (P : Type 0) (r : Result A E) (f : Result B F) → OnOk f (OnErr r ⊥) → OnOk r P → OnOk f P
+flushed_ok P r (Ok x) none ok = ok_of r none ok
+flushed_ok P r (Err e) none ok = tt
+
+pub on_err : {A E P : Type 0} (r : Result A E) → P → OnErr r P
+on_err (Ok x) p = tt
+on_err (Err e) p = p
+
+pub some_found : {E : Type 0} (P : Bool → Type 0) (r : Result Bool E) → IfOk r P → OnOk r ((found : Bool) × P found)
+some_found P (Ok found) p = (found, p)
+some_found P (Err e) p = tt
+
 -- all is a beginning of itself
 pub some_of_all : (kind : OutputKind) (before : DecoderState) (i j o p : Option (List ℕ)) → RecodesInput kind before i j o p → RecodesSome kind before i j o p
 some_of_all Lines before i j o p (after, all) = (after, inl all)
@@ -55,22 +73,15 @@ module _ {b a : DecoderState} {i j : Option (List ℕ)} {Shown Weaker : List Dec
       record { bytes = r.bytes; read = r.read; passed = r.passed; events = r.events; progress = r.progress; shown = weaker _ r.shown; beginning = r.beginning }
 
   weaker_partly : DecodesPartly b a i j Shown → DecodesPartly b a i j Weaker
-  weaker_partly r = record {
-    bytes = r.bytes;
-    read = r.read;
-    last = r.last;
-    at_end = r.at_end;
-    passed = r.passed;
-    left = r.left;
-    events = r.events;
-    progress = r.progress;
-    shown = weaker _ r.shown;
-    beginning = r.beginning;
-  }
+  weaker_partly r = grind (arith, weaker)
 
 module _ (i j o p q : Option (List ℕ)) (k : Keeps p q) where
   front_kept : {bytes : List ℕ} → AppendsFront o p bytes → AppendsFront o q bytes
   front_kept f = record { sent = f.sent; unsent = f.unsent; parts = f.parts; written = Appends-kept o p q _ f.written k }
+
+  pub input_kept : (kind : OutputKind) (b : DecoderState) → RecodesInput kind b i j o p → RecodesInput kind b i j o q
+  input_kept Lines b (a, r) = (a, weaker_all (λ e w. Appends-kept o p q _ w k) r)
+  input_kept Text b (a, (found, r)) = (a, (found, weaker_all (λ e w. (w.0, Appends-kept o p q _ w.1 k)) r))
 
   pub some_kept : (kind : OutputKind) (b : DecoderState) → RecodesSome kind b i j o p → RecodesSome kind b i j o q
   some_kept Lines b (a, inl r) = (a, inl (weaker_all (λ e w. Appends-kept o p q _ w k) r))
@@ -88,35 +99,19 @@ module _ (i j o p q : Option (List ℕ)) (k : Keeps p q) where
     sends = record { sent = d.sends.sent; parts = d.sends.parts; written = Appends-kept o p q _ d.sends.written k };
   }
 
+  pub all_kept : {b a : EncoderState} → EncodesAll b a i j o p → EncodesAll b a i j o q
+  all_kept r = grind (arith, Appends-kept, k)
+
+  beginning_kept : {b a : EncoderState} → EncodesBeginning b a i j o p → EncodesBeginning b a i j o q
+  beginning_kept r = grind (arith, Appends-kept, k)
+
+  partly_kept : {b a : EncoderState} → EncodesPartly b a i j o p → EncodesPartly b a i j o q
+  partly_kept r = grind (arith, up_to_kept)
+
   pub encoded_kept : (b : EncoderState) → EncodesSome b i j o p → EncodesSome b i j o q
-  encoded_kept b (a, inl r) =
-      (a, inl (record { bytes = r.bytes; read = r.read; at_end = r.at_end; written = Appends-kept o p q _ r.written k; ended = r.ended }))
-  encoded_kept b (a, inr (inl r)) = (
-    a,
-    inr (inl (record {
-      bytes = r.bytes;
-      read = r.read;
-      held = r.held;
-      short = r.short;
-      scalars = r.scalars;
-      decodes = r.decodes;
-      events = r.events;
-      goes_on = r.goes_on;
-      written = Appends-kept o p q _ r.written k;
-    })),
-  )
-  encoded_kept b (a, inr (inr r)) = (
-    a,
-    inr (inr (record {
-      bytes = r.bytes;
-      read = r.read;
-      last = r.last;
-      at_end = r.at_end;
-      text = r.text;
-      is_text = r.is_text;
-      front = (r.front.0, r.front.1, up_to_kept r.front.2);
-    })),
-  )
+  encoded_kept b (a, inl r) = (a, inl (all_kept r))
+  encoded_kept b (a, inr (inl r)) = (a, inr (inl (beginning_kept r)))
+  encoded_kept b (a, inr (inr r)) = (a, inr (inr (partly_kept r)))
 
 pub untouched : (program : Program) (words : List (List ℕ)) (files : List (Option (List ℕ))) (i j o p : Option (List ℕ))
     → Untouched i j o p → IsStoppedBy program words files i j o p

@@ -16,19 +16,20 @@ abbrev pub IsDoneBy : Program → List (List ℕ) → List (Option (List ℕ)) �
 IsDoneBy Recode words files input_old input_new output_old output_new = RecodesByWords words files input_old input_new output_old output_new
 IsDoneBy Encode words files input_old input_new output_old output_new = EncodesByWords words files input_old input_new output_old output_new
 
--- The same by some words and files. No clause of std says which ones a host has.
-pub record IsDone (program : Program) (input_old input_new output_old output_new : Option (List ℕ)) : Type 0 where
+-- This is so by some words and files. No clause of std says which ones a host has.
+pub record BySome (By : List (List ℕ) → List (Option (List ℕ)) → Type 0) : Type 0 where
   pub words : List (List ℕ)
   pub files : List (Option (List ℕ))
-  pub by : IsDoneBy program words files input_old input_new output_old output_new
+  pub by : By words files
+
+abbrev pub IsDone : Program → Option (List ℕ) → Option (List ℕ) → Option (List ℕ) → Option (List ℕ) → Type 0
+IsDone program input_old input_new output_old output_new = BySome (λ words files. IsDoneBy program words files input_old input_new output_old output_new)
 
 -- nothing was read or written, or what was written is a beginning of what the words and files ask
 abbrev pub IsStoppedBy : Program → List (List ℕ) → List (Option (List ℕ)) → Option (List ℕ) → Option (List ℕ) → Option (List ℕ) → Option (List ℕ) → Type 0
 IsStoppedBy Recode words files input_old input_new output_old output_new = RecodingStops words files input_old input_new output_old output_new
 IsStoppedBy Encode words files input_old input_new output_old output_new = EncodingStops words files input_old input_new output_old output_new
 
--- The same by some words and files.
-pub record IsStopped (program : Program) (input_old input_new output_old output_new : Option (List ℕ)) : Type 0 where
-  pub words : List (List ℕ)
-  pub files : List (Option (List ℕ))
-  pub by : IsStoppedBy program words files input_old input_new output_old output_new
+abbrev pub IsStopped : Program → Option (List ℕ) → Option (List ℕ) → Option (List ℕ) → Option (List ℕ) → Type 0
+IsStopped program input_old input_new output_old output_new =
+    BySome (λ words files. IsStoppedBy program words files input_old input_new output_old output_new)

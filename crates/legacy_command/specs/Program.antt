@@ -47,28 +47,43 @@ flat_of tables =
     flat_lists tables.big5.items tables.euc_kr.items tables.jis0208.items tables.jis0212.items tables.gb18030.items [] tables.ranges.items
     GB18030_2022_PUA
 
--- All indexes passed the check, also those that the codec does not use, and `Work` is true of a new decoder of the codec
--- over them.
-pub record DecodesByTables (codec : Codec) (tables : OwnedIndexes) (Work : DecoderState → Type 0) : Type 0 where
+-- All indexes passed the check, also those that the codec does not use, and `Work` is true of the state of the codec's new
+-- decoder or encoder over them, which `coder_of` gives.
+pub record WorksByTables {State : Type 0} (coder_of : Codec → FlatIndexes → Option (List ℕ) → Option State) (codec : Codec) (tables : OwnedIndexes)
+    (Work : State → Type 0) : Type 0 where
   pub accepted : AreAccepted (flat_of tables)
   pub accepted_table : IsAcceptedTable tables.single_byte
-  pub before : DecoderState
-  pub made : decoder_of codec (flat_of tables) (Some tables.single_byte) ≡ Some before
+  pub before : State
+  pub made : coder_of codec (flat_of tables) (Some tables.single_byte) ≡ Some before
   pub works : Work before
 
 -- The same over the indexes of these texts.
-pub record DecodesByTexts (codec : Codec) (texts : FileIndex → List ℕ) (Work : DecoderState → Type 0) : Type 0 where
+pub record WorksByTexts {State : Type 0} (coder_of : Codec → FlatIndexes → Option (List ℕ) → Option State) (codec : Codec) (texts : FileIndex → List ℕ)
+    (Work : State → Type 0) : Type 0 where
   pub tables : OwnedIndexes
   pub holds : HoldsTexts texts tables
-  pub by : DecodesByTables codec tables Work
+  pub by : WorksByTables coder_of codec tables Work
 
--- The same by the codec and the index files that the command line names. Each of these files could be read and has no
+-- The same by the codec that words name, and the index files after it. Each of these files could be read and has no
 -- malformed line.
-pub record DecodesWith (words : List (List ℕ)) (files : List (Option (List ℕ))) (Work : OutputKind → DecoderState → Type 0) : Type 0 where
+pub record WorksWith {State : Type 0} (coder_of : Codec → FlatIndexes → Option (List ℕ) → Option State) (asked : Option Codec) (words : List (List ℕ))
+    (files : List (Option (List ℕ))) (Work : State → Type 0) : Type 0 where
   pub codec : Codec
-  pub named : codec_of_words (plain_words words) ≡ Some codec
-  pub well_formed : AreWellFormed (drop 1 (plain_words words)) files
-  pub by : DecodesByTexts codec (text_given (drop 1 (plain_words words)) files) (Work (output_kind words))
+  pub named : asked ≡ Some codec
+  pub well_formed : AreWellFormed (drop 1 words) files
+  pub by : WorksByTexts coder_of codec (text_given (drop 1 words) files) Work
+
+-- ---- decoding
+
+abbrev pub DecodesByTables : Codec → OwnedIndexes → (DecoderState → Type 0) → Type 0
+DecodesByTables codec tables Work = WorksByTables decoder_of codec tables Work
+
+abbrev pub DecodesByTexts : Codec → (FileIndex → List ℕ) → (DecoderState → Type 0) → Type 0
+DecodesByTexts codec texts Work = WorksByTexts decoder_of codec texts Work
+
+-- by the command line, which may begin with `--text`
+abbrev pub DecodesWith : List (List ℕ) → List (Option (List ℕ)) → (OutputKind → DecoderState → Type 0) → Type 0
+DecodesWith words files Work = WorksWith decoder_of (codec_of_words (plain_words words)) (plain_words words) files (Work (output_kind words))
 
 -- the whole input was recoded as the words and files ask
 abbrev pub RecodesByWords : List (List ℕ) → List (Option (List ℕ)) → Option (List ℕ) → Option (List ℕ) → Option (List ℕ) → Option (List ℕ) → Type 0
@@ -98,28 +113,15 @@ EncodesSome before input_old input_new output_old output_new =
     (after : EncoderState) × (EncodesAll before after input_old input_new output_old output_new
     ⊎ (EncodesBeginning before after input_old input_new output_old output_new ⊎ EncodesPartly before after input_old input_new output_old output_new))
 
--- All indexes passed the check, also those that the codec does not use, and `Work` is true of a new encoder of the codec
--- over them.
-pub record EncodesByTables (codec : Codec) (tables : OwnedIndexes) (Work : EncoderState → Type 0) : Type 0 where
-  pub accepted : AreAccepted (flat_of tables)
-  pub accepted_table : IsAcceptedTable tables.single_byte
-  pub before : EncoderState
-  pub made : encoder_of codec (flat_of tables) (Some tables.single_byte) ≡ Some before
-  pub works : Work before
+abbrev pub EncodesByTables : Codec → OwnedIndexes → (EncoderState → Type 0) → Type 0
+EncodesByTables codec tables Work = WorksByTables encoder_of codec tables Work
 
--- The same over the indexes of these texts.
-pub record EncodesByTexts (codec : Codec) (texts : FileIndex → List ℕ) (Work : EncoderState → Type 0) : Type 0 where
-  pub tables : OwnedIndexes
-  pub holds : HoldsTexts texts tables
-  pub by : EncodesByTables codec tables Work
+abbrev pub EncodesByTexts : Codec → (FileIndex → List ℕ) → (EncoderState → Type 0) → Type 0
+EncodesByTexts codec texts Work = WorksByTexts encoder_of codec texts Work
 
--- The same by the codec and the index files that the program's words name. Each of these could be read and has no
--- malformed line.
-pub record EncodesWith (words : List (List ℕ)) (files : List (Option (List ℕ))) (Work : EncoderState → Type 0) : Type 0 where
-  pub codec : Codec
-  pub named : with_encoder (codec_of_words words) ≡ Some codec
-  pub well_formed : AreWellFormed (drop 1 words) files
-  pub by : EncodesByTexts codec (text_given (drop 1 words) files) Work
+-- by the program's words
+abbrev pub EncodesWith : List (List ℕ) → List (Option (List ℕ)) → (EncoderState → Type 0) → Type 0
+EncodesWith words files Work = WorksWith encoder_of (with_encoder (codec_of_words words)) words files Work
 
 -- the whole input was encoded as the words and files ask
 abbrev pub EncodesByWords : List (List ℕ) → List (Option (List ℕ)) → Option (List ℕ) → Option (List ℕ) → Option (List ℕ) → Option (List ℕ) → Type 0

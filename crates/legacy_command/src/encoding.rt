@@ -6,13 +6,12 @@ ghost use Rattle.legacy_command.specs.Program.{with_encoder, EncodesInput, Encod
 ghost use Rattle.legacy_command.specs.Program.{EncodesByTables, EncodesByTexts, EncodesByWords, EncodingStops};
 
 use crate::given_indexes::read_files;
-use crate::program::{Fault, check};
+use crate::program::{Fault, check, flush_after};
 use crate::words::codec_in;
 use legacy_codecs::RawEncoder;
 use legacy_encodings::{AnyEncoder, ListedEncoder, has_pairs, pair_room};
 use legacy_index_files::{Codec, OwnedIndexes};
 use legacy_streams::encode::encode_text;
-use legacy_streams::recode::RecodeError;
 use std::alloc::Global;
 use std::io::{Read, Write};
 
@@ -72,13 +71,9 @@ fn encode_by<'a, E: RawEncoder, R: Read, W: Write>(
         (W.contents output.old) (W.contents output.new)) }
 {
     let encoded = encode_text(encoder, input, output);
-    let flushed = output.flush();
-    if let Err(fault) = encoded {
-        return Err(Fault::Recode(fault));
-    }
-    match flushed {
+    match flush_after(encoded, output) {
         Ok(()) => Ok(()),
-        Err(_) => Err(Fault::Recode(RecodeError::Write)),
+        Err(fault) => Err(Fault::Recode(fault)),
     }
 }
 

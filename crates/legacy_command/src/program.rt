@@ -1,5 +1,6 @@
 //! Runs the program that decodes, by its words, files and streams.
 ghost use Rattle.std.specs.Prelude.{◌≡◌, ◌↔◌, ◌≤◌, ◌⊎◌, [], IfOk, OnErr, OnOk, None, Some, IsTrue};
+ghost use Rattle.std.specs.Io.KnownBytes.{Keeps};
 ghost use Rattle.legacy_command.specs.Words.{texts_of, are_indexes, plain_words, codec_of_words};
 ghost use Rattle.legacy_command.specs.IndexTexts.{contents_of, text_given, AreWellFormed};
 ghost use Rattle.legacy_command.specs.Program.{flat_of, RecodesInput, RecodesSome, Untouched};
@@ -36,28 +37,23 @@ pub enum Fault<'a> {
     Memory,
 }
 
-/// Recodes the input by the decoder.
-fn recode_input<R: Read, W: Write>(
-    kind: OutputKind,
-    decoder: &mut AnyDecoder,
-    input: &mut R,
+/// Flushes the output after this was written.
+///
+/// Returns the error of what was written if there is one, and otherwise that of the flush.
+pub(crate) fn flush_after<T: Drop, W: Write>(
+    written: Result<T, RecodeError>,
     output: &mut W,
 ) -> Result<(), RecodeError>
-    ensures done { OnOk result (RecodesInput kind
-        (⟦<AnyDecoder<'static> as RawDecoder>⟧.state decoder.old)
-        (R.remaining input.old) (R.remaining input.new)
-        (W.contents output.old) (W.contents output.new)) }
-    ensures stops { OnErr result (RecodesSome kind
-        (⟦<AnyDecoder<'static> as RawDecoder>⟧.state decoder.old)
-        (R.remaining input.old) (R.remaining input.new)
-        (W.contents output.old) (W.contents output.new)) }
+    ensures bytes { Keeps (W.contents output.old) (W.contents output.new) }
+    ensures ok { OnOk result (OnErr written ⊥) }
 {
-    match kind {
-        OutputKind::Lines => recode(decoder, input, output),
-        OutputKind::Text => match recode_text(decoder, input, output) {
-            Ok(_) => Ok(()),
-            Err(fault) => Err(fault),
+    let flushed = output.flush();
+    match written {
+        Ok(_) => match flushed {
+            Ok(()) => Ok(()),
+            Err(_) => Err(RecodeError::Write),
         },
+        Err(fault) => Err(fault),
     }
 }
 
@@ -77,12 +73,15 @@ fn recode_and_flush<R: Read, W: Write>(
         (R.remaining input.old) (R.remaining input.new)
         (W.contents output.old) (W.contents output.new)) }
 {
-    let recoded = recode_input(kind, decoder, input, output);
-    let flushed = output.flush();
-    recoded?;
-    match flushed {
-        Ok(()) => Ok(()),
-        Err(_) => Err(RecodeError::Write),
+    match kind {
+        OutputKind::Lines => {
+            let recoded = recode(decoder, input, output);
+            flush_after(recoded, output)
+        }
+        OutputKind::Text => {
+            let recoded = recode_text(decoder, input, output);
+            flush_after(recoded, output)
+        }
     }
 }
 

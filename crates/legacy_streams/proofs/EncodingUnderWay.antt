@@ -357,13 +357,15 @@ kept_end l new filled left within long e =
     let room : left ≤ length (drop k l) = omega (arith, length-drop k l) in
     rw (e, kept, n) (ap (λ j. take j (paste l 0 (drop k l) left)) (sym (zero-add left)) ∙ take-paste l 0 (drop k l) left (omega arith) room)
 
--- a read of no bytes
-pub read_nothing : (held count : ℕ) (old new piece : List ℕ) → held ≤ length old → count ≡ 0 → take (held + count) new ≡ take held old ++ piece
-    → (piece ≡ []) × (length (take held old) ≡ held)
-read_nothing held count old new piece h z e =
-    let front = length-take-le held old h in
+-- a read of no bytes is the end, after the bytes that are held back
+pub read_end : (held count : ℕ) (old new : List ℕ) (left left_new : Option (List ℕ)) → held < 4 → length old ≡ 4096 → count ≡ 0 →
+    (piece : List ℕ) × Consumes left left_new piece × (take (held + count) new ≡ take held old ++ piece) × (count ≡ 0 → IsAtEnd left_new)
+    → Consumes left left_new [] × IsAtEnd left_new × (length (take held old) ≡ held)
+read_end held count old new left left_new short long z (piece, r, e, at_end) =
+    let front = length-take-le held old (omega (arith, short, long)) in
     let total = ap length e ∙ length-append (take held old) piece in
-    (nil_from_length piece (omega (arith, front, total, length-take (held + count) new)), front)
+    let none : piece ≡ [] = nil_from_length piece (omega (arith, front, total, length-take (held + count) new)) in
+    (rw none at r, at_end z, front)
 
 -- an empty input has no text
 pub end_of_none_text : (invalid : List ℕ) → length invalid ≡ 0 → utf8_text invalid ≡ end_scalars 0

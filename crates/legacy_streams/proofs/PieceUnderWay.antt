@@ -174,6 +174,25 @@ module _ {before : DecoderState} {piece : List ℕ} {last : Bool} {total : ℕ} 
         let counted = rw (append-nil, append-nil, drop-drop, length-append, length-shift) at all in
         omega arith
 
+-- the call, as the function that makes it says it
+module _ {before : DecoderState} {piece : List ℕ} {last : Bool} {total : ℕ} {now : DecoderState} {offset : ℕ} {pending : List ℕ}
+    {old mid : Option (List ℕ)} (u : IsUnderWay before piece last total now offset pending old mid) {unread : List ℕ} (rest : unread ≡ drop offset piece)
+    {after : DecoderState} {answer : DecoderResult} {read : ℕ} {more : List ℕ}
+    (call : (given : List ℕ) × DecoderCall Utf16 now unread last 1024 after answer read given
+    × (more ≡ pending ++ event_lines (map Scalar given ++ reported_events (total + offset + read) answer))) where
+  call_of_rest : DecoderCall Utf16 now (drop offset piece) last 1024 after answer read call.0
+  call_of_rest = rw rest at call.1
+
+  pub call_step : IsUnderWay before piece last total after (offset + read) more old mid
+  call_step = piece_step u call_of_rest call.2
+
+  pub call_end : (new : Option (List ℕ)) → answer ≡ InputEmpty → Appends mid new more → RecodesPiece before piece last total after old new
+  call_end = piece_end u call_of_rest call.2
+
+  pub call_less : (answer ≡ InputEmpty → ⊥)
+      → length (events_of after.grammar (after.held ++ drop (offset + read) piece)) < length (events_of now.grammar (now.held ++ drop offset piece))
+  call_less = piece_less u call_of_rest call.2
+
 -- ---- bytes that are malformed one by one
 
 shifted_malformed : (k place count : ℕ) → shift k (malformed_events place count) ≡ malformed_events (k + place) count

@@ -1,6 +1,7 @@
 -- Decoding a whole input: what holds after each piece.
-use Rattle.std.proofs.Common.{◌≡◌, ◌∙◌, ℕ, ◌+◌, List, [], ◌++◌, length, refl, sym, ap, arith, append-nil, length-append, Bool, true, false, IsTrue, Option, inl}
-use Rattle.std.proofs.{Common.{append_assoc, take, drop, take-append-drop}, KnownBytes.{Appends-trans, Consumes-nil, Consumes-trans, Consumes-kept}}
+use Rattle.std.proofs.Common.{◌≡◌, ◌∙◌, ◌≤◌, ℕ, ◌+◌, List, [], ◌++◌, length, refl, sym, ap, arith, append-nil, length-append, Bool, true, false, IsTrue}
+use Rattle.std.proofs.{Common.{append_assoc, take, drop, take-append-drop, Option, inl}, lemmas.List.length-take-le}
+use Rattle.std.proofs.KnownBytes.{Appends-trans, Consumes-nil, Consumes-trans, Consumes-kept}
 use Rattle.std.specs.Io.KnownBytes.{Appends, Consumes, IsAtEnd, Keeps}
 use Rattle.legacy_base.specs.{declared.results.DecodeEvent.DecodeEvent, Events.shift, Grammar.events_of, States.DecoderState, Calls.Progress}
 use Rattle.legacy_base.proofs.Progress.{stay, after_that, at_last, behind}
@@ -100,3 +101,11 @@ module _ {before now : DecoderState} {total : ℕ} {left_old left_mid : Option (
           shown = j.join w.passed w.events p.events place w.shown p.shown;
           beginning = λ more e. (shift (w.passed + p.passed) (events_of after.grammar (after.held ++ (p.left ++ more))), way.events more (λ l. inl (e l)));
         }
+
+  -- the next piece is the front of a buffer
+  pub whole_next : (buffer : List ℕ) (count : ℕ) {after : DecoderState} {left : Option (List ℕ)} {Second Both : List DecodeEvent → Type 0} {last : Bool}
+      → count ≤ length buffer → Consumes left_mid left (take count buffer) → Joins before now total First Second Both → last ≡ false
+      → DecodesPiece now (take count buffer) last after Second → Whole before (total + count) after left_old left Both
+  whole_next buffer count within r j e given =
+      let long : length (take count buffer) ≡ count = length-take-le count buffer within in
+      rw (← long) (whole_step (take count buffer) r j e given)

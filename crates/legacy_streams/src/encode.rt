@@ -115,31 +115,6 @@ fn push_piece<E: RawEncoder, W: Write>(
     }
 }
 
-/// Encodes the text of a piece and writes its bytes.
-///
-/// Returns the number of bytes at the end of the piece that may begin a character, and are not
-/// encoded, or the error of a failed write. `encoded` is empty before the call, and after it unless
-/// a write fails.
-fn write_piece<E: RawEncoder, W: Write>(
-    encoder: &mut E,
-    piece: &[u8],
-    encoded: &mut EncodedBytes,
-    output: &mut W,
-) -> io::Result<usize>
-    requires { waiting_bytes encoded.old ≡ [] }
-    ensures piece { IfOk result (λ held. EncodesPiece
-        (E.state encoder.old) piece.now held (E.state encoder.new)
-        [] (W.contents output.old) (W.contents output.new)) }
-    ensures empty { OnOk result (waiting_bytes encoded.new ≡ []) }
-    ensures err { OnErr result (EncodesPieceFront
-        (E.state encoder.old) piece.now (E.state encoder.new)
-        (W.contents output.old) (W.contents output.new)) }
-{
-    let held = push_piece(encoder, piece, encoded, output)?;
-    encoded.write_to(output)?;
-    Ok(held)
-}
-
 /// Reads a piece into the buffer, after the `held` bytes at its front.
 ///
 /// Returns the number of bytes read, which is 0 at the end of the input. With the `total` bytes
@@ -244,7 +219,10 @@ pub fn encode_text<E: RawEncoder, R: Read, W: Write>(
             };
         }
         let filled = held + count;
-        let Ok(left) = write_piece(encoder, &buffer[..filled], &mut encoded, output) else {
+        let Ok(left) = push_piece(encoder, &buffer[..filled], &mut encoded, output) else {
+            return Err(RecodeError::Write);
+        };
+        let Ok(()) = encoded.write_to(output) else {
             return Err(RecodeError::Write);
         };
         keep_end(&mut buffer, filled, left);

@@ -1,6 +1,6 @@
 //! Encoders that cache the pairs of another encoder.
 use crate::encoder_rows::{EncoderRow, TestedEncoder, follow_encoder};
-use legacy_encoders::{CachedEncoder, EncodesPairs};
+use legacy_encoders::{CachedEncoder, EncodesPairs, PAIR_ROOM};
 use std::process::Abort;
 
 impl<'a, E: EncodesPairs> TestedEncoder for CachedEncoder<'a, E> {
@@ -12,6 +12,15 @@ impl<'a, E: EncodesPairs> TestedEncoder for CachedEncoder<'a, E> {
 
     fn pending(&self) -> Option<bool> {
         None
+    }
+}
+
+/// Returns room for pairs, in which each place has this value.
+// It has no clause, because no test needs to know its entries.
+pub(crate) fn pair_room(rt: &(impl AllocGlobal + Abort), value: u16) -> Vec<u16> {
+    match vec![in rt.alloc(); value; PAIR_ROOM] {
+        Ok(room) => room,
+        Err(_) => panic!(rt; "memory"),
     }
 }
 

@@ -6,7 +6,7 @@ use crate::events::bad;
 use crate::indexes::{EMPTY, Flat, flat};
 use crate::rows::Row;
 use crate::rows::Row::{
-    BareLength, Decoder, Events, Lone, Neutral, ToUtf8, ToUtf16, Utf8Length, Utf16Length,
+    Cut, Decoder, Events, Lengths, Lone, Neutral, ToUtf8, ToUtf16, Utf16Length,
 };
 use legacy_base::DecodeEvent::Scalar;
 use legacy_base::DecoderResult::{InputEmpty, Malformed, OutputFull};
@@ -55,20 +55,16 @@ const WITHOUT_ENTRIES: &[Row] = &[
     ToUtf8(b"\xFF\xFF", 16, false, Malformed(2, 0), 1, ""),
     Lone(b"\xFF", 1),
     Decoder("a lead at the end is malformed"),
-    Events(
+    Cut(
         b"\x88\x62\x88",
         &[Scalar('\u{CA}'), Scalar('\u{304}'), bad!(2, 1)],
     ),
     Decoder("a lead that is held back counts in the lengths"),
     Utf16Length(usize::MAX - 1, Some(usize::MAX)),
     Utf16Length(usize::MAX, None),
-    Utf16Length(5, Some(6)),
-    BareLength(5, Some(12)),
-    Utf8Length(5, Some(18)),
+    Lengths(5, Some(6), Some(12), Some(18)),
     ToUtf8(b"\x88", 16, false, InputEmpty, 1, ""),
-    Utf16Length(5, Some(7)),
-    BareLength(5, Some(14)),
-    Utf8Length(5, Some(21)),
+    Lengths(5, Some(7), Some(14), Some(21)),
     Utf16Length(usize::MAX - 1, None),
     Decoder("a byte past ASCII needs four bytes or two units, an ASCII byte one"),
     ToUtf8(b"\x61\x88\x62", 4, true, OutputFull, 1, "a"),

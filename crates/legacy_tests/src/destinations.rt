@@ -1,6 +1,10 @@
 //! The input and the outputs of a call.
-use crate::compared::is_answer;
+ghost use Rattle.std.specs.Prelude.{◌≡◌};
+
+use crate::compared::{Place, is_answer};
 use legacy_base::{ByteSource, Destination, Utf8Destination, Utf16Destination};
+use legacy_codecs::{OutputForm, Utf8Form, Utf16Form};
+use std::fmt::Debug;
 use std::process::Abort;
 
 #[test]
@@ -16,22 +20,19 @@ fn a_cursor_goes_over_its_bytes_to_their_end(rt: HostRuntime) {
     assert!(rt; source.consumed() == 2);
 }
 
-/// Writes the scalars whose bytes fit, one after another.
-fn put_bytes(dst: &mut Utf8Destination, scalars: &[char]) {
-    for scalar in scalars {
-        if scalar.len_utf8() <= dst.free() {
-            dst.put(*scalar);
-        }
-    }
-}
-
 /// Writes the scalars whose code units fit, one after another.
-fn put_units(dst: &mut Utf16Destination, scalars: &[char]) {
+///
+/// Returns the number of free code units before, and that of written ones after.
+fn put_all<F: OutputForm, D: Destination + Drop>(mut dst: D, scalars: &[char]) -> (usize, usize)
+    requires { F.form ≡ D.form }
+{
+    let free = dst.free();
     for scalar in scalars {
-        if scalar.len_utf16() <= dst.free() {
+        if F::unit_count(*scalar) <= dst.free() {
             dst.put(*scalar);
         }
     }
+    (free, dst.written())
 }
 
 /// Scalars, the number of code units written, and the whole output after that.
@@ -39,45 +40,31 @@ fn put_units(dst: &mut Utf16Destination, scalars: &[char]) {
 /// The output was filled with AA or AAAA.
 type Put<'a, U> = (&'a [char], usize, &'a [U]);
 
+/// Compares what was put into an output, and the number of free and of written units, with a row.
+fn is_put<U: Copy + PartialEq + Debug>(
+    rt: &impl Abort,
+    place: Place,
+    (counts, output): ((usize, usize), &[U]),
+    (_, written, wanted): &Put<U>,
+) {
+    is_answer(rt, place, "free, written", counts, (wanted.len(), *written));
+    is_answer(rt, place, "the output", output, *wanted);
+}
+
 /// Writes the scalars into an output as long as the wanted one, and compares the result with that.
-///
-/// It compares the number of free bytes before, the number of written bytes, and all bytes.
-fn put_in_utf8(rt: &impl Abort, at: usize, (scalars, written, wanted): &Put<u8>) {
+fn put_in_utf8(rt: &impl Abort, at: usize, put: &Put<u8>) {
     let mut bytes = [0xAAu8; 12];
-    let mut dst = Utf8Destination::new(&mut bytes[..wanted.len().min(12)]);
-    let free = dst.free();
-    put_bytes(&mut dst, scalars);
-    let counts = (free, dst.written());
-    is_put(rt, at, counts, (wanted.len(), *written));
-    is_answer(
-        rt,
-        ("UTF-8", at),
-        "the bytes",
-        &bytes[..wanted.len().min(12)],
-        *wanted,
-    );
+    let output = &mut bytes[..put.2.len().min(12)];
+    let counts = put_all::<Utf8Form, Utf8Destination>(Utf8Destination::new(output), put.0);
+    is_put(rt, ("UTF-8", at), (counts, output), put);
 }
 
 /// Writes the scalars into code units, and compares the result likewise.
-fn put_in_utf16(rt: &impl Abort, at: usize, (scalars, written, wanted): &Put<u16>) {
+fn put_in_utf16(rt: &impl Abort, at: usize, put: &Put<u16>) {
     let mut units = [0xAAAAu16; 12];
-    let mut dst = Utf16Destination::new(&mut units[..wanted.len().min(12)]);
-    let free = dst.free();
-    put_units(&mut dst, scalars);
-    let counts = (free, dst.written());
-    is_put(rt, at, counts, (wanted.len(), *written));
-    is_answer(
-        rt,
-        ("UTF-16", at),
-        "the units",
-        &units[..wanted.len().min(12)],
-        *wanted,
-    );
-}
-
-/// Compares the number of free code units and that of written ones with the wanted ones.
-fn is_put(rt: &impl Abort, at: usize, came: (usize, usize), wanted: (usize, usize)) {
-    is_answer(rt, ("code units", at), "free and written", came, wanted);
+    let output = &mut units[..put.2.len().min(12)];
+    let counts = put_all::<Utf16Form, Utf16Destination>(Utf16Destination::new(output), put.0);
+    is_put(rt, ("UTF-16", at), (counts, output), put);
 }
 
 const IN_UTF8: &[Put<u8>] = &[

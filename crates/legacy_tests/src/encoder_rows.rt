@@ -5,10 +5,9 @@ use crate::codecs::Over;
 use crate::compared::{Place, is_answer, is_refusal};
 use crate::cuts::{small_lengths, spaced, text_pieces, unit_pieces};
 use crate::encode_events::{Wanted, events_of};
-use crate::replacing::encoders::follow_replacing;
-use crate::source_texts::Text;
+use crate::source_texts::{Text, TextPieces};
 use legacy_base::{EncodeEvent, EncoderResult, RawEncoder};
-use legacy_codecs::{CoderResult, RunError};
+use legacy_codecs::RunError;
 use legacy_encodings::AnyEncoder;
 use std::process::Abort;
 
@@ -36,17 +35,17 @@ pub(crate) enum EncoderRow<'a> {
     /// text whole, scalar by scalar, and with an empty piece after each. A run with five outputs of
     /// 0 writes nothing and ends before the text does.
     Encodes(&'a str, &'a [Wanted<'a>]),
-    /// A run from UTF-8.
+    /// A run from either form.
     ///
     /// It has the pieces, the lengths of the outputs, the events, the number of calls, and whether
     /// it is finished.
-    RunFromUtf8(&'a [&'a str], &'a [usize], &'a [Wanted<'a>], usize, bool),
-    /// A run from UTF-16, likewise.
-    RunFromUtf16(&'a [&'a [u16]], &'a [usize], &'a [Wanted<'a>], usize, bool),
+    RunFrom(TextPieces<'a, 'a>, &'a [usize], &'a [Wanted<'a>], usize, bool),
     /// A call from UTF-8 with references: the same as without, and whether a reference was written.
-    ReplacedFromUtf8(&'a str, usize, bool, CoderResult, usize, &'a [u8], bool),
+    ReplacedFromUtf8(&'a str, usize, bool, EncoderResult, usize, &'a [u8], bool),
     /// A call from UTF-16 with references.
-    ReplacedFromUtf16(&'a [u16], usize, bool, CoderResult, usize, &'a [u8], bool),
+    ReplacedFromUtf16(&'a [u16], usize, bool, EncoderResult, usize, &'a [u8], bool),
+    /// The last call of a new encoder over all of a text, in which something is replaced, and the bytes.
+    Replaced(Text<'a>, &'a [u8]),
     /// Refused runs over `a` with one output of this length, from either form, and their error.
     RefusedRuns(usize, &'a RunError),
 }
@@ -76,18 +75,22 @@ impl<'a> TestedEncoder for AnyEncoder<'a> {
     }
 }
 
+/// A text, the number of free bytes, whether the call is the last, and whether it writes references.
+type Call<'a> = (Text<'a>, usize, bool, bool);
+
 /// Makes a call, and compares its result with the wanted one.
-fn encodes<T: Text, E: RawEncoder>(
+fn encodes<E: RawEncoder>(
     rt: &impl Abort,
     place: Place,
     encoder: &mut E,
-    (text, room, last): (T, usize, bool),
-    wanted: (EncoderResult, usize, &[u8]),
+    (text, room, last, replaces): Call,
+    wanted: (EncoderResult, usize, &[u8], bool),
 ) {
     let mut output = [0u8; 96];
-    let (answer, read, written) = text.call(encoder, &mut output[..room.min(96)], last);
-    let came = (answer, read, &output[..written.min(96)]);
-    is_answer(rt, place, T::FORM, came, wanted);
+    let free = &mut output[..room.min(96)];
+    let (answer, read, written, replaced) = text.encode(encoder, free, last, replaces);
+    let came = (answer, read, &output[..written.min(96)], replaced);
+    is_answer(rt, place, text.form(), came, wanted);
 }
 
 /// The wanted result of a run.
@@ -96,86 +99,56 @@ fn encodes<T: Text, E: RawEncoder>(
 type Ends<'a> = (&'a [EncodeEvent], Option<usize>, bool);
 
 /// Makes a run, and compares its result with the wanted one.
-fn goes<T: Text, E: RawEncoder>(
+fn goes<E: RawEncoder>(
     rt: &(impl AllocGlobal + Abort),
     place: Place,
     encoder: &mut E,
-    (pieces, lengths): (&[T], &[usize]),
+    (pieces, lengths): (TextPieces, &[usize]),
     (events, calls, finished): Ends,
 ) {
-    let run = T::run(rt.alloc(), encoder, pieces, lengths);
-    is_refusal(rt, place, T::FORM, run.as_ref().err(), None);
+    let run = pieces.run(rt.alloc(), encoder, lengths);
+    is_refusal(rt, place, pieces.form(), run.as_ref().err(), None);
     if let Ok(run) = run {
         let came = (run.events.as_slice(), run.calls, run.finished);
         let wanted = (events, calls.unwrap_or(run.calls), finished);
-        is_answer(rt, place, T::FORM, came, wanted);
+        is_answer(rt, place, pieces.form(), came, wanted);
     }
 }
 
 /// Makes a run of a new encoder, and compares its result with the wanted one.
-fn runs<T: Text, E: TestedEncoder>(
+fn runs<E: TestedEncoder>(
     rt: &(impl AllocGlobal + Abort),
     place: Place,
     of: E::Of,
-    input: (&[T], &[usize]),
+    input: (TextPieces, &[usize]),
     wanted: Ends,
 ) {
-    goes::<T, E>(rt, place, &mut E::made(rt, of), input, wanted);
+    goes(rt, place, &mut E::made(rt, of), input, wanted);
 }
 
 /// Makes a run over these pieces with small outputs, and one with an empty piece after each.
-fn encodes_in_both<T: Text, E: TestedEncoder>(
+fn encodes_in_both<E: TestedEncoder>(
     rt: &(impl AllocGlobal + Abort),
     place: Place,
     of: E::Of,
-    (pieces, spaced_pieces): (&[T], &[T]),
+    pieces: TextPieces,
     wanted: &[EncodeEvent],
 ) {
     let lengths = small_lengths();
-    runs::<T, E>(rt, place, of, (pieces, &lengths), (wanted, None, true));
-    runs::<T, E>(
-        rt,
-        place,
-        of,
-        (spaced_pieces, &lengths),
-        (wanted, None, true),
-    );
-}
-
-/// Makes a run over these pieces with large outputs, and one with outputs of 0.
-fn encodes_whole<T: Text, E: TestedEncoder>(
-    rt: &(impl AllocGlobal + Abort),
-    place: Place,
-    of: E::Of,
-    pieces: &[T],
-    wanted: &[EncodeEvent],
-) {
-    runs::<T, E>(rt, place, of, (pieces, &[48; 8]), (wanted, None, true));
-    runs::<T, E>(rt, place, of, (pieces, &[0; 5]), (&[], Some(5), false));
-}
-
-/// Makes the runs over these pieces of a text in UTF-8, with and without empty ones.
-fn encodes_utf8_in_both<E: TestedEncoder>(
-    rt: &(impl AllocGlobal + Abort),
-    place: Place,
-    of: E::Of,
-    pieces: &[&str],
-    wanted: &[EncodeEvent],
-) {
-    let all = spaced(pieces, "");
-    encodes_in_both::<&str, E>(rt, place, of, (pieces, all.as_slice()), wanted);
-}
-
-/// Makes the runs over these pieces of a text in UTF-16, with and without empty ones.
-fn encodes_utf16_in_both<E: TestedEncoder>(
-    rt: &(impl AllocGlobal + Abort),
-    place: Place,
-    of: E::Of,
-    pieces: &[&[u16]],
-    wanted: &[EncodeEvent],
-) {
-    let all = spaced(pieces, &[]);
-    encodes_in_both::<&[u16], E>(rt, place, of, (pieces, all.as_slice()), wanted);
+    let ends = (wanted, None, true);
+    runs::<E>(rt, place, of, (pieces, &lengths), ends);
+    match pieces {
+        TextPieces::Utf8(texts) => {
+            let all = spaced(texts, "");
+            let pieces = TextPieces::Utf8(all.as_slice());
+            runs::<E>(rt, place, of, (pieces, &lengths), ends);
+        }
+        TextPieces::Utf16(texts) => {
+            let all = spaced(texts, &[]);
+            let pieces = TextPieces::Utf16(all.as_slice());
+            runs::<E>(rt, place, of, (pieces, &lengths), ends);
+        }
+    }
 }
 
 /// Returns the first 96 code units of the text, and their number.
@@ -191,65 +164,50 @@ fn units_of(text: &str) -> ([u16; 96], usize) {
     (units, count)
 }
 
-/// Makes the runs over the text in UTF-8.
-fn encodes_utf8<E: TestedEncoder>(
+/// Makes the runs over a text: whole and scalar by scalar, with outputs that are large, small or 0.
+fn encodes_in_cuts<E: TestedEncoder>(
     rt: &(impl AllocGlobal + Abort),
     place: Place,
     of: E::Of,
-    text: &str,
+    (whole, scalars): (TextPieces, TextPieces),
     wanted: &[EncodeEvent],
 ) {
-    let whole = [text];
-    encodes_whole::<&str, E>(rt, place, of, &whole, wanted);
-    encodes_utf8_in_both::<E>(rt, place, of, &whole, wanted);
-    let scalars = text_pieces(text);
-    encodes_utf8_in_both::<E>(rt, place, of, scalars.as_slice(), wanted);
-}
-
-/// Makes the runs over the text in these code units of UTF-16.
-fn encodes_utf16<E: TestedEncoder>(
-    rt: &(impl AllocGlobal + Abort),
-    place: Place,
-    of: E::Of,
-    (text, units): (&str, &[u16]),
-    wanted: &[EncodeEvent],
-) {
-    let whole = [units];
-    encodes_whole::<&[u16], E>(rt, place, of, &whole, wanted);
-    encodes_utf16_in_both::<E>(rt, place, of, &whole, wanted);
-    let scalars = unit_pieces(text, units);
-    encodes_utf16_in_both::<E>(rt, place, of, scalars.as_slice(), wanted);
+    runs::<E>(rt, place, of, (whole, &[48; 8]), (wanted, None, true));
+    runs::<E>(rt, place, of, (whole, &[0; 5]), (&[], Some(5), false));
+    encodes_in_both::<E>(rt, place, of, whole, wanted);
+    encodes_in_both::<E>(rt, place, of, scalars, wanted);
 }
 
 /// Makes a run that must be refused, and compares the error with the wanted one.
-fn refuses<T: Text, E: RawEncoder>(
+fn refuses<E: RawEncoder>(
     rt: &(impl AllocGlobal + Abort),
     place: Place,
     encoder: &mut E,
-    (pieces, length): (&[T], usize),
+    (pieces, length): (TextPieces, usize),
     wanted: &RunError,
 ) {
-    let run = T::run(rt.alloc(), encoder, pieces, &[length]);
-    is_refusal(rt, place, T::FORM, run.as_ref().err(), Some(wanted));
+    let run = pieces.run(rt.alloc(), encoder, &[length]);
+    is_refusal(rt, place, pieces.form(), run.as_ref().err(), Some(wanted));
 }
 
 /// Follows the row of a query: compares the result with the wanted one.
 fn follow_query<E: TestedEncoder>(rt: &impl Abort, place: Place, encoder: &E, row: &EncoderRow) {
-    match row {
-        EncoderRow::Utf8Length(bytes, length) => {
-            let came = encoder.max_buffer_length_from_utf8_without_replacement(*bytes);
-            is_answer(rt, place, "the length from UTF-8", came, *length);
-        }
-        EncoderRow::Utf16Length(units, length) => {
-            let came = encoder.max_buffer_length_from_utf16_without_replacement(*units);
-            is_answer(rt, place, "the length from UTF-16", came, *length);
-        }
+    let (came, wanted) = match row {
+        EncoderRow::Utf8Length(bytes, length) => (
+            encoder.max_buffer_length_from_utf8_without_replacement(*bytes),
+            *length,
+        ),
+        EncoderRow::Utf16Length(units, length) => (
+            encoder.max_buffer_length_from_utf16_without_replacement(*units),
+            *length,
+        ),
         EncoderRow::Pending(is_pending) => {
             let came = encoder.pending();
-            is_answer(rt, place, "has_pending_state", came, Some(*is_pending));
+            return is_answer(rt, place, "has_pending_state", came, Some(*is_pending));
         }
-        _ => {}
-    }
+        _ => return,
+    };
+    is_answer(rt, place, "the length", came, wanted);
 }
 
 /// Follows the row of a run: makes it, and compares its result with the wanted one.
@@ -260,19 +218,16 @@ fn follow_run<E: RawEncoder>(
     row: &EncoderRow,
 ) {
     match row {
-        EncoderRow::RunFromUtf8(pieces, lengths, events, calls, finished) => {
+        EncoderRow::RunFrom(pieces, lengths, events, calls, finished) => {
             let wanted = events_of(events);
             let ends = (wanted.as_slice(), Some(*calls), *finished);
-            goes::<&str, E>(rt, place, encoder, (pieces, lengths), ends);
-        }
-        EncoderRow::RunFromUtf16(pieces, lengths, events, calls, finished) => {
-            let wanted = events_of(events);
-            let ends = (wanted.as_slice(), Some(*calls), *finished);
-            goes::<&[u16], E>(rt, place, encoder, (pieces, lengths), ends);
+            goes(rt, place, encoder, (*pieces, lengths), ends);
         }
         EncoderRow::RefusedRuns(length, error) => {
-            refuses::<&str, E>(rt, place, encoder, (&["a"], *length), error);
-            refuses::<&[u16], E>(rt, place, encoder, (&[&[0x61]], *length), error);
+            let text = TextPieces::Utf8(&["a"]);
+            refuses(rt, place, encoder, (text, *length), error);
+            let units = TextPieces::Utf16(&[&[0x61]]);
+            refuses(rt, place, encoder, (units, *length), error);
         }
         _ => {}
     }
@@ -280,17 +235,59 @@ fn follow_run<E: RawEncoder>(
 
 /// Follows the row of a call: makes it, and compares its result with the wanted one.
 fn follow_call<E: RawEncoder>(rt: &impl Abort, place: Place, encoder: &mut E, row: &EncoderRow) {
-    match row {
-        EncoderRow::FromUtf8(text, room, last, answer, read, bytes) => {
-            let wanted = (*answer, *read, *bytes);
-            encodes::<&str, E>(rt, place, encoder, (text, *room, *last), wanted);
-        }
-        EncoderRow::FromUtf16(units, room, last, answer, read, bytes) => {
-            let wanted = (*answer, *read, *bytes);
-            encodes::<&[u16], E>(rt, place, encoder, (units, *room, *last), wanted);
-        }
-        _ => {}
-    }
+    let (call, wanted) = match row {
+        EncoderRow::FromUtf8(text, room, last, answer, read, bytes) => (
+            (Text::Utf8(*text), *room, *last, false),
+            (*answer, *read, *bytes, false),
+        ),
+        EncoderRow::FromUtf16(units, room, last, answer, read, bytes) => (
+            (Text::Utf16(*units), *room, *last, false),
+            (*answer, *read, *bytes, false),
+        ),
+        EncoderRow::ReplacedFromUtf8(text, room, last, answer, read, bytes, replaced) => (
+            (Text::Utf8(*text), *room, *last, true),
+            (*answer, *read, *bytes, *replaced),
+        ),
+        EncoderRow::ReplacedFromUtf16(units, room, last, answer, read, bytes, replaced) => (
+            (Text::Utf16(*units), *room, *last, true),
+            (*answer, *read, *bytes, *replaced),
+        ),
+        _ => return,
+    };
+    encodes(rt, place, encoder, call, wanted);
+}
+
+/// Follows the row of a text that is replaced: makes a call of a new encoder.
+fn follow_replaced<E: TestedEncoder>(rt: &impl Abort, place: Place, of: E::Of, row: &EncoderRow) {
+    let (text, bytes) = match row {
+        EncoderRow::Replaced(text, bytes) => (*text, *bytes),
+        _ => return,
+    };
+    let wanted = (EncoderResult::InputEmpty, text.len(), bytes, true);
+    encodes(
+        rt,
+        place,
+        &mut E::made(rt, of),
+        (text, 96, true, true),
+        wanted,
+    );
+}
+
+/// Makes the runs over a text in these code units of UTF-16.
+fn encodes_units<E: TestedEncoder>(
+    rt: &(impl AllocGlobal + Abort),
+    place: Place,
+    of: E::Of,
+    (text, units): (&str, &[u16]),
+    wanted: &[EncodeEvent],
+) {
+    let whole = [units];
+    let scalars = unit_pieces(text, units);
+    let cuts = (
+        TextPieces::Utf16(&whole),
+        TextPieces::Utf16(scalars.as_slice()),
+    );
+    encodes_in_cuts::<E>(rt, place, of, cuts, wanted);
 }
 
 /// Follows the row of a text in all cuts.
@@ -302,14 +299,19 @@ fn follow_text<E: TestedEncoder>(
 ) {
     if let EncoderRow::Encodes(text, wanted) = row {
         let wanted = events_of(wanted);
-        encodes_utf8::<E>(rt, place, of, text, wanted.as_slice());
+        let (whole, scalars) = ([*text], text_pieces(text));
+        let cuts = (
+            TextPieces::Utf8(&whole),
+            TextPieces::Utf8(scalars.as_slice()),
+        );
+        encodes_in_cuts::<E>(rt, place, of, cuts, wanted.as_slice());
         let (units, count) = units_of(text);
-        let units = &units[..count.min(96)];
-        encodes_utf16::<E>(rt, place, of, (text, units), wanted.as_slice());
+        let input = (*text, &units[..count.min(96)]);
+        encodes_units::<E>(rt, place, of, input, wanted.as_slice());
     }
 }
 
-/// Follows the rows in turn, each in one of these five ways.
+/// Follows the rows in turn, each in one of these ways.
 pub(crate) fn follow_encoder<E: TestedEncoder>(
     rt: &(impl AllocGlobal + Abort),
     of: E::Of,
@@ -326,6 +328,6 @@ pub(crate) fn follow_encoder<E: TestedEncoder>(
         follow_run(rt, (case, at), &mut encoder, row);
         follow_query(rt, (case, at), &encoder, row);
         follow_text::<E>(rt, (case, at), of, row);
-        follow_replacing(rt, (case, at), &mut encoder, row);
+        follow_replaced::<E>(rt, (case, at), of, row);
     }
 }

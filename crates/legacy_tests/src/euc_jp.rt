@@ -6,7 +6,7 @@ use crate::events::bad;
 use crate::indexes::{EMPTY, Flat, flat};
 use crate::rows::Row;
 use crate::rows::Row::{
-    BareLength, Decoder, Events, Neutral, ToUtf8, ToUtf16, Utf8Length, Utf16Length,
+    BareLength, Cut, Decoder, Events, Lengths, Neutral, ToUtf8, ToUtf16, Utf8Length, Utf16Length,
 };
 use legacy_base::DecodeEvent::Scalar;
 use legacy_base::DecoderResult::{InputEmpty, Malformed, OutputFull};
@@ -29,9 +29,7 @@ const WITHOUT_ENTRIES: &[Row] = &[
     BareLength(usize::MAX, None),
     ToUtf8(b"\x8F\xA2", 4, false, InputEmpty, 2, ""),
     Neutral(false),
-    Utf16Length(0, Some(1)),
-    BareLength(0, Some(4)),
-    Utf8Length(0, Some(3)),
+    Lengths(0, Some(1), Some(4), Some(3)),
     Utf16Length(usize::MAX, None),
     Decoder("behind 8E stand A1 to DF, which are U+FF61 to U+FF9F, and behind 8F a lead"),
     Events(
@@ -44,7 +42,7 @@ const WITHOUT_ENTRIES: &[Row] = &[
             bad!(6, 2),
         ],
     ),
-    Events(b"\x8F\xA2\x41\x8F", &[bad!(0, 2), Scalar('A'), bad!(3, 1)]),
+    Cut(b"\x8F\xA2\x41\x8F", &[bad!(0, 2), Scalar('A'), bad!(3, 1)]),
     Events(
         b"\x80\xA1\x7F\x8E\x30",
         &[

@@ -6,7 +6,7 @@ use crate::events::bad;
 use crate::indexes::{Flat, flat};
 use crate::rows::Row;
 use crate::rows::Row::{
-    BareLength, Decoder, Events, Neutral, ToUtf8, ToUtf16, Utf8Length, Utf16Length,
+    BareLength, Cut, Decoder, Events, Lengths, Neutral, ToUtf8, ToUtf16, Utf8Length, Utf16Length,
 };
 use legacy_base::DecodeEvent::Scalar;
 use legacy_base::DecoderResult::{InputEmpty, Malformed, OutputFull};
@@ -39,7 +39,7 @@ const ROWS: &[Row] = &[
     Neutral(true),
     ToUtf8(b"", 16, true, InputEmpty, 0, ""),
     Events(b"\x81", &[bad!(0, 1)]),
-    Events(b"\x81\x41\x81", &[Scalar('\u{AC02}'), bad!(2, 1)]),
+    Cut(b"\x81\x41\x81", &[Scalar('\u{AC02}'), bad!(2, 1)]),
     Decoder("a lead that is held back counts in the lengths"),
     Utf16Length(usize::MAX, Some(usize::MAX)),
     Utf16Length(5, Some(5)),
@@ -48,9 +48,7 @@ const ROWS: &[Row] = &[
     Utf8Length(5, Some(15)),
     ToUtf8(b"\x81", 16, false, InputEmpty, 1, ""),
     Utf16Length(usize::MAX, None),
-    Utf16Length(5, Some(6)),
-    BareLength(5, Some(11)),
-    Utf8Length(5, Some(18)),
+    Lengths(5, Some(6), Some(11), Some(18)),
     Decoder("a byte past ASCII needs three bytes or one unit, an ASCII byte one"),
     ToUtf8(b"\x61\x81\x41", 3, true, OutputFull, 1, "a"),
     ToUtf8(b"\x61\x81\x41", 4, true, InputEmpty, 3, "a\u{AC02}"),

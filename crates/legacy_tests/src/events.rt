@@ -1,5 +1,5 @@
 //! The events that a decoder finds in a whole input, however it is cut.
-use crate::units::Form;
+use crate::units::{Form, Output};
 use legacy_base::DecodeEvent::{Bad, Scalar};
 use legacy_base::DecoderResult::{InputEmpty, Malformed};
 use legacy_base::{DecodeEvent, DecoderResult, RawDecoder};
@@ -57,25 +57,12 @@ fn reported(answer: DecoderResult, seen: usize) -> Option<DecodeEvent> {
     }
 }
 
-/// Makes a call, and adds the scalars that it writes to what was found.
-fn find<F: Form, D: RawDecoder>(
-    decoder: &mut D,
-    source: &[u8],
-    output: &mut [F::Unit],
-    last: bool,
-    found: &mut Found,
-) -> (DecoderResult, usize) {
-    let (answer, read, written) = F::call(decoder, source, output, last);
-    F::push_scalars(&output[..written.min(output.len())], found);
-    (answer, read)
-}
-
-/// Returns the events of the input in calls of limited length, each into the output.
-pub(crate) fn events<F: Form, D: RawDecoder>(
+/// Returns the events of the input in calls of limited length, with outputs of limited length.
+pub(crate) fn events<D: RawDecoder>(
     decoder: &mut D,
     input: &[u8],
-    piece: usize,
-    output: &mut [F::Unit],
+    form: Form,
+    (piece, room): (usize, usize),
 ) -> Found {
     let mut found = Found::new();
     let mut seen = 0usize;
@@ -83,7 +70,9 @@ pub(crate) fn events<F: Form, D: RawDecoder>(
     for _call in 0..1000 {
         let source = input.get(seen..end).unwrap_or(&[]);
         let last = end == input.len();
-        let (answer, read) = find::<F, D>(decoder, source, output, last, &mut found);
+        let mut output = Output::new(form);
+        let (answer, read, _) = output.decode(decoder, (source, room, last), false);
+        output.push_scalars(&mut found);
         seen = seen.saturating_add(read);
         if let Some(event) = reported(answer, seen) {
             found.push(event);

@@ -7,13 +7,13 @@ use crate::gb18030::encoder::ROW_AND_ENTRY;
 use crate::indexes::{EMPTY, Flat, flat};
 use crate::rows::Row;
 use crate::rows::Row::{
-    BareLength, Decoder, Events, Neutral, ToUtf8, ToUtf16, Utf8Length, Utf16Length,
+    Cut, Decoder, Events, Lengths, Neutral, Replaced, ToUtf8, ToUtf16, Utf8Length, Utf16Length,
 };
 use legacy_base::DecodeEvent::Scalar;
 use legacy_base::DecoderResult::{InputEmpty, Malformed, OutputFull};
 use legacy_index_files::Codec;
 
-const PUT_BACK: &[Row] = &[
+const WITHOUT_ENTRIES: &[Row] = &[
     Decoder("a bad fourth byte gives the second and third back"),
     ToUtf8(b"\xE3\x32\x9A\x00", 8, true, Malformed(1, 2), 3, ""),
     Neutral(false),
@@ -46,9 +46,6 @@ const PUT_BACK: &[Row] = &[
     ToUtf16(b"", 1, false, OutputFull, 0, &[]),
     ToUtf16(b"", 2, false, InputEmpty, 0, &[0x39]),
     Neutral(true),
-];
-
-const WITHOUT_ENTRIES: &[Row] = &[
     Decoder("pointer 1237575 is the last scalar"),
     ToUtf8(b"\xE3\x32\x9A\x35", 4, true, InputEmpty, 4, "\u{10FFFF}"),
     Decoder("pointer 1237575 is the last scalar, in UTF-16"),
@@ -71,9 +68,7 @@ const WITHOUT_ENTRIES: &[Row] = &[
     Utf8Length(usize::MAX / 3, None),
     Utf8Length(usize::MAX / 3 - 1, Some(usize::MAX - 2)),
     ToUtf8(b"\xE3\x32\x9A", 4, false, InputEmpty, 3, ""),
-    Utf16Length(0, Some(4)),
-    BareLength(0, Some(10)),
-    Utf8Length(0, Some(10)),
+    Lengths(0, Some(4), Some(10), Some(10)),
     Decoder("a byte past ASCII needs four bytes or two units"),
     ToUtf8(b"\x61\x80", 4, true, OutputFull, 1, "a"),
     ToUtf16(b"\x80", 1, true, OutputFull, 0, &[]),
@@ -99,7 +94,7 @@ const WITHOUT_ENTRIES: &[Row] = &[
         b"\xE3\xFF\x9A\x33\x00",
         &[bad!(0, 2), bad!(2, 1), Scalar('3'), Scalar('\0')],
     ),
-    Events(
+    Cut(
         b"\xE3\x32\x9A\x00\x81\x30\x81",
         &[
             bad!(0, 1),
@@ -121,6 +116,10 @@ const WITHOUT_ENTRIES: &[Row] = &[
         ],
     ),
     Events(b"\x80\x81", &[Scalar('\u{20AC}'), bad!(1, 1)]),
+    Decoder("four bytes that are no form, and two at the end"),
+    Replaced(b"\xE3\x32\x9A\x36\x81\x30", "\u{FFFD}\u{FFFD}"),
+    Decoder("the digits behind a byte that is no lead stay"),
+    Replaced(b"\xFF\x32\x9A\x33\0", "\u{FFFD}2\u{FFFD}3\0"),
 ];
 
 const PAIRS: &[Row] = &[
@@ -176,7 +175,6 @@ const DECODED: &[Row] = &[
 ];
 
 pub(crate) const CASES: &[DecoderCase] = &[
-    (Codec::Gb18030, EMPTY, PUT_BACK),
     (Codec::Gb18030, EMPTY, WITHOUT_ENTRIES),
     (Codec::Gb18030, BESIDE_7F, PAIRS),
     (Codec::Gb18030, TWO_RANGES, RANGES),

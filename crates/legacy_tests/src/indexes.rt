@@ -63,8 +63,8 @@ pub(crate) struct Filled {
     katakana: [u16; 63],
 }
 
-/// Puts each entry at its pointer.
-fn fill<T: Copy>(index: &mut [T], entries: &[(usize, T)]) {
+/// Puts each entry at its place, which is its pointer in an index.
+pub(crate) fn fill<T: Copy>(index: &mut [T], entries: &[(usize, T)]) {
     for (pointer, entry) in entries {
         if *pointer < index.len() {
             index[*pointer] = *entry;
@@ -111,28 +111,10 @@ impl Filled {
     }
 }
 
-/// Returns indexes without an entry, and the private-use rows of GB18030-2022.
-pub(crate) fn no_entries<'a>() -> Indexes<'a> {
-    Indexes {
-        big5: &[],
-        euc_kr: &[],
-        jis0208: &[],
-        jis0212: &[],
-        gb18030: &[],
-        katakana: &[],
-        ranges: &[],
-        gb18030_pua: &GB18030_2022_PUA,
-    }
-}
-
 /// Returns the entries of a single-byte table: these, by their places, and no others.
 pub(crate) fn entries_of(some: &[(usize, u16)]) -> [u16; 128] {
     let mut entries = [0u16; 128];
-    for (place, entry) in some {
-        if *place < 128 {
-            entries[*place] = *entry;
-        }
-    }
+    fill(&mut entries, some);
     entries
 }
 

@@ -14,6 +14,8 @@ mod ahead;
 #[cfg(test)]
 mod big5;
 #[cfg(test)]
+mod called;
+#[cfg(test)]
 mod codecs;
 #[cfg(test)]
 mod compared;
@@ -43,6 +45,8 @@ mod indexes;
 mod iso_2022_jp;
 #[cfg(test)]
 mod packed;
+#[cfg(test)]
+mod pairs;
 #[cfg(test)]
 mod pointers;
 #[cfg(test)]

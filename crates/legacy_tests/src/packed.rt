@@ -167,25 +167,23 @@ const ORDERS: &[Faulty] = &[
         of_ff02!(&[10739], &[10739]),
         Some(PackedOrder(PackedPart::EucJpOrder, 0)),
     ),
-];
-
-/// Big5's encoder uses the last pointer of six scalars.
-const ORDER_OF_BIG5: &[Faulty] = &[(
-    Both {
-        flat: flat!(big5: (18992, &[(5247, 0x2550), (18991, 0x2550)])),
-        packed: Packed {
-            big5: &[run!(5247, 0x2550, 1), run!(18991, 0x2550, 1)],
-            big5_order: &[5247],
-            ..NO_PARTS
+    // Big5's encoder uses the last pointer of six scalars.
+    (
+        Both {
+            flat: flat!(big5: (18992, &[(5247, 0x2550), (18991, 0x2550)])),
+            packed: Packed {
+                big5: &[run!(5247, 0x2550, 1), run!(18991, 0x2550, 1)],
+                big5_order: &[5247],
+                ..NO_PARTS
+            },
         },
-    },
-    Some(PackedDiffers(PackedPart::Big5Order, 5247)),
-)];
+        Some(PackedDiffers(PackedPart::Big5Order, 5247)),
+    ),
+];
 
 #[test]
 fn indexes_come_first_and_then_the_parts_in_their_order(rt: HostRuntime) {
     have_faults(&rt, "runs", RUNS);
     have_faults(&rt, "of two parts", OF_TWO_PARTS);
     have_faults(&rt, "orders", ORDERS);
-    have_faults(&rt, "the first of two pointers", ORDER_OF_BIG5);
 }

@@ -3,7 +3,7 @@ use crate::codecs::DecoderCase;
 use crate::events::bad;
 use crate::indexes::EMPTY;
 use crate::rows::Row;
-use crate::rows::Row::{BareLength, Decoder, Events, ToUtf8, ToUtf16, Utf8Length, Utf16Length};
+use crate::rows::Row::{Cut, Decoder, Events, Lengths, ToUtf8, ToUtf16};
 use legacy_base::DecoderResult::{InputEmpty, Malformed, OutputFull};
 use legacy_index_files::Codec;
 
@@ -14,7 +14,7 @@ const ROWS: &[Row] = &[
     Decoder("the first byte is malformed, once, and the rest is swallowed"),
     ToUtf8(b"\x41\x42", 16, true, Malformed(1, 0), 1, ""),
     ToUtf8(b"\x42", 16, true, InputEmpty, 1, ""),
-    Events(b"\x41\x42", &[bad!(0, 1)]),
+    Cut(b"\x41\x42", &[bad!(0, 1)]),
     Events(b"\xFF", &[bad!(0, 1)]),
     Events(b"\x00\x1B\x80", &[bad!(0, 1)]),
     Events(b"\x80\x81\x30\x81\x30", &[bad!(0, 1)]),
@@ -24,9 +24,7 @@ const ROWS: &[Row] = &[
     ToUtf16(b"\x41", 1, true, Malformed(1, 0), 1, &[]),
     ToUtf8(b"\x41\x42", 0, true, InputEmpty, 2, ""),
     Decoder("the lengths are those of one U+FFFD"),
-    Utf16Length(usize::MAX, Some(1)),
-    Utf8Length(usize::MAX, Some(3)),
-    BareLength(usize::MAX, Some(3)),
+    Lengths(usize::MAX, Some(1), Some(3), Some(3)),
 ];
 
 pub(crate) const CASES: &[DecoderCase] = &[(Codec::Replacement, EMPTY, ROWS)];

@@ -5,10 +5,10 @@ use crate::codecs::Over;
 use crate::compared::{Place, is_answer, is_refusal};
 use crate::cuts::{byte_pieces, small_lengths, spaced};
 use crate::events::events;
-use crate::replacing::follow_replacing;
-use crate::units::{Bytes, Form, Units};
+use crate::replacing::{follow_pieces, follow_text};
+use crate::units::{Call, Form, Output, Units};
 use legacy_base::{DecodeEvent, DecoderResult, RawDecoder};
-use legacy_codecs::{CoderResult, RunError};
+use legacy_codecs::RunError;
 use legacy_encodings::AnyDecoder;
 use std::process::Abort;
 
@@ -30,6 +30,8 @@ pub(crate) enum Row<'a> {
     Utf8Length(usize, Option<usize>),
     /// The queried length in UTF-8 for a number of bytes, without replacement.
     BareLength(usize, Option<usize>),
+    /// The three queried lengths for a number of bytes: in UTF-16, without replacement, and in UTF-8.
+    Lengths(usize, Option<usize>, Option<usize>, Option<usize>),
     /// The wanted result of the query for the neutral state.
     Neutral(bool),
     /// The number of first bytes that the decoder counts as malformed by themselves.
@@ -40,22 +42,22 @@ pub(crate) enum Row<'a> {
     ///
     /// Calls get all bytes with large outputs, or one byte with the smallest output.
     Events(&'a [u8], &'a [DecodeEvent]),
-    /// The events that runs of new decoders find in these bytes, in UTF-8 and in UTF-16.
+    /// The same events, and those that runs of new decoders find, in UTF-8 and in UTF-16.
     ///
-    /// Their outputs have 0 to 4 code units. The input comes whole, byte by byte, and with an empty
+    /// The outputs of the runs have 0 to 4 code units. The input comes whole, byte by byte, and with an empty
     /// piece after each. A run with five outputs of 0 finds none and ends before the input does.
     Cut(&'a [u8], &'a [DecodeEvent]),
-    /// A run into UTF-8.
+    /// A run into a form.
     ///
-    /// It has the pieces, the lengths of the outputs, the events, the number of calls, and whether
+    /// It has the form, the pieces, the lengths of the outputs, the events, the number of calls, and whether
     /// it is finished.
-    RunToUtf8(&'a [&'a [u8]], &'a [usize], &'a [DecodeEvent], usize, bool),
-    /// A run into UTF-16, likewise.
-    RunToUtf16(&'a [&'a [u8]], &'a [usize], &'a [DecodeEvent], usize, bool),
+    RunTo(Form, &'a [&'a [u8]], &'a [usize], &'a [DecodeEvent], usize, bool),
     /// A call into UTF-8 with replacement: the same as without, and whether something was replaced.
-    ReplacedToUtf8(&'a [u8], usize, bool, CoderResult, usize, &'a str, bool),
+    ReplacedToUtf8(&'a [u8], usize, bool, DecoderResult, usize, &'a str, bool),
     /// A call into UTF-16 with replacement.
-    ReplacedToUtf16(&'a [u8], usize, bool, CoderResult, usize, &'a [u16], bool),
+    ReplacedToUtf16(&'a [u8], usize, bool, DecoderResult, usize, &'a [u16], bool),
+    /// A last call into UTF-8 in which something is replaced: all its bytes, and the written text.
+    Replaced(&'a [u8], &'a str),
     /// The text that new decoders write for the bytes, the last ones, with replacement.
     ///
     /// All outputs have one length: from 4 to 15 bytes, or from 2 to 7 code units.
@@ -90,42 +92,68 @@ fn additional(decoder: &AnyDecoder) -> Option<usize> {
     }
 }
 
-/// The bytes of a call, its output, and whether these bytes are the last.
-pub(crate) type Call<'a, U> = (&'a [u8], &'a mut [U], bool);
+/// A call with or without replacement, and its wanted result, with whether something is replaced.
+type Called<'a> = (Call<'a>, bool, (DecoderResult, usize, Units<'a>, bool));
 
-/// Makes a call, and compares its result with the wanted one.
-fn writes<F: Form, D: RawDecoder>(
-    rt: &impl Abort,
-    place: Place,
-    decoder: &mut D,
-    (source, output, last): Call<F::Unit>,
-    wanted: (DecoderResult, usize, &[F::Unit]),
-) {
-    let (answer, read, written) = F::call(decoder, source, output, last);
-    let came = (answer, read, &output[..written.min(output.len())]);
-    is_answer(rt, place, F::NAME, came, wanted);
+/// Returns the call of a row.
+fn call_of<'a>(row: &Row<'a>) -> Option<Called<'a>> {
+    match row {
+        Row::ToUtf8(source, room, last, answer, read, text) => {
+            let wanted = (*answer, *read, Units::Utf8(text.as_bytes()), false);
+            Some(((*source, *room, *last), false, wanted))
+        }
+        Row::ToUtf16(source, room, last, answer, read, units) => {
+            let wanted = (*answer, *read, Units::Utf16(*units), false);
+            Some(((*source, *room, *last), false, wanted))
+        }
+        Row::ReplacedToUtf8(source, room, last, answer, read, text, replaced) => {
+            let wanted = (*answer, *read, Units::Utf8(text.as_bytes()), *replaced);
+            Some(((*source, *room, *last), true, wanted))
+        }
+        Row::ReplacedToUtf16(source, room, last, answer, read, units, replaced) => {
+            let wanted = (*answer, *read, Units::Utf16(*units), *replaced);
+            Some(((*source, *room, *last), true, wanted))
+        }
+        Row::Replaced(source, text) => {
+            let written = Units::Utf8(text.as_bytes());
+            let wanted = (DecoderResult::InputEmpty, source.len(), written, true);
+            Some(((*source, 96, true), true, wanted))
+        }
+        _ => None,
+    }
+}
+
+/// Follows the row of a call: makes it, and compares its result with the wanted one.
+fn follow_call<D: RawDecoder>(rt: &impl Abort, place: Place, decoder: &mut D, row: &Row) {
+    if let Some((call, replaces, wanted)) = call_of(row) {
+        let form = wanted.2.form();
+        let mut output = Output::new(form);
+        let (answer, read, replaced) = output.decode(decoder, call, replaces);
+        let came = (answer, read, output.written(), replaced);
+        is_answer(rt, place, form.name(), came, wanted);
+    }
 }
 
 /// Finds the events in calls of limited length, and compares them with the wanted ones.
-fn finds<F: Form>(
+fn finds(
     rt: &impl Abort,
     place: Place,
     of: Over,
-    (input, piece): (&[u8], usize),
-    output: &mut [F::Unit],
-    wanted: &[DecodeEvent],
+    form: Form,
+    limits: (usize, usize),
+    (input, wanted): (&[u8], &[DecodeEvent]),
 ) {
-    let found = events::<F, AnyDecoder>(&mut of.decoder(rt), input, piece, output);
-    is_answer(rt, place, F::NAME, found.as_slice(), wanted);
+    let found = events(&mut of.decoder(rt), input, form, limits);
+    is_answer(rt, place, form.name(), found.as_slice(), wanted);
 }
 
 /// Finds the events in one call and byte by byte, and compares them with the wanted ones.
 fn finds_by_calls(rt: &impl Abort, place: Place, of: Over, input: &[u8], wanted: &[DecodeEvent]) {
-    let whole = (input, input.len());
-    finds::<Bytes>(rt, place, of, whole, &mut [0; 48], wanted);
-    finds::<Units>(rt, place, of, whole, &mut [0; 96], wanted);
-    finds::<Bytes>(rt, place, of, (input, 1), &mut [0; 4], wanted);
-    finds::<Units>(rt, place, of, (input, 1), &mut [0; 2], wanted);
+    let length = input.len();
+    finds(rt, place, of, Form::Utf8, (length, 48), (input, wanted));
+    finds(rt, place, of, Form::Utf16, (length, 96), (input, wanted));
+    finds(rt, place, of, Form::Utf8, (1, 4), (input, wanted));
+    finds(rt, place, of, Form::Utf16, (1, 2), (input, wanted));
 }
 
 /// The wanted result of a run.
@@ -134,19 +162,20 @@ fn finds_by_calls(rt: &impl Abort, place: Place, of: Over, input: &[u8], wanted:
 type Wanted<'a> = (&'a [DecodeEvent], Option<usize>, bool);
 
 /// Makes a run, and compares its result with the wanted one.
-fn runs<F: Form, D: RawDecoder>(
+fn runs<D: RawDecoder>(
     rt: &(impl AllocGlobal + Abort),
     place: Place,
     decoder: &mut D,
+    form: Form,
     (pieces, lengths): (&[&[u8]], &[usize]),
     (events, calls, finished): Wanted,
 ) {
-    let run = F::run(rt.alloc(), decoder, pieces, lengths);
-    is_refusal(rt, place, F::NAME, run.as_ref().err(), None);
+    let run = form.run(rt.alloc(), decoder, pieces, lengths);
+    is_refusal(rt, place, form.name(), run.as_ref().err(), None);
     if let Ok(run) = run {
         let came = (run.events.as_slice(), run.calls, run.finished);
         let wanted = (events, calls.unwrap_or(run.calls), finished);
-        is_answer(rt, place, F::NAME, came, wanted);
+        is_answer(rt, place, form.name(), came, wanted);
     }
 }
 
@@ -158,23 +187,12 @@ fn runs_in_both(
     input: (&[&[u8]], &[usize]),
     wanted: Wanted,
 ) {
-    runs::<Bytes, AnyDecoder>(rt, place, &mut of.decoder(rt), input, wanted);
-    runs::<Units, AnyDecoder>(rt, place, &mut of.decoder(rt), input, wanted);
+    for form in [Form::Utf8, Form::Utf16] {
+        runs(rt, place, &mut of.decoder(rt), form, input, wanted);
+    }
 }
 
-/// Makes runs over these pieces with small outputs, and compares their results.
-fn finds_in_pieces(
-    rt: &(impl AllocGlobal + Abort),
-    place: Place,
-    of: Over,
-    pieces: &[&[u8]],
-    wanted: &[DecodeEvent],
-) {
-    let lengths = small_lengths();
-    runs_in_both(rt, place, of, (pieces, &lengths), (wanted, None, true));
-}
-
-/// Makes runs over these pieces, and over these with an empty one after each.
+/// Makes runs over these pieces with small outputs, and over these with an empty one after each.
 fn finds_in_both(
     rt: &(impl AllocGlobal + Abort),
     place: Place,
@@ -182,9 +200,10 @@ fn finds_in_both(
     pieces: &[&[u8]],
     wanted: &[DecodeEvent],
 ) {
-    finds_in_pieces(rt, place, of, pieces, wanted);
+    let (lengths, ends) = (small_lengths(), (wanted, None, true));
+    runs_in_both(rt, place, of, (pieces, &lengths), ends);
     let all = spaced(pieces, b"");
-    finds_in_pieces(rt, place, of, all.as_slice(), wanted);
+    runs_in_both(rt, place, of, (all.as_slice(), &lengths), ends);
 }
 
 /// Makes runs over the input in all cuts, and compares their results.
@@ -202,44 +221,57 @@ fn finds_in_cuts(
     finds_in_both(rt, place, of, bytes.as_slice(), wanted);
 }
 
-/// Makes a run that must be refused, and compares the error with the wanted one.
-fn refuses<F: Form, D: RawDecoder>(
+/// Makes runs that must be refused, in either form, and compares the error with the wanted one.
+fn refuses<D: RawDecoder>(
     rt: &(impl AllocGlobal + Abort),
     place: Place,
     decoder: &mut D,
     (piece, length): (&[u8], usize),
     wanted: &RunError,
 ) {
-    let run = F::run(rt.alloc(), decoder, &[piece], &[length]);
-    is_refusal(rt, place, F::NAME, run.as_ref().err(), Some(wanted));
+    for form in [Form::Utf8, Form::Utf16] {
+        let run = form.run(rt.alloc(), decoder, &[piece], &[length]);
+        is_refusal(rt, place, form.name(), run.as_ref().err(), Some(wanted));
+    }
 }
 
-/// Follows the row of a query: compares the result with the wanted one.
-fn follow_query<D: RawDecoder>(rt: &impl Abort, place: Place, decoder: &D, row: &Row) {
+/// Follows the row of queried lengths: compares those that it states.
+fn follow_lengths<D: RawDecoder>(rt: &impl Abort, place: Place, decoder: &D, row: &Row) {
+    let (bytes, utf16, bare, utf8) = match row {
+        Row::Utf16Length(bytes, length) => (*bytes, Some(*length), None, None),
+        Row::BareLength(bytes, length) => (*bytes, None, Some(*length), None),
+        Row::Utf8Length(bytes, length) => (*bytes, None, None, Some(*length)),
+        Row::Lengths(bytes, utf16, bare, utf8) => {
+            (*bytes, Some(*utf16), Some(*bare), Some(*utf8))
+        }
+        _ => return,
+    };
+    let came = decoder.max_utf16_buffer_length(bytes);
+    is_length(rt, place, "the length in UTF-16", came, utf16);
+    let came = decoder.max_utf8_buffer_length_without_replacement(bytes);
+    is_length(rt, place, "the length without U+FFFD", came, bare);
+    let came = decoder.max_utf8_buffer_length(bytes);
+    is_length(rt, place, "the length in UTF-8", came, utf8);
+}
+
+/// Compares a queried length with the one that a row states, if it does.
+fn is_length(
+    rt: &impl Abort,
+    place: Place,
+    question: &str,
+    came: Option<usize>,
+    stated: Option<Option<usize>>,
+) {
+    is_answer(rt, place, question, came, stated.unwrap_or(came));
+}
+
+/// Follows the row of another query, which only some decoders have or where few bytes count.
+fn follow_query(rt: &impl Abort, place: Place, decoder: &AnyDecoder, row: &Row) {
     match row {
-        Row::Utf16Length(bytes, length) => {
-            let came = decoder.max_utf16_buffer_length(*bytes);
-            is_answer(rt, place, "the length in UTF-16", came, *length);
-        }
-        Row::Utf8Length(bytes, length) => {
-            let came = decoder.max_utf8_buffer_length(*bytes);
-            is_answer(rt, place, "the length in UTF-8", came, *length);
-        }
-        Row::BareLength(bytes, length) => {
-            let came = decoder.max_utf8_buffer_length_without_replacement(*bytes);
-            is_answer(rt, place, "the length without U+FFFD", came, *length);
-        }
         Row::Lone(bytes, count) => {
             let came = decoder.malformed_bytes(bytes);
             is_answer(rt, place, "malformed_bytes", came, *count);
         }
-        _ => {}
-    }
-}
-
-/// Follows the row of a query that only some decoders have.
-fn follow_own_query(rt: &impl Abort, place: Place, decoder: &AnyDecoder, row: &Row) {
-    match row {
         Row::Neutral(is_neutral) => {
             let came = neutral(decoder);
             is_answer(rt, place, "in_neutral_state", came, Some(*is_neutral));
@@ -252,59 +284,32 @@ fn follow_own_query(rt: &impl Abort, place: Place, decoder: &AnyDecoder, row: &R
     }
 }
 
-/// Follows the row of events: finds them, and compares them with the wanted ones.
-fn follow_events(rt: &(impl AllocGlobal + Abort), place: Place, of: Over, row: &Row) {
-    match row {
-        Row::Events(input, events) => finds_by_calls(rt, place, of, input, events),
-        Row::Cut(input, events) => finds_in_cuts(rt, place, of, input, events),
-        _ => {}
-    }
-}
-
-/// Follows the row of a run: makes it, and compares its result with the wanted one.
-fn follow_run<D: RawDecoder>(
+/// Follows the row of events or of a run, and compares what is found with what is wanted.
+fn follow_run(
     rt: &(impl AllocGlobal + Abort),
     place: Place,
-    decoder: &mut D,
+    of: Over,
+    decoder: &mut AnyDecoder,
     row: &Row,
 ) {
     match row {
-        Row::RunToUtf8(pieces, lengths, events, calls, finished) => {
-            let wanted = (*events, Some(*calls), *finished);
-            runs::<Bytes, D>(rt, place, decoder, (pieces, lengths), wanted);
+        Row::Events(input, events) => finds_by_calls(rt, place, of, input, events),
+        Row::Cut(input, events) => {
+            finds_by_calls(rt, place, of, input, events);
+            finds_in_cuts(rt, place, of, input, events);
         }
-        Row::RunToUtf16(pieces, lengths, events, calls, finished) => {
+        Row::RunTo(form, pieces, lengths, events, calls, finished) => {
             let wanted = (*events, Some(*calls), *finished);
-            runs::<Units, D>(rt, place, decoder, (pieces, lengths), wanted);
+            runs(rt, place, decoder, *form, (pieces, lengths), wanted);
         }
         Row::RefusedRuns(piece, length, error) => {
-            refuses::<Bytes, D>(rt, place, decoder, (piece, *length), error);
-            refuses::<Units, D>(rt, place, decoder, (piece, *length), error);
+            refuses(rt, place, decoder, (piece, *length), error);
         }
         _ => {}
     }
 }
 
-/// Follows the row of a call: makes it, and compares its result with the wanted one.
-fn follow_call<D: RawDecoder>(rt: &impl Abort, place: Place, decoder: &mut D, row: &Row) {
-    match row {
-        Row::ToUtf8(source, room, last, answer, read, text) => {
-            let mut output = [0u8; 96];
-            let call = (*source, &mut output[..(*room).min(96)], *last);
-            let wanted = (*answer, *read, text.as_bytes());
-            writes::<Bytes, D>(rt, place, decoder, call, wanted);
-        }
-        Row::ToUtf16(source, room, last, answer, read, units) => {
-            let mut output = [0u16; 96];
-            let call = (*source, &mut output[..(*room).min(96)], *last);
-            let wanted = (*answer, *read, *units);
-            writes::<Units, D>(rt, place, decoder, call, wanted);
-        }
-        _ => {}
-    }
-}
-
-/// Follows one row, in one of these six ways.
+/// Follows one row, in one of these ways.
 fn follow_row(
     rt: &(impl AllocGlobal + Abort),
     place: Place,
@@ -313,11 +318,11 @@ fn follow_row(
     row: &Row,
 ) {
     follow_call(rt, place, decoder, row);
-    follow_run(rt, place, decoder, row);
+    follow_run(rt, place, of, decoder, row);
+    follow_lengths(rt, place, decoder, row);
     follow_query(rt, place, decoder, row);
-    follow_own_query(rt, place, decoder, row);
-    follow_events(rt, place, of, row);
-    follow_replacing(rt, place, of, decoder, row);
+    follow_pieces(rt, place, decoder, row);
+    follow_text(rt, place, of, row);
 }
 
 /// Follows the rows in turn.

@@ -5,7 +5,7 @@ use crate::codecs::DecoderCase;
 use crate::events::bad;
 use crate::indexes::EMPTY;
 use crate::rows::Row;
-use crate::rows::Row::{BareLength, Decoder, Events, Neutral, ToUtf8, Utf8Length, Utf16Length};
+use crate::rows::Row::{Cut, Decoder, Events, Lengths, Neutral, ToUtf8, Utf16Length};
 use legacy_base::DecodeEvent::Scalar;
 use legacy_base::DecoderResult::{InputEmpty, Malformed, OutputFull};
 use legacy_index_files::Codec;
@@ -38,21 +38,17 @@ const WITHOUT_ENTRIES: &[Row] = &[
         ],
     ),
     Decoder("a lead as trail is malformed with the lead before it"),
-    Events(
+    Cut(
         b"\xA1\xE0\xF0\x40",
         &[Scalar('\u{FF61}'), bad!(1, 2), Scalar('@')],
     ),
     Decoder("a byte past ASCII needs three bytes"),
     ToUtf8(b"\x61\xA1", 3, true, OutputFull, 1, "a"),
     Decoder("a lead that is held back counts in the lengths"),
-    Utf16Length(5, Some(5)),
-    BareLength(5, Some(15)),
-    Utf8Length(5, Some(15)),
+    Lengths(5, Some(5), Some(15), Some(15)),
     ToUtf8(b"\xE0", 16, false, InputEmpty, 1, ""),
     Neutral(false),
-    Utf16Length(5, Some(6)),
-    BareLength(5, Some(18)),
-    Utf8Length(5, Some(18)),
+    Lengths(5, Some(6), Some(18), Some(18)),
     Utf16Length(usize::MAX, None),
 ];
 

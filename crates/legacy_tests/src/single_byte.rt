@@ -6,7 +6,7 @@ use crate::compared::is_answer;
 use crate::events::{Found, bad};
 use crate::indexes::{EMPTY, Flat, byte_table_of, entries_of, flat};
 use crate::rows::Row;
-use crate::rows::Row::{BareLength, Decoder, Events, ToUtf8, Utf8Length, Utf16Length};
+use crate::rows::Row::{BareLength, Cut, Decoder, Events, ToUtf8, Utf8Length, Utf16Length};
 use legacy_base::DecodeEvent;
 use legacy_base::DecodeEvent::{Bad, Scalar};
 use legacy_base::DecoderResult::{InputEmpty, Malformed, OutputFull};
@@ -18,7 +18,7 @@ const WITHOUT_ENTRIES: &[Row] = &[
     ToUtf8(b"\x41", 1, true, InputEmpty, 1, "A"),
     ToUtf8(b"\x80", 2, true, OutputFull, 0, ""),
     ToUtf8(b"\x80", 3, true, Malformed(1, 0), 1, ""),
-    Events(b"\x41\x80", &[Scalar('A'), bad!(1, 1)]),
+    Cut(b"\x41\x80", &[Scalar('A'), bad!(1, 1)]),
     Decoder("the lengths are one unit and three bytes for each byte"),
     Utf16Length(usize::MAX, Some(usize::MAX)),
     Utf8Length(7, Some(21)),

@@ -4,7 +4,7 @@ pub(crate) mod encoder;
 use crate::codecs::DecoderCase;
 use crate::indexes::EMPTY;
 use crate::rows::Row;
-use crate::rows::Row::{BareLength, Decoder, Events, ToUtf8, ToUtf16, Utf8Length, Utf16Length};
+use crate::rows::Row::{Cut, Decoder, Events, Lengths, ToUtf8, ToUtf16, Utf8Length};
 use legacy_base::DecodeEvent::Scalar;
 use legacy_base::DecoderResult::{InputEmpty, OutputFull};
 use legacy_index_files::Codec;
@@ -27,7 +27,7 @@ const ROWS: &[Row] = &[
         3,
         &[0x61, 0xF780, 0xF7FF],
     ),
-    Events(b"\x7F\x80", &[Scalar('\u{7F}'), Scalar('\u{F780}')]),
+    Cut(b"\x7F\x80", &[Scalar('\u{7F}'), Scalar('\u{F780}')]),
     Events(b"\xFF\x00", &[Scalar('\u{F7FF}'), Scalar('\0')]),
     Events(
         b"\x61\x80\xC3\xFF\x62",
@@ -46,9 +46,7 @@ const ROWS: &[Row] = &[
     ToUtf8(b"\x80", 2, true, OutputFull, 0, ""),
     ToUtf8(b"\x80", 3, true, InputEmpty, 1, "\u{F780}"),
     Decoder("the lengths are one unit and three bytes for each byte"),
-    Utf16Length(3, Some(3)),
-    BareLength(3, Some(9)),
-    Utf8Length(3, Some(9)),
+    Lengths(3, Some(3), Some(9), Some(9)),
     Utf8Length(usize::MAX / 3, Some(usize::MAX)),
     Utf8Length(usize::MAX / 3 + 1, None),
     Decoder("forty bytes fill forty units"),

@@ -1,9 +1,12 @@
 //! UTF-16.
 use crate::codecs::{DecoderCase, follow_each};
 use crate::events::{Found, bad};
-use crate::indexes::EMPTY;
+use crate::indexes::{EMPTY, fill};
 use crate::rows::Row;
-use crate::rows::Row::{Additional, BareLength, Decoder, Events, ToUtf8, ToUtf16, Utf16Length};
+use crate::rows::Row::{
+    Additional, BareLength, Cut, Decoder, Events, Pieces, Replaced, ReplacedToUtf8, ToUtf8,
+    ToUtf16, Utf16Length,
+};
 use legacy_base::DecodeEvent;
 use legacy_base::DecodeEvent::Scalar;
 use legacy_base::DecoderResult::{InputEmpty, Malformed, OutputFull};
@@ -75,7 +78,7 @@ const LITTLE_ENDIAN: &[Row] = &[
         &[0x41, 0x42, 0x43, 0x44, 0x45],
     ),
     Decoder("a surrogate without its other half is malformed"),
-    Events(
+    Cut(
         b"\x00\xD8\x00\x00\x3D\xD8\xA9",
         &[bad!(0, 2), Scalar('\0'), bad!(4, 3)],
     ),
@@ -92,6 +95,16 @@ const LITTLE_ENDIAN: &[Row] = &[
             Scalar('\u{4E00}'),
         ],
     ),
+    Decoder("lone surrogates are replaced, also at the end"),
+    Replaced(
+        b"\0\0\0\0\0\0\0\0\x3D\xD8\xA9\xDC\0\0\0\0\0\0\0\0\x3D\xD8\0\0\0\0\0\0\0\0\xA9\xDC\0\0\0\0\0\0\0\0\0\0\0\0\0\0\0\0\x3D\xD8",
+        "\0\0\0\0\u{1F4A9}\0\0\0\0\u{FFFD}\0\0\0\0\u{FFFD}\0\0\0\0\0\0\0\0\u{FFFD}",
+    ),
+    Decoder("a unit may be cut"),
+    ReplacedToUtf8(b"\xFF", 96, false, InputEmpty, 1, "", false),
+    ReplacedToUtf8(b"\xFD", 96, true, InputEmpty, 1, "\u{FDFF}", false),
+    Decoder("half a unit at the end is replaced"),
+    Replaced(b"\xFF", "\u{FFFD}"),
 ];
 
 const BIG_ENDIAN: &[Row] = &[
@@ -109,6 +122,10 @@ const BIG_ENDIAN: &[Row] = &[
     Decoder("the length in UTF-16 is one more than the units"),
     Utf16Length(usize::MAX - 1, Some(usize::MAX / 2 + 1)),
     Utf16Length(usize::MAX, None),
+    Decoder("each byte fits into the queried length"),
+    Pieces(b"\x00\x61\x00\xE4\x26\x03\xD8\x3D\xDC\xA9", 1),
+    Decoder("so do three bytes at a time"),
+    Pieces(b"\x00\xE4\x26\x03\xD8\x3D\xDC\xA9\x00\x61\x00\xE4", 3),
 ];
 
 pub(crate) const CASES: &[DecoderCase] = &[
@@ -146,29 +163,33 @@ fn in_either_order(
 #[test]
 fn decodes_surrogates_among_zeros(rt: HostRuntime) {
     let mut units = [0u16; 25];
-    units[4] = 0xD83D;
-    units[5] = 0xDCA9;
-    units[10] = 0xD83D;
-    units[15] = 0xDCA9;
+    let halves = [(4, 0xD83D), (5, 0xDCA9), (10, 0xD83D), (15, 0xDCA9)];
+    fill(&mut units, &halves);
     units[24] = 0xD83D;
     let mut events = [Scalar('\0'); 24];
     events[4] = Scalar('\u{1F4A9}');
-    events[9] = bad!(20, 2);
-    events[14] = bad!(30, 2);
-    events[23] = bad!(48, 2);
+    fill(
+        &mut events,
+        &[(9, bad!(20, 2)), (14, bad!(30, 2)), (23, bad!(48, 2))],
+    );
     in_either_order(&rt, &units, b"", &events);
 }
+
+/// Places, units that are no ASCII, and their scalars.
+const WIDER: &[(usize, u16, char)] = &[
+    (20, 0x0141, '\u{141}'),
+    (47, 0x0080, '\u{80}'),
+    (63, 0x4100, '\u{4100}'),
+];
 
 #[test]
 fn decodes_ascii_among_which_units_are_wider(rt: HostRuntime) {
     let mut units = [0x41u16; 80];
-    units[20] = 0x0141;
-    units[47] = 0x0080;
-    units[63] = 0x4100;
     let mut events = [Scalar('A'); 80];
-    events[20] = Scalar('\u{141}');
-    events[47] = Scalar('\u{80}');
-    events[63] = Scalar('\u{4100}');
+    for (place, unit, scalar) in WIDER {
+        fill(&mut units, &[(*place, *unit)]);
+        fill(&mut events, &[(*place, Scalar(*scalar))]);
+    }
     in_either_order(&rt, &units, b"", &events);
 }
 

@@ -1,12 +1,12 @@
 -- What is known of a set of indexes into which only index EUC-KR was read of a file.
-use Rattle.std.proofs.Common.{◌≡◌, ◌↔◌, ℕ, List, [], ◌∷◌, length, Some, None, Result, Err, refl, sym, subst, arith}
+use Rattle.std.proofs.Common.{◌≡◌, ◌↔◌, ℕ, List, [], ◌∷◌, length, Some, None, Result, Ok, Err, refl, sym, subst, arith}
 use Rattle.legacy_base.specs.{EucKr.euc_kr, Lengths.{query_answer, to_utf8}, States.{DecoderState, new_state}}
 use Rattle.legacy_index_files.specs.{declared.index_file.EncoderIndex.TheVariants.Of, declared.index_file.IndexFileError.IndexFileError}
 use Rattle.legacy_index_files.specs.{declared.index_file.FileIndex.TheVariants.EucKr, declared.index_file.FileTable.FileTable}
 use Rattle.legacy_index_files.specs.{declared.index_file.FileTable.TheVariants.{Wide, Narrow, Ranges, Bytes}, declared.owned_indexes.OwnedIndexes.OwnedIndexes}
 use Rattle.legacy_index_files.specs.{IndexLine.lines, IndexTable.{entries_of, first_malformed, IsTableOf, IsIndexOf}, IndexTexts.no_text}
 use Rattle.legacy_index_files.specs.OwnedIndexes.{HoldsFile, HoldsTexts, with_table, owned_lists}
-use Rattle.legacy_index_files.proofs.WellFormed.{well_formed_memory}
+use Rattle.legacy_index_files.proofs.WellFormed.{well_formed_ok, well_formed_memory}
 use Rattle.legacy_encodings.specs.declared.registry.RegistryError.TheVariants.{File, Sized}
 use Rattle.legacy_codecs.specs.{declared.whole.SizedError.SizedError, declared.whole.SizedError.TheVariants.{TooLong, Memory}}
 use Rattle.legacy_uses.specs.IndexData.{IsEucKrFile, IsEucKrIndex, IsFaultByFile, only_euc_kr}
@@ -21,16 +21,18 @@ pub record HoldsEucKr (text : List ℕ) (owned : OwnedIndexes) : Type 0 where
   pub of_file : IsEucKrFile text owned.euc_kr.items
   pub only : owned_lists owned ≡ only_euc_kr owned.euc_kr.items
 
-pub holds_euc_kr : (text : List ℕ) (before after : OwnedIndexes) → HoldsTexts no_text before → before.katakana.items ≡ [] →
-    HoldsFile EucKr text before after → first_malformed EucKr 1 (lines text) ≡ None → HoldsEucKr text after
-holds_euc_kr text before after none katakana read well_formed = go read.table read.is_table read.place
+pub holds_euc_kr : {T : Type 0} {text : List ℕ} {before after : OwnedIndexes} {result : Result T IndexFileError} {table : T} → HoldsTexts no_text before →
+    before.katakana.items ≡ [] → HoldsFile EucKr text before after →
+    ((n : ℕ) → (result ≡ Err (reading.Line n)) ↔ (first_malformed EucKr 1 (lines text) ≡ Some n)) → result ≡ Ok table → HoldsEucKr text after
+holds_euc_kr {text = text} {before = before} {after = after} {result = result} {table = table} none katakana read line ok =
+    go read.table read.is_table read.place
   where
     go : (table : FileTable) → IsTableOf EucKr (entries_of EucKr (lines text)) table → after ≡ with_table before EucKr table → HoldsEucKr text after
     go (Wide values) is place = absurd is
     go (Narrow values) is place =
         rw place
         (record {
-          of_file = record { well_formed = well_formed; says = is };
+          of_file = record { well_formed = well_formed_ok (Of EucKr) text result line table ok; says = is };
           only = rw (
             empty before.big5.items none.big5,
             empty before.jis0208.items none.jis0208,

@@ -1,5 +1,5 @@
 -- Two inputs, by a registry that read the index files of EUC-KR and windows-1252.
-use Rattle.std.proofs.Common.{◌≡◌, ◌≢◌, ◌∙◌, ℕ, List, [], ◌∷◌, length, Option, Some, None, find, bytes_eq, codes, option_map, sym, ap, refl, subst}
+use Rattle.std.proofs.Common.{◌≡◌, ◌≢◌, ◌∙◌, ℕ, List, [], ◌∷◌, length, Some, None, find, bytes_eq, codes, option_map, sym, ap, refl, subst}
 use Rattle.legacy_base.specs.{EucKr.euc_kr, Grammar.single_byte, Lengths.{query_answer, to_utf8}, States.{DecoderState, new_state}}
 use Rattle.legacy_tables.specs.{TableChecks.AreAccepted, Indexes.FlatIndexes}
 use Rattle.legacy_index_files.specs.{declared.encodings.Encoding.Encoding, declared.encodings.TheConstants.ENCODINGS, Encodings.{codec_of, encoding_name}}

@@ -8,30 +8,6 @@
 #![tactic(auto)]
 
 pub mod beginning;
-#[cfg(test)]
-mod callers;
 pub mod character_list;
 #[cfg(test)]
-mod compared;
-#[cfg(test)]
-mod encoding;
-#[cfg(test)]
-mod encodings;
-#[cfg(test)]
-mod index_file;
-#[cfg(test)]
-mod own_texts;
-#[cfg(test)]
-mod owned_indexes;
-#[cfg(test)]
-mod packing;
-#[cfg(test)]
-mod program;
-#[cfg(test)]
-mod programs;
-#[cfg(test)]
-mod recoding;
-#[cfg(test)]
-mod streams;
-#[cfg(test)]
-mod words;
+mod tests;

@@ -2,20 +2,10 @@
 use crate::codecs::EncoderCase;
 use crate::encode_events::Wanted::{Bytes, Report};
 use crate::encoder_rows::EncoderRow;
-use crate::encoder_rows::EncoderRow::{Encoder, Encodes, FromUtf8, Utf8Length, Utf16Length};
+use crate::encoder_rows::EncoderRow::{Encoder, Encodes};
 use crate::indexes::{EMPTY, Flat, flat};
-use legacy_base::EncoderResult::{OutputFull, Unmappable};
+use crate::pairs;
 use legacy_index_files::Codec;
-
-const WITHOUT_ENTRIES: &[EncoderRow] = &[
-    Encoder("without entries only ASCII has bytes"),
-    Encodes("a\u{4E00}", &[Bytes(b"a"), Report('\u{4E00}')]),
-    Encoder("a scalar past ASCII needs two bytes"),
-    FromUtf8("\u{4E00}", 1, true, OutputFull, 0, b""),
-    FromUtf8("\u{4E00}", 2, true, Unmappable('\u{4E00}'), 3, b""),
-    Utf8Length(5, Some(6)),
-    Utf16Length(5, Some(10)),
-];
 
 const WITH_ENTRIES: &[EncoderRow] = &[
     Encoder("of U+2550 the last pointer is taken, and of U+2551 the first"),
@@ -41,7 +31,7 @@ const TWICE: &Flat =
 const FIRST: &Flat = &flat!(big5: (5025, &[(5023, 0x3001), (5024, 0x3000)]));
 
 pub(crate) const CASES: &[EncoderCase] = &[
-    (Codec::Big5, EMPTY, WITHOUT_ENTRIES),
+    (Codec::Big5, EMPTY, pairs::WITHOUT_ENTRIES),
     (Codec::Big5, TWICE, WITH_ENTRIES),
     (Codec::Big5, FIRST, FIRST_POINTERS),
 ];

@@ -1,11 +1,10 @@
 //! Runs of encoders: a table of cases, whole and in every cut, into outputs of every small length.
 use crate::codecs::EncoderCase;
 use crate::encode_events::Wanted::{Bytes, Report};
-use crate::encoder_rows::EncoderRow::{
-    Encoder, Encodes, FromUtf8, Pending, RefusedRuns, RunFromUtf8, RunFromUtf16,
-};
+use crate::encoder_rows::EncoderRow::{Encoder, Encodes, FromUtf8, Pending, RefusedRuns, RunFrom};
 use crate::euc_kr::ONE_ENTRY;
 use crate::single_byte::encoder::WITH_RUN;
+use crate::source_texts::TextPieces::{Utf8, Utf16};
 use legacy_base::EncoderResult::InputEmpty;
 use legacy_codecs::RunError;
 use legacy_index_files::Codec;
@@ -21,20 +20,26 @@ pub(crate) const CASES_OVER_TABLES: &[EncoderCase] = &[
             Encoder("ASCII, the yen sign, and a reverse solidus"),
             Encodes("a\u{A5}\x5C", &[Bytes(b"a\x1B(J\x5C\x1B(B\x5C")]),
             Encoder("two bytes are no room for any act"),
-            RunFromUtf8(&["a\u{A5}\x5C"], &[2, 2, 2, 2, 2], &[], 5, false),
+            RunFrom(Utf8(&["a\u{A5}\x5C"]), &[2, 2, 2, 2, 2], &[], 5, false),
             Encoder("nor are they from UTF-16"),
-            RunFromUtf16(&[&[0x61, 0xA5, 0x5C]], &[2, 2, 2, 2, 2], &[], 5, false),
+            RunFrom(
+                Utf16(&[&[0x61, 0xA5, 0x5C]]),
+                &[2, 2, 2, 2, 2],
+                &[],
+                5,
+                false,
+            ),
             Encoder("the mode goes on from one piece to the next"),
-            RunFromUtf8(
-                &["a", "\u{A5}"],
+            RunFrom(
+                Utf8(&["a", "\u{A5}"]),
                 &[3, 8],
                 &[Bytes(b"a\x1B(J\x5C\x1B(B")],
                 2,
                 true,
             ),
             Encoder("a run that ends before the last escape is not finished"),
-            RunFromUtf8(
-                &["a", "\u{A5}"],
+            RunFrom(
+                Utf8(&["a", "\u{A5}"]),
                 &[3, 5, 3],
                 &[Bytes(b"a\x1B(J\x5C")],
                 3,
@@ -55,16 +60,16 @@ pub(crate) const CASES_OVER_TABLES: &[EncoderCase] = &[
             Encoder("a private-use row, and a scalar past U+FFFF"),
             Encodes("\u{E843}\u{1F4A9}", &[Bytes(b"\xFE\x7E\x94\x39\xDA\x33")]),
             Encoder("each piece of UTF-16 is read by itself"),
-            RunFromUtf16(
-                &[&[0xD83D], &[0xDCA9]],
+            RunFrom(
+                Utf16(&[&[0xD83D], &[0xDCA9]]),
                 &[4, 4, 4, 4],
                 &[Report('\u{FFFD}'), Report('\u{FFFD}')],
                 4,
                 true,
             ),
             Encoder("a pair in one piece is one scalar"),
-            RunFromUtf16(
-                &[&[0xD83D, 0xDCA9]],
+            RunFrom(
+                Utf16(&[&[0xD83D, 0xDCA9]]),
                 &[4, 4, 4, 4],
                 &[Bytes(b"\x94\x39\xDA\x33")],
                 1,
@@ -117,25 +122,37 @@ pub(crate) const CASES_OF_OTHERS: &[EncoderCase] = &[
             Encoder("a byte past ASCII, and a scalar that has none"),
             Encodes("\u{F7FF}\u{80}", &[Bytes(b"\xFF"), Report('\u{80}')]),
             Encoder("what is unread goes in again, and a small output is followed by the next"),
-            RunFromUtf8(&["\u{F780}a"], &[0, 1, 1], &[Bytes(b"\x80a")], 3, true),
+            RunFrom(
+                Utf8(&["\u{F780}a"]),
+                &[0, 1, 1],
+                &[Bytes(b"\x80a")],
+                3,
+                true,
+            ),
             Encoder("the same from UTF-16"),
-            RunFromUtf16(&[&[0xF780, 0x61]], &[0, 1, 1], &[Bytes(b"\x80a")], 3, true),
+            RunFrom(
+                Utf16(&[&[0xF780, 0x61]]),
+                &[0, 1, 1],
+                &[Bytes(b"\x80a")],
+                3,
+                true,
+            ),
             Encoder("without room the run is not finished"),
-            RunFromUtf8(&["\u{F780}"], &[0], &[], 1, false),
+            RunFrom(Utf8(&["\u{F780}"]), &[0], &[], 1, false),
             Encoder("a scalar that has no byte ends its call"),
-            RunFromUtf8(
-                &["a\u{80}b"],
+            RunFrom(
+                Utf8(&["a\u{80}b"]),
                 &[4, 4],
                 &[Bytes(b"a"), Report('\u{80}'), Bytes(b"b")],
                 2,
                 true,
             ),
             Encoder("without lengths there is no call"),
-            RunFromUtf8(&["a"], &[], &[], 0, false),
+            RunFrom(Utf8(&["a"]), &[], &[], 0, false),
             Encoder("no pieces are one empty piece"),
-            RunFromUtf8(&[], &[0], &[], 1, true),
+            RunFrom(Utf8(&[]), &[0], &[], 1, true),
             Encoder("no pieces are one empty piece of UTF-16 too"),
-            RunFromUtf16(&[], &[0], &[], 1, true),
+            RunFrom(Utf16(&[]), &[0], &[], 1, true),
             Encoder("lengths that have no sum are refused"),
             RefusedRuns(usize::MAX, &RunError::TooLong),
         ],

@@ -1,16 +1,15 @@
 //! The encoder of EUC-KR.
-use crate::ahead::encode_ahead;
+use crate::ahead::{encode_ahead, pair_room};
 use crate::codecs::EncoderCase;
 use crate::encode_events::Wanted::{Bytes, Report};
 use crate::encoder_rows::EncoderRow;
-use crate::encoder_rows::EncoderRow::{
-    Encoder, Encodes, FromUtf8, FromUtf16, Utf8Length, Utf16Length,
-};
+use crate::encoder_rows::EncoderRow::{Encoder, Encodes, FromUtf8, FromUtf16, Replaced};
 use crate::euc_kr::ONE_ENTRY;
-use crate::indexes::{Flat, flat, no_entries, tables_of};
+use crate::indexes::{EMPTY, Filled, Flat, flat, tables_of};
+use crate::pairs;
+use crate::source_texts::Text;
 use legacy_base::EncoderResult::{InputEmpty, OutputFull, Unmappable};
-use legacy_base::Indexes;
-use legacy_encoders::{EucKrEncoder, PAIR_ROOM};
+use legacy_encoders::EucKrEncoder;
 use legacy_index_files::Codec;
 use std::process::Abort;
 
@@ -30,11 +29,8 @@ const ROWS: &[EncoderRow] = &[
     FromUtf8("a", 1, true, InputEmpty, 1, b"a"),
     Encoder("an unpaired surrogate is U+FFFD"),
     FromUtf16(&[0xDC00, 0xDEDE], 40, true, Unmappable('\u{FFFD}'), 1, b""),
-    Encoder("the lengths are one byte more than those of UTF-8, and twice those of UTF-16"),
-    Utf8Length(5, Some(6)),
-    Utf8Length(usize::MAX, None),
-    Utf16Length(5, Some(10)),
-    Utf16Length(usize::MAX / 2 + 1, None),
+    Encoder("each unpaired surrogate has a reference of its own"),
+    Replaced(Text::Utf16(&[0xDC00, 0xDEDE]), b"&#65533;&#65533;"),
 ];
 
 const LAST: &[EncoderRow] = &[
@@ -47,9 +43,14 @@ const LAST: &[EncoderRow] = &[
 const LAST_ENTRY: &Flat = &flat!(euc_kr: (23940, &[(23939, 0x8A70)]));
 
 pub(crate) const CASES: &[EncoderCase] = &[
+    (Codec::EucKr, EMPTY, pairs::WITHOUT_ENTRIES),
     (Codec::EucKr, ONE_ENTRY, ROWS),
     (Codec::EucKr, LAST_ENTRY, LAST),
 ];
+
+/// The first sixteen scalars of the Standard's index.
+const SIXTEEN: &Flat =
+    &flat!(euc_kr: (16, &[(0, 0xAC02), (1, 0xAC03), (2, 0xAC05), (3, 0xAC06), (4, 0xAC0B), (5, 0xAC0C), (6, 0xAC0D), (7, 0xAC0E), (8, 0xAC0F), (9, 0xAC18), (10, 0xAC1E), (11, 0xAC1F), (12, 0xAC21), (13, 0xAC22), (14, 0xAC23), (15, 0xAC25)]));
 
 /// The rows with the first sixteen scalars of the Standard's index, and no other scalar.
 const WORDS: &[EncoderRow] = &[
@@ -153,22 +154,14 @@ const WORDS: &[EncoderRow] = &[
 ///
 /// Returns `false` without that if `room` is too short.
 fn encode_in(rt: &(impl AllocGlobal + Abort), room: &mut [u16]) -> bool {
-    let indexes = Indexes {
-        euc_kr: &[
-            0xAC02, 0xAC03, 0xAC05, 0xAC06, 0xAC0B, 0xAC0C, 0xAC0D, 0xAC0E, 0xAC0F, 0xAC18, 0xAC1E,
-            0xAC1F, 0xAC21, 0xAC22, 0xAC23, 0xAC25,
-        ],
-        ..no_entries()
-    };
-    let tables = tables_of(rt, &indexes);
+    let filled = Filled::of(SIXTEEN);
+    let tables = tables_of(rt, &filled.indexes(SIXTEEN));
     let encoder = EucKrEncoder::new(&tables);
     encode_ahead::<EucKrEncoder>(rt, &encoder, room, WORDS)
 }
 
 #[test]
 fn encodes_words_with_pairs_looked_up_ahead(rt: HostRuntime) {
-    match vec![in rt.alloc(); 0; PAIR_ROOM] {
-        Ok(mut room) => assert!(rt; encode_in(&rt, room.as_mut_slice())),
-        Err(_) => panic!(rt; "memory"),
-    }
+    let mut room = pair_room(&rt, 0);
+    assert!(rt; encode_in(&rt, room.as_mut_slice()));
 }

@@ -1,14 +1,14 @@
 //! The encoders of gb18030 and GBK.
-use crate::ahead::encode_ahead;
+use crate::ahead::{encode_ahead, pair_room};
 use crate::codecs::EncoderCase;
 use crate::encode_events::Wanted::{Bytes, Report};
 use crate::encoder_rows::EncoderRow;
 use crate::encoder_rows::EncoderRow::{
     Encoder, Encodes, FromUtf8, FromUtf16, Utf8Length, Utf16Length,
 };
-use crate::indexes::{EMPTY, Flat, flat, no_entries, tables_of};
+use crate::indexes::{EMPTY, Filled, Flat, flat, tables_of};
 use legacy_base::EncoderResult::{InputEmpty, OutputFull, Unmappable};
-use legacy_encoders::{Gb18030Encoder, PAIR_ROOM};
+use legacy_encoders::Gb18030Encoder;
 use legacy_index_files::Codec;
 use std::process::Abort;
 
@@ -61,17 +61,16 @@ const GBK_WITHOUT_ENTRIES: &[EncoderRow] = &[
 ///
 /// Returns `false` without that if `room` is too short.
 fn encode_in(rt: &(impl AllocGlobal + Abort), room: &mut [u16]) -> bool {
-    let tables = tables_of(rt, &no_entries());
+    let filled = Filled::of(EMPTY);
+    let tables = tables_of(rt, &filled.indexes(EMPTY));
     let encoder = Gb18030Encoder::new(&tables, true);
     encode_ahead::<Gb18030Encoder>(rt, &encoder, room, WITHOUT_ENTRIES)
 }
 
 #[test]
 fn encodes_with_pairs_looked_up_ahead(rt: HostRuntime) {
-    match vec![in rt.alloc(); 0xFFFF; PAIR_ROOM] {
-        Ok(mut room) => assert!(rt; encode_in(&rt, room.as_mut_slice())),
-        Err(_) => panic!(rt; "memory"),
-    }
+    let mut room = pair_room(&rt, 0xFFFF);
+    assert!(rt; encode_in(&rt, room.as_mut_slice()));
 }
 
 #[test]

@@ -1,15 +1,16 @@
 //! The encoder of ISO-2022-JP.
+use crate::ahead::pair_room;
 use crate::codecs::{EncoderCase, follow_each};
 use crate::encode_events::Wanted::{Bytes, Report};
 use crate::encoder_rows::EncoderRow::{
-    Encoder, Encodes, FromUtf8, FromUtf16, Pending, Utf8Length, Utf16Length,
+    Encoder, Encodes, FromUtf8, FromUtf16, Pending, Replaced, ReplacedFromUtf8, Utf8Length,
+    Utf16Length,
 };
 use crate::encoder_rows::{EncoderRow, TestedEncoder, follow_encoder};
-use crate::indexes::{
-    EMPTY, Filled, Flat, flat, no_entries, packed_of, packed_tables_of, tables_of,
-};
+use crate::indexes::{EMPTY, Filled, Flat, flat, packed_of, packed_tables_of, tables_of};
+use crate::source_texts::Text;
 use legacy_base::EncoderResult::{InputEmpty, OutputFull, Unmappable};
-use legacy_encoders::{CachedIso2022JpEncoder, Iso2022JpEncoder, PAIR_ROOM};
+use legacy_encoders::{CachedIso2022JpEncoder, Iso2022JpEncoder};
 use legacy_index_files::Codec;
 use std::process::Abort;
 
@@ -42,15 +43,14 @@ fn encode_ahead(rt: &(impl AllocGlobal + Abort), room: &mut [u16], (_, flat, row
 /// Follows the rows of a case over flat tables, over packed ones, and over these with cached pairs.
 fn encode_in_all_ways(rt: &(impl AllocGlobal + Abort), case: EncoderCase) {
     follow_each(rt, &[case]);
-    match vec![in rt.alloc(); 0xFFFF; PAIR_ROOM] {
-        Ok(mut room) => encode_ahead(rt, room.as_mut_slice(), &case),
-        Err(_) => panic!(rt; "memory"),
-    }
+    let mut room = pair_room(rt, 0xFFFF);
+    encode_ahead(rt, room.as_mut_slice(), &case);
 }
 
 #[test]
 fn takes_no_room_that_is_too_small(rt: HostRuntime) {
-    let tables = tables_of(&rt, &no_entries());
+    let filled = Filled::of(EMPTY);
+    let tables = tables_of(&rt, &filled.indexes(EMPTY));
     let encoder = Iso2022JpEncoder::new(&tables);
     assert!(rt; CachedIso2022JpEncoder::new(&encoder, &mut [0; 8]).is_none());
 }
@@ -175,6 +175,14 @@ const PAIRS: &[EncoderRow] = &[
         8,
         b"\x1B$BTdTdTdTdTdTdTd\x1B(B",
     ),
+    Encoder("without room for a reference nothing is read"),
+    ReplacedFromUtf8("a", 9, true, OutputFull, 0, b"", false),
+    Encoder("the end needs its own room and that of a reference"),
+    ReplacedFromUtf8("\u{A5}", 96, false, InputEmpty, 2, b"\x1B(J\x5C", false),
+    ReplacedFromUtf8("", 12, true, OutputFull, 0, b"", false),
+    ReplacedFromUtf8("", 13, true, InputEmpty, 0, b"\x1B(B", false),
+    Encoder("a reference in Roman mode leaves the mode"),
+    Replaced(Text::Utf8("\u{A5}\u{1F4A9}"), b"\x1B(J\x5C&#128169;\x1B(B"),
 ];
 
 /// U+58FA at pointer 4861 of index jis0208.

@@ -2,8 +2,9 @@
 use crate::codecs::EncoderCase;
 use crate::encode_events::Wanted::{Bytes, Report};
 use crate::encoder_rows::EncoderRow;
-use crate::encoder_rows::EncoderRow::{Encoder, Encodes, FromUtf8, Utf8Length, Utf16Length};
+use crate::encoder_rows::EncoderRow::{Encoder, Encodes, FromUtf8};
 use crate::indexes::{EMPTY, Flat, flat};
+use crate::pairs;
 use legacy_base::EncoderResult::{InputEmpty, OutputFull};
 use legacy_index_files::Codec;
 
@@ -11,13 +12,9 @@ const WITHOUT_ENTRIES: &[EncoderRow] = &[
     Encoder("U+0080, the yen sign, the overline and half-width katakana are one byte"),
     Encodes("\u{80}\u{FF9F}", &[Bytes(b"\x80\xDF")]),
     Encodes("\u{A5}\u{203E}\u{FF61}", &[Bytes(b"\x5C\x7E\xA1")]),
-    Encoder("the minus sign is that of the index, which lacks it"),
-    Encodes("\u{2212}", &[Report('\u{2212}')]),
     Encoder("a scalar past ASCII needs two bytes"),
     FromUtf8("\u{80}", 1, true, OutputFull, 0, b""),
     FromUtf8("\u{80}", 2, true, InputEmpty, 2, b"\x80"),
-    Utf8Length(5, Some(6)),
-    Utf16Length(5, Some(10)),
 ];
 
 const MINUS: &[EncoderRow] = &[
@@ -42,6 +39,8 @@ const TWO_POINTERS: &Flat = &flat!(jis0208: (11280, &[(8647, 0xFF02), (10739, 0x
 const A_DUPLICATE: &Flat = &flat!(jis0208: (11280, &[(8647, 0xFF02)]));
 
 pub(crate) const CASES: &[EncoderCase] = &[
+    (Codec::ShiftJis, EMPTY, pairs::WITHOUT_ENTRIES),
+    (Codec::ShiftJis, EMPTY, pairs::JAPANESE),
     (Codec::ShiftJis, EMPTY, WITHOUT_ENTRIES),
     (Codec::ShiftJis, ONE_POINTER, MINUS),
     (Codec::ShiftJis, TWO_POINTERS, DUPLICATE),

@@ -4,9 +4,10 @@ use crate::compared::{is_answer, prints};
 use crate::encode_events::Wanted::{Bytes, Report};
 use crate::encoder_rows::EncoderRow;
 use crate::encoder_rows::EncoderRow::{
-    Encoder, Encodes, FromUtf8, FromUtf16, Utf8Length, Utf16Length,
+    Encoder, Encodes, FromUtf8, FromUtf16, Replaced, ReplacedFromUtf16, Utf8Length, Utf16Length,
 };
 use crate::indexes::{Flat, byte_table_of, entries_of, flat};
+use crate::source_texts::Text;
 use legacy_base::EncoderResult::{InputEmpty, OutputFull, Unmappable};
 use legacy_encoders::SingleByteRunError::{RunMismatch, RunPastEnd, RunStart};
 use legacy_encoders::{SingleByteEncoder, SingleByteRunError};
@@ -51,6 +52,33 @@ const GREEK: &[EncoderRow] = &[
     FromUtf8("\u{391}", 1, true, InputEmpty, 2, b"\xC1"),
     Utf8Length(9, Some(9)),
     Utf16Length(usize::MAX, Some(usize::MAX)),
+    Encoder("ten bytes are kept free for a reference"),
+    ReplacedFromUtf16(
+        &[0x391, 0xD83D, 0xDCA9, 0x3C4],
+        11,
+        true,
+        OutputFull,
+        1,
+        b"\xC1",
+        false,
+    ),
+    ReplacedFromUtf16(
+        &[0xD83D, 0xDCA9, 0x3C4],
+        11,
+        true,
+        OutputFull,
+        2,
+        b"&#128169;",
+        true,
+    ),
+    ReplacedFromUtf16(&[0x3C4], 11, true, InputEmpty, 1, b"\xF4", false),
+    Encoder("no scalar is written into the ten bytes that are kept free"),
+    ReplacedFromUtf16(&[0x391, 0x391], 11, true, OutputFull, 1, b"\xC1", false),
+    ReplacedFromUtf16(&[0x391], 11, true, InputEmpty, 1, b"\xC1", false),
+    Encoder("an unpaired low surrogate has the reference of U+FFFD"),
+    Replaced(Text::Utf16(&[0x391, 0xDCA9, 0x3C4]), b"\xC1&#65533;\xF4"),
+    Encoder("so has an unpaired high surrogate at the end"),
+    Replaced(Text::Utf16(&[0x391, 0x3C4, 0xD83D]), b"\xC1\xF4&#65533;"),
 ];
 
 const WITHOUT_ENTRIES: &[EncoderRow] = &[

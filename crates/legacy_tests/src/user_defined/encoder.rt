@@ -3,9 +3,10 @@ use crate::codecs::EncoderCase;
 use crate::encode_events::Wanted::{Bytes, Report};
 use crate::encoder_rows::EncoderRow;
 use crate::encoder_rows::EncoderRow::{
-    Encoder, Encodes, FromUtf8, FromUtf16, Utf8Length, Utf16Length,
+    Encoder, Encodes, FromUtf8, FromUtf16, Replaced, Utf8Length, Utf16Length,
 };
 use crate::indexes::EMPTY;
+use crate::source_texts::Text;
 use legacy_base::EncoderResult::{InputEmpty, OutputFull, Unmappable};
 use legacy_index_files::Codec;
 
@@ -45,6 +46,9 @@ const ROWS: &[EncoderRow] = &[
     Encoder("the lengths are one byte for each code unit"),
     Utf8Length(7, Some(7)),
     Utf16Length(usize::MAX, Some(usize::MAX)),
+    Encoder("the scalars before and behind those of the bytes past ASCII"),
+    Replaced(Text::Utf8("\u{F77F}\u{F800}"), b"&#63359;&#63488;"),
+    Replaced(Text::Utf16(&[0xF77F, 0xF800]), b"&#63359;&#63488;"),
 ];
 
 pub(crate) const CASES: &[EncoderCase] = &[(Codec::UserDefined, EMPTY, ROWS)];

@@ -14,11 +14,9 @@ returns-in_default-clause-texts t c = few_words _ _ c.args.files.now c.in_defaul
 
 pub returns-clause-texts : goal.returns-clause-texts
 returns-clause-texts t c =
-    let words = c.args.words.now in
-    let two = c.in-len2-up.len_at_least in
     let read = c.in-Some-Some-default in
-    let later = rw (later_words words two) at c.in_ok-indexes.ensures.texts in
-    one_more_file _ words c.in-Some.name read.text read.later_files.now c.args.files.now two (sym c.first_index.ensures ∙ c.in-Some.is)
+    let later = rw (later_words _ c.in-len2-up.len_at_least) at c.in_ok-indexes.ensures.texts in
+    one_more_file _ _ _ _ _ _ c.in-len2-up.len_at_least (sym c.first_index.ensures ∙ c.in-Some.is)
     (read.ensures.cases.0 ∙ ap (λ f. f ∷ read.later_files.now) read.field-0-0-is)
     (c.set.ensures.texts _ read.text.now later c.in-Ok.ensures.table)
 
@@ -27,11 +25,9 @@ returns-in_default-clause-well_formed t c = few_well_formed _ c.args.files.now c
 
 pub returns-clause-well_formed : goal.returns-clause-well_formed
 returns-clause-well_formed t c =
-    let words = c.args.words.now in
-    let two = c.in-len2-up.len_at_least in
     let read = c.in-Some-Some-default in
-    let later = rw (later_words words two) at c.in_ok-indexes.ensures.well_formed in
-    one_more_well_formed words c.in-Some.name read.text read.later_files.now c.args.files.now two (sym c.first_index.ensures ∙ c.in-Some.is)
+    let later = rw (later_words _ c.in-len2-up.len_at_least) at c.in_ok-indexes.ensures.well_formed in
+    one_more_well_formed _ _ _ _ _ c.in-len2-up.len_at_least (sym c.first_index.ensures ∙ c.in-Some.is)
     (read.ensures.cases.0 ∙ ap (λ f. f ∷ read.later_files.now) read.field-0-0-is)
     (well_formed_ok (Of c.in-Some.name) read.text.now c.read_index.result c.read_index.ensures.line c.in-Ok.table c.in-Ok.is)
     later

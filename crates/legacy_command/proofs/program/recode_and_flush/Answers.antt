@@ -1,19 +1,31 @@
-use Rattle.std.proofs.{Common.arith, lemmas.Grind.common_steps, lemmas.Result.err_from_is_err_and}
-use Rattle.legacy_command.proofs.Stopping.{either, some_kept, some_of_all}
+use Rattle.std.proofs.{Common.inl, lemmas.Result.on_ok_weaker}
+use Rattle.legacy_command.specs.declared.words.OutputKind.TheVariants.{Lines, Text}
+use Rattle.legacy_command.proofs.Stopping.{either, failed_lines, failed_text, flushed_ok, input_kept, on_err, some_found, some_kept}
 use Rattle.legacy_command.proofs.program.recode_and_flush.Goals as goal
 
-pub returns-in-Ok-clause-done : goal.returns-in-Ok-clause-done
-returns-in-Ok-clause-done g c = grind (arith, common_steps)
+pub returns-in-Lines-clause-done : goal.returns-in-Lines-clause-done
+returns-in-Lines-clause-done g c =
+    let r = c.recode-recoded in
+    let f = c.flush_after in
+    let done = on_ok_weaker r.result (λ all. input_kept _ _ _ _ _ f.ensures.bytes Lines _ (_, all)) r.ensures.ok in
+    rw c.in-Lines.is (flushed_ok _ r.result f.result f.ensures.ok done)
 
-pub returns-in_err-recoded-clause-stops : goal.returns-in_err-recoded-clause-stops
-returns-in_err-recoded-clause-stops g c =
-    let r = c.recode_input-recoded in
-    let some = either r.result (some_of_all c.args.kind _ _ _ _ _) r.ensures.done r.ensures.stops in
-    let stops = some_kept _ _ _ _ _ c.flush-flushed.ensures.bytes c.args.kind _ some in
-    rw (err_from_is_err_and c.from_residual.result c.from_residual.ensures.1).1 stops
+pub returns-in-Lines-clause-stops : goal.returns-in-Lines-clause-stops
+returns-in-Lines-clause-stops g c =
+    let r = c.recode-recoded in
+    let some = either r.result (λ all. (_, inl all)) r.ensures.ok (failed_lines r.result _ _ _ _ _ _ r.ensures.read r.ensures.write) in
+    rw c.in-Lines.is (on_err c.flush_after.result (some_kept _ _ _ _ _ c.flush_after.ensures.bytes Lines _ some))
 
-pub returns-in-Err-clause-stops : goal.returns-in-Err-clause-stops
-returns-in-Err-clause-stops g c =
-    let r = c.recode_input-recoded in
-    let some = either r.result (some_of_all c.args.kind _ _ _ _ _) r.ensures.done r.ensures.stops in
-    some_kept _ _ _ _ _ c.flush-flushed.ensures.bytes c.args.kind _ some
+pub returns-in-Text-clause-done : goal.returns-in-Text-clause-done
+returns-in-Text-clause-done g c =
+    let r = c.recode_text-recoded in
+    let f = c.flush_after-in-Text in
+    let done = on_ok_weaker r.result (λ all. input_kept _ _ _ _ _ f.ensures.bytes Text _ (_, all)) (some_found _ r.result r.ensures.ok) in
+    rw c.in-Text.is (flushed_ok _ r.result f.result f.ensures.ok done)
+
+pub returns-in-Text-clause-stops : goal.returns-in-Text-clause-stops
+returns-in-Text-clause-stops g c =
+    let r = c.recode_text-recoded in
+    let found = some_found _ r.result r.ensures.ok in
+    let some = either r.result (λ all. (_, inl all)) found (failed_text r.result _ _ _ _ _ _ r.ensures.read r.ensures.write) in
+    rw c.in-Text.is (on_err c.flush_after-in-Text.result (some_kept _ _ _ _ _ c.flush_after-in-Text.ensures.bytes Text _ some))

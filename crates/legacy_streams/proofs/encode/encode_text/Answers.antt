@@ -1,5 +1,5 @@
-use Rattle.std.proofs.{Common.{◌≤◌, ◌+◌, ◌-◌, ◌++◌, length, arith, refl}, lemmas.List.length-take-le}
-use Rattle.legacy_streams.proofs.EncodingUnderWay.{input_start, input_step, input_partly, input_end, input_end_partly, read_nothing}
+use Rattle.std.proofs.{Common.{◌≡◌, ◌+◌, length, take, arith, refl}, lemmas.List.length-take-le}
+use Rattle.legacy_streams.proofs.EncodingUnderWay.{input_start, input_step, input_partly, input_end, input_end_partly, piece_unwritten, piece_written, read_end}
 use Rattle.legacy_streams.proofs.encode.encode_text.Goals as goal
 
 pub pieces-init : goal.pieces-init
@@ -7,25 +7,35 @@ pieces-init g c = record { so_far = input_start _ _ _; short = omega arith; empt
 
 pub returns-in-Ok-clause-ok : goal.returns-in-Ok-clause-ok
 returns-in-Ok-clause-ok g c =
-    let i = c.pieces.invariant in
-    let within : c.pieces.held ≤ length c.pieces.buffer = let long = i.long in let short = i.short in omega arith in
-    let bytes = c.in-Some.ensures.bytes in
-    let none = read_nothing c.pieces.held c.in-Some.count c.pieces.buffer c.read_after.new.buffer bytes.0 within c.if-count-eq0.true bytes.2 in
-    input_end i.so_far _ (rw none.0 at bytes.1) (bytes.3 c.if-count-eq0.true) _ _ (rw (← none.1) at c.in-Ok.ensures.text)
+    let none = read_end _ _ _ _ _ _ c.pieces.invariant.short c.pieces.invariant.long c.if-count-eq0.true c.in-Some.ensures.bytes in
+    input_end c.pieces.invariant.so_far _ none.0 none.1 _ _ (rw (← none.2) at c.in-Ok.ensures.text)
 
 pub returns-in-Err-clause-write : goal.returns-in-Err-clause-write
 returns-in-Err-clause-write g c e =
-    let i = c.pieces.invariant in
-    let within : c.pieces.held ≤ length c.pieces.buffer = let long = i.long in let short = i.short in omega arith in
-    let bytes = c.in-Some.ensures.bytes in
-    let none = read_nothing c.pieces.held c.in-Some.count c.pieces.buffer c.read_after.new.buffer bytes.0 within c.if-count-eq0.true bytes.2 in
-    input_end_partly i.so_far _ (rw none.0 at bytes.1) (bytes.3 c.if-count-eq0.true) _ _ (rw (← none.1) at c.in-Err.ensures.err)
+    let none = read_end _ _ _ _ _ _ c.pieces.invariant.short c.pieces.invariant.long c.if-count-eq0.true c.in-Some.ensures.bytes in
+    input_end_partly c.pieces.invariant.so_far _ none.0 none.1 _ _ (rw (← none.2) at c.in-Err.ensures.err)
 
-pub returns-in_default-write_piece-clause-write : goal.returns-in_default-write_piece-clause-write
-returns-in_default-write_piece-clause-write g c e =
-    let i = c.pieces.invariant in
+pub returns-in_default-push_piece-clause-write : goal.returns-in_default-push_piece-clause-write
+returns-in_default-push_piece-clause-write g c e =
     let bytes = c.in-Some.ensures.bytes in
-    input_partly i.so_far bytes.0 bytes.1 (rw bytes.2 at c.in_default-write_piece.ensures.err)
+    input_partly c.pieces.invariant.so_far bytes.0 bytes.1 (rw bytes.2 at c.in_default-push_piece.ensures.err)
+
+pub returns-in_default-write_to-clause-write : goal.returns-in_default-write_to-clause-write
+returns-in_default-write_to-clause-write g c e =
+    let bytes = c.in-Some.ensures.bytes in
+    let unwritten = piece_unwritten c.in-Ok-push_piece.ensures.piece c.in_default-write_to.ensures.err in
+    input_partly c.pieces.invariant.so_far bytes.0 bytes.1 (rw bytes.2 at unwritten)
 
 pub pieces-preserved : goal.pieces-preserved
-pieces-preserved g c = grind (arith, length-take-le, input_step)
+pieces-preserved g c =
+    let read = c.in-Some.ensures in
+    let filled = c.pieces.held + c.in-Some.count in
+    let piece = piece_written c.in-Ok-push_piece.ensures.piece c.in-Ok-write_to.ensures.sends in
+    let long : length (take filled c.read_after.new.buffer) ≡ filled = length-take-le filled c.read_after.new.buffer read.count.0 in
+    record {
+      so_far = input_step c.pieces.invariant.so_far read.bytes.0 read.bytes.1 _ (rw read.bytes.2 at piece) (rw (← read.bytes.2, long) c.keep_end.ensures);
+      short = piece.short;
+      empty = c.in-Ok-write_to.ensures.empty;
+      long = omega arith;
+      small = omega arith;
+    }

@@ -1,4 +1,4 @@
-use Rattle.std.proofs.Common.{◌-◌, arith}
+use Rattle.std.proofs.Common.{arith}
 use Rattle.legacy_codecs.proofs.ReferenceTexts.{front_of_part}
 use Rattle.legacy_streams.proofs.EncodingUnderWay.{both_some}
 use Rattle.legacy_streams.proofs.encode.read_after.Goals as goal

@@ -1,4 +1,4 @@
-use Rattle.std.proofs.Common.{◌+◌, ◌++◌, arith}
+use Rattle.std.proofs.Common.{arith}
 use Rattle.legacy_streams.proofs.EventLines.{malformed_byte_line}
 use Rattle.legacy_streams.proofs.lines.put_malformed_line.Goals as goal
 

@@ -1,4 +1,4 @@
-use Rattle.std.proofs.Common.{◌+◌, arith}
+use Rattle.std.proofs.Common.{arith}
 use Rattle.legacy_streams.proofs.EventLines.{no_malformed_lines, one_malformed_line, more_malformed_lines}
 use Rattle.legacy_streams.proofs.lines.put_malformed_lines.Goals as goal
 

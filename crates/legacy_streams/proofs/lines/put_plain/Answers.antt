@@ -1,4 +1,4 @@
-use Rattle.std.proofs.Common.{◌+◌, arith}
+use Rattle.std.proofs.Common.{arith}
 use Rattle.legacy_streams.proofs.{EventLines.no_lines, PlainLines.{plain_more, plain_line_more}}
 use Rattle.legacy_streams.proofs.lines.put_plain.Goals.{else-unit-ge55296-via-then-unit-ge55296+else-unit-lt57344, else-unit-ge55296-via-else-unit-ge55296}
 use Rattle.legacy_streams.proofs.lines.put_plain.Goals as goal

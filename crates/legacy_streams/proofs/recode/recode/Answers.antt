@@ -1,5 +1,5 @@
-use Rattle.std.proofs.{Common.{◌≡◌, arith, length, take, length-take, eq-eqb}, lemmas.Bool.{ne_eqb, eqb-true}, KnownBytes.Appends-nil}
-use Rattle.legacy_streams.proofs.{Whole.{whole_start, whole_step, whole_end, whole_beginning, whole_partly}, PieceUnderWay.{lines_of_none, lines_join}}
+use Rattle.std.proofs.{Common.{arith, eq-eqb}, lemmas.Bool.{ne_eqb, eqb-true}, KnownBytes.Appends-nil}
+use Rattle.legacy_streams.proofs.{Whole.{whole_start, whole_next, whole_end, whole_beginning, whole_partly}, PieceUnderWay.{lines_of_none, lines_join}}
 use Rattle.legacy_streams.proofs.PieceUnderWay.{lines_front_join}
 use Rattle.legacy_streams.proofs.recode.recode.Goals as goal
 
@@ -17,14 +17,11 @@ returns-then-last-clause-ok g c =
 
 pub pieces-preserved : goal.pieces-preserved
 pieces-preserved g c =
-    let count = c.in-Some.count in
-    let within = c.in-Some.ensures.count in
-    let long : length (take count c.read_piece.new.buffer) ≡ count = simp length-take (omega (arith, within)) in
-    let read = c.in-Some.ensures.bytes in
+    let read = c.in-Some.ensures in
     record {
       whole =
-          rw (← long) (whole_step c.pieces.invariant.whole _ read.0 (lines_join _ _ _ _ _ _) (ne_eqb count 0 c.if-last.false) c.in-Ok.ensures.piece);
-      small = within.1;
+          whole_next c.pieces.invariant.whole _ _ read.count.0 read.bytes.0 (lines_join _ _ _ _ _ _) (ne_eqb _ 0 c.if-last.false) c.in-Ok.ensures.piece;
+      small = read.count.1;
       empty = c.in-Ok.ensures.empty;
     }
 

@@ -1,5 +1,5 @@
-use Rattle.std.proofs.{Common.{◌≡◌, arith, eq-eqb, length, take, length-take}, lemmas.Bool.{ne_eqb, eqb-true}}
-use Rattle.legacy_streams.proofs.{Whole.{whole_start, whole_step, whole_end, whole_beginning, whole_partly}, TextUnderWay.{whole_text_start, text_join}}
+use Rattle.std.proofs.{Common.{arith, eq-eqb}, lemmas.Bool.{ne_eqb, eqb-true}}
+use Rattle.legacy_streams.proofs.{Whole.{whole_start, whole_next, whole_end, whole_beginning, whole_partly}, TextUnderWay.{whole_text_start, text_join}}
 use Rattle.legacy_streams.proofs.TextUnderWay.{text_front_join}
 use Rattle.legacy_streams.proofs.text.recode_text.Goals as goal
 
@@ -18,15 +18,12 @@ returns-then-last-clause-ok g c =
 
 pub pieces-preserved : goal.pieces-preserved
 pieces-preserved g c =
-    let count = c.in-Some.count in
-    let within = c.in-Some.ensures.count in
-    let long : length (take count c.read_piece.new.buffer) ≡ count = simp length-take (omega (arith, within)) in
-    let read = c.in-Some.ensures.bytes in
+    let read = c.in-Some.ensures in
     record {
       whole =
-          rw (c.either-any_replaced.ensures, ← long)
-          (whole_step c.pieces.invariant.whole _ read.0 (text_join _ _ _ _ _ _ _ _) (ne_eqb count 0 c.if-last.false) c.in-Ok.ensures.piece);
-      small = within.1;
+          rw c.either-any_replaced.ensures
+          (whole_next c.pieces.invariant.whole _ _ read.count.0 read.bytes.0 (text_join _ _ _ _ _ _ _ _) (ne_eqb _ 0 c.if-last.false) c.in-Ok.ensures.piece);
+      small = read.count.1;
     }
 
 pub returns-in_default-write_piece-clause-write : goal.returns-in_default-write_piece-clause-write

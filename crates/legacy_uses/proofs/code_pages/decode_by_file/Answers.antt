@@ -1,8 +1,6 @@
 use Rattle.std.proofs.{Common.{◌∙◌, ap, sym, subst, refl, length, ◌≡◌, None}, lemmas.Result.err_from_is_err_and}
 use Rattle.legacy_base.specs.{EucKr.euc_kr, Lengths.{query_answer, to_utf8}, States.new_state}
 use Rattle.legacy_tables.specs.TableChecks.{AreAccepted}
-use Rattle.legacy_index_files.specs.{declared.index_file.EncoderIndex.TheVariants.Of, declared.index_file.FileIndex.TheVariants.EucKr}
-use Rattle.legacy_index_files.proofs.WellFormed.{well_formed_ok}
 use Rattle.legacy_uses.specs.IndexData.{IsEucKrIndex}
 use Rattle.legacy_codecs.specs.WholeTexts.{text_of}
 use Rattle.legacy_uses.proofs.EucKrFiles.{holds_euc_kr, euc_kr_fault_of, not_decoded_by_file}
@@ -16,15 +14,13 @@ returns-in_err-read c =
 pub returns-in_err-tables : goal.returns-in_err-tables
 returns-in_err-tables c =
     let p = err_from_is_err_and c.from_residual-in_err-tables.result c.from_residual-in_err-tables.ensures.1 in
-    let h = holds_euc_kr c.args.file.now _ _ c.new-owned.ensures.empty c.new-owned.ensures.katakana c.in_ok-read.ensures.table
-    (well_formed_ok (Of EucKr) c.args.file.now _ c.in_ok-read.ensures.line _ refl) in
+    let h = holds_euc_kr c.new-owned.ensures.empty c.new-owned.ensures.katakana c.in_ok-read.ensures.table c.in_ok-read.ensures.line refl in
     rw (p.1, p.2) (c.read.new.self.euc_kr.items, h.of_file, rw h.only at c.in_err-tables.ensures)
 
 pub returns-in_err-decode_whole : goal.returns-in_err-decode_whole
 returns-in_err-decode_whole c =
     let p = err_from_is_err_and c.from_residual-in_err-decode_whole.result c.from_residual-in_err-decode_whole.ensures.1 in
-    let h = holds_euc_kr c.args.file.now _ _ c.new-owned.ensures.empty c.new-owned.ensures.katakana c.in_ok-read.ensures.table
-    (well_formed_ok (Of EucKr) c.args.file.now _ c.in_ok-read.ensures.line _ refl) in
+    let h = holds_euc_kr c.new-owned.ensures.empty c.new-owned.ensures.katakana c.in_ok-read.ensures.table c.in_ok-read.ensures.line refl in
     let flat = c.in_ok-tables.ensures ∙ h.only in
     let is : IsEucKrIndex c.args.file.now c.read.new.self.euc_kr.items =
     record { of_file = h.of_file; accepted = subst AreAccepted flat c.in_ok-tables.tables.accepted } in
@@ -33,8 +29,7 @@ returns-in_err-decode_whole c =
 
 pub returns : goal.returns
 returns c =
-    let h = holds_euc_kr c.args.file.now _ _ c.new-owned.ensures.empty c.new-owned.ensures.katakana c.in_ok-read.ensures.table
-    (well_formed_ok (Of EucKr) c.args.file.now _ c.in_ok-read.ensures.line _ refl) in
+    let h = holds_euc_kr c.new-owned.ensures.empty c.new-owned.ensures.katakana c.in_ok-read.ensures.table c.in_ok-read.ensures.line refl in
     let flat = c.in_ok-tables.ensures ∙ h.only in
     let same = c.new-decoder.ensures ∙ ap (λ f. new_state (euc_kr f.euc_kr)) flat in
     record {

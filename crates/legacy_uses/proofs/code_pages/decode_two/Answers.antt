@@ -1,6 +1,5 @@
 use Rattle.std.proofs.{Common.{◌∙◌, ap, inl, inr, refl}, lemmas.Result.err_from_is_err_and}
-use Rattle.legacy_index_files.specs.{declared.index_file.EncoderIndex.TheVariants.Of, declared.index_file.FileIndex.TheVariants.EucKr, OwnedIndexes.owned_lists}
-use Rattle.legacy_index_files.proofs.WellFormed.{well_formed_ok}
+use Rattle.legacy_index_files.specs.OwnedIndexes.{owned_lists}
 use Rattle.legacy_uses.proofs.EucKrFiles.{holds_euc_kr, euc_kr_fault_of}
 use Rattle.legacy_uses.proofs.TwoFiles.{euc_kr_by_file, not_decoded_by_euc_kr, not_decoded_by_table, not_read_by_table}
 use Rattle.legacy_uses.proofs.code_pages.decode_two.Goals as goal
@@ -20,8 +19,7 @@ pub returns-in_err-coders-clause-fault : goal.returns-in_err-coders-clause-fault
 returns-in_err-coders-clause-fault c =
     let r = c.from_residual-in_err-coders in
     let p = err_from_is_err_and r.result r.ensures.1 in
-    let h = holds_euc_kr c.args.files.now.euc_kr.now _ _ c.new-registry.ensures.indexes c.new-registry.ensures.katakana c.in_ok-read.ensures.table
-    (well_formed_ok (Of EucKr) c.args.files.now.euc_kr.now _ c.in_ok-read.ensures.line _ refl) in
+    let h = holds_euc_kr c.new-registry.ensures.indexes c.new-registry.ensures.katakana c.in_ok-read.ensures.table c.in_ok-read.ensures.line refl in
     let same = ap owned_lists c.in_ok-read_single_byte.ensures.indexes ∙ h.only in
     rw (p.1, p.2) (inl (c.read.new.self.euc_kr.items, h.of_file, rw same at c.in_err-coders.ensures))
 
@@ -29,8 +27,7 @@ pub returns-in_err-korean_text-clause-fault : goal.returns-in_err-korean_text-cl
 returns-in_err-korean_text-clause-fault c =
     let r = c.from_residual-in_err-korean_text in
     let p = err_from_is_err_and r.result r.ensures.1 in
-    let h = holds_euc_kr c.args.files.now.euc_kr.now _ _ c.new-registry.ensures.indexes c.new-registry.ensures.katakana c.in_ok-read.ensures.table
-    (well_formed_ok (Of EucKr) c.args.files.now.euc_kr.now _ c.in_ok-read.ensures.line _ refl) in
+    let h = holds_euc_kr c.new-registry.ensures.indexes c.new-registry.ensures.katakana c.in_ok-read.ensures.table c.in_ok-read.ensures.line refl in
     let coders = c.in_ok-coders.coders in
     let same = c.in_ok-coders.ensures.0 ∙ ap owned_lists c.in_ok-read_single_byte.ensures.indexes ∙ h.only in
     rw (p.1, p.2) (inl (not_decoded_by_euc_kr coders.tables.flat coders.single_bytes.now c.args.korean.now c.args.files.now.euc_kr.now
@@ -47,8 +44,7 @@ returns-in_err-western_text-clause-fault c =
 
 pub returns-clause-korean : goal.returns-clause-korean
 returns-clause-korean c =
-    let h = holds_euc_kr c.args.files.now.euc_kr.now _ _ c.new-registry.ensures.indexes c.new-registry.ensures.katakana c.in_ok-read.ensures.table
-    (well_formed_ok (Of EucKr) c.args.files.now.euc_kr.now _ c.in_ok-read.ensures.line _ refl) in
+    let h = holds_euc_kr c.new-registry.ensures.indexes c.new-registry.ensures.katakana c.in_ok-read.ensures.table c.in_ok-read.ensures.line refl in
     let coders = c.in_ok-coders.coders in
     let same = c.in_ok-coders.ensures.0 ∙ ap owned_lists c.in_ok-read_single_byte.ensures.indexes ∙ h.only in
     euc_kr_by_file coders.tables.flat coders.single_bytes.now c.args.korean.now c.args.files.now.euc_kr.now c.read.new.self.euc_kr.items _

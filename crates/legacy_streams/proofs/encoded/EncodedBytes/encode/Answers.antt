@@ -1,4 +1,4 @@
-use Rattle.std.proofs.Common.{◌-◌, length-take, length-drop, arith}
+use Rattle.std.proofs.Common.{length-take, length-drop, arith}
 use Rattle.legacy_codecs.proofs.ReferenceTexts.{front_of_part}
 use Rattle.legacy_streams.proofs.encoded.EncodedBytes.encode.Goals as goal
 

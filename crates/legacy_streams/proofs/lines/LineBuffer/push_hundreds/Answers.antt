@@ -1,4 +1,4 @@
-use Rattle.std.proofs.Common.{arith, ◌++◌, length-take-le}
+use Rattle.std.proofs.Common.{arith, length-take-le}
 use Rattle.legacy_streams.proofs.lines.LineBuffer.push_hundreds.Goals as goal
 
 pub returns-clause-text : goal.returns-clause-text

@@ -1,4 +1,4 @@
-use Rattle.std.proofs.Common.{arith, ◌+◌, length-append, decimal, append_assoc}
+use Rattle.std.proofs.Common.{arith, length-append, decimal, append_assoc}
 use Rattle.legacy_streams.proofs.EventLines.{decimal_of_hundreds}
 use Rattle.legacy_streams.proofs.lines.LineBuffer.push_place.Goals as goal
 

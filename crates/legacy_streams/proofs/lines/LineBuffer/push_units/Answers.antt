@@ -1,4 +1,4 @@
-use Rattle.std.proofs.{Common.{◌+◌, arith, length-drop}, lemmas.List.drop-drop}
+use Rattle.std.proofs.{Common.{arith, length-drop}, lemmas.List.drop-drop}
 use Rattle.legacy_streams.proofs.PlainLines.{front_lines, all_lines}
 use Rattle.legacy_streams.proofs.lines.LineBuffer.push_units.Goals as goal
 

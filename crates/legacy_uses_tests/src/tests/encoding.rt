@@ -1,8 +1,8 @@
 //! The program that encodes: its statuses and bytes, also for an input that is cut or malformed, and its errors if a
 //! stream or memory fails.
-use crate::programs::{
-    Failure, Refused, Request, UNREAD, UNWRITTEN, answers, fails, lacks_memory, refuses,
-    writes_once,
+use crate::tests::programs::{
+    Failure, JIS, JIS_FILE, KR_FILE, RANGES_FILE, Refused, Request, UNREAD, UNWRITTEN, USER,
+    answers, fails, lacks_memory, refuses, writes_once,
 };
 use legacy_command::host::Program;
 
@@ -10,18 +10,13 @@ const USAGE: &[u8] = b"usage: legacy_encode CODEC [INDEX FILE]...\n";
 
 const REQUESTS: &[Request] = &[
     // without files
-    ("x-user-defined", &[], b"", b""),
-    (
-        "x-user-defined",
-        &[],
-        b"a\xEF\x9E\x80\xE3\x81\x82z",
-        b"a\x80&#12354;z",
-    ),
+    (USER, &[], b"", b""),
+    (USER, &[], b"a\xEF\x9E\x80\xE3\x81\x82z", b"a\x80&#12354;z"),
     ("big5", &[], b"\xC2\xA5\xF0\x9F\x92\xA9", b"&#165;&#128169;"),
     // with files
     (
         "euc-kr euc-kr FILE",
-        &[Some(b"0 0xAC02\n")],
+        KR_FILE,
         b"\xEA\xB0\x82[\xEA\xB0\x83",
         b"\x81\x41[&#44035;",
     ),
@@ -33,72 +28,42 @@ const REQUESTS: &[Request] = &[
     ),
     (
         "gb18030 ranges FILE",
-        &[Some(b"0 0x0080\n36 0x00A5\n189000 0x10000\n")],
+        RANGES_FILE,
         b"\xC2\x80\xF0\x9F\x92\xA9",
         b"\x81\x30\x81\x30\x94\x39\xDA\x33",
     ),
-    (
-        "gbk ranges FILE",
-        &[Some(b"0 0x0080\n36 0x00A5\n189000 0x10000\n")],
-        b"\xC2\x80",
-        b"&#128;",
-    ),
+    ("gbk ranges FILE", RANGES_FILE, b"\xC2\x80", b"&#128;"),
     // ISO-2022-JP ends in ASCII, and writes a reference in it.
+    (JIS, JIS_FILE, b"", b""),
+    (JIS, JIS_FILE, b"\xE5\xA3\xBA", b"\x1B$BTd\x1B(B"),
     (
-        "iso-2022-jp jis0208 FILE",
-        &[Some(b"4861 0x58FA\n")],
-        b"",
-        b"",
-    ),
-    (
-        "iso-2022-jp jis0208 FILE",
-        &[Some(b"4861 0x58FA\n")],
-        b"\xE5\xA3\xBA",
-        b"\x1B$BTd\x1B(B",
-    ),
-    (
-        "iso-2022-jp jis0208 FILE",
-        &[Some(b"4861 0x58FA\n")],
+        JIS,
+        JIS_FILE,
         b"\xE5\xA3\xBA\xC2\xA5A\xF0\x9F\x92\xA9",
         b"\x1B$BTd\x1B(J\\A&#128169;\x1B(B",
     ),
     // A malformed sequence is U+FFFD. Each byte counts alone if it continues nothing, or is in an overlong form, a
     // surrogate or a number past the last scalar. A beginning of a character counts once.
-    ("x-user-defined", &[], b"x\x80y", b"x&#65533;y"),
-    ("x-user-defined", &[], b"\xC0\xAF", b"&#65533;&#65533;"),
+    (USER, &[], b"x\x80y", b"x&#65533;y"),
+    (USER, &[], b"\xC0\xAF", b"&#65533;&#65533;"),
+    (USER, &[], b"\xE0\x80\xAF", b"&#65533;&#65533;&#65533;"),
+    (USER, &[], b"\xED\xA0\x80", b"&#65533;&#65533;&#65533;"),
     (
-        "x-user-defined",
-        &[],
-        b"\xE0\x80\xAF",
-        b"&#65533;&#65533;&#65533;",
-    ),
-    (
-        "x-user-defined",
-        &[],
-        b"\xED\xA0\x80",
-        b"&#65533;&#65533;&#65533;",
-    ),
-    (
-        "x-user-defined",
+        USER,
         &[],
         b"\xF4\x90\x80\x80",
         b"&#65533;&#65533;&#65533;&#65533;",
     ),
-    ("x-user-defined", &[], b"\xE3\x81a", b"&#65533;a"),
-    ("x-user-defined", &[], b"\xF0\x9F\x92a", b"&#65533;a"),
-    (
-        "x-user-defined",
-        &[],
-        b"\xF0\x9F\xE3\x81\x82",
-        b"&#65533;&#12354;",
-    ),
+    (USER, &[], b"\xE3\x81a", b"&#65533;a"),
+    (USER, &[], b"\xF0\x9F\x92a", b"&#65533;a"),
+    (USER, &[], b"\xF0\x9F\xE3\x81\x82", b"&#65533;&#12354;"),
     // So is a beginning of a character at the end of the input.
-    ("x-user-defined", &[], b"a\xC2", b"a&#65533;"),
-    ("x-user-defined", &[], b"a\xE3\x81", b"a&#65533;"),
-    ("x-user-defined", &[], b"a\xF0\x9F\x92", b"a&#65533;"),
+    (USER, &[], b"a\xC2", b"a&#65533;"),
+    (USER, &[], b"a\xE3\x81", b"a&#65533;"),
+    (USER, &[], b"a\xF0\x9F\x92", b"a&#65533;"),
     (
-        "iso-2022-jp jis0208 FILE",
-        &[Some(b"4861 0x58FA\n")],
+        JIS,
+        JIS_FILE,
         b"\xE5\xA3\xBA\xE5\xA3",
         b"\x1B$BTd\x1B(B&#65533;",
     ),
@@ -134,22 +99,20 @@ fn refuses_words_and_files_to_encode_by(rt: HostRuntime) {
     refuses(&rt, Program::Encode, REFUSED);
 }
 
-const WORD: &str = "x-user-defined";
-
 // The text is read one byte at a time, and a write takes at most three bytes.
 const FAILURES: &[Failure] = &[
-    (WORD, 9, (9, true), 99, 0, b"a\x80&#165;", b""),
+    (USER, 9, (9, true), 99, 0, b"a\x80&#165;", b""),
     // After a failed read the characters before it are kept, but not one that it cuts.
-    (WORD, 0, (9, true), 99, 1, b"", UNREAD),
-    (WORD, 1, (9, true), 99, 1, b"a", UNREAD),
-    (WORD, 3, (9, true), 99, 1, b"a", UNREAD),
-    (WORD, 4, (9, true), 99, 1, b"a\x80", UNREAD),
-    (WORD, 6, (9, true), 99, 1, b"a\x80&#165;", UNREAD),
+    (USER, 0, (9, true), 99, 1, b"", UNREAD),
+    (USER, 1, (9, true), 99, 1, b"a", UNREAD),
+    (USER, 3, (9, true), 99, 1, b"a", UNREAD),
+    (USER, 4, (9, true), 99, 1, b"a\x80", UNREAD),
+    (USER, 6, (9, true), 99, 1, b"a\x80&#165;", UNREAD),
     // After a failed write the bytes before it are kept.
-    (WORD, 9, (0, true), 99, 1, b"", UNWRITTEN),
-    (WORD, 9, (1, true), 99, 1, b"a", UNWRITTEN),
-    (WORD, 9, (3, true), 99, 1, b"a\x80&#1", UNWRITTEN),
-    (WORD, 9, (9, false), 99, 1, b"a\x80&#165;", UNWRITTEN),
+    (USER, 9, (0, true), 99, 1, b"", UNWRITTEN),
+    (USER, 9, (1, true), 99, 1, b"a", UNWRITTEN),
+    (USER, 9, (3, true), 99, 1, b"a\x80&#1", UNWRITTEN),
+    (USER, 9, (9, false), 99, 1, b"a\x80&#165;", UNWRITTEN),
 ];
 
 #[test]
@@ -168,7 +131,7 @@ fn writes_malformed_sequences_together(rt: HostRuntime) {
     writes_once(
         &rt,
         Program::Encode,
-        (WORD, b"\xFFa\xE3\x81\xFF"),
+        (USER, b"\xFFa\xE3\x81\xFF"),
         b"&#65533;a&#65533;&#65533;",
     );
 }

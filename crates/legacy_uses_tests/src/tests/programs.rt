@@ -1,10 +1,25 @@
 //! Runs of the two programs: their words, files and streams, and the wanted status and output.
-use crate::compared::holds;
-use crate::streams::{FailingReader, FailingWriter};
-use crate::words::words_in;
+use crate::tests::compared::holds;
+use crate::tests::streams::{FailingReader, FailingWriter};
+use crate::tests::words::words_in;
 use legacy_command::host::{Program, run_program};
 use std::alloc::Global;
 use std::process::Abort;
+
+/// The word of a codec without indexes.
+pub(crate) const USER: &str = "x-user-defined";
+
+/// U+AC02 at pointer 0 of index EUC-KR.
+pub(crate) const KR_FILE: &[Option<&[u8]>] = &[Some(b"0 0xAC02\n")];
+
+/// Three ranges of gb18030, from U+0080, U+00A5 and U+10000.
+pub(crate) const RANGES_FILE: &[Option<&[u8]>] = &[Some(b"0 0x0080\n36 0x00A5\n189000 0x10000\n")];
+
+/// The words of ISO-2022-JP with a file.
+pub(crate) const JIS: &str = "iso-2022-jp jis0208 FILE";
+
+/// U+58FA at pointer 4861 of index jis0208.
+pub(crate) const JIS_FILE: &[Option<&[u8]>] = &[Some(b"4861 0x58FA\n")];
 
 pub(crate) const UNREAD: &[u8] = b"input: cannot be read\n";
 

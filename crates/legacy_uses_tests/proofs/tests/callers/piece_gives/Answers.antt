@@ -1,5 +1,5 @@
 use Rattle.std.proofs.Common.{◌∙◌, ◌≤◌, length, arith, sym}
-use Rattle.legacy_uses_tests.proofs.callers.piece_gives.Goals as goal
+use Rattle.legacy_uses_tests.proofs.tests.callers.piece_gives.Goals as goal
 
 pub decode_piece-written-requires : goal.decode_piece-written-requires
 decode_piece-written-requires g c =

@@ -1,5 +1,5 @@
 //! Calls each caller once, for EUC-KR with U+AC02 at pointer 0 and no other scalar.
-use crate::packing::no_entries;
+use crate::tests::packing::no_entries;
 use legacy_codecs::{
     CachedEncoder, EucKrDecoder, EucKrEncoder, MalformedSequence, PAIR_ROOM, RawDecoder,
     SingleByteRun, SingleByteTable, Tables, UserDefinedEncoder, decode_piece, decode_whole,
@@ -162,14 +162,8 @@ fn refusal(alloc: Global, coders: &Coders, name: &str) -> Option<RegistryError> 
 
 #[test]
 fn a_registry_goes_by_names(rt: HostRuntime) {
-    let Ok(registry) = registry_of(rt.alloc()) else {
-        assert!(rt; false);
-        return;
-    };
-    let Ok(coders) = registry.coders() else {
-        assert!(rt; false);
-        return;
-    };
+    let registry = registry_of(rt.alloc()).expect(&rt, "registry");
+    let coders = registry.coders().expect(&rt, "coders");
     let rows: [(&str, &[u8], &str); 3] = [
         ("EUC-KR", b"a\x81\x41", "a\u{AC02}"),
         ("windows-1252", b"a\x80", "a\u{20AC}"),
@@ -238,12 +232,8 @@ fn japanese(alloc: Global) -> Result<Registry, RegistryError> {
 
 #[test]
 fn half_width_katakana_are_written_by_their_file(rt: HostRuntime) {
-    let Ok(registry) = japanese(rt.alloc()) else {
-        panic!(rt; "registry");
-    };
-    let Ok(coders) = registry.coders() else {
-        panic!(rt; "coders");
-    };
+    let registry = japanese(rt.alloc()).expect(&rt, "registry");
+    let coders = registry.coders().expect(&rt, "coders");
     let bytes = coders.encode(rt.alloc(), "ISO-2022-JP", "\u{FF61}\u{FF62}");
     assert_eq!(rt; bytes.as_deref(), Ok(b"\x1B$B!#\x1B(B&#65378;".as_slice()));
 }
@@ -282,12 +272,8 @@ fn transcodes(
 
 #[test]
 fn messages_are_checked_and_files_transcoded(rt: HostRuntime) {
-    let Ok(registry) = registry_of(rt.alloc()) else {
-        panic!(rt; "registry");
-    };
-    let Ok(coders) = registry.coders() else {
-        panic!(rt; "coders");
-    };
+    let registry = registry_of(rt.alloc()).expect(&rt, "registry");
+    let coders = registry.coders().expect(&rt, "coders");
     assert!(rt; places(rt.alloc(), &coders, b"a\x81\x41") == Some((0, true)));
     assert!(rt; places(rt.alloc(), &coders, b"a\xFF\x81") == Some((2, false)));
     let rows: [(&str, &str, &[u8], &[u8]); 3] = [

@@ -1,5 +1,5 @@
 //! An owning set of indexes, from the text of a file to the scalars of tables.
-use crate::compared::{holds, is_fault, is_refusal, is_scalar};
+use crate::tests::compared::{holds, is_error, is_scalar};
 use legacy_index_files::{FileIndex, IndexFileError, OwnedIndexes};
 use legacy_tables::{IndexName, SingleByteTable, TableError, Tables};
 use std::alloc::Global;
@@ -66,7 +66,7 @@ fn tables_are_borrowed_of_what_files_say(rt: HostRuntime) {
     let mut owned = OwnedIndexes::new(rt.alloc());
     for (index, text, refusal) in FILES {
         let answer = read(&mut owned, rt.alloc(), *index, *text);
-        is_refusal(&rt, "a file", answer.as_ref().err(), refusal.as_ref());
+        is_error(&rt, "a file", answer.as_ref().err(), refusal.as_ref());
     }
     match tables_of(&owned) {
         Ok(tables) => have_what_files_say(&rt, &tables),
@@ -98,7 +98,7 @@ fn katakana_are_63_or_none(rt: HostRuntime) {
     let mut owned = OwnedIndexes::new(rt.alloc());
     for (text, refusal) in KATAKANA {
         let answer = read_katakana(&mut owned, rt.alloc(), *text);
-        is_refusal(&rt, "katakana", answer.as_ref().err(), refusal.as_ref());
+        is_error(&rt, "katakana", answer.as_ref().err(), refusal.as_ref());
         holds(&rt, "tables of them", tables_of(&owned).is_ok());
     }
 }
@@ -115,13 +115,13 @@ fn has_the_euro_sign(rt: &impl Abort, owned: &OwnedIndexes) {
 fn the_first_fault_of_a_set_is_told(rt: HostRuntime) {
     let mut owned = OwnedIndexes::new(rt.alloc());
     let answer = read(&mut owned, rt.alloc(), FileIndex::SingleByte, b"0 0x20AC\n");
-    is_refusal(&rt, "a file", answer.as_ref().err(), None);
+    is_error(&rt, "a file", answer.as_ref().err(), None);
     has_the_euro_sign(&rt, &owned);
     // The ideographic full stop is at pointer 0 of index ISO-2022-JP katakana, which has 63 pointers.
     let answer = read_katakana(&mut owned, rt.alloc(), b"0 0x3002\n");
-    is_refusal(&rt, "a katakana", answer.as_ref().err(), None);
+    is_error(&rt, "a katakana", answer.as_ref().err(), None);
     let fault = tables_of(&owned).err();
-    is_fault(
+    is_error(
         &rt,
         "katakana",
         fault.as_ref(),

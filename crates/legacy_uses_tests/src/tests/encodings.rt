@@ -1,5 +1,5 @@
 //! Compares the encodings with rows of the Standard.
-use crate::compared::holds;
+use crate::tests::compared::holds;
 use legacy_index_files::{Codec, ENCODINGS, EncoderIndex, Encoding, FileIndex};
 
 /// Returns the codec of the encoding with this name.

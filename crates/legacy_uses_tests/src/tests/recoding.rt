@@ -1,6 +1,6 @@
 //! Recoding: the output before a read or a write fails, and the state from piece to piece.
-use crate::packing::no_entries;
-use crate::streams::{BYTES, FailingReader, FailingWriter, TEXT};
+use crate::tests::packing::no_entries;
+use crate::tests::streams::{BYTES, FailingReader, FailingWriter, TEXT};
 use legacy_codecs::{EucKrDecoder, RawDecoder, Tables, UserDefinedDecoder, Utf16Decoder};
 use legacy_streams::recode::{RecodeError, recode};
 use legacy_streams::text::recode_text;

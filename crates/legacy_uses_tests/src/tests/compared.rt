@@ -1,12 +1,10 @@
 //! Functions that compare the result of a call with the wanted one.
 // Each is a function of its own, because an `assert!` with a message is proved again at each place of use.
-use legacy_index_files::IndexFileError;
-use legacy_tables::TableError;
 use std::fmt::{Debug, Display};
 use std::process::Abort;
 
 /// Compares the result of a case with the wanted one.
-fn is<T: Copy + PartialEq + Debug>(rt: &impl Abort, case: &str, came: T, wanted: T) {
+pub(crate) fn is<T: Copy + PartialEq + Debug>(rt: &impl Abort, case: &str, came: T, wanted: T) {
     assert!(rt; came == wanted, "{case}: came {came:?}, wanted {wanted:?}");
 }
 
@@ -25,22 +23,12 @@ pub(crate) fn are_pointers(rt: &impl Abort, case: &str, came: &[u16], wanted: &[
     is(rt, case, came, wanted);
 }
 
-/// Compares the error of a file, if it was refused, with the wanted one.
-pub(crate) fn is_refusal(
+/// Compares the error of a file or the first fault of indexes, if there is one, with the wanted one.
+pub(crate) fn is_error<E: PartialEq + Debug>(
     rt: &impl Abort,
     case: &str,
-    came: Option<&IndexFileError>,
-    wanted: Option<&IndexFileError>,
-) {
-    is(rt, case, came, wanted);
-}
-
-/// Compares the first fault of indexes, if there is one, with the wanted one.
-pub(crate) fn is_fault(
-    rt: &impl Abort,
-    case: &str,
-    came: Option<&TableError>,
-    wanted: Option<&TableError>,
+    came: Option<&E>,
+    wanted: Option<&E>,
 ) {
     is(rt, case, came, wanted);
 }

@@ -1,4 +1,4 @@
-use crate::compared::{holds, is_refusal, prints};
+use crate::tests::compared::{holds, is_error, prints};
 use legacy_index_files::{FileIndex, FileTable, IndexFileError, read_index};
 use std::alloc::{AllocError, Global};
 use std::process::Abort;
@@ -24,7 +24,7 @@ fn gives(alloc: Global, text: &[u8], values: &[u16]) -> bool {
 fn refuses(rt: &impl Abort, alloc: Global, name: FileIndex, text: &[u8], number: usize) {
     let answer = read(alloc, name, text);
     let wanted = IndexFileError::Line(number);
-    is_refusal(rt, "a malformed line", answer.as_ref().err(), Some(&wanted));
+    is_error(rt, "a malformed line", answer.as_ref().err(), Some(&wanted));
 }
 
 /// The name of a case, a file of index EUC-KR, and its values.
@@ -236,7 +236,7 @@ fn answers_memory_only_where_a_growth_is_refused(rt: HostRuntime) {
         match read(rt.alloc(), name, NINE) {
             Ok(table) => holds(&rt, "nine entries", has_nine(&table)),
             Err(fault) => {
-                is_refusal(
+                is_error(
                     &rt,
                     "nine entries",
                     Some(&fault),

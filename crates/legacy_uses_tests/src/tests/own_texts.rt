@@ -1,7 +1,7 @@
 //! Tests of a user's own source and destination, with EUC-KR (U+AC02 at pointer 0) and with UTF-16.
 use crate::beginning::encode_beginning;
-use crate::callers::tables_of;
 use crate::character_list::decode_to_characters;
+use crate::tests::callers::tables_of;
 use legacy_codecs::{
     DecoderResult, EncoderResult, EucKrDecoder, EucKrEncoder, RawDecoder, Utf16Decoder,
 };
@@ -19,15 +19,9 @@ fn beginning_is(
     let tables = tables_of(rt);
     let mut encoder = EucKrEncoder::new(&tables);
     let mut output = [0xAA; 8];
-    let (answer, read, written) = encode_beginning(
-        &mut encoder,
-        text,
-        most,
-        &mut output[..free.min(8)],
-        true,
-    );
-    assert!(rt; (answer, read) == wanted);
-    assert!(rt; &output[..written.min(8)] == bytes);
+    let free = &mut output[..free.min(8)];
+    let (answer, read, written) = encode_beginning(&mut encoder, text, most, free, true);
+    assert!(rt; (answer, read) == wanted && &output[..written.min(8)] == bytes);
 }
 
 #[test]
@@ -65,14 +59,9 @@ fn list_is<D: RawDecoder>(
     characters: &[char],
 ) {
     let mut output = ['\u{AAAA}'; 8];
-    let (answer, read, written) = decode_to_characters(
-        decoder,
-        bytes,
-        &mut output[..free.min(8)],
-        true,
-    );
-    assert!(rt; (answer, read) == wanted);
-    assert!(rt; &output[..written.min(8)] == characters);
+    let free = &mut output[..free.min(8)];
+    let (answer, read, written) = decode_to_characters(decoder, bytes, free, true);
+    assert!(rt; (answer, read) == wanted && &output[..written.min(8)] == characters);
 }
 
 #[test]

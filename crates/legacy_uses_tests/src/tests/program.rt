@@ -1,8 +1,9 @@
 //! The program: its statuses and texts, and its errors if a stream or memory fails or a word is not UTF-8 text.
-use crate::programs::{
-    Failure, Refused, Request, UNREAD, UNWRITTEN, answers, fails, lacks_memory, refuses,
+use crate::tests::programs::{
+    Failure, JIS, JIS_FILE, KR_FILE, RANGES_FILE, Refused, Request, UNREAD, UNWRITTEN, USER,
+    answers, fails, lacks_memory, refuses,
 };
-use crate::streams::{BYTES, TEXT};
+use crate::tests::streams::{BYTES, TEXT};
 use legacy_command::arguments::{ArgumentsError, arguments, status_of};
 use legacy_command::host::Program;
 use legacy_command::program::Fault;
@@ -32,7 +33,7 @@ fn tells_each_malformed_byte(rt: HostRuntime) -> Result<(), Fail> {
 
 const REQUESTS: &[Request] = &[
     // Without files.
-    ("x-user-defined", &[], BYTES, b"U+0061\nU+F780\nU+F7FF\n"),
+    (USER, &[], BYTES, b"U+0061\nU+F780\nU+F7FF\n"),
     ("replacement", &[], b"AB", b"bad 0 1\n"),
     ("replacement", &[], b"", b""),
     (
@@ -68,7 +69,7 @@ const REQUESTS: &[Request] = &[
     // With files.
     (
         "euc-kr euc-kr FILE",
-        &[Some(b"0 0xAC02\n")],
+        KR_FILE,
         b"\x81\x41\x81\x5B",
         b"U+AC02\nbad 2 1\nU+005B\n",
     ),
@@ -79,20 +80,20 @@ const REQUESTS: &[Request] = &[
         b"U+2910D\nU+00CA\nU+0304\n",
     ),
     (
-        "iso-2022-jp jis0208 FILE",
-        &[Some(b"4861 0x58FA\n")],
+        JIS,
+        JIS_FILE,
         b"\x1B\x24\x42\x54\x64\x1B\x28\x42A",
         b"U+58FA\nU+0041\n",
     ),
     (
         "gb18030 ranges FILE",
-        &[Some(b"0 0x0080\n36 0x00A5\n189000 0x10000\n")],
+        RANGES_FILE,
         b"\x81\x30\x81\x30\x94\x39\xDA\x33",
         b"U+0080\nU+1F4A9\n",
     ),
     (
         "gbk ranges FILE",
-        &[Some(b"0 0x0080\n36 0x00A5\n189000 0x10000\n")],
+        RANGES_FILE,
         b"\x81\x30\x81\x30\x94\x39\xDA\x33",
         b"U+0080\nU+1F4A9\n",
     ),
@@ -114,7 +115,7 @@ const REQUESTS: &[Request] = &[
     ("--text replacement", &[], b"AB", b"\xEF\xBF\xBD"),
     (
         "--text euc-kr euc-kr FILE",
-        &[Some(b"0 0xAC02\n")],
+        KR_FILE,
         b"\x81\x41\x81\x5B",
         b"\xEA\xB0\x82\xEF\xBF\xBD\x5B",
     ),
@@ -261,18 +262,10 @@ fn the_faults_print_their_texts(rt: HostRuntime) {
 }
 
 const FAILURES: &[Failure] = &[
+    (USER, 2, (2, true), 99, 1, b"U+0061\nU+F780\n", UNREAD),
+    (USER, 4, (0, true), 99, 1, b"", UNWRITTEN),
     (
-        "x-user-defined",
-        2,
-        (2, true),
-        99,
-        1,
-        b"U+0061\nU+F780\n",
-        UNREAD,
-    ),
-    ("x-user-defined", 4, (0, true), 99, 1, b"", UNWRITTEN),
-    (
-        "x-user-defined",
+        USER,
         4,
         (9, false),
         99,
@@ -280,7 +273,7 @@ const FAILURES: &[Failure] = &[
         b"U+0061\nU+F780\nU+F7FF\n",
         UNWRITTEN,
     ),
-    ("x-user-defined", 0, (6, false), 99, 1, b"", UNREAD),
+    (USER, 0, (6, false), 99, 1, b"", UNREAD),
     // If the line of an error cannot be written, the status is the same.
     ("latin", 4, (9, true), 0, 2, b"", b""),
     ("big5 big5 FILE", 4, (9, true), 0, 1, b"", b""),

@@ -1,7 +1,6 @@
-use crate::compared::{are_pointers, holds, is_fault, is_scalar};
+use crate::tests::compared::{are_pointers, holds, is_error, is_scalar};
 use legacy_index_files::{FileIndex, OwnedIndexes, OwnedPacked, PackedIndexes, pack};
 use legacy_tables::{DecoderTables, IndexName, Indexes, Packed, Run, TableError, Tables};
-use std::alloc::Global;
 use std::process::Abort;
 use std::test::Fail;
 
@@ -21,11 +20,6 @@ pub(crate) fn no_entries<'a>() -> Indexes<'a> {
 
 // The next three functions have no clauses: the prover would search the clauses of their calls at each later statement.
 
-/// Packs indexes.
-fn packed_of(rt: &impl Abort, alloc: Global, indexes: &Indexes) -> OwnedPacked {
-    pack(alloc, indexes).expect(rt, "no memory")
-}
-
 /// Returns the first fault of indexes with these packed parts.
 fn fault_with<'a>(indexes: &Indexes<'a>, packed: &Packed<'a>) -> Option<TableError> {
     Tables::packed_of(indexes, packed).err()
@@ -36,10 +30,24 @@ fn fault_of<'a>(indexes: &Indexes<'a>) -> Option<TableError> {
     Tables::new(indexes).err()
 }
 
+/// Packs indexes.
+fn packed_of(rt: &(impl AllocGlobal + Abort), indexes: &Indexes) -> OwnedPacked {
+    pack(rt.alloc(), indexes).expect(rt, "no memory")
+}
+
 /// Asserts that packed indexes have no fault of their own beside their indexes.
 fn has_no_own_fault<'a>(rt: &impl Abort, indexes: &Indexes<'a>, packed: &Packed<'a>) {
     let (came, wanted) = (fault_with(indexes, packed), fault_of(indexes));
-    is_fault(rt, "packed", came.as_ref(), wanted.as_ref());
+    is_error(rt, "packed", came.as_ref(), wanted.as_ref());
+}
+
+/// Puts each entry at its pointer.
+fn fill<T: Copy>(index: &mut [T], entries: &[(usize, T)]) {
+    for (pointer, entry) in entries {
+        if *pointer < index.len() {
+            index[*pointer] = *entry;
+        }
+    }
 }
 
 /// Entries of index EUC-KR, their runs, and the pointers by scalar values.
@@ -88,18 +96,6 @@ fn are_runs(came: &[Run], wanted: &[(u16, u32, u16)]) -> bool {
     true
 }
 
-#[test]
-fn runs_and_orders_of_an_index(rt: HostRuntime) {
-    for (entries, runs, order) in ROWS {
-        let mut indexes = no_entries();
-        indexes.euc_kr = entries;
-        let made = packed_of(&rt, rt.alloc(), &indexes);
-        has_no_own_fault(&rt, &indexes, &made.packed());
-        holds(&rt, "the runs of EUC-KR", are_runs(&made.euc_kr, *runs));
-        are_pointers(&rt, "EUC-KR", &made.euc_kr_order, *order);
-    }
-}
-
 /// Returns the entries up to the last run: packed, an index ends with its last scalar.
 fn packed_entries<'a>(entries: &'a [u16], runs: &[(u16, u32, u16)]) -> &'a [u16] {
     let end = match runs.last() {
@@ -121,17 +117,18 @@ fn unpacks<'a>(rt: &impl Abort, indexes: &Indexes<'a>, packed: &Packed<'a>, entr
 }
 
 #[test]
-fn an_unpacked_index_is_the_index(rt: HostRuntime) {
-    for (entries, runs, _) in ROWS {
-        let mut indexes = no_entries();
-        indexes.euc_kr = entries;
-        let made = packed_of(&rt, rt.alloc(), &indexes);
-        unpacks(
-            &rt,
-            &indexes,
-            &made.packed(),
-            packed_entries(*entries, *runs),
-        );
+fn an_index_is_packed_to_runs_and_an_order_and_unpacked(rt: HostRuntime) {
+    for (entries, runs, order) in ROWS {
+        let indexes = Indexes {
+            euc_kr: entries,
+            ..no_entries()
+        };
+        let made = packed_of(&rt, &indexes);
+        has_no_own_fault(&rt, &indexes, &made.packed());
+        holds(&rt, "the runs of EUC-KR", are_runs(&made.euc_kr, *runs));
+        are_pointers(&rt, "EUC-KR", &made.euc_kr_order, *order);
+        let flat = packed_entries(*entries, *runs);
+        unpacks(&rt, &indexes, &made.packed(), flat);
     }
 }
 
@@ -152,14 +149,12 @@ const JIS: &[Jis] = &[
 fn two_orders_of_jis0208(rt: HostRuntime) {
     for (places, shift_jis, euc_jp) in JIS {
         let mut entries = [0u16; 11280];
-        for (pointer, scalar) in *places {
-            if let Some(entry) = entries.get_mut(*pointer) {
-                *entry = *scalar;
-            }
-        }
-        let mut indexes = no_entries();
-        indexes.jis0208 = &entries;
-        let made = packed_of(&rt, rt.alloc(), &indexes);
+        fill(&mut entries, *places);
+        let indexes = Indexes {
+            jis0208: &entries,
+            ..no_entries()
+        };
+        let made = packed_of(&rt, &indexes);
         has_no_own_fault(&rt, &indexes, &made.packed());
         let count = made.jis0208.len();
         holds(&rt, "a run for each place", count == places.len());
@@ -190,14 +185,12 @@ const BIG5: &[Big5] = &[
 fn an_order_of_big5(rt: HostRuntime) {
     for (places, order) in BIG5 {
         let mut entries = [0u32; 19782];
-        for (pointer, scalar) in *places {
-            if let Some(entry) = entries.get_mut(*pointer) {
-                *entry = *scalar;
-            }
-        }
-        let mut indexes = no_entries();
-        indexes.big5 = &entries;
-        let made = packed_of(&rt, rt.alloc(), &indexes);
+        fill(&mut entries, *places);
+        let indexes = Indexes {
+            big5: &entries,
+            ..no_entries()
+        };
+        let made = packed_of(&rt, &indexes);
         has_no_own_fault(&rt, &indexes, &made.packed());
         are_pointers(&rt, "Big5", &made.big5_order, *order);
     }
@@ -215,9 +208,11 @@ const REFUSED: &[&[u32]] = &[
 #[test]
 fn indexes_that_are_refused_are_packed_too(rt: HostRuntime) {
     for entries in REFUSED {
-        let mut indexes = no_entries();
-        indexes.big5 = entries;
-        let made = packed_of(&rt, rt.alloc(), &indexes);
+        let indexes = Indexes {
+            big5: entries,
+            ..no_entries()
+        };
+        let made = packed_of(&rt, &indexes);
         has_no_own_fault(&rt, &indexes, &made.packed());
     }
 }
