@@ -537,7 +537,7 @@ fn stands_alone<C: LaneCodec>(src: &[u8]) -> bool {
 const LONG_ASCII: usize = 64;
 
 /// The number of bytes that are read form by form before lanes, after long ASCII and at the beginning.
-const LONG_DELAY: usize = 256;
+const LONG_DELAY: usize = 512;
 
 /// The number of bytes that are read form by form before lanes, after a block of lanes.
 const SHORT_DELAY: usize = 12;
