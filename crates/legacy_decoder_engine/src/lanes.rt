@@ -621,7 +621,7 @@ impl<'a, 'b, C: LaneCodec> LaneBlocks<'a, 'b, C> {
         }
     }
 
-    /// Returns the number of bytes to read form by form after so many bytes of ASCII.
+    /// Returns the number of bytes to read form by form after a run of ASCII of this length.
     // Text with tags has long ASCII between its runs of pairs, and most of them are too short for lanes.
     #[inline(always)]
     fn delay_after(&self, ascii: usize) -> usize {

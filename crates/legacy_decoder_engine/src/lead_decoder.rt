@@ -13,7 +13,7 @@ ghost use Rattle.legacy_decoder_engine.specs.Feeding.{Took};
 ghost use Rattle.legacy_decoder_engine.specs.LeadCodecs.{IsLeadCodec, held_bytes, lead_state};
 
 use crate::drive::{count_malformed_bytes, drive_decoder};
-use crate::lanes::{LaneCodec, LaneBlocks, read_common};
+use crate::lanes::{LaneBlocks, LaneCodec, read_common};
 use crate::moves::{DecoderMoves, Fed, Room};
 use crate::read_ahead::read_ascii;
 use legacy_base::{DecoderStep, Destination, RawDecoder, Tables};

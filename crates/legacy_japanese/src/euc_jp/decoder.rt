@@ -19,7 +19,7 @@ use super::held_lead::EucJpLead;
 use legacy_base::{DecoderStep, Destination, IndexName, RawDecoder, Tables};
 use legacy_decoder_engine::common_forms::CommonForm;
 use legacy_decoder_engine::drive::{count_malformed_bytes, drive_decoder};
-use legacy_decoder_engine::lanes::{LaneCodec, LaneBlocks, narrow_entries, read_common};
+use legacy_decoder_engine::lanes::{LaneBlocks, LaneCodec, narrow_entries, read_common};
 use legacy_decoder_engine::lead_and_trail::malformed_through;
 use legacy_decoder_engine::moves::{DecoderMoves, Fed, Room};
 use legacy_decoder_engine::read_ahead::read_ascii;
