@@ -1,2 +1,4 @@
 pub mod Numbers
 pub mod AcceptedIndexes
+pub mod Decoding
+pub mod Encoding
