@@ -1,7 +1,6 @@
 -- What a decoder writes, in one call and in conversions of a whole source.
 use Rattle.std.specs.Prelude.{◌≡◌, ℕ, ◌+◌, ◌-◌, ◌≤◌, List, [], length, drop, map, Bool, true, IsTrue, Option, Some, ◌⊎◌}
 use Rattle.legacy_text.specs.EncodingForm.{EncodingForm, all_code_units}
-use Rattle.legacy_tables.specs.Indexes.{FlatIndexes}
 use Rattle.legacy_base.specs.declared.results.DecodeEvent.{DecodeEvent}
 use Rattle.legacy_base.specs.Grammar.{events_of}
 use Rattle.legacy_base.specs.States.{DecoderState}
@@ -10,10 +9,9 @@ use Rattle.legacy_base.specs.Calls.{Progress}
 use Rattle.legacy_codecs.specs.Replacing.{replaced_scalars, has_bad, may_replace_end}
 use Rattle.legacy_codecs.specs.declared.results.CoderResult.{CoderResult}
 use Rattle.legacy_codecs.specs.declared.results.CoderResult.TheVariants.{InputEmpty, OutputFull}
-use Rattle.legacy_index_files.specs.declared.codec.Codec.{Codec}
 use Rattle.legacy_encodings.specs.Coders.{decoder_of}
-use Rattle.legacy_exports.specs.Numbers.{number_of}
-use Rattle.legacy_exports.specs.AcceptedIndexes.{AreTablesOf, IsRefused, IsTaken, range_pair}
+use Rattle.legacy_exports.specs.NewCoders.{HoldsByNumber}
+use Rattle.legacy_exports.specs.AcceptedIndexes.{IsRefused, IsTaken}
 use Rattle.legacy_exports.specs.declared.indexes.IndexSlices.{IndexSlices}
 use Rattle.legacy_exports.specs.declared.calls.CallEnd.{CallEnd}
 use Rattle.legacy_exports.specs.declared.calls.CallEnd.TheVariants.{Read, Full, Replaced}
@@ -71,28 +69,13 @@ pub data DecodesTimes (form : EncodingForm) (source : List ℕ) (free : ℕ) (be
       (after : DecoderState) (written : List ℕ) → DecodesSource form source free now after written →
       DecodesTimes form source free before (times + 1) after written
 
--- a new decoder of the codec, over these lists, makes the conversions
-pub record DecodesBy (codec : Codec) (lists : FlatIndexes) (entries : Option (List ℕ)) (form : EncodingForm) (source : List ℕ) (times free : ℕ) (written : List ℕ) : Type 0 where
-  pub new : DecoderState
-  pub begins : decoder_of codec lists entries ≡ Some new
-  pub after : DecoderState
-  pub conversions : DecodesTimes form source free new times after written
-
--- the same over tables of the caller's indexes
-pub record DecodesWith (codec : Codec) (slices : IndexSlices) (form : EncodingForm) (source : List ℕ) (times free : ℕ) (written : List ℕ) : Type 0 where
-  pub lists : FlatIndexes
-  pub tables : AreTablesOf slices (map range_pair slices.ranges.now) lists
-  pub converts : DecodesBy codec lists (Some slices.single_byte.now) form source times free written
-
--- the same by the codec of a number
-pub record DecodesByNumber (number : ℕ) (slices : IndexSlices) (form : EncodingForm) (source : List ℕ) (times free : ℕ) (written : List ℕ) : Type 0 where
-  pub codec : Codec
-  pub named : number_of codec ≡ number
-  pub converts : DecodesWith codec slices form source times free written
+-- conversions from a state on
+abbrev pub DecodesTo : EncodingForm → List ℕ → ℕ → ℕ → List ℕ → DecoderState → Type 0
+DecodesTo form source times free written before = (after : DecoderState) × DecodesTimes form source free before times after written
 
 -- What a decoder function returns: the number of code units that it wrote, or `usize::MAX` if the number or the indexes are
 -- refused.
 pub record ReturnsText (number : ℕ) (slices : IndexSlices) (form : EncodingForm) (source : List ℕ) (times free : ℕ) (written : List ℕ) (result : ℕ) : Type 0 where
   pub either : (result ≤ free) ⊎ (result ≡ 0xFFFF_FFFF_FFFF_FFFF)
-  pub taken : IsTaken number slices → (result ≤ free) × DecodesByNumber number slices form source times free written
+  pub taken : IsTaken number slices → (result ≤ free) × HoldsByNumber decoder_of number slices (DecodesTo form source times free written)
   pub refused : IsRefused number slices → result ≡ 0xFFFF_FFFF_FFFF_FFFF

@@ -1,14 +1,12 @@
 -- What an encoder writes, in one call and in conversions of a whole text.
 use Rattle.std.specs.Prelude.{◌≡◌, ℕ, ◌+◌, ◌-◌, ◌<◌, ◌≤◌, List, [], ◌∷◌, ◌++◌, length, map, flat_map, Bool, true, false, IsTrue, Option, Some, ◌⊎◌}
-use Rattle.legacy_tables.specs.Indexes.{FlatIndexes}
 use Rattle.legacy_base.specs.declared.results.EncodeEvent.{EncodeEvent}
 use Rattle.legacy_base.specs.declared.results.EncodeEvent.TheVariants.{Byte, Unmappable}
 use Rattle.legacy_base.specs.Encoders.{EncoderState, end_bytes, encoder_need}
 use Rattle.legacy_codecs.specs.References.{reference, reference_room, Gives}
-use Rattle.legacy_index_files.specs.declared.codec.Codec.{Codec}
 use Rattle.legacy_encodings.specs.Coders.{encoder_of}
-use Rattle.legacy_exports.specs.Numbers.{number_of}
-use Rattle.legacy_exports.specs.AcceptedIndexes.{AreTablesOf, IsRefusedToEncode, IsTakenToEncode, range_pair}
+use Rattle.legacy_exports.specs.NewCoders.{HoldsByNumber}
+use Rattle.legacy_exports.specs.AcceptedIndexes.{IsRefusedToEncode, IsTakenToEncode}
 use Rattle.legacy_exports.specs.declared.indexes.IndexSlices.{IndexSlices}
 use Rattle.legacy_exports.specs.declared.calls.CallEnd.{CallEnd}
 use Rattle.legacy_exports.specs.declared.calls.CallEnd.TheVariants.{Read, Full, Replaced}
@@ -96,29 +94,14 @@ pub data EncodesTimes (kind : Replacement) (text : List ℕ) (free : ℕ) (befor
       (after : EncoderState) (written : List ℕ) → EncodesText kind text free now after written →
       EncodesTimes kind text free before (times + 1) after written
 
--- a new encoder of the codec, over these lists, makes the conversions
-pub record EncodesBy (codec : Codec) (lists : FlatIndexes) (entries : Option (List ℕ)) (kind : Replacement) (text : List ℕ) (times free : ℕ) (written : List ℕ) : Type 0 where
-  pub new : EncoderState
-  pub begins : encoder_of codec lists entries ≡ Some new
-  pub after : EncoderState
-  pub conversions : EncodesTimes kind text free new times after written
-
--- the same over tables of the caller's indexes
-pub record EncodesWith (codec : Codec) (slices : IndexSlices) (kind : Replacement) (text : List ℕ) (times free : ℕ) (written : List ℕ) : Type 0 where
-  pub lists : FlatIndexes
-  pub tables : AreTablesOf slices (map range_pair slices.ranges.now) lists
-  pub converts : EncodesBy codec lists (Some slices.single_byte.now) kind text times free written
-
--- the same by the codec of a number
-pub record EncodesByNumber (number : ℕ) (slices : IndexSlices) (kind : Replacement) (text : List ℕ) (times free : ℕ) (written : List ℕ) : Type 0 where
-  pub codec : Codec
-  pub named : number_of codec ≡ number
-  pub converts : EncodesWith codec slices kind text times free written
+-- conversions from a state on
+abbrev pub EncodesTo : Replacement → List ℕ → ℕ → ℕ → List ℕ → EncoderState → Type 0
+EncodesTo kind text times free written before = (after : EncoderState) × EncodesTimes kind text free before times after written
 
 -- What an encoder function returns: the number of bytes that it wrote, or `usize::MAX` if the number or the indexes are
 -- refused, or if the source is no text.
 pub record ReturnsBytes (is_text : Type 0) (number : ℕ) (slices : IndexSlices) (kind : Replacement) (text : List ℕ) (times free : ℕ) (written : List ℕ) (result : ℕ) : Type 0 where
   pub either : (result ≤ free) ⊎ (result ≡ 0xFFFF_FFFF_FFFF_FFFF)
-  pub taken : IsTakenToEncode number slices → is_text → (result ≤ free) × EncodesByNumber number slices kind text times free written
+  pub taken : IsTakenToEncode number slices → is_text → (result ≤ free) × HoldsByNumber encoder_of number slices (EncodesTo kind text times free written)
   pub refused : IsRefusedToEncode number slices → result ≡ 0xFFFF_FFFF_FFFF_FFFF
   pub malformed : (is_text → ⊥) → result ≡ 0xFFFF_FFFF_FFFF_FFFF

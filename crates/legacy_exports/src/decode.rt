@@ -1,7 +1,9 @@
 //! The decoder of a codec.
 ghost use Rattle.std.specs.Prelude.{◌≡◌, ◌≤◌, ◌↔◌, length, take, option_map, IfNone, IfSome, IsSome};
 ghost use Rattle.legacy_exports.specs.AcceptedIndexes.{AreTaken, IsRefused};
-ghost use Rattle.legacy_exports.specs.Decoding.{DecodesBy, DecodesTimes, DecodesWith, ReturnsText};
+ghost use Rattle.legacy_encodings.specs.Coders.{decoder_of};
+ghost use Rattle.legacy_exports.specs.NewCoders.{HoldsOfNew, HoldsOverTables};
+ghost use Rattle.legacy_exports.specs.Decoding.{DecodesTimes, DecodesTo, ReturnsText};
 
 use crate::calls::Calls;
 use crate::codec::codec_of_number;
@@ -35,9 +37,10 @@ fn decode_over<'a, C: Calls, U: CodeUnit>(
     output: &mut [U],
 ) -> Option<usize>
     ensures units { IfSome result (λ written. written ≤ length output.new) }
-    ensures text { IfSome result (λ written. DecodesBy codec tables.now.flat
-        (option_map (λ table. table.now.entries) single_byte.entry) U.form reading.now.source.now
-        reading.now.times (length output.old) (U.units (take written output.new))) }
+    ensures text { IfSome result (λ written. HoldsOfNew decoder_of codec tables.now.flat
+        (option_map (λ table. table.now.entries) single_byte.entry)
+        (DecodesTo U.form reading.now.source.now reading.now.times (length output.old)
+        (U.units (take written output.new)))) }
     ensures unchanged { IfNone result (output.new ≡ output.old) }
     ensures taken { IsSome result ↔ (codec ≡ Codec.SingleByte → IsSome single_byte.entry) }
 {
@@ -55,9 +58,9 @@ pub fn decode<C: Calls, U: CodeUnit>(
     output: &mut [U],
 ) -> Option<usize>
     ensures units { IfSome result (λ written. written ≤ length output.new) }
-    ensures text { IfSome result (λ written. DecodesWith codec indexes.now U.form
-        reading.entry.source.now reading.entry.times (length output.old)
-        (U.units (take written output.new))) }
+    ensures text { IfSome result (λ written. HoldsOverTables decoder_of codec indexes.now
+        (DecodesTo U.form reading.entry.source.now reading.entry.times (length output.old)
+        (U.units (take written output.new)))) }
     ensures unchanged { IfNone result (output.new ≡ output.old) }
     ensures taken { IsSome result ↔ AreTaken codec indexes.now }
 {

@@ -2,7 +2,9 @@
 ghost use Rattle.std.specs.Prelude.{◌≡◌, ◌≤◌, ◌↔◌, ⊤, length, true, take, option_map, IfNone, IfSome, IsSome};
 ghost use Rattle.legacy_index_files.specs.Encodings.{has_encoder};
 ghost use Rattle.legacy_exports.specs.AcceptedIndexes.{AreTakenToEncode, IsRefusedToEncode};
-ghost use Rattle.legacy_exports.specs.Encoding.{EncodesBy, EncodesText, EncodesTimes, EncodesWith, ReturnsBytes};
+ghost use Rattle.legacy_encodings.specs.Coders.{encoder_of};
+ghost use Rattle.legacy_exports.specs.NewCoders.{HoldsOfNew, HoldsOverTables};
+ghost use Rattle.legacy_exports.specs.Encoding.{EncodesText, EncodesTimes, EncodesTo, ReturnsBytes};
 
 use crate::calls::{CallEnd, Calls};
 use crate::codec::codec_of_number;
@@ -99,10 +101,10 @@ fn encode_over<'a, C: Calls, T: Text>(
     room: &mut [u16],
 ) -> Option<usize>
     ensures units { IfSome result (λ written. written ≤ length output.new) }
-    ensures bytes { IfSome result (λ written. EncodesBy codec tables.now.flat
-        (option_map (λ table. table.now.entries) single_byte.entry) C.kind
-        (T.scalars reading.now.source) reading.now.times (length output.old)
-        (take written output.new)) }
+    ensures bytes { IfSome result (λ written. HoldsOfNew encoder_of codec tables.now.flat
+        (option_map (λ table. table.now.entries) single_byte.entry)
+        (EncodesTo C.kind (T.scalars reading.now.source) reading.now.times (length output.old)
+        (take written output.new))) }
     ensures unchanged { IfNone result (output.new ≡ output.old) }
     ensures taken { IsSome result ↔ ((has_encoder codec ≡ true)
         × (codec ≡ Codec.SingleByte → IsSome single_byte.entry)) }
@@ -126,8 +128,9 @@ pub fn encode<C: Calls, T: Text>(
     room: &mut [u16],
 ) -> Option<usize>
     ensures units { IfSome result (λ written. written ≤ length output.new) }
-    ensures bytes { IfSome result (λ written. EncodesWith codec indexes.now C.kind
-        (T.scalars reading.source) reading.times (length output.old) (take written output.new)) }
+    ensures bytes { IfSome result (λ written. HoldsOverTables encoder_of codec indexes.now
+        (EncodesTo C.kind (T.scalars reading.source) reading.times (length output.old)
+        (take written output.new))) }
     ensures unchanged { IfNone result (output.new ≡ output.old) }
     ensures taken { IsSome result ↔ AreTakenToEncode codec indexes.now }
 {

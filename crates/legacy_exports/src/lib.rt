@@ -18,7 +18,7 @@ ghost use Rattle.std.specs.Prelude.{◌≡◌, ⊤, length, take, IsUtf8};
 ghost use Rattle.std.specs.Str.{chars};
 ghost use Rattle.legacy_text.specs.EncodingForm.{Utf8, Utf16};
 ghost use Rattle.legacy_text.specs.Texts.{unit_scalars};
-ghost use Rattle.legacy_exports.specs.AcceptedIndexes.{IsRefused, IsRefusedToEncode};
+ghost use Rattle.legacy_exports.specs.AcceptedIndexes.{IsRefused, IsRefusedToEncode, IsTakenToEncode};
 ghost use Rattle.legacy_exports.specs.Decoding.{ReturnsText};
 ghost use Rattle.legacy_exports.specs.Encoding.{ReturnsBytes, numeric_reference, question_mark};
 
@@ -86,9 +86,10 @@ pub extern "C" fn legacy_encode_from_utf8(
     times: usize,
     room: &mut [u16],
 ) -> usize
-    ensures bytes { ReturnsBytes (IsUtf8 source.now) codec indexes.now question_mark (chars source.now)
-        times (length output.old) (take result output.new) result }
-    ensures unchanged { IsRefusedToEncode codec indexes.now → output.new ≡ output.old }
+    ensures bytes { ReturnsBytes (IsUtf8 source.now) codec indexes.now question_mark
+        (chars source.now) times (length output.old) (take result output.new) result }
+    ensures unchanged { (IsTakenToEncode codec indexes.now × IsUtf8 source.now → ⊥) →
+        output.new ≡ output.old }
 {
     let Ok(text) = std::str::from_utf8(source) else {
         return usize::MAX;
@@ -167,9 +168,10 @@ pub extern "C" fn legacy_encode_replacing_from_utf8(
     times: usize,
     room: &mut [u16],
 ) -> usize
-    ensures bytes { ReturnsBytes (IsUtf8 source.now) codec indexes.now numeric_reference (chars source.now)
-        times (length output.old) (take result output.new) result }
-    ensures unchanged { IsRefusedToEncode codec indexes.now → output.new ≡ output.old }
+    ensures bytes { ReturnsBytes (IsUtf8 source.now) codec indexes.now numeric_reference
+        (chars source.now) times (length output.old) (take result output.new) result }
+    ensures unchanged { (IsTakenToEncode codec indexes.now × IsUtf8 source.now → ⊥) →
+        output.new ≡ output.old }
 {
     let Ok(text) = std::str::from_utf8(source) else {
         return usize::MAX;
@@ -191,8 +193,8 @@ pub extern "C" fn legacy_encode_replacing_from_utf16(
     times: usize,
     room: &mut [u16],
 ) -> usize
-    ensures bytes { ReturnsBytes ⊤ codec indexes.now numeric_reference (unit_scalars source.now)
-        times (length output.old) (take result output.new) result }
+    ensures bytes { ReturnsBytes ⊤ codec indexes.now numeric_reference
+        (unit_scalars source.now) times (length output.old) (take result output.new) result }
     ensures unchanged { IsRefusedToEncode codec indexes.now → output.new ≡ output.old }
 {
     let reading = Reading::new(Replacing, source, piece, times);
