@@ -1,7 +1,8 @@
 -- Calls of a decoder, one after another.
 use Rattle.std.proofs.Common.{◌≡◌, ◌∙◌, ℕ, ◌+◌, ◌-◌, ◌≤◌, ◌<◌, List, [], ◌∷◌, ◌++◌, length, drop, take, refl, sym, ap, arith}
 use Rattle.std.proofs.Common.{append-nil, length-append, length-drop, length-take, Bool, true, false, ◌||◌, IsTrue, inl, inr}
-use Rattle.std.proofs.{Common.nat_eq, lemmas.Bool.Decides.nat_tests, Math.Bool.{or-true}, Math.Seq.drop-nil, lemmas.List.{drop-drop, drop-append-le, drop_all, nil_from_length}, lemmas.List.Folds.drop_split}
+use Rattle.std.proofs.{Common.nat_eq, lemmas.Bool.Decides.nat_tests, Math.Bool.{or-true}, Math.Seq.drop-nil, lemmas.List.Folds.drop_split}
+use Rattle.std.proofs.lemmas.List.{drop-drop, drop-append-le, drop_all, nil_from_length}
 use Rattle.legacy_base.specs.declared.results.DecodeEvent.{DecodeEvent}
 use Rattle.legacy_base.specs.declared.results.DecoderResult.{DecoderResult}
 use Rattle.legacy_base.specs.declared.results.DecoderResult.TheVariants.{InputEmpty, OutputFull, Malformed}
@@ -22,8 +23,8 @@ use Rattle.legacy_exports.specs.declared.calls.CallEnd.TheVariants.{Read, Full, 
 -- ---- one call
 
 -- a call with replacement
-replacing_decodes : {form : EncodingForm} {before : DecoderState} {source : List ℕ} {last : Bool} {free : ℕ} {after : DecoderState} {answer : CoderResult} {read : ℕ}
-    {written : List ℕ} {found : Bool} →
+replacing_decodes : {form : EncodingForm} {before : DecoderState} {source : List ℕ} {last : Bool} {free : ℕ} {after : DecoderState} {answer : CoderResult}
+    {read : ℕ} {written : List ℕ} {found : Bool} →
     ReplacingDecoderCall form before source last free after answer read written found → Decodes form last before source after read written
 replacing_decodes c = record { within = c.within; passed = c.passed; out = c.out; progress = rw (← c.found_is) c.progress; text = c.text }
 
@@ -31,9 +32,10 @@ replacing_decodes c = record { within = c.within; passed = c.passed; out = c.out
 all_read : (source : List ℕ) (read : ℕ) → read ≡ length source → drop read source ≡ []
 all_read source read e = drop_all read source (omega (arith, e))
 
-pub replacing_call : {form : EncodingForm} {before : DecoderState} {source : List ℕ} {last : Bool} {free : ℕ} {after : DecoderState} (answer : CoderResult) {read : ℕ}
-    {written : List ℕ} {found : Bool} →
-    ReplacingDecoderCall form before source last free after answer read written found → DecodingCall form before source last free after (end_of answer) read written
+pub replacing_call : {form : EncodingForm} {before : DecoderState} {source : List ℕ} {last : Bool} {free : ℕ} {after : DecoderState} (answer : CoderResult)
+    {read : ℕ} {written : List ℕ} {found : Bool} →
+    ReplacingDecoderCall form before source last free after answer read written found →
+    DecodingCall form before source last free after (end_of answer) read written
 replacing_call {source = source} coder.InputEmpty {read} c =
     let e = c.input_empty refl in record { decodes = replacing_decodes c; ends = (all_read source read e.0, e.2) }
 replacing_call coder.OutputFull c = record { decodes = replacing_decodes c; ends = c.output_full refl }
@@ -48,8 +50,8 @@ found-report : (last : Bool) (seen : ℕ) (scalars : List ℕ) (answer : Decoder
 found-report last seen scalars answer left h = grind (arith, has_bad-append, or-true)
 
 -- a raw call, with U+FFFD after it if it reports a malformed sequence
-raw_decodes : {form : EncodingForm} {before : DecoderState} {source : List ℕ} {last : Bool} {free : ℕ} {after : DecoderState} {answer : DecoderResult} {read : ℕ}
-    {scalars : List ℕ} (units : List ℕ) → units ≡ all_code_units form (scalars ++ reported_scalars answer) →
+raw_decodes : {form : EncodingForm} {before : DecoderState} {source : List ℕ} {last : Bool} {free : ℕ} {after : DecoderState} {answer : DecoderResult}
+    {read : ℕ} {scalars : List ℕ} (units : List ℕ) → units ≡ all_code_units form (scalars ++ reported_scalars answer) →
     DecoderCall form before source last free after answer read scalars → Decodes form last before source after read units
 raw_decodes {form} {before} {source} {last} {after = after} {answer} {read} {scalars} units e c =
     let seen = length before.held + read in
@@ -70,7 +72,8 @@ quiet form scalars units e = rw (append-nil scalars) e
 some_room : (form : EncodingForm) → 1 ≤ bmp_room form
 some_room form = grind arith
 
-module _ {form : EncodingForm} {before : DecoderState} {source : List ℕ} {last : Bool} {free : ℕ} {after : DecoderState} {read : ℕ} {scalars units : List ℕ} where
+module _ {form : EncodingForm} {before : DecoderState} {source : List ℕ} {last : Bool} {free : ℕ} {after : DecoderState} {read : ℕ}
+    {scalars units : List ℕ} where
   pub raw_empty : units ≡ all_code_units form scalars → DecoderCall form before source last free after InputEmpty read scalars →
       DecodingCall form before source last free after Read read units
   raw_empty e c =
@@ -85,7 +88,8 @@ module _ {form : EncodingForm} {before : DecoderState} {source : List ℕ} {last
   raw_malformed marked e f c =
       let one : all_code_units form (0xFFFD ∷ []) ≡ code_units form 0xFFFD = append-nil (code_units form 0xFFFD) in
       let all : marked ≡ all_code_units form (scalars ++ 0xFFFD ∷ []) = rw (all_code_units-append form scalars (0xFFFD ∷ []), one, ← e) f in
-      record { decodes = raw_decodes marked all c; ends = omega (arith, ap length f, length-append units (code_units form 0xFFFD), replacement_count form, some_room form) }
+      let some : 1 ≤ length marked = omega (arith, ap length f, length-append units (code_units form 0xFFFD), replacement_count form, some_room form) in
+      record { decodes = raw_decodes marked all c; ends = some }
 
 -- ---- calls one after another
 
@@ -96,7 +100,8 @@ progress_ahead false s xs n t ys out zs h p = behind s xs n t ys out zs p
 progress_ahead true s xs n t ys out zs h p = rw (h refl, append-nil xs, append-nil ys) p
 
 -- a malformed sequence at the end of the input, found by the calls before or by this one
-found_sooner : (found more : Bool) (count : ℕ) (left : List ℕ) → IsTrue (may_replace_end true found left) → IsTrue (may_replace_end true (found || more) (drop count left))
+found_sooner : (found more : Bool) (count : ℕ) (left : List ℕ) → IsTrue (may_replace_end true found left) →
+    IsTrue (may_replace_end true (found || more) (drop count left))
 found_sooner found more count left h = grind (arith, drop-nil)
 
 found_now : (found more last : Bool) (left zs : List ℕ) → (IsTrue last → zs ≡ []) → IsTrue (may_replace_end last more left) →
@@ -107,7 +112,13 @@ found_last : (found last : Bool) (left zs : List ℕ) → (IsTrue last → zs �
 found_last found last left zs h i = grind arith
 
 pub decodes_start : (form : EncodingForm) (before : DecoderState) (source units : List ℕ) → length units ≡ 0 → Decodes form true before source before 0 units
-decodes_start form before source units e = record { within = omega arith; passed = 0; out = []; progress = stay _ before source; text = nil_from_length units e }
+decodes_start form before source units e = record {
+  within = omega arith;
+  passed = 0;
+  out = [];
+  progress = stay _ before source;
+  text = nil_from_length units e;
+}
 
 module _ {form : EncodingForm} {last : Bool} {before : DecoderState} {source : List ℕ} {now : DecoderState} {read : ℕ} {written : List ℕ}
     (r : Decodes form true before source now read written) {piece : List ℕ} {after : DecoderState} {count : ℕ} {units : List ℕ}
@@ -131,8 +142,10 @@ module _ {form : EncodingForm} {last : Bool} {before : DecoderState} {source : L
       let same : drop count (drop read source) ≡ unread ++ later = drop-drop count read source ∙ left_is in
       let one = at_less _ ended (rw same at sooner) before source r.passed now (drop read source) r.out r.progress in
       let ahead = progress_ahead _ now piece c.passed after unread c.out later (found_last (has_bad c.out) last unread later none) c.progress in
-      let two = at_less _ ended (found_now (has_bad r.out) (has_bad c.out) last unread later none) now (piece ++ later) c.passed after (unread ++ later) c.out ahead in
-      rw (found_after, left_is) (after_that ended before source r.passed now (piece ++ later) r.out c.passed after (unread ++ later) c.out (rw parts at one) two)
+      let found = found_now (has_bad r.out) (has_bad c.out) last unread later none in
+      let two = at_less _ ended found now (piece ++ later) c.passed after (unread ++ later) c.out ahead in
+      rw (found_after, left_is)
+      (after_that ended before source r.passed now (piece ++ later) r.out c.passed after (unread ++ later) c.out (rw parts at one) two)
 
   decodes_more : Decodes form true before source after (read + count) (written ++ units)
   decodes_more = record {
@@ -203,7 +216,8 @@ module _ {form : EncodingForm} {before : DecoderState} {source : List ℕ} {now 
       omega (arith, none, length-drop count (take (end - read) (drop read source)), length-take (end - read) (drop read source), length-drop read source)
 
   -- no events are added
-  pub no_more_events : length (events_of after.grammar (after.held ++ drop (read + count) source)) ≤ length (events_of now.grammar (now.held ++ drop read source))
+  pub no_more_events : length (events_of after.grammar (after.held ++ drop (read + count) source))
+      ≤ length (events_of now.grammar (now.held ++ drop read source))
   no_more_events = omega (arith, events_fewer r c.decodes (drop end source) parts none)
 
   -- a replacement is one event less

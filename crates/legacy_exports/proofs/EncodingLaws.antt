@@ -34,7 +34,8 @@ bytes-references (event.Unmappable c ∷ events) = ap (λ l. reference c ++ l) (
 
 -- ---- one call
 
-pub replacing_call : {before : EncoderState} {text : List ℕ} {last : Bool} {free : ℕ} {after : EncoderState} (answer : CoderResult) {left written : List ℕ} {found : Bool} →
+pub replacing_call : {before : EncoderState} {text : List ℕ} {last : Bool} {free : ℕ} {after : EncoderState} (answer : CoderResult)
+    {left written : List ℕ} {found : Bool} →
     ReplacingEncoderCall before text last free after answer left written found →
     EncodingCall numeric_reference before text last free after (end_of answer) left written
 replacing_call coder.InputEmpty {left} {written} c = record {
@@ -55,9 +56,11 @@ raw_gives : {before : EncoderState} {text : List ℕ} {last : Bool} {free : ℕ}
 raw_gives {before} {after = after} {answer} {left} {written} c more ended h =
     c.events more ended h ∙ sym (append_assoc (map Byte written) (reported answer) (encoded after (left ++ more) ended))
 
-raw_bytes : (written : List ℕ) (answer : EncoderResult) → bytes_of question_mark (map Byte written ++ reported answer) ≡ written ++ bytes_of question_mark (reported answer)
+raw_bytes : (written : List ℕ) (answer : EncoderResult) →
+    bytes_of question_mark (map Byte written ++ reported answer) ≡ written ++ bytes_of question_mark (reported answer)
 raw_bytes written answer =
-    bytes-append question_mark (map Byte written) (reported answer) ∙ ap (λ l. l ++ bytes_of question_mark (reported answer)) (bytes-of_bytes question_mark written)
+    bytes-append question_mark (map Byte written) (reported answer)
+    ∙ ap (λ l. l ++ bytes_of question_mark (reported answer)) (bytes-of_bytes question_mark written)
 
 module _ {before : EncoderState} {text : List ℕ} {last : Bool} {free : ℕ} {after : EncoderState} {left written : List ℕ} where
   pub raw_empty : EncoderCall before text last free after InputEmpty left written → EncodingCall question_mark before text last free after Read left written
@@ -79,7 +82,11 @@ module _ {before : EncoderState} {text : List ℕ} {last : Bool} {free : ℕ} {a
       EncodingCall question_mark before text last free after Replaced left (written ++ 0x3F ∷ [])
   raw_marked {c} call = record {
     lost = [];
-    encodes = record { out = map Byte written ++ reported (Unmappable c); gives = raw_gives call; bytes = raw_bytes written (Unmappable c) ∙ sym (append-nil (written ++ 0x3F ∷ [])) };
+    encodes = record {
+      out = map Byte written ++ reported (Unmappable c);
+      gives = raw_gives call;
+      bytes = raw_bytes written (Unmappable c) ∙ sym (append-nil (written ++ 0x3F ∷ []));
+    };
     ends = (omega (arith, length-append written (0x3F ∷ [])), refl);
   }
 
@@ -88,7 +95,7 @@ module _ {before : EncoderState} {text : List ℕ} {last : Bool} {free : ℕ} {a
   raw_lost {c} call h = record {
     lost = 0x3F ∷ [];
     encodes = record { out = map Byte written ++ reported (Unmappable c); gives = raw_gives call; bytes = raw_bytes written (Unmappable c) };
-    ends = inr (omega arith);
+    ends = inr (refl, refl, omega arith);
   }
 
 -- ---- calls one after another
@@ -114,9 +121,11 @@ module _ {kind : Replacement} {ended : Bool} {before : EncoderState} {text : Lis
           | inl n ↦ inl (rw (none e) n.0, n.1)
           | inr g ↦ inr (begins_later r.out c.out behind (rw first at g))
         ]) in
-        first ∙ ap (λ l. r.out ++ l) second ∙ sym (append_assoc r.out c.out last) ∙ ap (λ l. (r.out ++ c.out) ++ encoded after l end) (sym (append_assoc left later more));
+        first ∙ ap (λ l. r.out ++ l) second ∙ sym (append_assoc r.out c.out last)
+        ∙ ap (λ l. (r.out ++ c.out) ++ encoded after l end) (sym (append_assoc left later more));
     bytes =
-        bytes-append kind r.out c.out ∙ ap (λ l. l ++ bytes_of kind c.out) (r.bytes ∙ append-nil written) ∙ ap (λ l. written ++ l) c.bytes ∙ sym (append_assoc written bytes lost);
+        bytes-append kind r.out c.out ∙ ap (λ l. l ++ bytes_of kind c.out) (r.bytes ∙ append-nil written) ∙ ap (λ l. written ++ l) c.bytes
+        ∙ sym (append_assoc written bytes lost);
   }
 
 -- ---- the end of a conversion
@@ -133,10 +142,12 @@ module _ {kind : Replacement} {before : EncoderState} {text : List ℕ} {now : E
     (r : Encodes kind false before text now (unread ++ later) done []) {free : ℕ} {after : EncoderState} {left bytes : List ℕ} (all : List ℕ)
     (e : all ≡ done ++ bytes) where
   -- the calls go on with the next piece, or in this one
-  pub after_piece : EncodingCall kind now unread false free after Read left bytes → (next : List ℕ) → later ≡ next → Encodes kind false before text after next all []
+  pub after_piece : EncodingCall kind now unread false free after Read left bytes → (next : List ℕ) → later ≡ next →
+      Encodes kind false before text after next all []
   after_piece c next n = let ends = c.ends in let made = encodes_more r c.encodes (λ f. no_end f) in rw (e, ← n) (rw (ends.0.0, ends.1) at made)
 
-  pub after_replaced : {last : Bool} → EncodingCall kind now unread last free after Replaced left bytes → Encodes kind false before text after (left ++ later) all []
+  pub after_replaced : {last : Bool} → EncodingCall kind now unread last free after Replaced left bytes →
+      Encodes kind false before text after (left ++ later) all []
   after_replaced c = let ends = c.ends in let made = encodes_more r c.encodes (λ f. no_end f) in rw e (rw ends.1 at made)
 
   -- the end of a conversion
@@ -144,11 +155,14 @@ module _ {kind : Replacement} {before : EncoderState} {text : List ℕ} {now : E
   text_encoded total c none =
       let ends = c.ends in
       let nothing : left ++ later ≡ [] = rw (ends.0.0, none) refl in
-      record { ended = true; left = left ++ later; lost = c.lost; encodes = rw e (encodes_more r c.encodes (λ _. none)); stops = inl (refl, (nothing, ends.0.1), ends.1) }
+      let made : Encodes kind true before text after (left ++ later) all c.lost = rw e (encodes_more r c.encodes (λ _. none)) in
+      record { ended = true; left = left ++ later; lost = c.lost; encodes = made; stops = inl (refl, (nothing, ends.0.1), ends.1) }
 
-  pub text_full : (total : ℕ) {last : Bool} → EncodingCall kind now unread last free after Full left bytes → (IsTrue last → later ≡ []) → free ≡ total - length done →
+  pub text_full : (total : ℕ) {last : Bool} → EncodingCall kind now unread last free after Full left bytes → (IsTrue last → later ≡ []) →
+      free ≡ total - length done →
       EncodesText kind text total before after all
   text_full total {last} c none f =
       let lacks = lacks_bytes_ahead kind after left later last (free - length bytes) c.lost none c.ends in
       let room : total - length all ≡ free - length bytes = omega (arith, ap length e, length-append done bytes) in
-      record { ended = false; left = left ++ later; lost = c.lost; encodes = rw e (encodes_more r c.encodes (λ g. no_end g)); stops = inr (refl, rw room lacks) }
+      let made : Encodes kind false before text after (left ++ later) all c.lost = rw e (encodes_more r c.encodes (λ g. no_end g)) in
+      record { ended = false; left = left ++ later; lost = c.lost; encodes = made; stops = inr (refl, rw room lacks) }

@@ -1,5 +1,6 @@
 -- What an output contains after a write to its part from a place on.
-use Rattle.std.proofs.Common.{◌≡◌, ◌∙◌, ℕ, set, ◌+◌, ◌-◌, ◌≤◌, List, [], ◌∷◌, ◌++◌, length, take, drop, sym, ap, arith, subst, length-append, length-set, length-take, length-drop, append_assoc}
+use Rattle.std.proofs.Common.{◌≡◌, ◌∙◌, ℕ, set, ◌+◌, ◌-◌, ◌≤◌, List, [], ◌∷◌, ◌++◌, length, take, drop, sym, ap, arith, subst}
+use Rattle.std.proofs.Common.{length-append, length-set, length-take, length-drop, append_assoc}
 use Rattle.std.proofs.{Math.Seq.take-append-add, lemmas.Slice.take-put_mid, lemmas.List.{take-take, take_more_set, length-take-le}}
 use borrow.Rule.Slice.PartMut.{put_mid}
 

@@ -1,5 +1,6 @@
 -- Where a text in UTF-16 may be cut.
-use Rattle.std.proofs.Common.{Option, ◌≡◌, ◌∙◌, ℕ, suc, ◌+◌, ◌-◌, ◌<◌, ◌≤◌, ◌↔◌, IsTrue, nat_eq, ltb, take, drop, length-take, length-drop, get_or-take, get_or-drop, List, [], ◌∷◌, ◌++◌, length, get_or, map, refl, sym, ap, arith, Bool, true, false, ◌&&◌, ◌⊎◌, inl, inr}
+use Rattle.std.proofs.Common.{◌≡◌, ◌∙◌, ℕ, suc, ◌+◌, ◌-◌, ◌<◌, ◌≤◌, ◌↔◌, ◌⊎◌, inl, inr, List, [], ◌∷◌, ◌++◌, length, get_or, map, take, drop, Option}
+use Rattle.std.proofs.Common.{Bool, true, false, ◌&&◌, IsTrue, nat_eq, ltb, refl, sym, ap, arith, length-take, length-drop, get_or-take, get_or-drop}
 use Rattle.std.proofs.lemmas.Str.{utf16_chars-nil, utf16_chars_lone, utf16_chars_pair, encodes-chars, chars-nil}
 use Rattle.std.proofs.{lemmas.Bool.Decides.nat_tests, lemmas.List.{take_all, take-append-drop, get_or_past, nil_from_length}}
 use Rattle.std.specs.Str.{chars, IsUtf8}
@@ -27,7 +28,8 @@ unit_scalars-append [] ys h = sym (ap (λ l. map replaced l ++ unit_scalars ys) 
 unit_scalars-append (u ∷ []) ys h =
     let lone : IsPair u (get_or ys 0 0) → ⊥ = no_pair u (get_or ys 0 0) (h 0 refl) in
     let alone : IsPair u 0 → ⊥ = λ q. omega (arith, q.1) in
-    ap (map replaced) (utf16_chars_lone u ys lone) ∙ sym (ap (λ l. map replaced l ++ unit_scalars ys) (utf16_chars_lone u [] alone ∙ ap (λ l. lone_unit_char u ∷ l) utf16_chars-nil))
+    let one = utf16_chars_lone u [] alone ∙ ap (λ l. lone_unit_char u ∷ l) utf16_chars-nil in
+    ap (map replaced) (utf16_chars_lone u ys lone) ∙ sym (ap (λ l. map replaced l ++ unit_scalars ys) one)
 unit_scalars-append (u ∷ v ∷ xs) ys h = elim (pair_or_not u v) [
   | inl p ↦
       ap (map replaced) (utf16_chars_pair u v (xs ++ ys) p)
@@ -58,7 +60,8 @@ apart_after units place e = grind (arith, nat_tests)
 pub unit_parts : (units : List ℕ) (place : ℕ) → place ≤ length units → IsApart units place →
     unit_scalars units ≡ unit_scalars (take place units) ++ unit_scalars (take (length units - place) (drop place units))
 unit_parts units place h a =
-    let rest : take (length units - place) (drop place units) ≡ drop place units = take_all (length units - place) (drop place units) (omega (arith, length-drop place units)) in
+    let rest : take (length units - place) (drop place units) ≡ drop place units =
+    take_all (length units - place) (drop place units) (omega (arith, length-drop place units)) in
     let seam : IsSeam (take place units) (drop place units) = λ k e.
     let one : place ≡ k + 1 = omega (arith, length-take place units) in
     let front : get_or (take place units) k 0 ≡ get_or units (place - 1) 0 = grind (arith, get_or-take) in

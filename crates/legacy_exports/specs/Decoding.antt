@@ -1,5 +1,5 @@
 -- What a decoder writes, in one call and in conversions of a whole source.
-use Rattle.std.specs.Prelude.{◌≡◌, ℕ, ◌+◌, ◌-◌, ◌≤◌, List, [], length, drop, map, Bool, true, IsTrue, Option, Some, ◌⊎◌}
+use Rattle.std.specs.Prelude.{◌≡◌, ℕ, ◌+◌, ◌-◌, ◌≤◌, List, [], length, drop, Bool, true, IsTrue, ◌⊎◌}
 use Rattle.legacy_text.specs.EncodingForm.{EncodingForm, all_code_units}
 use Rattle.legacy_base.specs.declared.results.DecodeEvent.{DecodeEvent}
 use Rattle.legacy_base.specs.Grammar.{events_of}
@@ -25,7 +25,8 @@ end_of OutputFull = Full
 
 -- A decoder goes from the state `before` to the state `after`, reads `read` bytes of the source, and writes these code
 -- units.
-pub record Decodes (form : EncodingForm) (last : Bool) (before : DecoderState) (source : List ℕ) (after : DecoderState) (read : ℕ) (written : List ℕ) : Type 0 where
+pub record Decodes (form : EncodingForm) (last : Bool) (before : DecoderState) (source : List ℕ) (after : DecoderState)
+    (read : ℕ) (written : List ℕ) : Type 0 where
   -- at most the source is read
   pub within : read ≤ length source
   -- the number of bytes, of those held back and of the source, that are done with
@@ -49,7 +50,8 @@ DecodingEnds form state unread last free count Full = LacksRoom form state unrea
 DecodingEnds form state unread last free count Replaced = 1 ≤ count
 
 -- a call with `free` code units free
-pub record DecodingCall (form : EncodingForm) (before : DecoderState) (source : List ℕ) (last : Bool) (free : ℕ) (after : DecoderState) (end : CallEnd) (read : ℕ) (written : List ℕ) : Type 0 where
+pub record DecodingCall (form : EncodingForm) (before : DecoderState) (source : List ℕ) (last : Bool) (free : ℕ) (after : DecoderState)
+    (end : CallEnd) (read : ℕ) (written : List ℕ) : Type 0 where
   pub decodes : Decodes form last before source after read written
   pub ends : DecodingEnds form after (drop read source) last (free - length written) (length written) end
 
@@ -73,9 +75,10 @@ pub data DecodesTimes (form : EncodingForm) (source : List ℕ) (free : ℕ) (be
 abbrev pub DecodesTo : EncodingForm → List ℕ → ℕ → ℕ → List ℕ → DecoderState → Type 0
 DecodesTo form source times free written before = (after : DecoderState) × DecodesTimes form source free before times after written
 
--- What a decoder function returns: the number of code units that it wrote, or `usize::MAX` if the number or the indexes are
--- refused.
-pub record ReturnsText (number : ℕ) (slices : IndexSlices) (form : EncodingForm) (source : List ℕ) (times free : ℕ) (written : List ℕ) (result : ℕ) : Type 0 where
+-- What a decoder function returns: the number of code units that it wrote, or `usize::MAX` if the number or the indexes
+-- are refused.
+pub record ReturnsText (number : ℕ) (slices : IndexSlices) (form : EncodingForm) (source : List ℕ) (times free : ℕ) (written : List ℕ)
+    (result : ℕ) : Type 0 where
   pub either : (result ≤ free) ⊎ (result ≡ 0xFFFF_FFFF_FFFF_FFFF)
   pub taken : IsTaken number slices → (result ≤ free) × HoldsByNumber decoder_of number slices (DecodesTo form source times free written)
   pub refused : IsRefused number slices → result ≡ 0xFFFF_FFFF_FFFF_FFFF

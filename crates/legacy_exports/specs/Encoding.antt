@@ -1,5 +1,5 @@
 -- What an encoder writes, in one call and in conversions of a whole text.
-use Rattle.std.specs.Prelude.{◌≡◌, ℕ, ◌+◌, ◌-◌, ◌<◌, ◌≤◌, List, [], ◌∷◌, ◌++◌, length, map, flat_map, Bool, true, false, IsTrue, Option, Some, ◌⊎◌}
+use Rattle.std.specs.Prelude.{◌≡◌, ℕ, ◌+◌, ◌-◌, ◌<◌, ◌≤◌, List, [], ◌∷◌, ◌++◌, length, flat_map, Bool, true, false, IsTrue, ◌⊎◌}
 use Rattle.legacy_base.specs.declared.results.EncodeEvent.{EncodeEvent}
 use Rattle.legacy_base.specs.declared.results.EncodeEvent.TheVariants.{Byte, Unmappable}
 use Rattle.legacy_base.specs.Encoders.{EncoderState, end_bytes, encoder_need}
@@ -40,7 +40,8 @@ kept_room numeric_reference = reference_room
 
 -- An encoder goes from the state `before` to the state `after`, leaves these scalars of the text, and writes these
 -- bytes. `lost` is a question mark for which no byte was free.
-pub record Encodes (kind : Replacement) (ended : Bool) (before : EncoderState) (text : List ℕ) (after : EncoderState) (left written lost : List ℕ) : Type 0 where
+pub record Encodes (kind : Replacement) (ended : Bool) (before : EncoderState) (text : List ℕ) (after : EncoderState)
+    (left written lost : List ℕ) : Type 0 where
   -- the events of the call
   pub out : List EncodeEvent
   -- these, and then the events of what is left, are the codec's events, whatever text follows; if the end of the text
@@ -53,9 +54,11 @@ pub record Encodes (kind : Replacement) (ended : Bool) (before : EncoderState) (
 abbrev pub IsEncoded : EncoderState → List ℕ → Bool → Type 0
 IsEncoded state left last = (left ≡ []) × (IsTrue last → end_bytes state ≡ [])
 
--- the next act lacks its room, and nothing is lost; or what is lost lacks its room
+-- the next act lacks its room, and nothing is lost; or no byte is free for a question mark, which is lost
 abbrev pub LacksBytes : Replacement → EncoderState → List ℕ → Bool → ℕ → List ℕ → Type 0
-LacksBytes kind state left last free lost = ((lost ≡ []) × (free < encoder_need state left last + kept_room kind)) ⊎ (free < length lost)
+LacksBytes kind state left last free lost =
+    ((lost ≡ []) × (free < encoder_need state left last + kept_room kind))
+    ⊎ ((kind ≡ question_mark) × (lost ≡ 0x3F ∷ []) × (free ≡ 0))
 
 -- what the end of a call says of the scalars left, of the bytes left free, of the number that it wrote, and of what is
 -- lost
@@ -71,7 +74,8 @@ wrote_end last Full = false
 wrote_end last Replaced = false
 
 -- a call, by the scalars of its text and the bytes that it wrote
-pub record EncodingCall (kind : Replacement) (before : EncoderState) (text : List ℕ) (last : Bool) (free : ℕ) (after : EncoderState) (end : CallEnd) (left written : List ℕ) : Type 0 where
+pub record EncodingCall (kind : Replacement) (before : EncoderState) (text : List ℕ) (last : Bool) (free : ℕ) (after : EncoderState)
+    (end : CallEnd) (left written : List ℕ) : Type 0 where
   pub lost : List ℕ
   pub encodes : Encodes kind (wrote_end last end) before text after left written lost
   pub ends : EncodingEnds kind after left last (free - length written) (length written) lost end
@@ -100,7 +104,8 @@ EncodesTo kind text times free written before = (after : EncoderState) × Encode
 
 -- What an encoder function returns: the number of bytes that it wrote, or `usize::MAX` if the number or the indexes are
 -- refused, or if the source is no text.
-pub record ReturnsBytes (is_text : Type 0) (number : ℕ) (slices : IndexSlices) (kind : Replacement) (text : List ℕ) (times free : ℕ) (written : List ℕ) (result : ℕ) : Type 0 where
+pub record ReturnsBytes (is_text : Type 0) (number : ℕ) (slices : IndexSlices) (kind : Replacement) (text : List ℕ)
+    (times free : ℕ) (written : List ℕ) (result : ℕ) : Type 0 where
   pub either : (result ≤ free) ⊎ (result ≡ 0xFFFF_FFFF_FFFF_FFFF)
   pub taken : IsTakenToEncode number slices → is_text → (result ≤ free) × HoldsByNumber encoder_of number slices (EncodesTo kind text times free written)
   pub refused : IsRefusedToEncode number slices → result ≡ 0xFFFF_FFFF_FFFF_FFFF

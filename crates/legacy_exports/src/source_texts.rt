@@ -1,5 +1,6 @@
 //! The texts that encoders read.
-ghost use Rattle.std.specs.Prelude.{◌≡◌, ◌↔◌, ℕ, ◌-◌, ◌≤◌, ◌&&◌, List, [], ◌++◌, length, nat_lt, slice_index, take, IsTrue};
+ghost use Rattle.std.specs.Prelude.{◌≡◌, ◌↔◌, ℕ, ◌-◌, ◌≤◌, List, [], ◌++◌, length, take};
+ghost use Rattle.std.specs.Prelude.{◌&&◌, nat_lt, slice_index, IsTrue};
 ghost use Rattle.std.specs.Char.Utf16.{is_high_surrogate, is_low_surrogate};
 ghost use Rattle.std.specs.Str.{chars};
 ghost use Rattle.legacy_text.specs.Texts.{unit_scalars};

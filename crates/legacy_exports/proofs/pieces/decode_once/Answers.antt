@@ -1,5 +1,6 @@
 use Rattle.std.proofs.Common.{[], arith, rules}
-use Rattle.legacy_exports.proofs.DecodingLaws.{decodes_start, after_call, in_piece, no_more_events, fewer_events, at_end, at_full, none_later, at_length, whole_piece}
+use Rattle.legacy_exports.proofs.DecodingLaws.{decodes_start, after_call, in_piece, whole_piece, no_more_events, fewer_events, at_end, at_full}
+use Rattle.legacy_exports.proofs.DecodingLaws.{none_later, at_length}
 use Rattle.legacy_exports.proofs.OutputParts.{front_of_units, free_after}
 use Rattle.legacy_exports.proofs.pieces.decode_once.Goals as goal
 
@@ -16,7 +17,8 @@ returns-then-last-clause-text g c =
     let i = c.pieces.invariant in
     let front = front_of_units g.U.CodeUnit.units g.met.U.CodeUnit.units_append c.pieces.written _ c.decode-answer.result.2 c.pieces.output
     c.decode-answer.new.output i.within_output c.decode-answer.ensures.written in
-    at_end i.decodes c.decode-answer.ensures.call i.within_piece (none_later c.pieces.end c.args.source.now) _ _ front c.in-Read.is (at_length c.pieces.end c.args.source.now c.if-last.true)
+    let last = at_length c.pieces.end c.args.source.now c.if-last.true in
+    at_end i.decodes c.decode-answer.ensures.call i.within_piece (none_later c.pieces.end c.args.source.now) _ _ front c.in-Read.is last
 
 pub pieces-smaller-in-Read : goal.pieces-smaller-in-Read
 pieces-smaller-in-Read g c =

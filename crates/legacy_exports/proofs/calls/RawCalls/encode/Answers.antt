@@ -14,4 +14,5 @@ returns-in-Some-clause-call g c = rw c.in-Some.ensures.bytes (raw_marked (rw c.i
 pub returns-in-None-clause-call : goal.returns-in-None-clause-call
 returns-in-None-clause-call g c =
     let call = rw c.in-Unmappable.is at c.encode_raw-answer.ensures.call in
-    rw c.in-None.ensures.bytes (raw_lost call (omega (arith, c.in-None.ensures.room, c.encode_raw-answer.ensures.written, length-take c.encode_raw-answer.result.2 c.encode_raw-answer.new.output)))
+    let written = length-take c.encode_raw-answer.result.2 c.encode_raw-answer.new.output in
+    rw c.in-None.ensures.bytes (raw_lost call (omega (arith, c.in-None.ensures.room, c.encode_raw-answer.ensures.written, written)))

@@ -35,4 +35,5 @@ returns-clause-whole c e =
     let end = c.if-parts_pair.end in
     let all = c.piece_end-end.ensures.all e in
     let cut = cut_at c in
-    no_scalars (take (length units - end) (drop end units)) (omega (arith, cut.2, all, length-take (length units - end) (drop end units), length-drop end units))
+    let rest = length-take (length units - end) (drop end units) in
+    no_scalars (take (length units - end) (drop end units)) (omega (arith, cut.2, all, rest, length-drop end units))
