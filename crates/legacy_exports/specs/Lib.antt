@@ -1,2 +1,5 @@
 pub mod Numbers
 pub mod AcceptedIndexes
+pub mod NewCoders
+pub mod Decoding
+pub mod Encoding

@@ -1,6 +1,9 @@
 //! The decoder of a codec.
-ghost use Rattle.std.specs.Prelude.{◌≡◌, ◌≤◌, ◌⊎◌, ◌↔◌, length, IfSome, IsSome};
-ghost use Rattle.legacy_exports.specs.AcceptedIndexes.{AreTaken, IsRefused, IsTaken};
+ghost use Rattle.std.specs.Prelude.{◌≡◌, ◌≤◌, ◌↔◌, length, take, option_map, IfNone, IfSome, IsSome};
+ghost use Rattle.legacy_exports.specs.AcceptedIndexes.{AreTaken, IsRefused};
+ghost use Rattle.legacy_encodings.specs.Coders.{decoder_of};
+ghost use Rattle.legacy_exports.specs.NewCoders.{HoldsOfNew, HoldsOverTables};
+ghost use Rattle.legacy_exports.specs.Decoding.{DecodesTimes, DecodesTo, ReturnsText};
 
 use crate::calls::Calls;
 use crate::codec::codec_of_number;
@@ -12,7 +15,9 @@ use legacy_encodings::{AnyDecoder, DecoderTask};
 use legacy_index_files::Codec;
 
 impl<C: Calls, U: CodeUnit> DecoderTask<U> for Reading<C, &[u8]> {
-    ghost gives = { λ reading before after old new written. written ≤ length new };
+    ghost gives = { λ reading before after old new written. (written ≤ length new)
+        × DecodesTimes U.form reading.source.now (length old) before reading.times after
+        (U.units (take written new)) };
 
     // The loop of `decode_times` is inlined here, so a decoder's loop is compiled together with it.
     #[inline(always)]
@@ -32,6 +37,11 @@ fn decode_over<'a, C: Calls, U: CodeUnit>(
     output: &mut [U],
 ) -> Option<usize>
     ensures units { IfSome result (λ written. written ≤ length output.new) }
+    ensures text { IfSome result (λ written. HoldsOfNew decoder_of codec tables.now.flat
+        (option_map (λ table. table.now.entries) single_byte.entry)
+        (DecodesTo U.form reading.now.source.now reading.now.times (length output.old)
+        (U.units (take written output.new)))) }
+    ensures unchanged { IfNone result (output.new ≡ output.old) }
     ensures taken { IsSome result ↔ (codec ≡ Codec.SingleByte → IsSome single_byte.entry) }
 {
     let mut decoder = AnyDecoder::new(codec, tables, single_byte)?;
@@ -48,6 +58,10 @@ pub fn decode<C: Calls, U: CodeUnit>(
     output: &mut [U],
 ) -> Option<usize>
     ensures units { IfSome result (λ written. written ≤ length output.new) }
+    ensures text { IfSome result (λ written. HoldsOverTables decoder_of codec indexes.now
+        (DecodesTo U.form reading.entry.source.now reading.entry.times (length output.old)
+        (U.units (take written output.new)))) }
+    ensures unchanged { IfNone result (output.new ≡ output.old) }
     ensures taken { IsSome result ↔ AreTaken codec indexes.now }
 {
     let range_count = indexes.ranges.len();
@@ -69,9 +83,9 @@ pub fn decode_by_number<C: Calls, U: CodeUnit>(
     reading: Reading<C, &[u8]>,
     output: &mut [U],
 ) -> usize
-    ensures units { (result ≤ length output.new) ⊎ (result ≡ 0xFFFF_FFFF_FFFF_FFFF) }
-    ensures taken { IsTaken number indexes.now → result ≤ length output.new }
-    ensures refused { IsRefused number indexes.now → result ≡ 0xFFFF_FFFF_FFFF_FFFF }
+    ensures text { ReturnsText number indexes.now U.form reading.entry.source.now
+        reading.entry.times (length output.old) (U.units (take result output.new)) result }
+    ensures unchanged { IsRefused number indexes.now → output.new ≡ output.old }
 {
     let Some(codec) = codec_of_number(number) else {
         return usize::MAX;

@@ -1,7 +1,10 @@
 //! The encoder of a codec.
-ghost use Rattle.std.specs.Prelude.{◌≡◌, ◌≤◌, ◌⊎◌, ◌↔◌, length, true, IfSome, IsSome};
+ghost use Rattle.std.specs.Prelude.{◌≡◌, ◌≤◌, ◌↔◌, ⊤, length, true, take, option_map, IfNone, IfSome, IsSome};
 ghost use Rattle.legacy_index_files.specs.Encodings.{has_encoder};
-ghost use Rattle.legacy_exports.specs.AcceptedIndexes.{AreTakenToEncode, IsRefusedToEncode, IsTakenToEncode};
+ghost use Rattle.legacy_exports.specs.AcceptedIndexes.{AreTakenToEncode, IsRefusedToEncode};
+ghost use Rattle.legacy_encodings.specs.Coders.{encoder_of};
+ghost use Rattle.legacy_exports.specs.NewCoders.{HoldsOfNew, HoldsOverTables};
+ghost use Rattle.legacy_exports.specs.Encoding.{EncodesText, EncodesTimes, EncodesTo, ReturnsBytes};
 
 use crate::calls::{CallEnd, Calls};
 use crate::codec::codec_of_number;
@@ -23,30 +26,28 @@ fn encode_once<C: Calls, T: Text, E: RawEncoder>(
     output: &mut [u8],
     piece: usize,
 ) -> usize
-    ensures { result ≤ length output.new }
+    ensures bytes { EncodesText C.kind (T.scalars text) (length output.old) (E.state encoder.old)
+        (E.state encoder.new) (take result output.new) }
+    ensures within { result ≤ length output.new }
 {
-    let mut read = 0usize;
     let mut written = 0;
-    let mut end = text.end_of_piece(0, piece);
-    for _ in 0..u64::MAX {
-        let last = end == text.unit_count();
-        let (answer, more, bytes) = calls.encode(
-            encoder,
-            text,
-            (read, end),
-            &mut output[written..],
-            last,
-        );
-        read = read.saturating_add(more);
+    let (mut unread, mut later) = text.cut(piece);
+    'pieces: loop {
+        let last = later.is_over();
+        let (answer, left, bytes) = calls.encode(encoder, unread, &mut output[written..], last);
+        unread = left;
         written += bytes;
         match answer {
-            CallEnd::Read if last => return written,
-            CallEnd::Read => end = text.end_of_piece(read, piece),
+            CallEnd::Read => {
+                if last {
+                    return written;
+                }
+                (unread, later) = later.cut(piece);
+            }
             CallEnd::Full => return written,
             CallEnd::Replaced => {}
         }
     }
-    written
 }
 
 /// Encodes a text by one encoder, `times` times.
@@ -58,10 +59,12 @@ fn encode_times<C: Calls, T: Text, E: RawEncoder>(
     reading: &Reading<C, T>,
     output: &mut [u8],
 ) -> usize
-    ensures { result ≤ length output.new }
+    ensures bytes { EncodesTimes C.kind (T.scalars reading.now.source) (length output.old)
+        (E.state encoder.old) reading.now.times (E.state encoder.new) (take result output.new) }
+    ensures within { result ≤ length output.new }
 {
     let mut written = 0;
-    for _ in 0..reading.times {
+    for _time in 0..reading.times {
         written = encode_once(
             reading.calls,
             encoder,
@@ -74,7 +77,9 @@ fn encode_times<C: Calls, T: Text, E: RawEncoder>(
 }
 
 impl<C: Calls, T: Text> EncoderTask for Reading<C, T> {
-    ghost gives = { λ reading before after old new written. written ≤ length new };
+    ghost gives = { λ reading before after old new written. (written ≤ length new)
+        × EncodesTimes C.kind (T.scalars reading.source) (length old) before reading.times after
+        (take written new) };
 
     // The loop of `encode_times` is inlined here, as that of the decoders is.
     #[inline(always)]
@@ -96,6 +101,11 @@ fn encode_over<'a, C: Calls, T: Text>(
     room: &mut [u16],
 ) -> Option<usize>
     ensures units { IfSome result (λ written. written ≤ length output.new) }
+    ensures bytes { IfSome result (λ written. HoldsOfNew encoder_of codec tables.now.flat
+        (option_map (λ table. table.now.entries) single_byte.entry)
+        (EncodesTo C.kind (T.scalars reading.now.source) reading.now.times (length output.old)
+        (take written output.new))) }
+    ensures unchanged { IfNone result (output.new ≡ output.old) }
     ensures taken { IsSome result ↔ ((has_encoder codec ≡ true)
         × (codec ≡ Codec.SingleByte → IsSome single_byte.entry)) }
 {
@@ -118,6 +128,10 @@ pub fn encode<C: Calls, T: Text>(
     room: &mut [u16],
 ) -> Option<usize>
     ensures units { IfSome result (λ written. written ≤ length output.new) }
+    ensures bytes { IfSome result (λ written. HoldsOverTables encoder_of codec indexes.now
+        (EncodesTo C.kind (T.scalars reading.source) reading.times (length output.old)
+        (take written output.new))) }
+    ensures unchanged { IfNone result (output.new ≡ output.old) }
     ensures taken { IsSome result ↔ AreTakenToEncode codec indexes.now }
 {
     let range_count = indexes.ranges.len();
@@ -140,9 +154,9 @@ pub fn encode_by_number<C: Calls, T: Text>(
     output: &mut [u8],
     room: &mut [u16],
 ) -> usize
-    ensures units { (result ≤ length output.new) ⊎ (result ≡ 0xFFFF_FFFF_FFFF_FFFF) }
-    ensures taken { IsTakenToEncode number indexes.now → result ≤ length output.new }
-    ensures refused { IsRefusedToEncode number indexes.now → result ≡ 0xFFFF_FFFF_FFFF_FFFF }
+    ensures bytes { ReturnsBytes ⊤ number indexes.now C.kind (T.scalars reading.source)
+        reading.times (length output.old) (take result output.new) result }
+    ensures unchanged { IsRefusedToEncode number indexes.now → output.new ≡ output.old }
 {
     let Some(codec) = codec_of_number(number) else {
         return usize::MAX;

@@ -14,8 +14,13 @@
 //! returned.
 #![tactic(auto)]
 
-ghost use Rattle.std.specs.Prelude.{◌≡◌, ◌≤◌, ◌⊎◌, length, IsUtf8};
-ghost use Rattle.legacy_exports.specs.AcceptedIndexes.{IsRefused, IsRefusedToEncode, IsTaken, IsTakenToEncode};
+ghost use Rattle.std.specs.Prelude.{◌≡◌, ⊤, length, take, IsUtf8};
+ghost use Rattle.std.specs.Str.{chars};
+ghost use Rattle.legacy_text.specs.EncodingForm.{Utf8, Utf16};
+ghost use Rattle.legacy_text.specs.Texts.{unit_scalars};
+ghost use Rattle.legacy_exports.specs.AcceptedIndexes.{IsRefused, IsRefusedToEncode, IsTakenToEncode};
+ghost use Rattle.legacy_exports.specs.Decoding.{ReturnsText};
+ghost use Rattle.legacy_exports.specs.Encoding.{ReturnsBytes, numeric_reference, question_mark};
 
 mod calls;
 mod codec;
@@ -42,16 +47,11 @@ pub extern "C" fn legacy_decode_to_utf8(
     piece: usize,
     times: usize,
 ) -> usize
-    ensures units { (result ≤ length output.new) ⊎ (result ≡ 0xFFFF_FFFF_FFFF_FFFF) }
-    ensures taken { IsTaken codec indexes.now → result ≤ length output.new }
-    ensures refused { IsRefused codec indexes.now → result ≡ 0xFFFF_FFFF_FFFF_FFFF }
+    ensures text { ReturnsText codec indexes.now Utf8 source.now times (length output.old)
+        (take result output.new) result }
+    ensures unchanged { IsRefused codec indexes.now → output.new ≡ output.old }
 {
-    let reading = Reading {
-        calls: Raw,
-        source,
-        piece,
-        times,
-    };
+    let reading = Reading::new(Raw, source, piece, times);
     decode_by_number(codec, indexes, reading, output)
 }
 
@@ -65,16 +65,11 @@ pub extern "C" fn legacy_decode_to_utf16(
     piece: usize,
     times: usize,
 ) -> usize
-    ensures units { (result ≤ length output.new) ⊎ (result ≡ 0xFFFF_FFFF_FFFF_FFFF) }
-    ensures taken { IsTaken codec indexes.now → result ≤ length output.new }
-    ensures refused { IsRefused codec indexes.now → result ≡ 0xFFFF_FFFF_FFFF_FFFF }
+    ensures text { ReturnsText codec indexes.now Utf16 source.now times (length output.old)
+        (take result output.new) result }
+    ensures unchanged { IsRefused codec indexes.now → output.new ≡ output.old }
 {
-    let reading = Reading {
-        calls: Raw,
-        source,
-        piece,
-        times,
-    };
+    let reading = Reading::new(Raw, source, piece, times);
     decode_by_number(codec, indexes, reading, output)
 }
 
@@ -91,20 +86,15 @@ pub extern "C" fn legacy_encode_from_utf8(
     times: usize,
     room: &mut [u16],
 ) -> usize
-    ensures units { (result ≤ length output.new) ⊎ (result ≡ 0xFFFF_FFFF_FFFF_FFFF) }
-    ensures refused { IsRefusedToEncode codec indexes.now → result ≡ 0xFFFF_FFFF_FFFF_FFFF }
-    ensures taken { IsTakenToEncode codec indexes.now → IsUtf8 source.now →
-        result ≤ length output.new }
+    ensures bytes { ReturnsBytes (IsUtf8 source.now) codec indexes.now question_mark
+        (chars source.now) times (length output.old) (take result output.new) result }
+    ensures unchanged { (IsTakenToEncode codec indexes.now × IsUtf8 source.now → ⊥) →
+        output.new ≡ output.old }
 {
     let Ok(text) = std::str::from_utf8(source) else {
         return usize::MAX;
     };
-    let reading = Reading {
-        calls: Raw,
-        source: text,
-        piece,
-        times,
-    };
+    let reading = Reading::new(Raw, text, piece, times);
     encode_by_number(codec, indexes, reading, output, room)
 }
 
@@ -121,16 +111,11 @@ pub extern "C" fn legacy_encode_from_utf16(
     times: usize,
     room: &mut [u16],
 ) -> usize
-    ensures units { (result ≤ length output.new) ⊎ (result ≡ 0xFFFF_FFFF_FFFF_FFFF) }
-    ensures taken { IsTakenToEncode codec indexes.now → result ≤ length output.new }
-    ensures refused { IsRefusedToEncode codec indexes.now → result ≡ 0xFFFF_FFFF_FFFF_FFFF }
+    ensures bytes { ReturnsBytes ⊤ codec indexes.now question_mark (unit_scalars source.now)
+        times (length output.old) (take result output.new) result }
+    ensures unchanged { IsRefusedToEncode codec indexes.now → output.new ≡ output.old }
 {
-    let reading = Reading {
-        calls: Raw,
-        source,
-        piece,
-        times,
-    };
+    let reading = Reading::new(Raw, source, piece, times);
     encode_by_number(codec, indexes, reading, output, room)
 }
 
@@ -144,16 +129,11 @@ pub extern "C" fn legacy_decode_replacing_to_utf8(
     piece: usize,
     times: usize,
 ) -> usize
-    ensures units { (result ≤ length output.new) ⊎ (result ≡ 0xFFFF_FFFF_FFFF_FFFF) }
-    ensures taken { IsTaken codec indexes.now → result ≤ length output.new }
-    ensures refused { IsRefused codec indexes.now → result ≡ 0xFFFF_FFFF_FFFF_FFFF }
+    ensures text { ReturnsText codec indexes.now Utf8 source.now times (length output.old)
+        (take result output.new) result }
+    ensures unchanged { IsRefused codec indexes.now → output.new ≡ output.old }
 {
-    let reading = Reading {
-        calls: Replacing,
-        source,
-        piece,
-        times,
-    };
+    let reading = Reading::new(Replacing, source, piece, times);
     decode_by_number(codec, indexes, reading, output)
 }
 
@@ -167,16 +147,11 @@ pub extern "C" fn legacy_decode_replacing_to_utf16(
     piece: usize,
     times: usize,
 ) -> usize
-    ensures units { (result ≤ length output.new) ⊎ (result ≡ 0xFFFF_FFFF_FFFF_FFFF) }
-    ensures taken { IsTaken codec indexes.now → result ≤ length output.new }
-    ensures refused { IsRefused codec indexes.now → result ≡ 0xFFFF_FFFF_FFFF_FFFF }
+    ensures text { ReturnsText codec indexes.now Utf16 source.now times (length output.old)
+        (take result output.new) result }
+    ensures unchanged { IsRefused codec indexes.now → output.new ≡ output.old }
 {
-    let reading = Reading {
-        calls: Replacing,
-        source,
-        piece,
-        times,
-    };
+    let reading = Reading::new(Replacing, source, piece, times);
     decode_by_number(codec, indexes, reading, output)
 }
 
@@ -193,20 +168,15 @@ pub extern "C" fn legacy_encode_replacing_from_utf8(
     times: usize,
     room: &mut [u16],
 ) -> usize
-    ensures units { (result ≤ length output.new) ⊎ (result ≡ 0xFFFF_FFFF_FFFF_FFFF) }
-    ensures refused { IsRefusedToEncode codec indexes.now → result ≡ 0xFFFF_FFFF_FFFF_FFFF }
-    ensures taken { IsTakenToEncode codec indexes.now → IsUtf8 source.now →
-        result ≤ length output.new }
+    ensures bytes { ReturnsBytes (IsUtf8 source.now) codec indexes.now numeric_reference
+        (chars source.now) times (length output.old) (take result output.new) result }
+    ensures unchanged { (IsTakenToEncode codec indexes.now × IsUtf8 source.now → ⊥) →
+        output.new ≡ output.old }
 {
     let Ok(text) = std::str::from_utf8(source) else {
         return usize::MAX;
     };
-    let reading = Reading {
-        calls: Replacing,
-        source: text,
-        piece,
-        times,
-    };
+    let reading = Reading::new(Replacing, text, piece, times);
     encode_by_number(codec, indexes, reading, output, room)
 }
 
@@ -223,15 +193,10 @@ pub extern "C" fn legacy_encode_replacing_from_utf16(
     times: usize,
     room: &mut [u16],
 ) -> usize
-    ensures units { (result ≤ length output.new) ⊎ (result ≡ 0xFFFF_FFFF_FFFF_FFFF) }
-    ensures taken { IsTakenToEncode codec indexes.now → result ≤ length output.new }
-    ensures refused { IsRefusedToEncode codec indexes.now → result ≡ 0xFFFF_FFFF_FFFF_FFFF }
+    ensures bytes { ReturnsBytes ⊤ codec indexes.now numeric_reference
+        (unit_scalars source.now) times (length output.old) (take result output.new) result }
+    ensures unchanged { IsRefusedToEncode codec indexes.now → output.new ≡ output.old }
 {
-    let reading = Reading {
-        calls: Replacing,
-        source,
-        piece,
-        times,
-    };
+    let reading = Reading::new(Replacing, source, piece, times);
     encode_by_number(codec, indexes, reading, output, room)
 }

@@ -1,5 +1,6 @@
 //! Whole sources, piece by piece.
-ghost use Rattle.std.specs.Prelude.{◌≡◌, ◌<◌, ◌≤◌, ◌+◌, length};
+ghost use Rattle.std.specs.Prelude.{◌≡◌, ◌<◌, ◌≤◌, ◌+◌, ◌-◌, length, min, take};
+ghost use Rattle.legacy_exports.specs.Decoding.{DecodesSource, DecodesTimes};
 
 use crate::calls::{CallEnd, Calls};
 use crate::unit::CodeUnit;
@@ -18,13 +19,28 @@ pub struct Reading<C: Calls, S: Copy> {
     pub times: usize,
 }
 
+impl<C: Calls, S: Copy> Reading<C, S> {
+    /// Reads the source by these calls, in pieces of this length, so many times.
+    pub fn new(calls: C, source: S, piece: usize, times: usize) -> Reading<C, S>
+        ensures { result ≡ record { calls = calls; source = source; piece = piece; times = times } }
+    {
+        Reading {
+            calls,
+            source,
+            piece,
+            times,
+        }
+    }
+}
+
 /// Returns the end of a piece of `piece` bytes, or of all that is left if `piece` is 0.
 pub fn piece_end(read: usize, len: usize, piece: usize) -> usize
     requires { read ≤ len }
     ensures most { result ≤ len }
     ensures least { read ≤ result }
     ensures goes_on { read < len → read < result }
-    ensures piece { 0 < piece → result ≤ read + piece }
+    ensures all { piece ≡ 0 → result ≡ len }
+    ensures piece { 0 < piece → result ≡ read + min piece (len - read) }
 {
     if piece == 0 {
         len
@@ -44,12 +60,14 @@ fn decode_once<C: Calls, U: CodeUnit, D: RawDecoder>(
     output: &mut [U],
     piece: usize,
 ) -> usize
-    ensures { result ≤ length output.new }
+    ensures text { DecodesSource U.form source.now (length output.old) (D.state decoder.old)
+        (D.state decoder.new) (U.units (take result output.new)) }
+    ensures within { result ≤ length output.new }
 {
     let mut read = 0;
     let mut written = 0;
     let mut end = piece_end(0, source.len(), piece);
-    for _ in 0..u64::MAX {
+    'pieces: loop {
         let last = end == source.len();
         let (answer, more, units) = calls.decode(
             decoder,
@@ -60,13 +78,16 @@ fn decode_once<C: Calls, U: CodeUnit, D: RawDecoder>(
         read += more;
         written += units;
         match answer {
-            CallEnd::Read if last => return written,
-            CallEnd::Read => end = piece_end(read, source.len(), piece),
+            CallEnd::Read => {
+                if last {
+                    return written;
+                }
+                end = piece_end(read, source.len(), piece);
+            }
             CallEnd::Full => return written,
             CallEnd::Replaced => {}
         }
     }
-    written
 }
 
 /// Decodes a source by one decoder, `times` times.
@@ -78,10 +99,13 @@ pub fn decode_times<C: Calls, U: CodeUnit, D: RawDecoder>(
     reading: &Reading<C, &[u8]>,
     output: &mut [U],
 ) -> usize
-    ensures { result ≤ length output.new }
+    ensures text { DecodesTimes U.form reading.now.source.now (length output.old)
+        (D.state decoder.old) reading.now.times (D.state decoder.new)
+        (U.units (take result output.new)) }
+    ensures within { result ≤ length output.new }
 {
     let mut written = 0;
-    for _ in 0..reading.times {
+    for _time in 0..reading.times {
         written = decode_once(
             reading.calls,
             decoder,

@@ -1,83 +1,103 @@
 //! The texts that encoders read.
-ghost use Rattle.std.specs.Prelude.{◌≡◌, ◌+◌, ◌≤◌, length};
+ghost use Rattle.std.specs.Prelude.{◌≡◌, ◌↔◌, ℕ, ◌-◌, ◌≤◌, List, [], ◌++◌, length, take};
+ghost use Rattle.std.specs.Prelude.{◌&&◌, nat_lt, slice_index, IsTrue};
+ghost use Rattle.std.specs.Char.Utf16.{is_high_surrogate, is_low_surrogate};
+ghost use Rattle.std.specs.Str.{chars};
+ghost use Rattle.legacy_text.specs.Texts.{unit_scalars};
+ghost use Rattle.legacy_base.specs.EncoderCalls.{EncoderCall};
+ghost use Rattle.legacy_codecs.specs.References.{ReplacingEncoderCall};
 
 use crate::pieces::piece_end;
 use legacy_base::{EncoderResult, RawEncoder};
 use legacy_codecs::{CoderResult, encode_replacing_utf8, encode_replacing_utf16};
 
-/// A text in UTF-8 or in UTF-16, whose pieces end between two characters.
+/// A text in UTF-8 or in UTF-16.
 pub trait Text: Copy {
-    /// Returns the number of code units of the text.
-    fn unit_count(self) -> usize;
+    /// The scalars of the text.
+    ghost scalars: { Self → List ℕ };
 
-    /// Returns the end of the piece of `piece` code units that begins at `start`.
-    ///
-    /// The end is moved up to the next place between two characters. If `piece` is 0, the piece is
-    /// all that is left.
-    fn end_of_piece(self, start: usize, piece: usize) -> usize;
+    /// Checks whether the text is empty.
+    fn is_over(self) -> bool
+        ensures { IsTrue result ↔ (scalars self ≡ []) };
 
-    /// Calls an encoder with the part of the text between two places.
+    /// Cuts the text after `piece` code units, or after all of them if `piece` is 0.
     ///
-    /// Returns the result, the number of code units read, and the number of bytes written.
+    /// The cut is moved up to the next place between two characters.
+    fn cut(self, piece: usize) -> (Self, Self)
+        ensures parts { scalars self ≡ scalars result.0 ++ scalars result.1 }
+        ensures some { scalars result.0 ≡ [] → scalars self ≡ [] }
+        ensures whole { piece ≡ 0 → scalars result.1 ≡ [] };
+
+    /// Calls an encoder with the text.
+    ///
+    /// Returns the result, the text that is left, and the number of bytes written.
     fn encode_raw<E: RawEncoder>(
         self,
         encoder: &mut E,
-        place: (usize, usize),
         output: &mut [u8],
         last: bool,
-    ) -> (EncoderResult, usize, usize)
-        ensures { result.2 ≤ length output.new };
+    ) -> (EncoderResult, Self, usize)
+        ensures call { EncoderCall (E.state encoder.old) (scalars self) last (length output.old)
+            (E.state encoder.new) result.0 (scalars result.1) (take result.2 output.new) }
+        ensures written { result.2 ≤ length output.new };
 
     /// Calls an encoder likewise, with replacement.
+    ///
+    /// Returns also whether a reference was written.
     fn encode_replacing<E: RawEncoder>(
         self,
         encoder: &mut E,
-        place: (usize, usize),
         output: &mut [u8],
         last: bool,
-    ) -> (CoderResult, usize, usize)
-        ensures { result.2 ≤ length output.new };
+    ) -> (CoderResult, Self, usize, bool)
+        ensures call { ReplacingEncoderCall (E.state encoder.old) (scalars self) last
+            (length output.old) (E.state encoder.new) result.0 (scalars result.1)
+            (take result.2 output.new) result.3 }
+        ensures written { result.2 ≤ length output.new };
 }
 
 impl Text for &str {
-    fn unit_count(self) -> usize {
-        self.len()
+    ghost scalars = { λ text. chars text.now };
+
+    fn is_over(self) -> bool {
+        self.is_empty()
     }
 
-    fn end_of_piece(self, start: usize, piece: usize) -> usize {
-        let mut end = piece_end(start.min(self.len()), self.len(), piece);
-        while end < self.len() && !self.is_char_boundary(end) {
+    fn cut(self, piece: usize) -> (Self, Self) {
+        let mut end = piece_end(0, self.len(), piece);
+        while !self.is_char_boundary(end) {
             end += 1;
         }
-        end
+        (&self[..end], &self[end..])
     }
 
     fn encode_raw<E: RawEncoder>(
         self,
         encoder: &mut E,
-        place: (usize, usize),
         output: &mut [u8],
         last: bool,
-    ) -> (EncoderResult, usize, usize) {
-        let text = self.get(place.0..place.1).unwrap_or("");
-        encoder.encode_from_utf8_raw(text, output, last)
+    ) -> (EncoderResult, Self, usize) {
+        let (answer, read, written) = encoder.encode_from_utf8_raw(self, output, last);
+        (answer, &self[read..], written)
     }
 
     fn encode_replacing<E: RawEncoder>(
         self,
         encoder: &mut E,
-        place: (usize, usize),
         output: &mut [u8],
         last: bool,
-    ) -> (CoderResult, usize, usize) {
-        let text = self.get(place.0..place.1).unwrap_or("");
-        let call = encode_replacing_utf8(encoder, text, output, last);
-        (call.0, call.1, call.2)
+    ) -> (CoderResult, Self, usize, bool) {
+        let (answer, read, written, found) = encode_replacing_utf8(encoder, self, output, last);
+        (answer, &self[read..], written, found)
     }
 }
 
 /// Checks whether the place is inside a pair of surrogates.
-fn parts_pair(units: &[u16], place: usize) -> bool {
+fn parts_pair(units: &[u16], place: usize) -> bool
+    ensures { result ≡ (nat_lt 0 place && nat_lt place (length units.now)
+        && is_high_surrogate (slice_index units.now (place - 1))
+        && is_low_surrogate (slice_index units.now place)) }
+{
     if place == 0 || place >= units.len() {
         return false;
     }
@@ -85,35 +105,37 @@ fn parts_pair(units: &[u16], place: usize) -> bool {
 }
 
 impl Text for &[u16] {
-    fn unit_count(self) -> usize {
-        self.len()
+    ghost scalars = { λ text. unit_scalars text.now };
+
+    fn is_over(self) -> bool {
+        self.is_empty()
     }
 
-    fn end_of_piece(self, start: usize, piece: usize) -> usize {
-        let end = piece_end(start.min(self.len()), self.len(), piece);
-        if parts_pair(self, end) { end + 1 } else { end }
+    fn cut(self, piece: usize) -> (Self, Self) {
+        let mut end = piece_end(0, self.len(), piece);
+        if parts_pair(self, end) {
+            end += 1;
+        }
+        (&self[..end], &self[end..])
     }
 
     fn encode_raw<E: RawEncoder>(
         self,
         encoder: &mut E,
-        place: (usize, usize),
         output: &mut [u8],
         last: bool,
-    ) -> (EncoderResult, usize, usize) {
-        let units = self.get(place.0..place.1).unwrap_or(&[]);
-        encoder.encode_from_utf16_raw(units, output, last)
+    ) -> (EncoderResult, Self, usize) {
+        let (answer, read, written) = encoder.encode_from_utf16_raw(self, output, last);
+        (answer, &self[read..], written)
     }
 
     fn encode_replacing<E: RawEncoder>(
         self,
         encoder: &mut E,
-        place: (usize, usize),
         output: &mut [u8],
         last: bool,
-    ) -> (CoderResult, usize, usize) {
-        let units = self.get(place.0..place.1).unwrap_or(&[]);
-        let call = encode_replacing_utf16(encoder, units, output, last);
-        (call.0, call.1, call.2)
+    ) -> (CoderResult, Self, usize, bool) {
+        let (answer, read, written, found) = encode_replacing_utf16(encoder, self, output, last);
+        (answer, &self[read..], written, found)
     }
 }

@@ -1,6 +1,18 @@
-use Rattle.std.proofs.Common.{◌≤◌, length}
+use Rattle.std.proofs.Common.{◌≤◌, ◌+◌, ◌++◌, [], length, take, true, false}
+use Rattle.legacy_base.specs.Encoders.{encoded}
+use Rattle.legacy_exports.specs.Encoding.{Encodes}
 use Rattle.legacy_exports.proofs.encode.encode_once.Given as goal
 
--- the output contains what was written
-abbrev pub invariant-loop : goal.invariant-loop
-invariant-loop g l = l.written ≤ length l.output
+-- what was read up to now was encoded, and its bytes are at the beginning of the output
+abbrev pub invariant-pieces : goal.invariant-pieces
+invariant-pieces g l = record {
+  encodes : Encodes g.C.Calls.kind false (g.E.RawEncoder.state l.fn.encoder) (g.T.Text.scalars l.fn.text) (g.E.RawEncoder.state l.encoder)
+      (g.T.Text.scalars l.unread ++ g.T.Text.scalars l.later)
+      (take l.written l.output)
+      [];
+  within : l.written ≤ length l.output;
+}
+
+abbrev pub decreases-pieces : goal.decreases-pieces
+decreases-pieces g l =
+    length (encoded (g.E.RawEncoder.state l.encoder) (g.T.Text.scalars l.unread ++ g.T.Text.scalars l.later) true) + length (g.T.Text.scalars l.later)

@@ -1,6 +1,12 @@
-use Rattle.std.proofs.Common.{◌≤◌, length}
+use Rattle.std.proofs.Common.{◌≤◌, length, take}
+use Rattle.legacy_exports.specs.Encoding.{EncodesTimes}
 use Rattle.legacy_exports.proofs.encode.encode_times.Given as goal
 
--- what was written fits
-abbrev pub invariant-loop : goal.invariant-loop
-invariant-loop g l = l.written ≤ length l.output
+-- the conversions up to now
+abbrev pub invariant-loop-time : goal.invariant-loop-time
+invariant-loop-time g l = record {
+  conversions : EncodesTimes g.C.Calls.kind (g.T.Text.scalars l.reading.source) (length l.fn.output) (g.E.RawEncoder.state l.fn.encoder) l._time
+      (g.E.RawEncoder.state l.encoder)
+      (take l.written l.output);
+  within : l.written ≤ length l.output;
+}

@@ -1,6 +1,18 @@
-use Rattle.std.proofs.Common.{◌≤◌, length}
+use Rattle.std.proofs.Common.{◌≤◌, ◌+◌, ◌-◌, ◌++◌, length, drop, take, true}
+use Rattle.legacy_base.specs.Grammar.{events_of}
+use Rattle.legacy_exports.specs.Decoding.{Decodes}
 use Rattle.legacy_exports.proofs.pieces.decode_once.Given as goal
 
--- the bytes read are of the pieces up to this one, and the output holds what was written
-abbrev pub invariant-loop : goal.invariant-loop
-invariant-loop g l = (l.read ≤ l.end) × (l.end ≤ length l.source) × (l.written ≤ length l.output)
+-- what was read up to now was decoded, and its code units are at the beginning of the output
+abbrev pub invariant-pieces : goal.invariant-pieces
+invariant-pieces g l = record {
+  decodes : Decodes g.U.CodeUnit.form true (g.D.RawDecoder.state l.fn.decoder) l.source (g.D.RawDecoder.state l.decoder) l.read
+      (g.U.CodeUnit.units (take l.written l.output));
+  within_piece : l.read ≤ l.end;
+  within_source : l.end ≤ length l.source;
+  within_output : l.written ≤ length l.output;
+}
+
+abbrev pub decreases-pieces : goal.decreases-pieces
+decreases-pieces g l =
+    let s = g.D.RawDecoder.state l.decoder in length (events_of s.grammar (s.held ++ drop l.read l.source)) + (length l.source - l.end)

@@ -1,6 +1,12 @@
-use Rattle.std.proofs.Common.{◌≤◌, length}
+use Rattle.std.proofs.Common.{◌≤◌, length, take}
+use Rattle.legacy_exports.specs.Decoding.{DecodesTimes}
 use Rattle.legacy_exports.proofs.pieces.decode_times.Given as goal
 
--- what was written fits
-abbrev pub invariant-loop : goal.invariant-loop
-invariant-loop g l = l.written ≤ length l.output
+-- the conversions up to now
+abbrev pub invariant-loop-time : goal.invariant-loop-time
+invariant-loop-time g l = record {
+  conversions : DecodesTimes g.U.CodeUnit.form l.reading.source.now (length l.fn.output) (g.D.RawDecoder.state l.fn.decoder) l._time
+      (g.D.RawDecoder.state l.decoder)
+      (g.U.CodeUnit.units (take l.written l.output));
+  within : l.written ≤ length l.output;
+}

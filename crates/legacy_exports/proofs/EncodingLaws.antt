@@ -1,0 +1,168 @@
+-- Calls of an encoder, one after another.
+use Rattle.std.proofs.Common.{◌≡◌, ◌∙◌, ℕ, ◌-◌, ◌≤◌, List, [], ◌∷◌, ◌++◌, length, map, refl, sym, ap, arith}
+use Rattle.std.proofs.Common.{append-nil, append_assoc, length-append, Bool, true, false, IsTrue, inl, inr}
+use Rattle.std.proofs.lemmas.List.Concat.{flat_map-append}
+use Rattle.legacy_base.specs.declared.results.EncodeEvent.{EncodeEvent}
+use Rattle.legacy_base.specs.declared.results.EncodeEvent.TheVariants.{Byte}
+use Rattle.legacy_base.specs.declared.results.EncodeEvent.TheVariants as event
+use Rattle.legacy_base.specs.declared.results.EncoderResult.{EncoderResult}
+use Rattle.legacy_base.specs.declared.results.EncoderResult.TheVariants.{InputEmpty, OutputFull, Unmappable}
+use Rattle.legacy_base.specs.Encoders.{EncoderState, encoded}
+use Rattle.legacy_base.specs.EncoderCalls.{EncoderCall, tells_end, reported}
+use Rattle.legacy_base.proofs.Beginnings.{begins_later}
+use Rattle.legacy_codecs.specs.References.{reference, referenced_bytes, Gives, ReplacingEncoderCall}
+use Rattle.legacy_codecs.specs.declared.results.CoderResult.{CoderResult}
+use Rattle.legacy_codecs.specs.declared.results.CoderResult.TheVariants as coder
+use Rattle.legacy_exports.specs.declared.calls.CallEnd.TheVariants.{Read, Full, Replaced}
+use Rattle.legacy_exports.specs.Decoding.{end_of}
+use Rattle.legacy_exports.specs.Encoding.{Replacement, question_mark, numeric_reference, bytes_of_event, bytes_of, Encodes, EncodingCall, LacksBytes}
+use Rattle.legacy_exports.specs.Encoding.{EncodesText}
+
+-- ---- the bytes of events
+
+pub bytes-append : (kind : Replacement) (xs ys : List EncodeEvent) → bytes_of kind (xs ++ ys) ≡ bytes_of kind xs ++ bytes_of kind ys
+bytes-append kind xs ys = flat_map-append (bytes_of_event kind) xs ys
+
+bytes-of_bytes : (kind : Replacement) (bs : List ℕ) → bytes_of kind (map Byte bs) ≡ bs
+bytes-of_bytes kind [] = refl
+bytes-of_bytes kind (b ∷ bs) = ap (λ (l : List ℕ). b ∷ l) (bytes-of_bytes kind bs)
+
+bytes-references : (events : List EncodeEvent) → bytes_of numeric_reference events ≡ referenced_bytes events
+bytes-references [] = refl
+bytes-references (Byte b ∷ events) = ap (λ (l : List ℕ). b ∷ l) (bytes-references events)
+bytes-references (event.Unmappable c ∷ events) = ap (λ l. reference c ++ l) (bytes-references events)
+
+-- ---- one call
+
+pub replacing_call : {before : EncoderState} {text : List ℕ} {last : Bool} {free : ℕ} {after : EncoderState} (answer : CoderResult)
+    {left written : List ℕ} {found : Bool} →
+    ReplacingEncoderCall before text last free after answer left written found →
+    EncodingCall numeric_reference before text last free after (end_of answer) left written
+replacing_call coder.InputEmpty {left} {written} c = record {
+  lost = [];
+  encodes = record { out = c.out; gives = c.gives; bytes = bytes-references c.out ∙ sym c.text ∙ sym (append-nil written) };
+  ends = (c.input_empty refl, refl);
+}
+replacing_call coder.OutputFull {left} {written} c = record {
+  lost = [];
+  encodes = record { out = c.out; gives = c.gives; bytes = bytes-references c.out ∙ sym c.text ∙ sym (append-nil written) };
+  ends = inl (refl, c.output_full refl);
+}
+
+-- the events of a raw call
+raw_gives : {before : EncoderState} {text : List ℕ} {last : Bool} {free : ℕ} {after : EncoderState} {answer : EncoderResult} {left written : List ℕ} →
+    EncoderCall before text last free after answer left written →
+    Gives (tells_end last answer) before text after left (map Byte written ++ reported answer)
+raw_gives {before} {after = after} {answer} {left} {written} c more ended h =
+    c.events more ended h ∙ sym (append_assoc (map Byte written) (reported answer) (encoded after (left ++ more) ended))
+
+raw_bytes : (written : List ℕ) (answer : EncoderResult) →
+    bytes_of question_mark (map Byte written ++ reported answer) ≡ written ++ bytes_of question_mark (reported answer)
+raw_bytes written answer =
+    bytes-append question_mark (map Byte written) (reported answer)
+    ∙ ap (λ l. l ++ bytes_of question_mark (reported answer)) (bytes-of_bytes question_mark written)
+
+module _ {before : EncoderState} {text : List ℕ} {last : Bool} {free : ℕ} {after : EncoderState} {left written : List ℕ} where
+  pub raw_empty : EncoderCall before text last free after InputEmpty left written → EncodingCall question_mark before text last free after Read left written
+  raw_empty c = record {
+    lost = [];
+    encodes = record { out = map Byte written ++ []; gives = raw_gives c; bytes = raw_bytes written InputEmpty };
+    ends = (c.input_empty refl, refl);
+  }
+
+  pub raw_full : EncoderCall before text last free after OutputFull left written → EncodingCall question_mark before text last free after Full left written
+  raw_full c = record {
+    lost = [];
+    encodes = record { out = map Byte written ++ []; gives = raw_gives c; bytes = raw_bytes written OutputFull };
+    ends = let l = c.output_full refl in inl (refl, omega arith);
+  }
+
+  -- a question mark is written for an unmappable scalar, or lost
+  pub raw_marked : {c : ℕ} → EncoderCall before text last free after (Unmappable c) left written →
+      EncodingCall question_mark before text last free after Replaced left (written ++ 0x3F ∷ [])
+  raw_marked {c} call = record {
+    lost = [];
+    encodes = record {
+      out = map Byte written ++ reported (Unmappable c);
+      gives = raw_gives call;
+      bytes = raw_bytes written (Unmappable c) ∙ sym (append-nil (written ++ 0x3F ∷ []));
+    };
+    ends = (omega (arith, length-append written (0x3F ∷ [])), refl);
+  }
+
+  pub raw_lost : {c : ℕ} → EncoderCall before text last free after (Unmappable c) left written → free ≤ length written →
+      EncodingCall question_mark before text last free after Full left written
+  raw_lost {c} call h = record {
+    lost = 0x3F ∷ [];
+    encodes = record { out = map Byte written ++ reported (Unmappable c); gives = raw_gives call; bytes = raw_bytes written (Unmappable c) };
+    ends = inr (refl, refl, omega arith);
+  }
+
+-- ---- calls one after another
+
+no_end : {A : Type 0} → IsTrue false → A
+no_end f = cc
+
+pub encodes_start : (kind : Replacement) (before : EncoderState) (text : List ℕ) → Encodes kind false before text before text [] []
+encodes_start kind before text = record { out = []; gives = λ more ended h. refl; bytes = refl }
+
+module _ {kind : Replacement} {ended : Bool} {before : EncoderState} {text : List ℕ} {now : EncoderState} {piece later written : List ℕ}
+    (r : Encodes kind false before text now (piece ++ later) written []) {after : EncoderState} {left bytes lost : List ℕ}
+    (c : Encodes kind ended now piece after left bytes lost) (none : IsTrue ended → later ≡ []) where
+  pub encodes_more : Encodes kind ended before text after (left ++ later) (written ++ bytes) lost
+  encodes_more = record {
+    out = r.out ++ c.out;
+    gives = λ more end h.
+        let all = encoded before (text ++ more) end in
+        let behind = encoded now (piece ++ (later ++ more)) end in
+        let last = encoded after (left ++ (later ++ more)) end in
+        let first : all ≡ r.out ++ behind = r.gives more end (λ f. no_end f) ∙ ap (λ l. r.out ++ encoded now l end) (append_assoc piece later more) in
+        let second : behind ≡ c.out ++ last = c.gives (later ++ more) end (λ e. elim (h e) [
+          | inl n ↦ inl (rw (none e) n.0, n.1)
+          | inr g ↦ inr (begins_later r.out c.out behind (rw first at g))
+        ]) in
+        first ∙ ap (λ l. r.out ++ l) second ∙ sym (append_assoc r.out c.out last)
+        ∙ ap (λ l. (r.out ++ c.out) ++ encoded after l end) (sym (append_assoc left later more));
+    bytes =
+        bytes-append kind r.out c.out ∙ ap (λ l. l ++ bytes_of kind c.out) (r.bytes ∙ append-nil written) ∙ ap (λ l. written ++ l) c.bytes
+        ∙ sym (append_assoc written bytes lost);
+  }
+
+-- ---- the end of a conversion
+
+-- if a call in a piece lacks room, so does one in the rest of the text
+pub lacks_bytes_ahead : (kind : Replacement) (s : EncoderState) (xs zs : List ℕ) (last : Bool) (free : ℕ) (lost : List ℕ) → (IsTrue last → zs ≡ []) →
+    LacksBytes kind s xs last free lost → LacksBytes kind s (xs ++ zs) true free lost
+lacks_bytes_ahead kind s (x ∷ xs) zs last free lost h l = l
+lacks_bytes_ahead kind s [] zs true free lost h l = rw (h refl) l
+lacks_bytes_ahead kind s [] zs false free lost h l = elim l [ inl p ↦ inl (p.0, (let q = p.1 in omega arith)) | inr q ↦ inr q ]
+
+-- a call with the piece that is unread
+module _ {kind : Replacement} {before : EncoderState} {text : List ℕ} {now : EncoderState} {unread done : List ℕ} (later : List ℕ)
+    (r : Encodes kind false before text now (unread ++ later) done []) {free : ℕ} {after : EncoderState} {left bytes : List ℕ} (all : List ℕ)
+    (e : all ≡ done ++ bytes) where
+  -- the calls go on with the next piece, or in this one
+  pub after_piece : EncodingCall kind now unread false free after Read left bytes → (next : List ℕ) → later ≡ next →
+      Encodes kind false before text after next all []
+  after_piece c next n = let ends = c.ends in let made = encodes_more r c.encodes (λ f. no_end f) in rw (e, ← n) (rw (ends.0.0, ends.1) at made)
+
+  pub after_replaced : {last : Bool} → EncodingCall kind now unread last free after Replaced left bytes →
+      Encodes kind false before text after (left ++ later) all []
+  after_replaced c = let ends = c.ends in let made = encodes_more r c.encodes (λ f. no_end f) in rw e (rw ends.1 at made)
+
+  -- the end of a conversion
+  pub text_encoded : (total : ℕ) → EncodingCall kind now unread true free after Read left bytes → later ≡ [] → EncodesText kind text total before after all
+  text_encoded total c none =
+      let ends = c.ends in
+      let nothing : left ++ later ≡ [] = rw (ends.0.0, none) refl in
+      let made : Encodes kind true before text after (left ++ later) all c.lost = rw e (encodes_more r c.encodes (λ _. none)) in
+      record { ended = true; left = left ++ later; lost = c.lost; encodes = made; stops = inl (refl, (nothing, ends.0.1), ends.1) }
+
+  pub text_full : (total : ℕ) {last : Bool} → EncodingCall kind now unread last free after Full left bytes → (IsTrue last → later ≡ []) →
+      free ≡ total - length done →
+      EncodesText kind text total before after all
+  text_full total {last} c none f =
+      let lacks = lacks_bytes_ahead kind after left later last (free - length bytes) c.lost none c.ends in
+      let room : total - length all ≡ free - length bytes = omega (arith, ap length e, length-append done bytes) in
+      let made : Encodes kind false before text after (left ++ later) all c.lost = rw e (encodes_more r c.encodes (λ g. no_end g)) in
+      record { ended = false; left = left ++ later; lost = c.lost; encodes = made; stops = inr (refl, rw room lacks) }

@@ -1,0 +1,66 @@
+use Rattle.std.proofs.Common.{[], arith, rules}
+use Rattle.legacy_exports.proofs.DecodingLaws.{decodes_start, after_call, in_piece, whole_piece, no_more_events, fewer_events, at_end, at_full}
+use Rattle.legacy_exports.proofs.DecodingLaws.{none_later, at_length}
+use Rattle.legacy_exports.proofs.OutputParts.{front_of_units, free_after}
+use Rattle.legacy_exports.proofs.pieces.decode_once.Goals as goal
+
+pub pieces-init : goal.pieces-init
+pieces-init g c = record {
+  decodes = decodes_start _ _ _ _ (g.met.U.CodeUnit.units_length []);
+  within_piece = omega arith;
+  within_source = omega arith;
+  within_output = omega arith;
+}
+
+pub returns-then-last-clause-text : goal.returns-then-last-clause-text
+returns-then-last-clause-text g c =
+    let i = c.pieces.invariant in
+    let front = front_of_units g.U.CodeUnit.units g.met.U.CodeUnit.units_append c.pieces.written _ c.decode-answer.result.2 c.pieces.output
+    c.decode-answer.new.output i.within_output c.decode-answer.ensures.written in
+    let last = at_length c.pieces.end c.args.source.now c.if-last.true in
+    at_end i.decodes c.decode-answer.ensures.call i.within_piece (none_later c.pieces.end c.args.source.now) _ _ front c.in-Read.is last
+
+pub pieces-smaller-in-Read : goal.pieces-smaller-in-Read
+pieces-smaller-in-Read g c =
+    let i = c.pieces.invariant in
+    let few = no_more_events i.decodes c.decode-answer.ensures.call i.within_piece (none_later c.pieces.end c.args.source.now) in
+    let all = whole_piece i.decodes c.decode-answer.ensures.call i.within_piece (none_later c.pieces.end c.args.source.now) c.in-Read.is i.within_source in
+    omega (arith, few, all, i.within_source, c.if-last.false, c.piece_end-end-in-Read.ensures)
+
+pub pieces-preserved-in-Read : goal.pieces-preserved-in-Read
+pieces-preserved-in-Read g c =
+    let i = c.pieces.invariant in
+    let front = front_of_units g.U.CodeUnit.units g.met.U.CodeUnit.units_append c.pieces.written _ c.decode-answer.result.2 c.pieces.output
+    c.decode-answer.new.output i.within_output c.decode-answer.ensures.written in
+    record {
+      decodes = after_call i.decodes c.decode-answer.ensures.call i.within_piece (none_later c.pieces.end c.args.source.now) _ front;
+      within_piece = omega arith;
+      within_source = omega arith;
+      within_output = search rules;
+    }
+
+pub returns-in-Full-clause-text : goal.returns-in-Full-clause-text
+returns-in-Full-clause-text g c =
+    let i = c.pieces.invariant in
+    let front = front_of_units g.U.CodeUnit.units g.met.U.CodeUnit.units_append c.pieces.written _ c.decode-answer.result.2 c.pieces.output
+    c.decode-answer.new.output i.within_output c.decode-answer.ensures.written in
+    at_full i.decodes c.decode-answer.ensures.call i.within_piece (none_later c.pieces.end c.args.source.now) _ _ front
+    (free_after g.U.CodeUnit.units g.met.U.CodeUnit.units_length c.pieces.written _ c.pieces.output i.within_output c.pieces.auto.output) c.in-Full.is
+
+pub pieces-smaller : goal.pieces-smaller
+pieces-smaller g c =
+    let i = c.pieces.invariant in
+    let few = fewer_events i.decodes c.decode-answer.ensures.call i.within_piece (none_later c.pieces.end c.args.source.now) c.in-Replaced.is in
+    omega (arith, few)
+
+pub pieces-preserved : goal.pieces-preserved
+pieces-preserved g c =
+    let i = c.pieces.invariant in
+    let front = front_of_units g.U.CodeUnit.units g.met.U.CodeUnit.units_append c.pieces.written _ c.decode-answer.result.2 c.pieces.output
+    c.decode-answer.new.output i.within_output c.decode-answer.ensures.written in
+    record {
+      decodes = after_call i.decodes c.decode-answer.ensures.call i.within_piece (none_later c.pieces.end c.args.source.now) _ front;
+      within_piece = in_piece i.decodes c.decode-answer.ensures.call i.within_piece (none_later c.pieces.end c.args.source.now) i.within_source;
+      within_source = i.within_source;
+      within_output = search rules;
+    }

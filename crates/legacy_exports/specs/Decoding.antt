@@ -1,0 +1,84 @@
+-- What a decoder writes, in one call and in conversions of a whole source.
+use Rattle.std.specs.Prelude.{◌≡◌, ℕ, ◌+◌, ◌-◌, ◌≤◌, List, [], length, drop, Bool, true, IsTrue, ◌⊎◌}
+use Rattle.legacy_text.specs.EncodingForm.{EncodingForm, all_code_units}
+use Rattle.legacy_base.specs.declared.results.DecodeEvent.{DecodeEvent}
+use Rattle.legacy_base.specs.Grammar.{events_of}
+use Rattle.legacy_base.specs.States.{DecoderState}
+use Rattle.legacy_base.specs.DecoderActs.{LacksRoom}
+use Rattle.legacy_base.specs.Calls.{Progress}
+use Rattle.legacy_codecs.specs.Replacing.{replaced_scalars, has_bad, may_replace_end}
+use Rattle.legacy_codecs.specs.declared.results.CoderResult.{CoderResult}
+use Rattle.legacy_codecs.specs.declared.results.CoderResult.TheVariants.{InputEmpty, OutputFull}
+use Rattle.legacy_encodings.specs.Coders.{decoder_of}
+use Rattle.legacy_exports.specs.NewCoders.{HoldsByNumber}
+use Rattle.legacy_exports.specs.AcceptedIndexes.{IsRefused, IsTaken}
+use Rattle.legacy_exports.specs.declared.indexes.IndexSlices.{IndexSlices}
+use Rattle.legacy_exports.specs.declared.calls.CallEnd.{CallEnd}
+use Rattle.legacy_exports.specs.declared.calls.CallEnd.TheVariants.{Read, Full, Replaced}
+
+-- ---- one call
+
+-- how a call with replacement ended
+abbrev pub end_of : CoderResult → CallEnd
+end_of InputEmpty = Read
+end_of OutputFull = Full
+
+-- A decoder goes from the state `before` to the state `after`, reads `read` bytes of the source, and writes these code
+-- units.
+pub record Decodes (form : EncodingForm) (last : Bool) (before : DecoderState) (source : List ℕ) (after : DecoderState)
+    (read : ℕ) (written : List ℕ) : Type 0 where
+  -- at most the source is read
+  pub within : read ≤ length source
+  -- the number of bytes, of those held back and of the source, that are done with
+  pub passed : ℕ
+  -- the events of these bytes
+  pub out : List DecodeEvent
+  -- these, and then the events of what is left, are the grammar's events, whatever bytes follow; after a malformed
+  -- sequence at the end of the input, only if the events with those bytes still begin so
+  pub progress : Progress (may_replace_end last (has_bad out) (drop read source)) before source passed after (drop read source) out
+  -- the code units are those of the events, with U+FFFD for each malformed sequence
+  pub text : written ≡ all_code_units form (replaced_scalars out)
+
+-- all is read, and after a last piece no event is left
+abbrev pub IsDecoded : DecoderState → List ℕ → Bool → Type 0
+IsDecoded state unread last = (unread ≡ []) × (IsTrue last → events_of state.grammar state.held ≡ [])
+
+-- what the end of a call says of the bytes left, of the code units left free, and of the number that it wrote
+abbrev pub DecodingEnds : EncodingForm → DecoderState → List ℕ → Bool → ℕ → ℕ → CallEnd → Type 0
+DecodingEnds form state unread last free count Read = IsDecoded state unread last
+DecodingEnds form state unread last free count Full = LacksRoom form state unread last free
+DecodingEnds form state unread last free count Replaced = 1 ≤ count
+
+-- a call with `free` code units free
+pub record DecodingCall (form : EncodingForm) (before : DecoderState) (source : List ℕ) (last : Bool) (free : ℕ) (after : DecoderState)
+    (end : CallEnd) (read : ℕ) (written : List ℕ) : Type 0 where
+  pub decodes : Decodes form last before source after read written
+  pub ends : DecodingEnds form after (drop read source) last (free - length written) (length written) end
+
+-- ---- conversions
+
+-- One conversion of a whole source writes these code units to an output of `free` code units. It stops if all is
+-- decoded, or if the next act lacks its room.
+pub record DecodesSource (form : EncodingForm) (source : List ℕ) (free : ℕ) (before after : DecoderState) (written : List ℕ) : Type 0 where
+  pub read : ℕ
+  pub decodes : Decodes form true before source after read written
+  pub stops : IsDecoded after (drop read source) true ⊎ LacksRoom form after (drop read source) true (free - length written)
+
+-- Conversions of one source by one decoder, each to the beginning of the output. `written` is what the last one wrote.
+pub data DecodesTimes (form : EncodingForm) (source : List ℕ) (free : ℕ) (before : DecoderState) : ℕ → DecoderState → List ℕ → Type 0 where
+  none : DecodesTimes form source free before 0 before []
+  one_more : (times : ℕ) (now : DecoderState) (earlier : List ℕ) → DecodesTimes form source free before times now earlier →
+      (after : DecoderState) (written : List ℕ) → DecodesSource form source free now after written →
+      DecodesTimes form source free before (times + 1) after written
+
+-- conversions from a state on
+abbrev pub DecodesTo : EncodingForm → List ℕ → ℕ → ℕ → List ℕ → DecoderState → Type 0
+DecodesTo form source times free written before = (after : DecoderState) × DecodesTimes form source free before times after written
+
+-- What a decoder function returns: the number of code units that it wrote, or `usize::MAX` if the number or the indexes
+-- are refused.
+pub record ReturnsText (number : ℕ) (slices : IndexSlices) (form : EncodingForm) (source : List ℕ) (times free : ℕ) (written : List ℕ)
+    (result : ℕ) : Type 0 where
+  pub either : (result ≤ free) ⊎ (result ≡ 0xFFFF_FFFF_FFFF_FFFF)
+  pub taken : IsTaken number slices → (result ≤ free) × HoldsByNumber decoder_of number slices (DecodesTo form source times free written)
+  pub refused : IsRefused number slices → result ≡ 0xFFFF_FFFF_FFFF_FFFF
