@@ -20,7 +20,7 @@ pub struct Reading<C: Calls, S: Copy> {
 }
 
 impl<C: Calls, S: Copy> Reading<C, S> {
-    /// Reads the source by these calls, in pieces of this length, so many times.
+    /// Reads the source by these calls, in pieces of this length, and this number of times.
     pub fn new(calls: C, source: S, piece: usize, times: usize) -> Reading<C, S>
         ensures { result ≡ record { calls = calls; source = source; piece = piece; times = times } }
     {
