@@ -60,7 +60,7 @@ impl Units<'_> {
 /// The greatest number of code units of an output.
 const MOST: usize = 96;
 
-/// An output in one form, with those of its 96 code units that were written so far.
+/// An output in one form, with those of its 96 code units that are written.
 #[derive(Drop)]
 pub(crate) struct Output {
     form: Form,
@@ -82,7 +82,7 @@ impl Output {
         }
     }
 
-    /// Makes a call that writes after what was written so far, with replacement if `replaces` is set.
+    /// Makes a call that writes after what is written, with replacement if `replaces` is set.
     ///
     /// Returns its result, the number of bytes read, and whether something was replaced.
     pub(crate) fn decode<D: RawDecoder>(
