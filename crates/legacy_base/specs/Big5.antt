@@ -1,14 +1,14 @@
 -- Big5: its fronts and its codes (WHATWG Encoding Standard, "Big5 decoder" and "Big5 encoder").
-use Rattle.std.specs.Prelude.{ℕ, ◌+◌, ◌-◌, ◌*◌, ◌/◌, ◌%◌, List, [], ◌∷◌, length, true, false, Option, Some, None, ◌==◌, nat_lt, if◌then◌else◌, option_to_list, option_map}
+use Rattle.std.specs.Prelude.{ℕ, ◌+◌, ◌-◌, ◌*◌, ◌/◌, ◌%◌, List, [], ◌∷◌, true, Option, Some, None, ◌==◌, nat_lt, if◌then◌else◌, option_to_list}
 use Rattle.std.specs.Option.{option_map_or}
 use Rattle.std.specs.Int.{is_in_range}
 use Rattle.std.specs.Char.{is_ascii}
-use Rattle.legacy_base.specs.Fronts.{Front, reads, malformed, trail_front, cut}
+use Rattle.legacy_base.specs.Fronts.{Front, reads, malformed, trail_front}
 use Rattle.legacy_tables.specs.Indexes.{idx}
 use Rattle.legacy_tables.specs.Pointers.{big5_pointer_of}
-use Rattle.legacy_base.specs.Profile.{Profile, wide_acts, is_lead, single_lead_may_hold, always_rests}
-use Rattle.legacy_base.specs.EncoderProfile.{EncoderProfile, plain_encoder}
-use Rattle.legacy_base.specs.Formulas.{weighed, constant, ◌⊞◌, ◌⊠◌, number, ◌⊕◌, ◌⊗◌}
+use Rattle.legacy_base.specs.Profile.{Profile, is_lead, lead_profile}
+use Rattle.legacy_base.specs.EncoderProfile.{EncoderProfile, pointer_code, pair_encoder}
+use Rattle.legacy_base.specs.Formulas.{weighed, constant, ◌⊞◌, ◌⊠◌}
 
 -- the pointer of a lead and a trail, or none if the second byte is no trail
 abbrev pub big5_pointer : ℕ → ℕ → Option ℕ
@@ -39,19 +39,11 @@ big5_front index b rest =
 
 -- the decoder
 abbrev pub big5_profile : List ℕ → Profile
-big5_profile index = record {
-  events = cut (big5_front index) 0 0;
-  may_hold = single_lead_may_hold is_lead;
-  rests = always_rests;
-  begins_in_ascii = true;
-  rooms = wide_acts;
-  short_ascii = true;
-  reported = false;
+big5_profile index = record (lead_profile (big5_front index) is_lead) {
+  wide_reads = true;
+  wide_writes = true;
   marks = true;
-  weight = length;
-  utf16_length = constant 1 ⊞ weighed;
-  utf8_length = constant 3 ⊞ constant 3 ⊠ weighed;
-  utf8_length_without_replacement = constant 2 ⊞ constant 2 ⊠ weighed;
+  lengths = record { utf16 = constant 1 ⊞ weighed; utf8 = constant 3 ⊞ constant 3 ⊠ weighed; utf8_without_replacement = constant 2 ⊞ constant 2 ⊠ weighed };
 }
 
 -- ---- encoding
@@ -62,10 +54,8 @@ big5_bytes p = (p / 157 + 0x81) ∷ (p % 157 + (if nat_lt (p % 157) 0x3F then 0x
 
 -- the code of a scalar
 unfoldable pub big5_code : List ℕ → ℕ → Option (List ℕ)
-big5_code index c =
-    if is_ascii c then Some (c ∷ [])
-    else option_map big5_bytes (big5_pointer_of index c)
+big5_code index = pointer_code big5_bytes (big5_pointer_of index)
 
 -- the encoder
 abbrev pub big5_encoder : List ℕ → EncoderProfile
-big5_encoder index = plain_encoder (big5_code index) 2 (λ n. n ⊕ number 1) (λ n. number 2 ⊗ n)
+big5_encoder index = pair_encoder (big5_code index)

@@ -4,7 +4,6 @@ use Rattle.std.specs.Char.{is_ascii}
 use Rattle.legacy_base.specs.declared.results.DecodeEvent.{DecodeEvent}
 use Rattle.legacy_text.specs.EncodingForm.{EncodingForm, unit_count, bmp_room, wide_room}
 use Rattle.legacy_base.specs.Grammar.{Grammar, profile, events_of}
-use Rattle.legacy_base.specs.Profile.{Rooms, narrow_acts, wide_reads, wide_acts}
 use Rattle.legacy_base.specs.States.{DecoderState, rests, is_empty}
 
 -- ---- the next act
@@ -34,24 +33,12 @@ next_act state unread last =
 -- ---- room: `narrow` is the number of code units of the longest scalar up to U+FFFF, `wide` that of the longest scalar
 
 -- the room for reading a byte past ASCII
-abbrev pub reading_room : ℕ → ℕ → Rooms → ℕ
-reading_room narrow wide narrow_acts = narrow
-reading_room narrow wide wide_reads = wide
-reading_room narrow wide wide_acts = wide
-
--- the same for a grammar's codec
 abbrev pub full_room : ℕ → ℕ → Grammar → ℕ
-full_room narrow wide grammar = reading_room narrow wide (profile grammar).rooms
+full_room narrow wide grammar = if (profile grammar).wide_reads then wide else narrow
 
 -- the room for writing a held-back scalar, and for a report at the end of input
-abbrev pub writing_room : ℕ → ℕ → Rooms → ℕ
-writing_room narrow wide narrow_acts = narrow
-writing_room narrow wide wide_reads = narrow
-writing_room narrow wide wide_acts = wide
-
--- the same for a grammar's codec
 abbrev pub release_room : ℕ → ℕ → Grammar → ℕ
-release_room narrow wide grammar = writing_room narrow wide (profile grammar).rooms
+release_room narrow wide grammar = if (profile grammar).wide_writes then wide else narrow
 
 -- true for codecs in which an ASCII byte needs one code unit if nothing is held back
 abbrev pub has_short_ascii : Grammar → Bool

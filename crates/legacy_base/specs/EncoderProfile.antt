@@ -1,9 +1,10 @@
 -- A record that defines an encoder. Each codec's file in this folder has its own value.
-use Rattle.std.specs.Prelude.{ℕ, List, [], Option, Bool, nat_lt, if◌then◌else◌}
+use Rattle.std.specs.Prelude.{ℕ, List, [], ◌∷◌, Option, Some, Bool, nat_lt, if◌then◌else◌, option_map}
+use Rattle.std.specs.Char.{is_ascii}
 use Rattle.legacy_base.specs.declared.results.EncodeEvent.{EncodeEvent}
 use Rattle.legacy_base.specs.EncodeEvents.{plain_events}
 use Rattle.legacy_text.specs.EncodingForm.{EncodingForm, Utf8, Utf16}
-use Rattle.legacy_base.specs.Formulas.{Formula}
+use Rattle.legacy_base.specs.Formulas.{Formula, number, ◌⊕◌, ◌⊗◌}
 
 -- the modes of an encoder; codecs without modes stay in ASCII mode
 pub data EncoderMode : Type 0 where
@@ -43,3 +44,13 @@ plain_encoder code past from_utf8 from_utf16 = record {
   formula = by_form from_utf8 from_utf16;
   surplus = λ form mode n. 0;
 }
+
+-- ---- codecs of ASCII and pairs
+
+-- the code of a scalar: ASCII is itself, and another scalar has the bytes of its pointer
+abbrev pub pointer_code : (ℕ → List ℕ) → (ℕ → Option ℕ) → ℕ → Option (List ℕ)
+pointer_code bytes pointer_of c = if is_ascii c then Some (c ∷ []) else option_map bytes (pointer_of c)
+
+-- a codec without modes whose codes have one or two bytes
+abbrev pub pair_encoder : (ℕ → Option (List ℕ)) → EncoderProfile
+pair_encoder code = plain_encoder code 2 (λ n. n ⊕ number 1) (λ n. number 2 ⊗ n)

@@ -6,9 +6,8 @@ use Rattle.legacy_base.specs.Fronts.{Front, reads, malformed, trail_rule, trail_
 use Rattle.legacy_tables.specs.Unicode.{is_katakana_byte, katakana_of, is_katakana_scalar, katakana_byte_of}
 use Rattle.legacy_tables.specs.Indexes.{idx}
 use Rattle.legacy_tables.specs.Pointers.{euc_jp_pointer_of, minus_as_hyphen}
-use Rattle.legacy_base.specs.Profile.{Profile, narrow_acts, always_rests}
-use Rattle.legacy_base.specs.EncoderProfile.{EncoderProfile, plain_encoder}
-use Rattle.legacy_base.specs.Formulas.{weighed, constant, ◌⊞◌, ◌⊠◌, halved, number, ◌⊕◌, ◌⊗◌}
+use Rattle.legacy_base.specs.Profile.{Profile, held_profile, lead_lengths}
+use Rattle.legacy_base.specs.EncoderProfile.{EncoderProfile, pair_encoder}
 
 -- the leads of EUC-JP, which also follow 0x8F
 abbrev pub is_euc_jp_lead : ℕ → Bool
@@ -62,19 +61,9 @@ euc_jp_weight held = min 1 (length held)
 
 -- the decoder
 abbrev pub euc_jp_profile : List ℕ → List ℕ → Profile
-euc_jp_profile jis0208 jis0212 = record {
-  events = cut (euc_jp_front jis0208 jis0212) 0 0;
-  may_hold = euc_jp_may_hold;
-  rests = always_rests;
-  begins_in_ascii = true;
-  rooms = narrow_acts;
-  short_ascii = true;
-  reported = false;
-  marks = false;
+euc_jp_profile jis0208 jis0212 = record (held_profile (cut (euc_jp_front jis0208 jis0212) 0 0) euc_jp_may_hold) {
   weight = euc_jp_weight;
-  utf16_length = weighed;
-  utf8_length = constant 3 ⊠ weighed;
-  utf8_length_without_replacement = constant 2 ⊞ (weighed ⊞ halved (weighed ⊞ constant 1));
+  lengths = lead_lengths;
 }
 
 -- ---- encoding: with index JIS X 0208 only
@@ -94,4 +83,4 @@ euc_jp_code jis0208 c =
 
 -- the encoder
 abbrev pub euc_jp_encoder : List ℕ → EncoderProfile
-euc_jp_encoder jis0208 = plain_encoder (euc_jp_code jis0208) 2 (λ n. n ⊕ number 1) (λ n. number 2 ⊗ n)
+euc_jp_encoder jis0208 = pair_encoder (euc_jp_code jis0208)

@@ -1,14 +1,14 @@
 -- GB18030 and GBK: their fronts and codes (WHATWG Encoding Standard, "gb18030 decoder" and "gb18030 encoder").
-use Rattle.std.specs.Prelude.{ℕ, ◌+◌, ◌-◌, ◌*◌, ◌/◌, ◌%◌, List, [], ◌∷◌, length, Option, Some, None, Bool, true, false, not, ◌&&◌, ◌||◌, ◌==◌, nat_lt, if◌then◌else◌, option_to_list, option_map}
+use Rattle.std.specs.Prelude.{ℕ, ◌+◌, ◌-◌, ◌*◌, ◌/◌, ◌%◌, List, [], ◌∷◌, Option, Some, None, Bool, true, false, not, ◌&&◌, ◌||◌, ◌==◌, nat_lt, if◌then◌else◌, option_to_list, option_map}
 use Rattle.std.specs.Option.{option_or}
 use Rattle.std.specs.Int.{is_in_range}
 use Rattle.std.specs.Char.{is_ascii, is_ascii_digit}
 use Rattle.legacy_base.specs.Fronts.{Front, reads, malformed, reads_or, trail_rule, cut}
 use Rattle.legacy_tables.specs.Indexes.{idx, range, gb18030_pua_of}
 use Rattle.legacy_tables.specs.Pointers.{gb18030_pointer_of, range_pointer_of}
-use Rattle.legacy_base.specs.Profile.{Profile, wide_acts, is_lead}
+use Rattle.legacy_base.specs.Profile.{Profile, is_lead, held_profile, three_bytes, one_more}
 use Rattle.legacy_base.specs.EncoderProfile.{EncoderProfile, plain_encoder}
-use Rattle.legacy_base.specs.Formulas.{weighed, constant, ◌⊞◌, ◌⊠◌, number, ◌⊕◌, ◌⊗◌}
+use Rattle.legacy_base.specs.Formulas.{weighed, number, ◌⊕◌, ◌⊗◌}
 
 -- the scalar of a lead and a trail, if there is one
 abbrev pub gb18030_scalars : List ℕ → ℕ → ℕ → List ℕ
@@ -66,19 +66,11 @@ gb18030_rests _ = true
 
 -- the decoder
 abbrev pub gb18030_profile : List ℕ → List (ℕ × ℕ) → Profile
-gb18030_profile index ranges = record {
-  events = cut (gb18030_front index ranges) 0 0;
-  may_hold = gb18030_may_hold;
+gb18030_profile index ranges = record (held_profile (cut (gb18030_front index ranges) 0 0) gb18030_may_hold) {
   rests = gb18030_rests;
-  begins_in_ascii = true;
-  rooms = wide_acts;
-  short_ascii = true;
-  reported = false;
-  marks = false;
-  weight = length;
-  utf16_length = constant 1 ⊞ weighed;
-  utf8_length = constant 1 ⊞ constant 3 ⊠ weighed;
-  utf8_length_without_replacement = constant 1 ⊞ constant 3 ⊠ weighed;
+  wide_reads = true;
+  wide_writes = true;
+  lengths = one_more (three_bytes weighed);
 }
 
 -- ---- encoding

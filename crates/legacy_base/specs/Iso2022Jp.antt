@@ -11,8 +11,8 @@ use Rattle.legacy_base.specs.declared.results.EncodeEvent.{EncodeEvent}
 use Rattle.legacy_base.specs.declared.results.EncodeEvent.TheVariants.{Byte}
 use Rattle.legacy_base.specs.Fronts.{Front, reads, malformed, reads_or, cut}
 use Rattle.legacy_tables.specs.Indexes.{idx}
-use Rattle.legacy_base.specs.Profile.{Profile, narrow_acts}
-use Rattle.legacy_base.specs.Formulas.{weighed, constant, ◌⊠◌, number, ◌⊕◌, ◌⊗◌, half}
+use Rattle.legacy_base.specs.Profile.{Profile, held_profile}
+use Rattle.legacy_base.specs.Formulas.{number, ◌⊕◌, ◌⊗◌, half}
 use Rattle.legacy_text.specs.EncodingForm.{EncodingForm, Utf8, Utf16}
 use Rattle.legacy_base.specs.EncodeEvents.{code_events}
 use Rattle.legacy_base.specs.EncoderProfile.{EncoderProfile, EncoderMode, in_ascii, in_roman, in_two_byte, by_form}
@@ -166,19 +166,11 @@ iso_2022_jp_weight bytes = if is_whole_escape bytes then length bytes - 2 else l
 
 -- the decoder in a mode
 abbrev pub iso_2022_jp_profile : List ℕ → Mode → Profile
-iso_2022_jp_profile jis0208 mode = record {
-  events = iso_2022_jp_events jis0208 mode;
-  may_hold = iso_2022_jp_may_hold mode;
+iso_2022_jp_profile jis0208 mode = record (held_profile (iso_2022_jp_events jis0208 mode) (iso_2022_jp_may_hold mode)) {
   rests = iso_2022_jp_rests mode;
   begins_in_ascii = is_ascii_mode mode;
-  rooms = narrow_acts;
   short_ascii = false;
-  reported = false;
-  marks = false;
   weight = iso_2022_jp_weight;
-  utf16_length = weighed;
-  utf8_length = constant 3 ⊠ weighed;
-  utf8_length_without_replacement = constant 3 ⊠ weighed;
 }
 
 -- ---- encoding: the code of a scalar, without the escapes around it

@@ -1,12 +1,11 @@
 -- Plain codecs of leads and trails (WHATWG Encoding Standard, for example "EUC-KR decoder"). An ASCII byte is its own
 -- scalar. A lead and a trail give the scalar of their pointer in one index. There are no other sequences.
-use Rattle.std.specs.Prelude.{ℕ, List, [], ◌∷◌, length, Bool, true, false, Option, if◌then◌else◌, option_to_list}
+use Rattle.std.specs.Prelude.{ℕ, List, [], ◌∷◌, Bool, Option, if◌then◌else◌, option_to_list}
 use Rattle.std.specs.Option.{option_map_or}
 use Rattle.std.specs.Char.{is_ascii}
-use Rattle.legacy_base.specs.Fronts.{Front, reads, malformed, trail_front, cut}
+use Rattle.legacy_base.specs.Fronts.{Front, reads, malformed, trail_front}
 use Rattle.legacy_tables.specs.Indexes.{idx}
-use Rattle.legacy_base.specs.Profile.{Profile, narrow_acts, single_lead_may_hold, always_rests}
-use Rattle.legacy_base.specs.Formulas.{weighed, constant, ◌⊞◌, ◌⊠◌, halved}
+use Rattle.legacy_base.specs.Profile.{Profile, lead_profile, lead_lengths}
 
 -- the scalar of a pointer, if there is one
 abbrev pub pointer_scalars : List ℕ → Option ℕ → List ℕ
@@ -29,17 +28,4 @@ lead_front is_lead_byte pointers index b rest =
 
 -- the codec, given which bytes are leads, the pointer of a lead and another byte (if any), and the index
 abbrev pub plain_profile : (ℕ → Bool) → (ℕ → ℕ → Option ℕ) → List ℕ → Profile
-plain_profile is_lead_byte pointers index = record {
-  events = cut (lead_front is_lead_byte pointers index) 0 0;
-  may_hold = single_lead_may_hold is_lead_byte;
-  rests = always_rests;
-  begins_in_ascii = true;
-  rooms = narrow_acts;
-  short_ascii = true;
-  reported = false;
-  marks = false;
-  weight = length;
-  utf16_length = weighed;
-  utf8_length = constant 3 ⊠ weighed;
-  utf8_length_without_replacement = constant 2 ⊞ (weighed ⊞ halved (weighed ⊞ constant 1));
-}
+plain_profile is_lead_byte pointers index = record (lead_profile (lead_front is_lead_byte pointers index) is_lead_byte) { lengths = lead_lengths }

@@ -53,15 +53,15 @@ utf16_units state n = half (number n ⊕ number (additional_from_state state))
 
 -- `max_utf16_buffer_length`, by n, m and the code units
 abbrev pub utf16_formula : Grammar → Formula → Formula → Formula → Formula
-utf16_formula grammar = formula (profile grammar).utf16_length
+utf16_formula grammar = formula (profile grammar).lengths.utf16
 
 -- `max_utf8_buffer_length_without_replacement`
 abbrev pub utf8_without_replacement_formula : Grammar → Formula → Formula → Formula → Formula
-utf8_without_replacement_formula grammar = formula (profile grammar).utf8_length_without_replacement
+utf8_without_replacement_formula grammar = formula (profile grammar).lengths.utf8_without_replacement
 
 -- `max_utf8_buffer_length`
 abbrev pub utf8_formula : Grammar → Formula → Formula → Formula → Formula
-utf8_formula grammar = formula (profile grammar).utf8_length
+utf8_formula grammar = formula (profile grammar).lengths.utf8
 
 -- ---- queries
 

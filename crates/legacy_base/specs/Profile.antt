@@ -1,13 +1,15 @@
--- A record that defines a decoder. Each codec's file in this folder has its own value.
-use Rattle.std.specs.Prelude.{ℕ, List, [], ◌∷◌, Bool, true, false}
+-- A record that defines a decoder. Each codec's file in this folder has its own value, by what differs from a plain one.
+use Rattle.std.specs.Prelude.{ℕ, List, [], ◌∷◌, length, Bool, true, false}
 use Rattle.std.specs.Int.{is_in_range}
 use Rattle.legacy_base.specs.declared.results.DecodeEvent.{DecodeEvent}
-use Rattle.legacy_base.specs.Formulas.{Term}
+use Rattle.legacy_base.specs.Fronts.{Front, cut}
+use Rattle.legacy_base.specs.Formulas.{Term, to_come, weighed, constant, ◌⊞◌, ◌⊠◌, halved}
 
--- The room of acts. `narrow_acts`: each act needs room for the longest scalar up to U+FFFF. `wide_reads`: reading a
--- byte past ASCII needs room for the longest scalar. `wide_acts`: each act needs that.
-pub data Rooms : Type 0 where
-  narrow_acts wide_reads wide_acts : Rooms
+-- the terms of the three length formulas
+pub record LengthTerms : Type 0 where
+  pub utf16 : Term
+  pub utf8 : Term
+  pub utf8_without_replacement : Term
 
 -- a decoder
 pub record Profile : Type 0 where
@@ -20,8 +22,10 @@ pub record Profile : Type 0 where
   pub rests : List ℕ → Bool
   -- a further condition of a neutral state, besides that nothing is held back: in ISO-2022-JP the mode is ASCII
   pub begins_in_ascii : Bool
-  -- the room of acts
-  pub rooms : Rooms
+  -- reading a byte past ASCII needs room for the longest scalar, and not only for the longest one up to U+FFFF
+  pub wide_reads : Bool
+  -- the same for writing a held-back scalar, and for a report at the end of input
+  pub wide_writes : Bool
   -- an ASCII byte needs one code unit if nothing is held back
   pub short_ascii : Bool
   -- the error was reported, and no act needs room
@@ -30,10 +34,8 @@ pub record Profile : Type 0 where
   pub marks : Bool
   -- the number of further bytes that the held-back bytes count as
   pub weight : List ℕ → ℕ
-  -- the terms of the three length formulas
-  pub utf16_length : Term
-  pub utf8_length : Term
-  pub utf8_length_without_replacement : Term
+  -- the lengths of its outputs, at most
+  pub lengths : LengthTerms
 
 -- ---- held-back bytes of several codecs
 
@@ -59,3 +61,51 @@ always_rests held = true
 -- held-back bytes count as no further bytes
 abbrev pub weightless : List ℕ → ℕ
 weightless held = 0
+
+-- ---- lengths of several codecs
+
+-- the lengths for this number of code units of UTF-16, with three bytes of UTF-8 for each
+abbrev pub three_bytes : Term → LengthTerms
+three_bytes units = record { utf16 = units; utf8 = constant 3 ⊠ units; utf8_without_replacement = constant 3 ⊠ units }
+
+-- the same with room for one code unit more
+abbrev pub one_more : LengthTerms → LengthTerms
+one_more terms = record {
+  utf16 = constant 1 ⊞ terms.utf16;
+  utf8 = constant 1 ⊞ terms.utf8;
+  utf8_without_replacement = constant 1 ⊞ terms.utf8_without_replacement;
+}
+
+-- the lengths of codecs in which each scalar with three bytes in UTF-8 has at least two bytes
+abbrev pub lead_lengths : LengthTerms
+lead_lengths = record (three_bytes weighed) { utf8_without_replacement = constant 2 ⊞ (weighed ⊞ halved (weighed ⊞ constant 1)) }
+
+-- ---- the profiles that others are made from
+
+-- a decoder with these events that holds nothing back: each byte gives at most one scalar, up to U+FFFF
+abbrev pub byte_profile : (List ℕ → List DecodeEvent) → Profile
+byte_profile events = record {
+  events = events;
+  may_hold = is_empty;
+  rests = always_rests;
+  begins_in_ascii = true;
+  wide_reads = false;
+  wide_writes = false;
+  short_ascii = true;
+  reported = false;
+  marks = false;
+  weight = weightless;
+  lengths = three_bytes to_come;
+}
+
+-- the same with held-back bytes, each of which counts as one byte
+abbrev pub held_profile : (List ℕ → List DecodeEvent) → (List ℕ → Bool) → Profile
+held_profile events may_hold = record (byte_profile events) {
+  may_hold = may_hold;
+  weight = length;
+  lengths = three_bytes weighed;
+}
+
+-- a codec of single bytes and pairs, by its fronts and its leads
+abbrev pub lead_profile : (ℕ → List ℕ → Front) → (ℕ → Bool) → Profile
+lead_profile front is_lead_byte = held_profile (cut front 0 0) (single_lead_may_hold is_lead_byte)

@@ -1,15 +1,14 @@
 -- Shift_JIS: its fronts and its codes (WHATWG Encoding Standard, "Shift_JIS decoder" and "Shift_JIS encoder").
-use Rattle.std.specs.Prelude.{ℕ, ◌+◌, ◌-◌, ◌*◌, ◌/◌, ◌%◌, List, [], ◌∷◌, length, Option, Some, None, Bool, true, false, ◌||◌, ◌==◌, nat_lt, if◌then◌else◌, option_to_list, option_map}
+use Rattle.std.specs.Prelude.{ℕ, ◌+◌, ◌-◌, ◌*◌, ◌/◌, ◌%◌, List, [], ◌∷◌, Option, Some, None, Bool, ◌||◌, ◌==◌, nat_lt, if◌then◌else◌, option_to_list, option_map}
 use Rattle.std.specs.Option.{option_map_or}
 use Rattle.std.specs.Int.{is_in_range}
 use Rattle.std.specs.Char.{is_ascii}
-use Rattle.legacy_base.specs.Fronts.{Front, reads, malformed, trail_front, cut}
+use Rattle.legacy_base.specs.Fronts.{Front, reads, malformed, trail_front}
 use Rattle.legacy_tables.specs.Unicode.{is_katakana_byte, katakana_of, is_katakana_scalar, katakana_byte_of}
 use Rattle.legacy_tables.specs.Indexes.{idx}
 use Rattle.legacy_tables.specs.Pointers.{shift_jis_pointer_of, minus_as_hyphen}
-use Rattle.legacy_base.specs.Profile.{Profile, narrow_acts, single_lead_may_hold, always_rests}
-use Rattle.legacy_base.specs.EncoderProfile.{EncoderProfile, plain_encoder}
-use Rattle.legacy_base.specs.Formulas.{weighed, constant, ◌⊠◌, number, ◌⊕◌, ◌⊗◌}
+use Rattle.legacy_base.specs.Profile.{Profile, lead_profile}
+use Rattle.legacy_base.specs.EncoderProfile.{EncoderProfile, pair_encoder}
 
 -- the bytes that begin a pair
 abbrev pub is_shift_jis_lead : ℕ → Bool
@@ -47,20 +46,7 @@ shift_jis_front jis0208 b rest =
 
 -- the decoder
 abbrev pub shift_jis_profile : List ℕ → Profile
-shift_jis_profile jis0208 = record {
-  events = cut (shift_jis_front jis0208) 0 0;
-  may_hold = single_lead_may_hold is_shift_jis_lead;
-  rests = always_rests;
-  begins_in_ascii = true;
-  rooms = narrow_acts;
-  short_ascii = true;
-  reported = false;
-  marks = false;
-  weight = length;
-  utf16_length = weighed;
-  utf8_length = constant 3 ⊠ weighed;
-  utf8_length_without_replacement = constant 3 ⊠ weighed;
-}
+shift_jis_profile jis0208 = lead_profile (shift_jis_front jis0208) is_shift_jis_lead
 
 -- ---- encoding
 
@@ -81,4 +67,4 @@ shift_jis_code jis0208 c =
 
 -- the encoder
 abbrev pub shift_jis_encoder : List ℕ → EncoderProfile
-shift_jis_encoder jis0208 = plain_encoder (shift_jis_code jis0208) 2 (λ n. n ⊕ number 1) (λ n. number 2 ⊗ n)
+shift_jis_encoder jis0208 = pair_encoder (shift_jis_code jis0208)

@@ -1,12 +1,11 @@
 -- x-user-defined: its fronts and its codes (WHATWG Encoding Standard, "x-user-defined decoder" and "x-user-defined
 -- encoder").
-use Rattle.std.specs.Prelude.{ℕ, ◌+◌, ◌-◌, List, [], ◌∷◌, Option, Some, None, true, false, if◌then◌else◌}
+use Rattle.std.specs.Prelude.{ℕ, ◌+◌, ◌-◌, List, [], ◌∷◌, Option, Some, None, false, if◌then◌else◌}
 use Rattle.std.specs.Char.{is_ascii}
 use Rattle.std.specs.Int.{is_in_range}
 use Rattle.legacy_base.specs.Fronts.{Front, reads, cut}
-use Rattle.legacy_base.specs.Profile.{Profile, narrow_acts, is_empty, always_rests, weightless}
+use Rattle.legacy_base.specs.Profile.{Profile, byte_profile}
 use Rattle.legacy_base.specs.EncoderProfile.{EncoderProfile, plain_encoder}
-use Rattle.legacy_base.specs.Formulas.{to_come, constant, ◌⊠◌}
 
 -- an ASCII byte is its own scalar, and the bytes from 0x80 on are U+F780 to U+F7FF
 unfoldable pub user_defined_front : ℕ → List ℕ → Front
@@ -16,20 +15,7 @@ user_defined_front b rest =
 
 -- the decoder
 abbrev pub user_defined_profile : Profile
-user_defined_profile = record {
-  events = cut user_defined_front 0 0;
-  may_hold = is_empty;
-  rests = always_rests;
-  begins_in_ascii = true;
-  rooms = narrow_acts;
-  short_ascii = false;
-  reported = false;
-  marks = false;
-  weight = weightless;
-  utf16_length = to_come;
-  utf8_length = constant 3 ⊠ to_come;
-  utf8_length_without_replacement = constant 3 ⊠ to_come;
-}
+user_defined_profile = record (byte_profile (cut user_defined_front 0 0)) { short_ascii = false }
 
 -- ---- encoding
 

@@ -4,8 +4,8 @@ use Rattle.std.specs.Prelude.{ℕ, ◌+◌, ◌*◌, List, [], ◌∷◌, ◌++�
 use Rattle.std.specs.Char.Utf16.{is_high_surrogate, is_low_surrogate, surrogate_pair_char}
 use Rattle.legacy_base.specs.declared.results.DecodeEvent.{DecodeEvent}
 use Rattle.legacy_base.specs.declared.results.DecodeEvent.TheVariants.{Scalar, Bad}
-use Rattle.legacy_base.specs.Profile.{Profile, wide_reads, weightless}
-use Rattle.legacy_base.specs.Formulas.{paired, constant, ◌⊞◌, ◌⊠◌}
+use Rattle.legacy_base.specs.Profile.{Profile, byte_profile, three_bytes, one_more}
+use Rattle.legacy_base.specs.Formulas.{paired}
 
 -- the code unit of two bytes, in the byte order
 abbrev pub unit_of : Bool → ℕ → ℕ → ℕ
@@ -67,17 +67,10 @@ utf16_rests big_endian _ = true
 
 -- the codec
 abbrev pub utf16_profile : Bool → Profile
-utf16_profile big_endian = record {
-  events = utf16_events big_endian;
+utf16_profile big_endian = record (byte_profile (utf16_events big_endian)) {
   may_hold = utf16_may_hold big_endian;
   rests = utf16_rests big_endian;
-  begins_in_ascii = true;
-  rooms = wide_reads;
+  wide_reads = true;
   short_ascii = false;
-  reported = false;
-  marks = false;
-  weight = weightless;
-  utf16_length = constant 1 ⊞ paired;
-  utf8_length = constant 1 ⊞ constant 3 ⊠ paired;
-  utf8_length_without_replacement = constant 1 ⊞ constant 3 ⊠ paired;
+  lengths = one_more (three_bytes paired);
 }

@@ -1,9 +1,9 @@
 -- The entry of index Big5 at the sum of a lead's place and a trail's place.
-use Rattle.std.proofs.Common.{◌≡◌, ◌≢◌, ◌∙◌, ℕ, ◌+◌, ◌-◌, ◌≤◌, List, [], ◌∷◌, length, cond, refl, sym, ap, arith, Bool, false, ◌||◌, ◌==◌, Some}
+use Rattle.std.proofs.Common.{◌≡◌, ◌≢◌, ◌∙◌, ℕ, ◌+◌, ◌≤◌, List, [], ◌∷◌, length, cond, refl, sym, ap, arith, Bool, false, ◌||◌, ◌==◌, Some}
 use Rattle.std.proofs.{Common.None, lemmas.Bool.{ne_eqb, Decides.nat_tests}}
 use Rattle.std.specs.{Prelude.option_to_list, Option.option_map_or}
 use Rattle.legacy_tables.specs.{Indexes.{entry_scalar, idx}, TableChecks.must_be_empty, AcceptedTables.AcceptedIndexes, Unicode.IsByte}
-use Rattle.legacy_tables.proofs.Accepted.{length-big5, big5-used}
+use Rattle.legacy_tables.proofs.Accepted.{length-big5, entry-used}
 use Rattle.legacy_base.specs.{Big5.big5_scalars, States.is_lead, Grammar.big5}
 use Rattle.legacy_decoder_engine.specs.{ReadAhead.{HasAscii, Runs}, Places.IsTableOf}
 use Rattle.legacy_decoder_engine.proofs.{LeadHeld.{ascii, pair}, PairPlaces.{none_past, pair_entry, found}}
@@ -53,7 +53,7 @@ big5_runs tables lead trail c byte byte' e =
     let index = tables.flat.big5 in
     let p = big5_lead_place lead + big5_trail_place trail in
     let short : length index ≤ 65535 = let most = length-big5 tables.flat tables.accepted in omega arith in
-    let used = big5-used tables.flat tables.accepted p c e in
+    let used = entry-used tables.flat tables.accepted names.Big5 p c e in
     let given = ap option_to_list e ∙ sym (entry_is index p used) ∙ big5_at index short lead trail in
     let both = found (is_lead lead) (big5_pair_scalars index lead trail) c given in
     let scalar = scalar_at tables names.Big5 p c (ap option_to_list (sym e)) in

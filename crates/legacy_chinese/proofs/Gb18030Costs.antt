@@ -1,5 +1,5 @@
 -- The output of the steps of gb18030.
-use Rattle.std.proofs.{Common.{◌≡◌, ℕ, ◌+◌, ◌-◌, ◌≤◌, List, [], ◌∷◌, length, true, cond, arith}, lemmas.Bool.{false≢true, ltb-true}}
+use Rattle.std.proofs.{Common.{◌≡◌, ℕ, ◌≤◌, List, [], ◌∷◌, length, true, cond, arith}, lemmas.Bool.{false≢true, ltb-true}}
 use Rattle.std.specs.Char.{is_ascii, is_ascii_digit}
 use Rattle.legacy_base.specs.{Fronts.{malformed, reads_or}, Gb18030.{gb18030_scalars, gb18030_range_pointer}, States.{is_lead, gb18030_may_hold}}
 use Rattle.legacy_tables.specs.Indexes.{range}

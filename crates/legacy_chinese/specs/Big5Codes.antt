@@ -1,22 +1,16 @@
 -- The bytes of the codes of Big5.
-use Rattle.std.proofs.Common.{ℕ, ◌≢◌, ◌+◌, ◌*◌, ◌/◌, ◌%◌, ◌≤◌, List, refl, arith, nat_lt}
+use Rattle.std.proofs.Common.{ℕ, ◌≢◌, ◌+◌, ◌*◌, ◌/◌, ◌%◌, List, refl, arith, nat_lt}
 use Rattle.std.specs.Prelude.{if◌then◌else◌}
-use Rattle.std.proofs.lemmas.Bool.{lt-ltb}
-use Rattle.legacy_base.specs.EncodeEvents.{code_length}
 use Rattle.legacy_tables.specs.Pointers.{big5_pointer_of}
 use Rattle.legacy_base.specs.Big5.{big5_code, big5_bytes}
 use Rattle.legacy_base.specs.Encoders.{big5}
 use Rattle.legacy_encoder_engine.specs.PairCodecs.{IsPairCodec}
-use Rattle.legacy_encoder_engine.proofs.PlainServes.{short_past, short_map}
-
-short : (index : List ℕ) (c : ℕ) → 128 ≤ c → code_length (big5_code index c) ≤ 2
-unfolding big5_code
-short index c h = short_past c _ _ 2 h (short_map big5_bytes (big5_pointer_of index c) 2 (λ p. omega arith))
+use Rattle.legacy_encoder_engine.proofs.PairAnswers.{by_pointers}
 
 -- Big5 is a codec of ASCII and pairs, with any index
 pub big5_pairs : (index : List ℕ) → IsPairCodec (big5 index)
 unfolding big5_code
-big5_pairs index = record { code = big5_code index; profile_is = refl; ascii = λ c h. rw (lt-ltb c 128 h) refl; short = short index }
+big5_pairs index = by_pointers (big5 index) (big5_code index) big5_bytes (big5_pointer_of index) refl (λ c. refl) (λ p. omega arith)
 
 -- the lead and the trail of a pointer as one number, with the lead in the low byte
 abbrev pub big5_mark : ℕ → ℕ

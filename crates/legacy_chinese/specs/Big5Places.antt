@@ -1,8 +1,8 @@
 -- The places of the leads and trails of Big5 in its index, whose rows have 157 entries. The pointer of a pair is their
 -- sum.
 use Rattle.std.specs.Prelude.{ℕ, ◌+◌, ◌-◌, ◌*◌, ◌/◌, ◌%◌, min, if◌then◌else◌}
-use Rattle.std.specs.Int.{is_in_range}
 use Rattle.legacy_base.specs.States.{is_lead}
+use Rattle.legacy_decoder_engine.specs.SplitRows.{trail_place}
 
 -- the place of a lead; a number past the end of the index if the byte is not a lead
 unfoldable pub big5_lead_place : ℕ → ℕ
@@ -10,10 +10,7 @@ big5_lead_place lead = if is_lead lead then (lead - 0x81) * 157 else 65535
 
 -- the place of a trail in its row; a number past the end of the index if the byte is not a trail
 unfoldable pub big5_trail_place : ℕ → ℕ
-big5_trail_place trail =
-    if is_in_range 0x40 0x7E trail then trail - 0x40
-    else if is_in_range 0xA1 0xFE trail then trail - 0x62
-    else 65535
+big5_trail_place = trail_place 0xA1 0xFE
 
 -- the pointer of a code, the lead low; a number past the end of the index if it is no lead and trail
 abbrev pub big5_place : ℕ → ℕ

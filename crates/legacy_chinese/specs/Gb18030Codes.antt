@@ -32,24 +32,10 @@ short_gbk index pua c h =
 
 -- the length formulas are enough
 gbk_lengths : HasPlainLengths 4 2 (λ n. n ⊕ number 3) (λ n. number 2 ⊕ number 2 ⊗ n)
-gbk_lengths = record {
-  fits = (omega arith, omega arith);
-  low16 = λ u t own p q. omega arith;
-  enough16 = λ u t p. omega arith;
-  ascii8 = λ u t own p q. omega arith;
-  low8 = λ u t own p q. omega arith;
-  enough8 = λ u t p. omega arith;
-}
+gbk_lengths = omega arith
 
 gb18030_lengths : HasPlainLengths 4 4 (λ n. number 2 ⊕ number 2 ⊗ n) (λ n. number 4 ⊗ n)
-gb18030_lengths = record {
-  fits = (omega arith, omega arith);
-  low16 = λ u t own p q. omega arith;
-  enough16 = λ u t p. omega arith;
-  ascii8 = λ u t own p q. omega arith;
-  low8 = λ u t own p q. omega arith;
-  enough8 = λ u t p. omega arith;
-}
+gb18030_lengths = omega arith
 
 -- GB18030 and GBK are codecs without modes, whose codes have at most four bytes
 pub gb18030_plain : (flat : FlatIndexes) (extended : Bool) → IsPlainCodec (gb18030_codec flat extended) 4

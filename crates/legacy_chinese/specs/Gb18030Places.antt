@@ -1,14 +1,11 @@
 -- The places of trails in the rows of index gb18030.
-use Rattle.std.specs.Prelude.{ℕ, ◌+◌, ◌-◌, ◌/◌, ◌%◌, min, if◌then◌else◌}
-use Rattle.std.specs.Int.{is_in_range}
+use Rattle.std.specs.Prelude.{ℕ, ◌+◌, ◌/◌, ◌%◌, min}
 use Rattle.legacy_decoder_engine.specs.Places.{lead_place}
+use Rattle.legacy_decoder_engine.specs.SplitRows.{trail_place}
 
 -- the place of a trail in its row; a number past the end of the index if the byte is not a trail
 unfoldable pub gb18030_trail_place : ℕ → ℕ
-gb18030_trail_place trail =
-    if is_in_range 0x40 0x7E trail then trail - 0x40
-    else if is_in_range 0x80 0xFE trail then trail - 0x41
-    else 65535
+gb18030_trail_place = trail_place 0x80 0xFE
 
 -- the pointer of a code, the lead low; a number past the end of the index if it is no lead and trail
 abbrev pub gb18030_place : ℕ → ℕ

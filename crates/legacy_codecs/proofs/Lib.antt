@@ -17,3 +17,4 @@ pub mod StandardRuns
 pub mod MalformedSequences
 pub mod WholePieces
 pub mod WholeTexts
+pub mod RunResults

@@ -1,5 +1,5 @@
 -- The place of a run, and the numbers that its driver computes.
-use Rattle.std.proofs.Common.{◌≡◌, ◌∙◌, ℕ, zero, suc, ◌+◌, ◌-◌, ◌≤◌, ◌<◌, List, [], ◌∷◌, length, drop, get_or, map, Bool, true, false, IsTrue, leb, inl, inr}
+use Rattle.std.proofs.Common.{◌≡◌, ◌∙◌, ℕ, zero, suc, ◌+◌, ◌-◌, ◌≤◌, ◌<◌, List, [], ◌∷◌, length, drop, get_or, map, Bool, false, IsTrue, leb, inl, inr}
 use Rattle.std.proofs.{Common.{refl, sym, arith, drop-cons, add-one}, lemmas.Bool.{true≢false, false≢true, cases_lt, le-leb, lt-leb}, lemmas.Grind.common_steps}
 use Rattle.std.proofs.{lemmas.List.Sums.sum_by-cons, Math.ListN.drop_of_length-le}
 use Rattle.std.specs.Prelude.{slice_index_or, sum_by, sum}

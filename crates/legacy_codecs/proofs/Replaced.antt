@@ -4,7 +4,7 @@ use Rattle.std.proofs.{Common.{◌||◌, inl}, lemmas.List.map-append, lemmas.Li
 use Rattle.legacy_base.specs.{declared.results.DecodeEvent.DecodeEvent, declared.results.DecodeEvent.TheVariants.{Scalar, Bad}}
 use Rattle.legacy_base.specs.{declared.results.DecoderResult.TheVariants.Malformed, Events.shift, Grammar.events_of, States.DecoderState, Calls.DecoderCall}
 use Rattle.legacy_text.specs.EncodingForm.{EncodingForm}
-use Rattle.legacy_codecs.specs.Replacing.{replaced_scalar, replaced_scalars, is_bad, has_bad}
+use Rattle.legacy_codecs.specs.Replacing.{replaced_scalar, replaced_scalars, is_malformed, has_malformed}
 
 pub replaced-append : (xs ys : List DecodeEvent) → replaced_scalars (xs ++ ys) ≡ replaced_scalars xs ++ replaced_scalars ys
 replaced-append xs ys = map-append replaced_scalar xs ys
@@ -20,18 +20,18 @@ pub replaced-of_scalars : (cs : List ℕ) → replaced_scalars (map Scalar cs) �
 replaced-of_scalars [] = refl
 replaced-of_scalars (c ∷ cs) = ap (λ (l : List ℕ). c ∷ l) (replaced-of_scalars cs)
 
-pub has_bad-append : (xs ys : List DecodeEvent) → has_bad (xs ++ ys) ≡ (has_bad xs || has_bad ys)
-has_bad-append xs ys = list_any-append is_bad xs ys
+pub has_malformed-append : (xs ys : List DecodeEvent) → has_malformed (xs ++ ys) ≡ (has_malformed xs || has_malformed ys)
+has_malformed-append xs ys = list_any-append is_malformed xs ys
 
-pub has_bad-shift : (k : ℕ) (events : List DecodeEvent) → has_bad (shift k events) ≡ has_bad events
-has_bad-shift k [] = refl
-has_bad-shift k (Scalar c ∷ events) = has_bad-shift k events
-has_bad-shift k (Bad place n ∷ events) = refl
+pub has_malformed-shift : (k : ℕ) (events : List DecodeEvent) → has_malformed (shift k events) ≡ has_malformed events
+has_malformed-shift k [] = refl
+has_malformed-shift k (Scalar c ∷ events) = has_malformed-shift k events
+has_malformed-shift k (Bad place n ∷ events) = refl
 
 -- a list of scalars has no malformed sequence
-pub has_bad-of_scalars : (cs : List ℕ) → has_bad (map Scalar cs) ≡ false
-has_bad-of_scalars [] = refl
-has_bad-of_scalars (c ∷ cs) = has_bad-of_scalars cs
+pub has_malformed-of_scalars : (cs : List ℕ) → has_malformed (map Scalar cs) ≡ false
+has_malformed-of_scalars [] = refl
+has_malformed-of_scalars (c ∷ cs) = has_malformed-of_scalars cs
 
 -- moving places keeps the number of events
 pub length-shift : (k : ℕ) (es : List DecodeEvent) → length (shift k es) ≡ length es

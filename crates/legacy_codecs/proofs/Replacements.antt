@@ -11,8 +11,9 @@ use Rattle.legacy_base.specs.Calls.{Progress, DecoderCall, may_report_end, repor
 use Rattle.legacy_text.specs.EncodingForm.{EncodingForm, code_units, all_code_units, total_unit_count, bmp_room}
 use Rattle.legacy_text.proofs.CodeUnits.{encode_3, all_code_units-append}
 use Rattle.legacy_base.proofs.{Enough.room-answer, Progress.{stay, at_less, after_that}}
-use Rattle.legacy_codecs.specs.Replacing.{replaced_scalars, has_bad, replacing_query, may_replace_end, ReplacingDecoderCall}
-use Rattle.legacy_codecs.proofs.Replaced.{replaced-append, replaced-shift, replaced-of_scalars, has_bad-append, has_bad-shift, has_bad-of_scalars, fault_less}
+use Rattle.legacy_codecs.specs.Replacing.{replaced_scalars, has_malformed, replacing_query, may_replace_end, ReplacingDecoderCall}
+use Rattle.legacy_codecs.proofs.Replaced.{replaced-append, replaced-shift, replaced-of_scalars, fault_less}
+use Rattle.legacy_codecs.proofs.Replaced.{has_malformed-append, has_malformed-shift, has_malformed-of_scalars}
 use Rattle.legacy_codecs.specs.declared.results.CoderResult.TheVariants as coder
 
 -- ---- what one call adds
@@ -36,12 +37,12 @@ replaced-reported seen answer = grind arith
 replaced-call : (k seen : ℕ) (cs : List ℕ) (answer : DecoderResult) → replaced_scalars (shift k (out_events seen cs answer)) ≡ cs ++ reported_scalars answer
 replaced-call k seen cs answer = grind (arith, replaced-shift, replaced-append, replaced-of_scalars, replaced-reported)
 
-found-reported : (found : Bool) (seen : ℕ) (answer : DecoderResult) → (found || has_bad (reported_events seen answer)) ≡ found_after found answer
+found-reported : (found : Bool) (seen : ℕ) (answer : DecoderResult) → (found || has_malformed (reported_events seen answer)) ≡ found_after found answer
 found-reported found seen answer = grind (arith, or-false, or-true)
 
 found-call : (events : List DecodeEvent) (k seen : ℕ) (cs : List ℕ) (answer : DecoderResult) →
-    found_after (has_bad events) answer ≡ has_bad (events ++ shift k (out_events seen cs answer))
-found-call events k seen cs answer = grind (arith, has_bad-shift, has_bad-append, has_bad-of_scalars, found-reported)
+    found_after (has_malformed events) answer ≡ has_malformed (events ++ shift k (out_events seen cs answer))
+found-call events k seen cs answer = grind (arith, has_malformed-shift, has_malformed-append, has_malformed-of_scalars, found-reported)
 
 -- ---- the room for U+FFFD
 
@@ -78,7 +79,7 @@ pub record Replaces (form : EncodingForm) (before : DecoderState) (source : List
   pub progress : Progress (may_replace_end last found (drop read source)) before source passed now (drop read source) out
   pub scalar : All IsScalar (replaced_scalars out)
   pub text : written ≡ all_code_units form (replaced_scalars out)
-  pub found_is : found ≡ has_bad out
+  pub found_is : found ≡ has_malformed out
   pub untouched : LacksRoom form before source last free → (read ≡ 0) × (written ≡ []) × (found ≡ false) × (now ≡ before)
   pub lowers : (more : ℕ) → (IsTrue last → more ≡ 0) →
       room (replacing_query form) now (length (drop read source) + more) + length written ≤ room (replacing_query form) before (length source + more)
@@ -135,7 +136,7 @@ module _ {form : EncodingForm} {before : DecoderState} {source : List ℕ} {last
       r.written ++ all_code_units form scalars ≡ all_code_units form (replaced_scalars (out_after count scalars answer))
   end_text count scalars answer e = rw (e, append-nil scalars) at (text_after count scalars answer)
 
-  found_is_after : (count : ℕ) (scalars : List ℕ) (answer : DecoderResult) → found_after found answer ≡ has_bad (out_after count scalars answer)
+  found_is_after : (count : ℕ) (scalars : List ℕ) (answer : DecoderResult) → found_after found answer ≡ has_malformed (out_after count scalars answer)
   found_is_after count scalars answer = ap (λ b. found_after b answer) r.found_is ∙ found-call r.out r.passed (length now.held + count) scalars answer
 
   -- a call with the room that is left

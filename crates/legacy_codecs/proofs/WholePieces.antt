@@ -1,10 +1,10 @@
 -- A call with replacement that read its whole source gave the text of it.
-use Rattle.std.proofs.Common.{◌≡◌, ◌∙◌, ℕ, List, [], ◌∷◌, ◌++◌, length, drop, refl, sym, ap, arith, take, ◌≤◌, Bool, true, IsTrue, All, append-nil}
+use Rattle.std.proofs.Common.{◌≡◌, ◌∙◌, ℕ, List, [], ◌∷◌, ◌++◌, length, drop, refl, sym, ap, arith, take, ◌≤◌, Bool, true, IsTrue, All, Some, append-nil}
 use Rattle.std.proofs.{lemmas.List.{drop_all, take-take, take-append-le}, lemmas.List.Elements.{All-head, All-tail}, lemmas.Str.chars_from_encodes}
 use Rattle.std.specs.{Char.IsScalar, Str.{chars, IsUtf8}}
 use lib.Utf8.{encode, encodes, scalars}
 use Rattle.legacy_text.specs.EncodingForm.{EncodingForm, Utf8, all_code_units}
-use Rattle.legacy_base.specs.{Grammar.events_of, States.DecoderState}
+use Rattle.legacy_base.specs.{Grammar.events_of, Lengths.{query_answer, to_utf8}, States.DecoderState}
 use Rattle.legacy_text.proofs.CodeUnits.{all_code_units-append}
 use Rattle.legacy_codecs.specs.{declared.results.CoderResult.CoderResult, declared.results.CoderResult.TheVariants.InputEmpty, Replacing.replaced_scalars}
 use Rattle.legacy_codecs.specs.{Replacing.ReplacingDecoderCall, WholeTexts.{text_of, TextGoesOn}}
@@ -56,10 +56,11 @@ module _ {form : EncodingForm} {before : DecoderState} {source : List ℕ} {last
   whole_text : IsTrue last → text_of before source ≡ replaced_scalars c.out
   whole_text is_last = grind (arith, append-nil, scalars_go_on, none_left)
 
--- a last call into UTF-8 that read its whole source wrote the text of it
-pub whole_utf8 : {before : DecoderState} {source : List ℕ} {free : ℕ} {after : DecoderState} {answer : CoderResult} {read : ℕ} {written : List ℕ}
+-- a last call into UTF-8 that had the queried length free wrote the text of its source
+pub whole_with_room : {before : DecoderState} {source : List ℕ} {free : ℕ} {after : DecoderState} {answer : CoderResult} {read : ℕ} {written : List ℕ}
     {found : Bool} →
-    ReplacingDecoderCall Utf8 before source true free after answer read written found → answer ≡ InputEmpty →
-    IsUtf8 written × (chars written ≡ text_of before source)
-whole_utf8 {written = written} c empty =
+    ReplacingDecoderCall Utf8 before source true free after answer read written found →
+    (k : ℕ) → query_answer to_utf8 before (length source) ≡ Some k → k ≤ free → IsUtf8 written × (chars written ≡ text_of before source)
+whole_with_room {source = source} {written = written} c k queried fits =
+    let empty = c.enough (length source) k (omega arith) queried fits in
     let utf8 = utf8_of written (replaced_scalars c.out) c.scalar c.text in (utf8.0, utf8.1 ∙ sym (whole_text c empty refl))

@@ -11,3 +11,4 @@ pub mod References
 pub mod StandardRuns
 pub mod MalformedSequences
 pub mod WholeTexts
+pub mod RunResults

@@ -24,13 +24,13 @@ abbrev pub replaced_scalars : List DecodeEvent → List ℕ
 replaced_scalars events = map replaced_scalar events
 
 -- the event is a malformed sequence
-abbrev pub is_bad : DecodeEvent → Bool
-is_bad (Scalar c) = false
-is_bad (Bad place length) = true
+abbrev pub is_malformed : DecodeEvent → Bool
+is_malformed (Scalar c) = false
+is_malformed (Bad place length) = true
 
 -- some of the events is a malformed sequence
-abbrev pub has_bad : List DecodeEvent → Bool
-has_bad events = list_any is_bad events
+abbrev pub has_malformed : List DecodeEvent → Bool
+has_malformed events = list_any is_malformed events
 
 -- the length query of an encoding form that counts U+FFFD: `max_utf8_buffer_length` or `max_utf16_buffer_length`
 abbrev pub replacing_query : EncodingForm → LengthQuery
@@ -63,7 +63,7 @@ pub record ReplacingDecoderCall (form : EncodingForm) (before : DecoderState) (s
   -- the code units are those of the events, with U+FFFD for each malformed sequence
   pub text : written ≡ all_code_units form (replaced_scalars out)
   -- `found` is whether a sequence was malformed
-  pub found_is : found ≡ has_bad out
+  pub found_is : found ≡ has_malformed out
   -- at InputEmpty all is read and no scalar is held back; at the last end no event is left
   pub input_empty : answer ≡ InputEmpty → (read ≡ length source) × IsTrue (rests after.grammar after.held) × (IsTrue last → events_of after.grammar after.held ≡ [])
   -- at OutputFull the next act lacks its room

@@ -1,11 +1,11 @@
 //! Runs of a decoder over an input in pieces, with outputs of given lengths.
-ghost use Rattle.std.specs.Prelude.{◌≡◌, ◌↔◌, ℕ, ◌+◌, ◌-◌, ◌^◌, ◌<◌, ◌≤◌, List, [], ◌++◌, length, drop, sum, sum_by, map, vec_len, vec_capacity, slice_index_or, All, IfOk, OnErr, IsTrue};
+ghost use Rattle.std.specs.Prelude.{◌≡◌, ◌↔◌, ℕ, ◌+◌, ◌-◌, ◌^◌, ◌<◌, ◌≤◌, List, [], ◌++◌, length, drop, sum, sum_by, map, vec_len, vec_capacity, slice_index_or, All, IfOk, OnErr};
 ghost use Rattle.legacy_base.specs.declared.results.DecodeEvent.TheVariants.{Scalar};
 ghost use Rattle.legacy_text.specs.EncodingForm.{EncodingForm, Utf8, Utf16};
 ghost use Rattle.legacy_base.specs.Calls.{DecoderCall};
 ghost use Rattle.legacy_codecs.specs.Pieces.{contents_of, place_before, IsTooLong};
-ghost use Rattle.legacy_codecs.specs.Runs.{IsRun, IsBeginning, HasNoneLeft, HasAmpleLengths};
-ghost use Rattle.legacy_codecs.specs.StandardRuns.{RunIsDecodedByHandler};
+ghost use Rattle.legacy_codecs.specs.RunResults.{RunDecodes};
+ghost use Rattle.legacy_codecs.specs.Runs.{IsRun};
 
 use crate::scalars::{OutputForm, ScalarBuffer, Utf8Form, Utf16Form};
 use crate::shared_by_runs::{RunError, is_last, longest, push_items, push_within, room_for_events};
@@ -178,29 +178,8 @@ pub fn decode_run_utf8<D: RawDecoder>(
     pieces: &[&[u8]],
     lengths: &[usize],
 ) -> Result<DecodeRun, RunError>
-    // The result is that of a run, which ends in the decoder's new state.
-    ensures run { IfOk result (λ run.
-        let from = place_before (D.state decoder.old) (contents_of pieces.now) in
-        IsRun Utf8 from lengths.now run.calls run.finished run.events.items
-        (D.state decoder.new)) }
-
-    // The events are a prefix of those of all pieces, and all of them if the run is finished.
-    ensures beginning { IfOk result (λ run.
-        IsBeginning (D.state decoder.old) (contents_of pieces.now) run.finished run.events.items) }
-
-    // If the decoder was new and the run is finished, the Standard's handler gives these events.
-    ensures standard { IfOk result (λ run.
-        RunIsDecodedByHandler (D.state decoder.old) (contents_of pieces.now) run.finished
-        run.events.items) }
-
-    // If the run is finished, the decoder holds back nothing that has an event.
-    ensures none_left { IfOk result (λ run.
-        IsTrue run.finished → HasNoneLeft (D.state decoder.new)) }
-
-    // The run is finished if there are enough outputs, each with room for any scalar.
-    ensures finishes { IfOk result (λ run.
-        HasAmpleLengths Utf8 (D.state decoder.old) (contents_of pieces.now) lengths.now
-        → IsTrue run.finished) }
+    ensures run { IfOk result (λ run. RunDecodes Utf8 (D.state decoder.old)
+        (contents_of pieces.now) lengths.now run (D.state decoder.new)) }
     ensures too_long { (result ≡ Err RunError.TooLong)
         ↔ IsTooLong (contents_of pieces.now) lengths.now }
     ensures unchanged { OnErr result (decoder.new ≡ decoder.old) }
@@ -218,20 +197,8 @@ pub fn decode_run_utf16<D: RawDecoder>(
     pieces: &[&[u8]],
     lengths: &[usize],
 ) -> Result<DecodeRun, RunError>
-    ensures run { IfOk result (λ run.
-        let from = place_before (D.state decoder.old) (contents_of pieces.now) in
-        IsRun Utf16 from lengths.now run.calls run.finished run.events.items
-        (D.state decoder.new)) }
-    ensures beginning { IfOk result (λ run.
-        IsBeginning (D.state decoder.old) (contents_of pieces.now) run.finished run.events.items) }
-    ensures standard { IfOk result (λ run.
-        RunIsDecodedByHandler (D.state decoder.old) (contents_of pieces.now) run.finished
-        run.events.items) }
-    ensures none_left { IfOk result (λ run.
-        IsTrue run.finished → HasNoneLeft (D.state decoder.new)) }
-    ensures finishes { IfOk result (λ run.
-        HasAmpleLengths Utf16 (D.state decoder.old) (contents_of pieces.now) lengths.now
-        → IsTrue run.finished) }
+    ensures run { IfOk result (λ run. RunDecodes Utf16 (D.state decoder.old)
+        (contents_of pieces.now) lengths.now run (D.state decoder.new)) }
     ensures too_long { (result ≡ Err RunError.TooLong)
         ↔ IsTooLong (contents_of pieces.now) lengths.now }
     ensures unchanged { OnErr result (decoder.new ≡ decoder.old) }

@@ -1,11 +1,10 @@
 //! Runs of an encoder over a text in pieces, with outputs of given lengths.
-ghost use Rattle.std.specs.Prelude.{◌≡◌, ℕ, ◌↔◌, ◌+◌, ◌^◌, ◌≤◌, List, [], ◌∷◌, ◌++◌, length, sum, map, vec_len, vec_capacity, slice_index_or, All, IfOk, OnErr, IsTrue};
+ghost use Rattle.std.specs.Prelude.{◌≡◌, ℕ, ◌↔◌, ◌+◌, ◌^◌, ◌≤◌, List, [], ◌∷◌, ◌++◌, length, sum, map, vec_len, vec_capacity, slice_index_or, All, IfOk, OnErr};
 ghost use Rattle.legacy_base.specs.declared.results.EncodeEvent.TheVariants.{Byte};
 ghost use Rattle.legacy_base.specs.EncoderCalls.{EncoderCall, reported};
 ghost use Rattle.legacy_codecs.specs.Pieces.{contents_of, place_before, IsTooLong};
-ghost use Rattle.legacy_codecs.specs.RoundTripRuns.{RunComesBack};
-ghost use Rattle.legacy_codecs.specs.EncodeRuns.{chars_of, unit_scalars_of, is_input_empty, IsEncodeRun, IsEncodeBeginning, HasNoEnd, HasAmpleOutputs};
-ghost use Rattle.legacy_codecs.specs.StandardRuns.{RunIsEncodedByHandler};
+ghost use Rattle.legacy_codecs.specs.EncodeRuns.{chars_of, unit_scalars_of, is_input_empty, IsEncodeRun};
+ghost use Rattle.legacy_codecs.specs.RunResults.{RunEncodes};
 
 use crate::shared_by_runs::{RunError, is_last, longest, push_items, push_within, room_for_events};
 use crate::source_texts::Text;
@@ -163,35 +162,8 @@ pub fn encode_run_utf8<E: RawEncoder>(
     pieces: &[&str],
     lengths: &[usize],
 ) -> Result<EncodeRun, RunError>
-    // The result is that of a run, which ends in the encoder's new state.
-    ensures run { IfOk result (λ run.
-        let from = place_before (E.state encoder.old) (chars_of pieces.now) in
-        IsEncodeRun from lengths.now run.calls run.finished run.events.items
-        (E.state encoder.new)) }
-
-    // The events are a prefix of those of all pieces, and all of them if the run is finished.
-    ensures beginning { IfOk result (λ run.
-        IsEncodeBeginning (E.state encoder.old) (chars_of pieces.now) run.finished
-        run.events.items) }
-
-    // If the encoder was new, its tables lack no pointer and the run is finished, the Standard's handler gives these
-    // events.
-    ensures standard { IfOk result (λ run.
-        RunIsEncodedByHandler (E.state encoder.old) (chars_of pieces.now) run.finished
-        run.events.items) }
-
-    // If the run is finished, the encoder has no end left to write.
-    ensures none_left { IfOk result (λ run. IsTrue run.finished → HasNoEnd (E.state encoder.new)) }
-
-    // The run is finished if there are enough outputs, each with room for any act.
-    ensures finishes { IfOk result (λ run.
-        HasAmpleOutputs (E.state encoder.old) (chars_of pieces.now) lengths.now
-        → IsTrue run.finished) }
-
-    // If the run is finished and the encoder was new, the bytes decode to the text.
-    ensures comes_back { IfOk result (λ run.
-        RunComesBack (E.state encoder.old) (chars_of pieces.now) run.finished
-        run.events.items) }
+    ensures run { IfOk result (λ run. RunEncodes (E.state encoder.old) (chars_of pieces.now)
+        lengths.now run (E.state encoder.new)) }
     ensures too_long { (result ≡ Err RunError.TooLong)
         ↔ IsTooLong (contents_of pieces.now) lengths.now }
     ensures unchanged { OnErr result (encoder.new ≡ encoder.old) }
@@ -209,23 +181,8 @@ pub fn encode_run_utf16<E: RawEncoder>(
     pieces: &[&[u16]],
     lengths: &[usize],
 ) -> Result<EncodeRun, RunError>
-    ensures run { IfOk result (λ run.
-        let from = place_before (E.state encoder.old) (unit_scalars_of pieces.now) in
-        IsEncodeRun from lengths.now run.calls run.finished run.events.items
-        (E.state encoder.new)) }
-    ensures beginning { IfOk result (λ run.
-        IsEncodeBeginning (E.state encoder.old) (unit_scalars_of pieces.now) run.finished
-        run.events.items) }
-    ensures standard { IfOk result (λ run.
-        RunIsEncodedByHandler (E.state encoder.old) (unit_scalars_of pieces.now) run.finished
-        run.events.items) }
-    ensures none_left { IfOk result (λ run. IsTrue run.finished → HasNoEnd (E.state encoder.new)) }
-    ensures finishes { IfOk result (λ run.
-        HasAmpleOutputs (E.state encoder.old) (unit_scalars_of pieces.now) lengths.now
-        → IsTrue run.finished) }
-    ensures comes_back { IfOk result (λ run.
-        RunComesBack (E.state encoder.old) (unit_scalars_of pieces.now) run.finished
-        run.events.items) }
+    ensures run { IfOk result (λ run. RunEncodes (E.state encoder.old) (unit_scalars_of pieces.now)
+        lengths.now run (E.state encoder.new)) }
     ensures too_long { (result ≡ Err RunError.TooLong)
         ↔ IsTooLong (contents_of pieces.now) lengths.now }
     ensures unchanged { OnErr result (encoder.new ≡ encoder.old) }

@@ -1,10 +1,10 @@
 -- The proof for the decoders of single bytes, which hold nothing back, from the few facts that each shows.
-use Rattle.std.proofs.Common.{◌≡◌, ℕ, ◌<◌, List, [], ◌∷◌, Bool, true, false, cond, Option, option_to_list, refl, ap, arith}
+use Rattle.std.proofs.Common.{◌≡◌, ℕ, ◌<◌, List, [], ◌∷◌, Bool, true, cond, Option, option_to_list, refl, ap, arith}
 use Rattle.std.proofs.lemmas.Bool.{cond_both, false≢true, ltb-true}
 use Rattle.std.specs.{Char.is_ascii, Option.IfSome}
 use Rattle.legacy_tables.specs.Unicode.{IsByte}
-use Rattle.legacy_base.specs.{Fronts.{Front, reads, malformed, reads_or, cut}, Profile.{Profile, narrow_acts, is_empty, always_rests, weightless}}
-use Rattle.legacy_base.specs.{Formulas.{to_come, constant, ◌⊠◌}, Grammar.{Grammar, profile, events_of}, States.{may_hold, state_of}, DecoderActs.act_room}
+use Rattle.legacy_base.specs.{Fronts.{Front, reads, malformed, reads_or, cut}, Profile.{Profile, byte_profile, is_empty, weightless}}
+use Rattle.legacy_base.specs.{Grammar.{Grammar, profile, events_of}, States.{may_hold, state_of}, DecoderActs.act_room}
 use Rattle.legacy_base.specs.DecoderActs.{takes}
 use Rattle.legacy_base.proofs.Cuts.{cut-nil}
 use Rattle.legacy_decoder_engine.specs.{Steps.{Step, finish, no_pending, end_events, StepMeets, DecoderMachine, Meets}, StepUnits.{IsWidth, Cost}}
@@ -14,20 +14,7 @@ use Rattle.legacy_decoder_engine.proofs.{RoomMoves.{HasCosts, IsSloped, sloped_r
 
 -- the profile of such a decoder
 abbrev pub one_byte_profile : (ℕ → List ℕ → Front) → Bool → Profile
-one_byte_profile front short = record {
-  events = cut front 0 0;
-  may_hold = is_empty;
-  rests = always_rests;
-  begins_in_ascii = true;
-  rooms = narrow_acts;
-  short_ascii = short;
-  reported = false;
-  marks = false;
-  weight = weightless;
-  utf16_length = to_come;
-  utf8_length = constant 3 ⊠ to_come;
-  utf8_length_without_replacement = constant 3 ⊠ to_come;
-}
+one_byte_profile front short = record (byte_profile (cut front 0 0)) { short_ascii = short }
 
 -- its profile, and its front by the scalar of each byte past ASCII, which is at most U+FFFF
 pub record IsOneByte (g : Grammar) (front : ℕ → List ℕ → Front) (found : ℕ → Option ℕ) (short : Bool) : Type 0 where

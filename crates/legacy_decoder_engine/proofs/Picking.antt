@@ -1,12 +1,13 @@
 -- Codes of two bytes at places, by a shuffle from a table.
-use Rattle.std.proofs.Common.{◌≡◌, ℕ, zero, suc, ◌+◌, ◌*◌, ◌/◌, ◌%◌, ◌<◌, ◌≤◌, true, false, cond, leb, eqb, List, [], ◌∷◌, ◌++◌, length, get_or, map, take}
-use Rattle.std.proofs.{Common.{replicate, refl, sym, ap, ap₂, ◌∙◌, arith, w8, Fits, ◌-◌, ◌^◌, ◌==◌, drop}, lemmas.Bool.{ltb-true, leb-true, eqb-true}}
-use Rattle.std.proofs.{lemmas.Bool.{lt-leb, and_parts, agree_below_at, cases_lt}, lemmas.List.{take-take, take-map, get_or_past, length-take-le}}
+use Rattle.std.proofs.Common.{◌≡◌, ℕ, zero, suc, ◌+◌, ◌*◌, ◌/◌, ◌%◌, ◌<◌, ◌≤◌, true, cond, leb, eqb, List, [], ◌∷◌, ◌++◌, length, get_or, map, take}
+use Rattle.std.proofs.{Common.{replicate, refl, sym, ap, ap₂, ◌∙◌, arith, w8, Fits, ◌-◌, ◌^◌, ◌==◌, drop}, lemmas.Bool.{leb-true, eqb-true}}
+use Rattle.std.proofs.{lemmas.Bool.{agree_below_at, cases_lt}, lemmas.List.{take-take, take-map, get_or_past, length-take-le}}
 use Rattle.std.proofs.{lemmas.List.{take-append-le, map-append, append_assoc, append-nil}, lemmas.Simd.{swz_l, Each1-get_or, below_from_Fits, get_or-chunk}}
 use Rattle.std.proofs.{lemmas.Simd.put_chunk_is, lemmas.Bool.Decides.nat_tests, lemmas.Grind.common_steps, Math.Seq.{take-append_seam, take-append-add}}
 use Rattle.std.proofs.{lemmas.Nat.{and_mask, pow_pos}, lemmas.Nat.Bits.ones_shr, Math.Nat.{div-eq_of_lt, mod-lt}}
 use Rattle.std.specs.{List.range_with_len, Int.RustNames.count_ones, Int.Bits.bit_and}
 use lib.{Lanes.{Each1, number_l, digits_l, all_below, chunk, put_chunk}, Pow.{field, mod-mod-pow, shr-shr}}
+use Rattle.legacy_text.proofs.UnitLanes.{shuffled, each_below}
 use Rattle.legacy_decoder_engine.specs.{PickedForms.{places, pairs, row, code_at}, declared.pick_rows.TheConstants.PICKED}
 
 abbrev pub eight_places : ℕ → List ℕ
@@ -17,10 +18,6 @@ eight_places x = take 8 (places 0 8 x ++ replicate 8 0)
 pub rows_are : PICKED ≡ map row (range_with_len 0 256)
 unfolding row places
 rows_are = refl
-
-each_below : (n : ℕ) (js : List ℕ) → all_below n js ≡ true → Each1 (λ j. j < n) js
-each_below n [] e = tt
-each_below n (j ∷ js) e = let p = and_parts _ _ e in (ltb-true _ _ p.0, each_below n js p.1)
 
 pub row_within : (x : ℕ) → x < 256 → Each1 (λ j. j < 16) (row x)
 unfolding row places
@@ -37,16 +34,6 @@ eight_long x h = eqb-true (length (eight_places x)) 8 (agree_below_at (λ n. eqb
 places_most : (x : ℕ) → x < 256 → length (places 0 8 x) ≤ 8
 unfolding places
 places_most x h = leb-true (length (places 0 8 x)) 8 (agree_below_at (λ n. leb (length (places 0 8 n)) 8) (λ _. true) 256 x refl h)
-
--- ---- a shuffle of sixteen bytes by places within them
-
-shuffled : (xs : List ℕ) (i : ℕ) (js : List ℕ) → i + length js ≤ 16 → Each1 (λ j. j < 16) js → swz_l w8 16 xs i js ≡ map (λ j. get_or xs j 0) js
-shuffled xs i [] room s = refl
-shuffled xs i (j ∷ js) room s =
-    let low : j < 16 = s.0 in
-    let here : leb 128 j ≡ false = lt-leb 128 j (omega arith) in
-    let at : 16 * (i / 16) + j ≡ j = omega arith in
-    (λ t. cond (here t) 0 (get_or xs (at t) 0) ∷ swz_l w8 16 xs (suc i) js) ∙ ap (λ (l : List ℕ). get_or xs j 0 ∷ l) (shuffled xs (suc i) js (omega arith) s.1)
 
 -- ---- two bytes as one lane
 

@@ -3,7 +3,7 @@ use Rattle.std.proofs.{Common.{◌≡◌, ◌∙◌, ℕ, ◌<◌, ◌≤◌, Li
 use Rattle.std.proofs.lemmas.Bool.Decides.{nat_tests}
 use Rattle.std.specs.{Int.is_in_range, Char.is_ascii}
 use Rattle.legacy_base.specs.{Fronts.{Front, reads, malformed, reads_or, trail_rule, front_length, cut}, States.{is_lead, single_lead_may_hold, may_hold}}
-use Rattle.legacy_base.specs.{States.rests, Profile.{Profile, always_rests}, Grammar.{Grammar, profile, events_of}, DecoderActs.has_marks}
+use Rattle.legacy_base.specs.{States.rests, Profile.{Profile, lead_profile}, Grammar.{Grammar, profile, events_of}, DecoderActs.has_marks}
 use Rattle.legacy_decoder_engine.specs.{Steps.{Step, hold, finish, end_events, ReportMeets, Meets}, LeadMachines.{two_byte_step, two_byte_machine, lead_first}}
 use Rattle.legacy_decoder_engine.specs.{LeadCodecs.IsPastAscii, StatesAfterSteps.{IsOneOrMarked, Settles}}
 use Rattle.legacy_base.proofs.Cuts.{cut-nil}
@@ -25,19 +25,11 @@ step_front scalars (t ∷ rest) s = reads_or 2 (scalars t) (trail_rule 1 t)
 
 -- the common part of such profiles, with the rest from `own`
 abbrev pub two_byte_profile : (ℕ → List ℕ → Front) → (ℕ → Bool) → Profile → Profile
-two_byte_profile front is_lead_byte own = record {
-  events = cut front 0 0;
-  may_hold = single_lead_may_hold is_lead_byte;
-  rests = always_rests;
-  begins_in_ascii = true;
-  rooms = own.rooms;
-  short_ascii = true;
-  reported = false;
+two_byte_profile front is_lead_byte own = record (lead_profile front is_lead_byte) {
+  wide_reads = own.wide_reads;
+  wide_writes = own.wide_writes;
   marks = own.marks;
-  weight = length;
-  utf16_length = own.utf16_length;
-  utf8_length = own.utf8_length;
-  utf8_length_without_replacement = own.utf8_length_without_replacement;
+  lengths = own.lengths;
 }
 
 -- a codec with leads and trails: its profile, its front by the first step, and at most one scalar for a pair

@@ -6,9 +6,13 @@ use Rattle.std.specs.Int.{is_in_range}
 abbrev pub lead_place_of : ℕ → ℕ → ℕ → ℕ → ℕ
 lead_place_of lead leads width code = if is_in_range lead (lead + leads) (code % 0x100) then (code % 0x100 - lead) * width else 65535
 
--- the place of a code's trail in its row: trails are 40 to 7E and `second` to `last`
-abbrev pub trail_place_of : ℕ → ℕ → ℕ → ℕ
-trail_place_of second last code =
-    if is_in_range 0x40 0x7E (code / 0x100) then code / 0x100 - 0x40
-    else if is_in_range second last (code / 0x100) then code / 0x100 - (second - 0x3F)
+-- the place of a trail in its row: trails are 40 to 7E and `second` to `last`
+abbrev pub trail_place : ℕ → ℕ → ℕ → ℕ
+trail_place second last trail =
+    if is_in_range 0x40 0x7E trail then trail - 0x40
+    else if is_in_range second last trail then trail - (second - 0x3F)
     else 65535
+
+-- the place of a code's trail in its row
+abbrev pub trail_place_of : ℕ → ℕ → ℕ → ℕ
+trail_place_of second last code = trail_place second last (code / 0x100)

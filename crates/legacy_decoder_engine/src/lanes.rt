@@ -11,8 +11,9 @@ ghost use Rattle.legacy_decoder_engine.specs.ReadAhead.{HasAscii, IsCommonForm, 
 ghost use Rattle.legacy_decoder_engine.specs.LaneCodes.{kept_of, place_of, unit_at, ArePairs, AreLanes, AreKept, IsForm, AreWritten};
 ghost use Rattle.legacy_decoder_engine.specs.PickedForms.{forms_of};
 
+use crate::block_picks::pick_blocks;
 use crate::common_forms::{CommonForm, CommonForms, FormsInTurn, read_forms};
-use crate::picks::{past_ascii, pick_forms};
+use crate::picks::past_ascii;
 use crate::read_ahead::{Blocks, read_ascii, read_blocks, read_one};
 use legacy_base::Destination;
 use legacy_tables::FlatTables;
@@ -49,6 +50,18 @@ pub trait LaneCodec {
     fn begins_longer(first: u8, second: u8) -> bool {
         let _ = (first, second);
         false
+    }
+
+    /// Returns how many of the first `end` bytes of a block are before a form of more than two bytes.
+    ///
+    /// It is given the bits of the bytes past ASCII, and those of the leads if all forms past ASCII are pairs.
+    // A block is cut there, so that no code after it is picked and looked up for nothing.
+    #[inline(always)]
+    fn end_of_pairs(block: u8x64, past: u64, leads: u64, end: usize) -> usize
+        ensures { result ≤ end }
+    {
+        let _ = (block, past, leads);
+        end
     }
 
     /// Reads forms of more than two bytes from the front, and returns the number of bytes read, which may be 0.
@@ -327,78 +340,6 @@ fn byte_total(kept: &[u16], count: usize) -> usize
     bytes + byte_count(last) - (8 - rest)
 }
 
-/// Stores the codes of the forms in a block with many bytes past ASCII, from place `count` of a list on.
-///
-/// Leaves out long ASCII at the end. Returns the place after the codes, and the number of bytes of the forms, which is at
-/// most `limit`. It is 0 if few of the first `limit` bytes are past ASCII.
-// Half as many as at the beginning of a run are enough.
-#[inline(always)]
-fn pick_block<C: LaneCodec>(
-    block: &[u8],
-    limit: usize,
-    codes: &mut [u16],
-    count: usize,
-) -> (usize, usize)
-    requires block { 72 ≤ length block.now }
-    requires some { 0 < limit }
-    requires most { limit ≤ 64 }
-    requires room { count + 64 ≤ length codes.old }
-    ensures most { result.0 ≤ count + 64 }
-    ensures limit { result.1 ≤ limit }
-    ensures forms { forms_of (take result.0 codes.new) ≡ forms_of (take count codes.old) ++ take result.1 block.now }
-{
-    let bytes = u8x64::from_slice(block);
-    let past = past_ascii(bytes);
-    if !C::are_many(past.count_ones(), limit / 2) || C::has_singles(bytes) {
-        return (count, 0);
-    }
-    let ascii = past.leading_zeros() as usize;
-    let end = if ascii < 8 { 64 } else { 64 - ascii };
-    pick_forms(block, past, end.clamp(1, limit), codes, count)
-}
-
-/// Returns at most 64 bytes with zeros after them.
-#[inline(always)]
-fn padded(src: &[u8]) -> [u8; 72]
-    requires { length src.now ≤ 64 }
-    ensures { take (length src.now) result ≡ src.now }
-{
-    let mut padded = [0u8; 72];
-    padded[..src.len()].copy_from_slice(src);
-    padded
-}
-
-/// Stores the codes of the forms in blocks with many bytes past ASCII at the front, a block for each 64 codes of room.
-///
-/// It copies the last bytes of the input to an array with zeros after them. Returns the number of codes, and the number
-/// of bytes of their forms.
-#[inline(always)]
-fn pick_blocks<C: LaneCodec>(src: &[u8], codes: &mut [u16]) -> (usize, usize)
-    ensures most { result.0 ≤ length codes.old }
-    ensures read { result.1 ≤ length src.now }
-    ensures forms { forms_of (take result.0 codes.new) ≡ take result.1 src.now }
-{
-    let mut count = 0;
-    let mut at = 0;
-    let mut left = codes.len() / 64;
-    while left > 0 && src.len() - at >= 16 {
-        let rest = &src[at..];
-        let (next, bytes) = if rest.len() >= 72 {
-            pick_block::<C>(rest, 64, codes, count)
-        } else {
-            let most = rest.len().min(64);
-            pick_block::<C>(&padded(&rest[..most]), most, codes, count)
-        };
-        count = next;
-        at += bytes;
-        if bytes == 0 {
-            break;
-        }
-        left -= 1;
-    }
-    (count, at)
-}
-
 /// Reads forms in blocks with many bytes past ASCII from the front, up to an uncommon one, or to the end of the room.
 ///
 /// Returns the number of bytes read, and whether another block may follow.
@@ -425,6 +366,22 @@ fn read_front<C: LaneCodec, T: Destination>(
     (bytes, bytes > 0)
 }
 
+/// Reads forms of more than two bytes from the front, if one is there, and returns the number of bytes read.
+#[inline(always)]
+fn read_any_longer<C: LaneCodec, T: Destination>(
+    tables: &FlatTables<'_>,
+    guess: &Cell<usize>,
+    src: &[u8],
+    dst: &mut T,
+) -> usize
+    ensures { ReadsAhead T.Destination (new_state (C.grammar tables.now.flat)) src.now result dst.old dst.new }
+{
+    if src.len() < 2 || !C::begins_longer(src[0], src[1]) {
+        return 0;
+    }
+    C::read_longer(tables, guess, src, dst)
+}
+
 /// Returns whether many of the first 64 bytes are past ASCII, or of the first 16 if there are fewer than 64.
 ///
 /// Returns false if there are fewer than 16 bytes, if the 64 have forms of one byte past ASCII, or if a form of more than
@@ -446,13 +403,14 @@ fn begins_many<C: LaneCodec>(src: &[u8]) -> bool {
     past.to_bitmask().count_ones() > 6
 }
 
-/// Reads blocks with many bytes past ASCII from the front, four at a time.
+/// Reads blocks with many bytes past ASCII from the front, four at a time, and forms of more than two bytes among them.
 ///
 /// Returns the number of bytes read, which may be 0.
-// A load of codes that were stored in parts waits for these stores. So many are stored before the first is loaded.
+// A load of codes that were stored in parts waits for these stores. All of four blocks are stored before it.
 #[inline(always)]
 fn read_long<C: LaneCodec, T: Destination>(
     tables: &FlatTables<'_>,
+    guess: &Cell<usize>,
     src: &[u8],
     dst: &mut T,
 ) -> usize
@@ -465,7 +423,9 @@ fn read_long<C: LaneCodec, T: Destination>(
     loop {
         let (read, goes_on) = read_front::<C, T>(tables, &src[at..], &mut codes, &mut places, dst);
         at += read;
-        if !goes_on {
+        let longer = read_any_longer::<C, T>(tables, guess, &src[at..], dst);
+        at += longer;
+        if !goes_on && longer == 0 {
             return at;
         }
     }
@@ -476,6 +436,7 @@ fn read_long<C: LaneCodec, T: Destination>(
 #[inline(always)]
 fn read_short<C: LaneCodec, T: Destination>(
     tables: &FlatTables<'_>,
+    guess: &Cell<usize>,
     src: &[u8],
     dst: &mut T,
 ) -> usize
@@ -492,7 +453,7 @@ fn read_short<C: LaneCodec, T: Destination>(
             return at;
         }
         if at >= 256 && src.len() - at >= 512 && begins_many::<C>(&src[at..]) {
-            return at + read_long::<C, T>(tables, &src[at..], dst);
+            return at + read_long::<C, T>(tables, guess, &src[at..], dst);
         }
     }
 }
@@ -502,6 +463,7 @@ fn read_short<C: LaneCodec, T: Destination>(
 #[inline(always)]
 fn read_lanes<C: LaneCodec, T: Destination>(
     tables: &FlatTables<'_>,
+    guess: &Cell<usize>,
     src: &[u8],
     dst: &mut T,
 ) -> usize
@@ -511,7 +473,7 @@ fn read_lanes<C: LaneCodec, T: Destination>(
     if !begins_many::<C>(src) {
         return 0;
     }
-    read_short::<C, T>(tables, src, dst)
+    read_short::<C, T>(tables, guess, src, dst)
 }
 
 /// Returns whether a quick test shows that the byte at the front begins no common form, if there is one.
@@ -739,7 +701,7 @@ impl<C: LaneCodec> Blocks for LaneBlocks<'_, '_, C> {
         if begins_uncommon::<C>(src) {
             return (0, false);
         }
-        let at = read_lanes::<C, T>(self.tables, src, dst);
+        let at = read_lanes::<C, T>(self.tables, self.guess, src, dst);
         if at >= 64 {
             self.delay.set(SHORT_DELAY);
         }

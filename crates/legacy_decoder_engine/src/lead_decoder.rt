@@ -193,7 +193,7 @@ impl<'a, C: LeadCodec> DecoderMoves for LeadDecoder<'a, C> {
 
     // Over packed tables only ASCII is read ahead.
     #[inline(always)]
-    fn read_ahead<T: Destination>(&self, src: &[u8], dst: &mut T) -> usize {
+    fn read_runs<T: Destination>(&mut self, src: &[u8], dst: &mut T) -> usize {
         if self.held.is_some() {
             return 0;
         }
@@ -204,11 +204,6 @@ impl<'a, C: LeadCodec> DecoderMoves for LeadDecoder<'a, C> {
             }
             None => read_ascii(src, dst),
         }
-    }
-
-    #[inline(always)]
-    fn read_runs<T: Destination>(&mut self, src: &[u8], dst: &mut T) -> usize {
-        self.read_ahead(src, dst)
     }
 }
 

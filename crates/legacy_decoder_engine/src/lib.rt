@@ -3,8 +3,10 @@
 //! trail.
 #![tactic(auto)]
 
+mod block_picks;
 pub mod common_forms;
 pub mod drive;
+pub mod eights;
 pub mod held_lead;
 pub mod lanes;
 pub mod lead_and_trail;

@@ -7,7 +7,7 @@ ghost use Rattle.legacy_base.specs.Calls.{IsMalformedByte};
 ghost use Rattle.legacy_base.specs.DecoderActs.{release_room_in};
 ghost use Rattle.legacy_decoder_engine.specs.Moves.{room_units, read_room, IsCovered, Releases, Feeds, Reports};
 ghost use Rattle.legacy_decoder_engine.specs.Moves.{HoldsBytes};
-ghost use Rattle.legacy_decoder_engine.specs.ReadAhead.{ReadsTo, ReadsAhead};
+ghost use Rattle.legacy_decoder_engine.specs.ReadAhead.{ReadsTo};
 
 use legacy_base::Destination;
 
@@ -109,26 +109,16 @@ pub trait DecoderMoves {
 
     /// Reads a run of common sequences from the front of the input and writes their scalars.
     ///
-    /// Returns the number of bytes read, which may be any part of the run. The decoder is
-    /// unchanged. It reads only if at least four code units are free, and leaves three, so that no
-    /// act of the machine would have lacked room. A decoder without common sequences reads nothing.
-    #[inline(always)]
-    fn read_ahead<T: Destination>(&self, src: &[u8], dst: &mut T) -> usize
-        ensures { ReadsAhead T.Destination (state self.now) src.now result dst.old dst.new }
-    {
-        let _ = (src.len(), dst.free());
-        0
-    }
-
-    /// Reads ahead as `read_ahead` does, also across bytes that switch the mode.
-    ///
-    /// If the codec has such bytes, the decoder changes with them.
+    /// Returns the number of bytes read, which may be any part of the run. The decoder changes only with bytes that
+    /// switch its mode. It reads only if at least four code units are free, and leaves three, so that no act of the
+    /// machine would have lacked room. A decoder without common sequences reads nothing.
     #[inline(always)]
     fn read_runs<T: Destination>(&mut self, src: &[u8], dst: &mut T) -> usize
         ensures runs { ReadsTo T.Destination (state self.old) (state self.new) src.now result
             dst.old dst.new }
     {
-        self.read_ahead(src, dst)
+        let _ = (self.rests(), src.len(), dst.free());
+        0
     }
 
     /// Holds back bytes from the front of the input, and returns their number.

@@ -25,7 +25,7 @@ pub fn past_ascii(block: u8x64) -> u64
 // In a run of bytes past ASCII every second one starts a form: one subtraction carries through all runs at once, and
 // gives the parity of each. The bits are checked after it, so the proof needs no facts about carries.
 #[inline(always)]
-fn form_starts(past: u64) -> Option<u64>
+pub fn form_starts(past: u64) -> Option<u64>
     ensures { IfSome result (λ starts. AreStarts past starts) }
 {
     let seconds = (((past << 1) | ODD).wrapping_sub(past)) ^ ODD ^ past;
@@ -108,36 +108,35 @@ fn whole_forms(past: u64, starts: u64, limit: usize) -> usize
 
 /// Stores the codes of the forms that end in the first `limit` bytes of a block, from place `count` of a list on.
 ///
-/// It is given the bits of the bytes past ASCII. Returns the place after the codes, and the number of bytes of the forms,
-/// which is 0 if the starts were not found.
+/// It is given the bits of the bytes past ASCII and of the starts of forms. Returns the place after the codes, and the
+/// number of bytes of the forms.
 #[inline(always)]
 pub fn pick_forms(
     block: &[u8],
     past: u64,
+    starts: u64,
     limit: usize,
     codes: &mut [u16],
     count: usize,
 ) -> (usize, usize)
     requires read { 72 ≤ length block.now }
     requires past { ArePast past block.now }
-    requires some { 0 < limit }
+    requires starts { AreStarts past starts }
     requires most { limit ≤ 64 }
     requires room { count + 64 ≤ length codes.old }
     ensures most { result.0 ≤ count + 64 }
     ensures limit { result.1 ≤ limit }
     ensures forms { forms_of (take result.0 codes.new) ≡ forms_of (take count codes.old) ++ take result.1 block.now }
 {
-    match form_starts(past) {
-        Some(starts) => {
-            let end = whole_forms(past, starts, limit);
-            if end == 0 {
-                return (count, 0);
-            }
-            (
-                pick(block, starts & (u64::MAX >> (64 - end)), codes, count),
-                end,
-            )
-        }
-        None => (count, 0),
+    if limit == 0 {
+        return (count, 0);
     }
+    let end = whole_forms(past, starts, limit);
+    if end == 0 {
+        return (count, 0);
+    }
+    (
+        pick(block, starts & (u64::MAX >> (64 - end)), codes, count),
+        end,
+    )
 }

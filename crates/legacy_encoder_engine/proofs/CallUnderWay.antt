@@ -11,7 +11,6 @@ use Rattle.legacy_text.specs.EncodingForm.{EncodingForm, code_units, unit_count,
 use Rattle.legacy_base.proofs.{Enough.answer-value, Beginnings.begins_later}
 use Rattle.legacy_encoder_engine.specs.{declared.moves.EncoderMove.EncoderMove, Moves.{Moves, Finishes, move_bytes, move_report, unread_scalar, is_escape}}
 use Rattle.legacy_encoder_engine.specs.{Moves.{differs, wants_escape, state_for}, UnfinishedCall.{LowersEscaped, Underway}, ProfileSuffices.Serves}
-use Rattle.legacy_base.specs.declared.results.EncodeEvent.TheVariants as events
 use Rattle.legacy_encoder_engine.specs.declared.moves.EncoderMove.TheVariants as moves
 
 -- ---- small laws

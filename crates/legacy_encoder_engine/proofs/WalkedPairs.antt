@@ -6,7 +6,8 @@ use Rattle.legacy_tables.specs.{declared.tables.packed.PackedPart.PackedPart, Pa
 use Rattle.legacy_tables.proofs.{PackedAccepted.entry-scalar, PackedPointers.pointer-taken}
 use Rattle.legacy_text.specs.UnitCodes.{IsNoSurrogate}
 use Rattle.legacy_base.specs.Encoders.{Codec, encoder_profile}
-use Rattle.legacy_encoder_engine.specs.{UnitTurns.two_bytes, CachedPairs.{IsNoPair, IsRightEntry}}
+use Rattle.legacy_encoder_engine.specs.{UnitTurns.two_bytes, CachedPairs.{AreAllPairsOf, IsNoPair, IsOutside, IsRightEntry}}
+use Rattle.legacy_encoder_engine.proofs.CachedPairs.{all-right, asked, outside-first}
 
 -- a scalar value is not a surrogate
 no-surrogate : (c : ℕ) → IsScalar c → IsNoSurrogate c
@@ -56,3 +57,11 @@ module _ (codec : Codec) (part : PackedPart) (mark : ℕ → ℕ) (index : List 
             told = λ n. (is_lone p e, record { ascii = λ low. absurd (omega arith); past = λ high. rw there (by.coded c p d e) });
             whole = λ s high z. absurd (by.some p (sym there ∙ z));
           }
+
+-- a list that was filled by a walk for all scalars past ASCII has all pairs after ASCII was looked up
+pub all-past-ascii : {codec : Codec} {part : PackedPart} {mark : ℕ → ℕ} {index : List ℕ} → GoesByPointers codec part mark index (λ c. 0x80 ≤ c)
+    → (filled new : List ℕ) → length filled ≡ 65536 → IsFilled part mark index filled → length new ≡ length filled
+    → ((k : ℕ) → 0 ≤ k → k < 0x80 → IsRightEntry codec k (slice_index new k)) → ((k : ℕ) → IsOutside 0 0x80 k → slice_index new k ≡ slice_index filled k)
+    → AreAllPairsOf codec new
+all-past-ascii {codec} by filled new long walk same inside outside = all-right codec new (same ∙ long) (λ k h.
+    asked (IsRightEntry codec) filled new 0 0x80 k inside outside (λ out. walked-right _ _ _ _ _ by filled long walk k h (outside-first 0x80 k out)))

@@ -65,11 +65,8 @@ pub trait AheadCodes {
         at
     }
 
-    /// Checks whether blocks may come after single scalars. It is a hint: any result is right.
-    #[inline(always)]
-    fn has_blocks(&self) -> bool {
-        false
-    }
+    /// Whether blocks may come after single scalars. It is a hint: any value is right.
+    const HAS_BLOCKS: bool = false;
 
     /// Checks whether the text from this scalar on can perhaps be read by blocks.
     ///
@@ -91,17 +88,11 @@ pub trait AheadCodes {
         at
     }
 
-    /// Checks whether turns of ten scalars are tried first. It is a hint: any result is right.
-    #[inline(always)]
-    fn begins_by_tens(&self) -> bool {
-        false
-    }
+    /// Whether turns of ten scalars are tried first. It is a hint: any value is right.
+    const BEGINS_BY_TENS: bool = false;
 
-    /// Checks whether they are tried after a single scalar. It is a hint: any result is right.
-    #[inline(always)]
-    fn has_tens(&self) -> bool {
-        false
-    }
+    /// Whether they are tried after a single scalar. It is a hint: any value is right.
+    const HAS_TENS: bool = false;
 
     /// Returns the bytes of a code unit as one number, how many they are, and whether it has them.
     ///

@@ -113,15 +113,9 @@ impl<'a, C: PastPairs> PlainCodes for WithPairs<'a, C> {
         self.codes.four_past_pairs(near, c)
     }
 
-    #[inline(always)]
-    fn goes_past_pairs(&self) -> bool {
-        self.codes.goes_past_pairs()
-    }
+    const GOES_PAST_PAIRS: bool = C::GOES_PAST_PAIRS;
 
-    #[inline(always)]
-    fn goes_by_turns(&self) -> bool {
-        true
-    }
+    const GOES_BY_TURNS: bool = true;
 
     #[inline(always)]
     fn unit_code(&self, unit: u16) -> (u16, bool) {

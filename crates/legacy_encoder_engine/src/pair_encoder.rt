@@ -32,13 +32,10 @@ pub trait PairCodec {
         ensures { IfSome result (λ pair. (encoder_profile (codec (V.indexes tables.now).flat)).code c
             ≡ Some (pair.0 ∷ pair.1 ∷ [])) };
 
-    /// Checks whether the fast loop makes the codes of scalars past ASCII without a pair here.
+    /// Whether the fast loop makes the codes of scalars past ASCII without a pair here.
     ///
-    /// It does if they are common. It is a hint: any result is right.
-    #[inline(always)]
-    fn goes_past_pairs() -> bool {
-        false
-    }
+    /// It does if they are common. It is a hint: any value is right.
+    const GOES_PAST_PAIRS: bool = false;
 
     /// Returns the bytes of a scalar, or the scalar itself as unmappable.
     fn code_of<V: EncoderTables>(tables: &V, c: char) -> EncoderMove
@@ -92,10 +89,7 @@ impl<'a, C: PairCodec> PlainCodes for PairEncoder<'a, C> {
         C::code_of(self.tables, c)
     }
 
-    #[inline(always)]
-    fn goes_past_pairs(&self) -> bool {
-        C::goes_past_pairs()
-    }
+    const GOES_PAST_PAIRS: bool = C::GOES_PAST_PAIRS;
 }
 
 impl<'a, C: PairCodec> PlainEncoder for PairEncoder<'a, C> {
@@ -160,10 +154,7 @@ impl<'a, C: PairCodec, V: EncoderTables> PlainCodes for PairCodes<'a, C, V> {
         C::code_of(self.tables, c)
     }
 
-    #[inline(always)]
-    fn goes_past_pairs(&self) -> bool {
-        C::goes_past_pairs()
-    }
+    const GOES_PAST_PAIRS: bool = C::GOES_PAST_PAIRS;
 
     #[inline(always)]
     fn pair_of(&self, c: char) -> Option<(u8, u8)> {

@@ -92,7 +92,7 @@ impl<C: PlainCodes> AheadCodes for C {
             put_four(dst, at, four);
             return Some(at + 4);
         }
-        if !self.goes_past_pairs() {
+        if !C::GOES_PAST_PAIRS {
             return None;
         }
         let step = self.code_of(c);
@@ -105,35 +105,29 @@ impl<C: PlainCodes> AheadCodes for C {
     // Code units with one byte include ASCII: no pattern would predict a choice between the two.
     #[inline(always)]
     fn read_blocks<S: TextCursor>(&self, src: &mut S, dst: &mut [u8], at: usize) -> usize {
-        if self.goes_by_units() && src.has_blocks() {
+        if C::GOES_BY_UNITS && src.has_blocks() {
             return at + src.copy_codes(&Units { encoder: self }, dst, at);
         }
         at + src.copy_ascii(dst, at)
     }
 
-    #[inline(always)]
-    fn has_blocks(&self) -> bool {
-        true
-    }
+    const HAS_BLOCKS: bool = true;
 
     // The scalar is tested first: its caller makes the same test, and a pair then needs no other.
     #[inline(always)]
     fn may_go_by_blocks<S: TextCursor>(&self, src: &S, c: char) -> bool {
-        (self.goes_by_units() && src.has_blocks()) || ((c as u32) < 0x80 && src.is_in_ascii())
+        (C::GOES_BY_UNITS && src.has_blocks()) || ((c as u32) < 0x80 && src.is_in_ascii())
     }
 
     #[inline(always)]
     fn read_turns<S: TextCursor>(&self, src: &mut S, dst: &mut [u8], at: usize) -> usize {
-        if self.goes_by_units() && src.has_turns() {
+        if C::GOES_BY_UNITS && src.has_turns() {
             return at + src.copy_codes(&Units { encoder: self }, dst, at);
         }
         at
     }
 
-    #[inline(always)]
-    fn has_tens(&self) -> bool {
-        self.goes_by_turns()
-    }
+    const HAS_TENS: bool = C::GOES_BY_TURNS;
 
     #[inline(always)]
     fn unit_bytes(&self, unit: u16) -> (u16, usize, bool) {

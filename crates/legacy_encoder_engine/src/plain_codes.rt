@@ -60,19 +60,13 @@ pub trait PlainCodes {
         None
     }
 
-    /// Checks whether the fast loop also makes codes other than pairs and four bytes.
+    /// Whether the fast loop also makes codes other than pairs and four bytes.
     ///
-    /// It does if such scalars past ASCII are common. It is a hint: any result is right.
-    #[inline(always)]
-    fn goes_past_pairs(&self) -> bool {
-        false
-    }
+    /// It does if such scalars past ASCII are common. It is a hint: any value is right.
+    const GOES_PAST_PAIRS: bool = false;
 
-    /// Checks whether `unit_code` is worth calling for UTF-16. It is a hint: any result is right.
-    #[inline(always)]
-    fn goes_by_turns(&self) -> bool {
-        false
-    }
+    /// Whether `unit_code` is worth calling for UTF-16. It is a hint: any value is right.
+    const GOES_BY_TURNS: bool = false;
 
     /// Returns the bytes of a UTF-16 code unit as one number, and whether it has them.
     ///
@@ -87,11 +81,8 @@ pub trait PlainCodes {
         (0, false)
     }
 
-    /// Checks whether `byte_of` is worth calling for UTF-16. It is a hint: any result is right.
-    #[inline(always)]
-    fn goes_by_units(&self) -> bool {
-        false
-    }
+    /// Whether `byte_of` is worth calling for UTF-16. It is a hint: any value is right.
+    const GOES_BY_UNITS: bool = false;
 
     /// Returns the byte of a UTF-16 code unit, and whether it has one.
     ///

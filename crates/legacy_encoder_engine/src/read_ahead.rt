@@ -97,7 +97,7 @@ fn read_first_tens<C: AheadCodes, S: TextCursor>(
     ensures { EncodesBy S.TextCursor (C.state codes.now) src.old dst.old start src.new dst.new
         result }
 {
-    if codes.begins_by_tens() && src.has_tens('\u{3000}') {
+    if C::BEGINS_BY_TENS && src.has_tens('\u{3000}') {
         return read_tens(codes, src, dst, start);
     }
     start
@@ -158,7 +158,7 @@ fn read_scalars<C: AheadCodes, S: TextCursor>(
 {
     let widest = codes.widest();
     let mut at = start;
-    let mut by_turns = codes.has_tens();
+    let mut by_turns = C::HAS_TENS;
     while dst.len() - at >= widest {
         match src.front() {
             Next::One(c) => {
@@ -215,7 +215,7 @@ impl<C: AheadCodes> ReadingLoop for Runs<'_, C> {
         loop {
             at = codes.read_blocks(src, dst, at);
             let end = read_scalars(codes, &mut near, src, dst, at);
-            if end == at || !codes.has_blocks() {
+            if end == at || !C::HAS_BLOCKS {
                 return end;
             }
             at = end;

@@ -11,9 +11,9 @@ use Rattle.legacy_base.specs.Calls.{Progress, DecoderCall, may_report_end, out_e
 use Rattle.legacy_text.specs.EncodingForm.{EncodingForm, code_units, all_code_units, bmp_room}
 use Rattle.legacy_text.proofs.CodeUnits.{all_code_units-append}
 use Rattle.legacy_base.proofs.Progress.{stay, at_less, behind, after_that}
-use Rattle.legacy_codecs.specs.Replacing.{replaced_scalars, has_bad, may_replace_end, ReplacingDecoderCall}
+use Rattle.legacy_codecs.specs.Replacing.{replaced_scalars, has_malformed, may_replace_end, ReplacingDecoderCall}
 use Rattle.legacy_codecs.specs.declared.results.CoderResult.{CoderResult}
-use Rattle.legacy_codecs.proofs.Replaced.{replaced-append, replaced-shift, replaced-of_scalars, has_bad-append, has_bad-shift, length-shift}
+use Rattle.legacy_codecs.proofs.Replaced.{replaced-append, replaced-shift, replaced-of_scalars, has_malformed-append, has_malformed-shift, length-shift}
 use Rattle.legacy_codecs.proofs.Replacements.{reported_scalars, replacement_count}
 use Rattle.legacy_codecs.specs.declared.results.CoderResult.TheVariants as coder
 use Rattle.legacy_exports.specs.Decoding.{end_of, Decodes, IsDecoded, DecodingCall, DecodesSource}
@@ -46,8 +46,8 @@ replaced-out seen scalars answer = grind (arith, replaced-append, replaced-of_sc
 
 -- a report at the end is one of a malformed sequence
 found-report : (last : Bool) (seen : ℕ) (scalars : List ℕ) (answer : DecoderResult) (left : List ℕ) → IsTrue (may_report_end last answer left) →
-    IsTrue (may_replace_end last (has_bad (out_events seen scalars answer)) left)
-found-report last seen scalars answer left h = grind (arith, has_bad-append, or-true)
+    IsTrue (may_replace_end last (has_malformed (out_events seen scalars answer)) left)
+found-report last seen scalars answer left h = grind (arith, has_malformed-append, or-true)
 
 -- a raw call, with U+FFFD after it if it reports a malformed sequence
 raw_decodes : {form : EncodingForm} {before : DecoderState} {source : List ℕ} {last : Bool} {free : ℕ} {after : DecoderState} {answer : DecoderResult}
@@ -130,19 +130,19 @@ module _ {form : EncodingForm} {last : Bool} {before : DecoderState} {source : L
   abbrev out_after : List DecodeEvent
   out_after = r.out ++ shift r.passed c.out
 
-  found_after : has_bad out_after ≡ (has_bad r.out || has_bad c.out)
-  found_after = has_bad-append r.out (shift r.passed c.out) ∙ ap (λ b. has_bad r.out || b) (has_bad-shift r.passed c.out)
+  found_after : has_malformed out_after ≡ (has_malformed r.out || has_malformed c.out)
+  found_after = has_malformed-append r.out (shift r.passed c.out) ∙ ap (λ b. has_malformed r.out || b) (has_malformed-shift r.passed c.out)
 
-  progress_after : Progress (may_replace_end true (has_bad out_after) (drop (read + count) source)) before source (r.passed + c.passed) after
+  progress_after : Progress (may_replace_end true (has_malformed out_after) (drop (read + count) source)) before source (r.passed + c.passed) after
       (drop (read + count) source) out_after
   progress_after =
       let unread = drop count piece in
-      let ended = may_replace_end true (has_bad r.out || has_bad c.out) (unread ++ later) in
-      let sooner = found_sooner (has_bad r.out) (has_bad c.out) count (drop read source) in
+      let ended = may_replace_end true (has_malformed r.out || has_malformed c.out) (unread ++ later) in
+      let sooner = found_sooner (has_malformed r.out) (has_malformed c.out) count (drop read source) in
       let same : drop count (drop read source) ≡ unread ++ later = drop-drop count read source ∙ left_is in
       let one = at_less _ ended (rw same at sooner) before source r.passed now (drop read source) r.out r.progress in
-      let ahead = progress_ahead _ now piece c.passed after unread c.out later (found_last (has_bad c.out) last unread later none) c.progress in
-      let found = found_now (has_bad r.out) (has_bad c.out) last unread later none in
+      let ahead = progress_ahead _ now piece c.passed after unread c.out later (found_last (has_malformed c.out) last unread later none) c.progress in
+      let found = found_now (has_malformed r.out) (has_malformed c.out) last unread later none in
       let two = at_less _ ended found now (piece ++ later) c.passed after (unread ++ later) c.out ahead in
       rw (found_after, left_is)
       (after_that ended before source r.passed now (piece ++ later) r.out c.passed after (unread ++ later) c.out (rw parts at one) two)
@@ -168,7 +168,7 @@ module _ {form : EncodingForm} {last : Bool} {before : DecoderState} {source : L
       ≡ length c.out + length (events_of after.grammar (after.held ++ drop (read + count) source))
   events_fewer =
       let unread = drop count piece in
-      let ahead = progress_ahead _ now piece c.passed after unread c.out later (found_last (has_bad c.out) last unread later none) c.progress in
+      let ahead = progress_ahead _ now piece c.passed after unread c.out later (found_last (has_malformed c.out) last unread later none) c.progress in
       let events = ahead.events [] (λ _. inl refl) in
       let long = ap length events ∙ length-append c.out _ ∙ ap (λ n. length c.out + n) (length-shift c.passed _) in
       rw (parts, left_is) (rw (append-nil, append-nil) at long)

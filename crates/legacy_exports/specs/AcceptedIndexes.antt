@@ -12,7 +12,6 @@ use Rattle.legacy_index_files.specs.Encodings.{has_encoder}
 use Rattle.legacy_exports.specs.Numbers.{number_of}
 use Rattle.legacy_exports.specs.declared.indexes.IndexRange.{IndexRange}
 use Rattle.legacy_exports.specs.declared.indexes.IndexSlices.{IndexSlices}
-use Rattle.legacy_exports.specs.declared.indexes.PackedSlices.{PackedSlices}
 
 -- a range as a pair
 abbrev pub range_pair : IndexRange → ℕ × ℕ
@@ -24,21 +23,6 @@ indexes_with slices ranges =
     flat_lists slices.big5.now slices.euc_kr.now slices.jis0208.now slices.jis0212.now slices.gb18030.now slices.katakana.now ranges
     GB18030_2022_PUA
 
--- the caller's runs and orders
-abbrev pub packed_with : PackedSlices → Packed
-packed_with slices = record {
-  big5 = slices.big5;
-  euc_kr = slices.euc_kr;
-  jis0208 = slices.jis0208;
-  jis0212 = slices.jis0212;
-  gb18030 = slices.gb18030;
-  big5_order = slices.big5_order;
-  euc_kr_order = slices.euc_kr_order;
-  shift_jis_order = slices.shift_jis_order;
-  euc_jp_order = slices.euc_jp_order;
-  gb18030_order = slices.gb18030_order;
-}
-
 -- flat indexes are accepted, with the runs and orders if the tables are to be packed
 abbrev pub AreTakenParts : Bool → FlatIndexes → Packed → Type 0
 AreTakenParts false flat packed = AreAccepted flat
@@ -46,7 +30,7 @@ AreTakenParts true flat packed = packed_fault flat packed ≡ None
 
 -- the caller's indexes are accepted with these pairs as ranges
 abbrev pub AreTakenIndexes : IndexSlices → List (ℕ × ℕ) → Type 0
-AreTakenIndexes slices ranges = AreTakenParts slices.is_packed (indexes_with slices ranges) (packed_with slices.packed)
+AreTakenIndexes slices ranges = AreTakenParts slices.is_packed (indexes_with slices ranges) slices.packed
 
 -- tables have the flat indexes, or what the runs and orders give
 abbrev pub AreTablesOfParts : Bool → FlatIndexes → Packed → FlatIndexes → Type 0
@@ -55,7 +39,7 @@ AreTablesOfParts true flat packed lists = ArePackedTables flat packed lists
 
 -- tables have the caller's indexes with these pairs as ranges
 abbrev pub AreTablesOf : IndexSlices → List (ℕ × ℕ) → FlatIndexes → Type 0
-AreTablesOf slices ranges lists = AreTablesOfParts slices.is_packed (indexes_with slices ranges) (packed_with slices.packed) lists
+AreTablesOf slices ranges lists = AreTablesOfParts slices.is_packed (indexes_with slices ranges) slices.packed lists
 
 -- the index of a single-byte encoding is accepted
 abbrev pub IsTakenTable : List ℕ → Type 0

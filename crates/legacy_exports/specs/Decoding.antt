@@ -6,11 +6,12 @@ use Rattle.legacy_base.specs.Grammar.{events_of}
 use Rattle.legacy_base.specs.States.{DecoderState}
 use Rattle.legacy_base.specs.DecoderActs.{LacksRoom}
 use Rattle.legacy_base.specs.Calls.{Progress}
-use Rattle.legacy_codecs.specs.Replacing.{replaced_scalars, has_bad, may_replace_end}
+use Rattle.legacy_codecs.specs.Replacing.{replaced_scalars, has_malformed, may_replace_end}
 use Rattle.legacy_codecs.specs.declared.results.CoderResult.{CoderResult}
 use Rattle.legacy_codecs.specs.declared.results.CoderResult.TheVariants.{InputEmpty, OutputFull}
 use Rattle.legacy_encodings.specs.Coders.{decoder_of}
 use Rattle.legacy_exports.specs.NewCoders.{HoldsByNumber}
+use Rattle.legacy_exports.specs.Repeated.{RepeatsFrom}
 use Rattle.legacy_exports.specs.AcceptedIndexes.{IsRefused, IsTaken}
 use Rattle.legacy_exports.specs.declared.indexes.IndexSlices.{IndexSlices}
 use Rattle.legacy_exports.specs.declared.calls.CallEnd.{CallEnd}
@@ -35,7 +36,7 @@ pub record Decodes (form : EncodingForm) (last : Bool) (before : DecoderState) (
   pub out : List DecodeEvent
   -- these, and then the events of what is left, are the grammar's events, whatever bytes follow; after a malformed
   -- sequence at the end of the input, only if the events with those bytes still begin so
-  pub progress : Progress (may_replace_end last (has_bad out) (drop read source)) before source passed after (drop read source) out
+  pub progress : Progress (may_replace_end last (has_malformed out) (drop read source)) before source passed after (drop read source) out
   -- the code units are those of the events, with U+FFFD for each malformed sequence
   pub text : written ≡ all_code_units form (replaced_scalars out)
 
@@ -64,21 +65,10 @@ pub record DecodesSource (form : EncodingForm) (source : List ℕ) (free : ℕ) 
   pub decodes : Decodes form true before source after read written
   pub stops : IsDecoded after (drop read source) true ⊎ LacksRoom form after (drop read source) true (free - length written)
 
--- Conversions of one source by one decoder, each to the beginning of the output. `written` is what the last one wrote.
-pub data DecodesTimes (form : EncodingForm) (source : List ℕ) (free : ℕ) (before : DecoderState) : ℕ → DecoderState → List ℕ → Type 0 where
-  none : DecodesTimes form source free before 0 before []
-  one_more : (times : ℕ) (now : DecoderState) (earlier : List ℕ) → DecodesTimes form source free before times now earlier →
-      (after : DecoderState) (written : List ℕ) → DecodesSource form source free now after written →
-      DecodesTimes form source free before (times + 1) after written
-
--- conversions from a state on
-abbrev pub DecodesTo : EncodingForm → List ℕ → ℕ → ℕ → List ℕ → DecoderState → Type 0
-DecodesTo form source times free written before = (after : DecoderState) × DecodesTimes form source free before times after written
-
 -- What a decoder function returns: the number of code units that it wrote, or `usize::MAX` if the number or the indexes
 -- are refused.
 pub record ReturnsText (number : ℕ) (slices : IndexSlices) (form : EncodingForm) (source : List ℕ) (times free : ℕ) (written : List ℕ)
     (result : ℕ) : Type 0 where
   pub either : (result ≤ free) ⊎ (result ≡ 0xFFFF_FFFF_FFFF_FFFF)
-  pub taken : IsTaken number slices → (result ≤ free) × HoldsByNumber decoder_of number slices (DecodesTo form source times free written)
+  pub taken : IsTaken number slices → (result ≤ free) × HoldsByNumber decoder_of number slices (RepeatsFrom (DecodesSource form source free) times written)
   pub refused : IsRefused number slices → result ≡ 0xFFFF_FFFF_FFFF_FFFF

@@ -6,6 +6,7 @@ use Rattle.legacy_base.specs.Encoders.{EncoderState, end_bytes, encoder_need}
 use Rattle.legacy_codecs.specs.References.{reference, reference_room, Gives}
 use Rattle.legacy_encodings.specs.Coders.{encoder_of}
 use Rattle.legacy_exports.specs.NewCoders.{HoldsByNumber}
+use Rattle.legacy_exports.specs.Repeated.{RepeatsFrom}
 use Rattle.legacy_exports.specs.AcceptedIndexes.{IsRefusedToEncode, IsTakenToEncode}
 use Rattle.legacy_exports.specs.declared.indexes.IndexSlices.{IndexSlices}
 use Rattle.legacy_exports.specs.declared.calls.CallEnd.{CallEnd}
@@ -91,22 +92,12 @@ pub record EncodesText (kind : Replacement) (text : List ℕ) (free : ℕ) (befo
   pub encodes : Encodes kind ended before text after left written lost
   pub stops : ((ended ≡ true) × IsEncoded after left true × (lost ≡ [])) ⊎ ((ended ≡ false) × LacksBytes kind after left true (free - length written) lost)
 
--- Conversions of one text by one encoder, each to the beginning of the output. `written` is what the last one wrote.
-pub data EncodesTimes (kind : Replacement) (text : List ℕ) (free : ℕ) (before : EncoderState) : ℕ → EncoderState → List ℕ → Type 0 where
-  none : EncodesTimes kind text free before 0 before []
-  one_more : (times : ℕ) (now : EncoderState) (earlier : List ℕ) → EncodesTimes kind text free before times now earlier →
-      (after : EncoderState) (written : List ℕ) → EncodesText kind text free now after written →
-      EncodesTimes kind text free before (times + 1) after written
-
--- conversions from a state on
-abbrev pub EncodesTo : Replacement → List ℕ → ℕ → ℕ → List ℕ → EncoderState → Type 0
-EncodesTo kind text times free written before = (after : EncoderState) × EncodesTimes kind text free before times after written
-
 -- What an encoder function returns: the number of bytes that it wrote, or `usize::MAX` if the number or the indexes are
 -- refused, or if the source is no text.
 pub record ReturnsBytes (is_text : Type 0) (number : ℕ) (slices : IndexSlices) (kind : Replacement) (text : List ℕ)
     (times free : ℕ) (written : List ℕ) (result : ℕ) : Type 0 where
   pub either : (result ≤ free) ⊎ (result ≡ 0xFFFF_FFFF_FFFF_FFFF)
-  pub taken : IsTakenToEncode number slices → is_text → (result ≤ free) × HoldsByNumber encoder_of number slices (EncodesTo kind text times free written)
+  pub taken : IsTakenToEncode number slices → is_text →
+      (result ≤ free) × HoldsByNumber encoder_of number slices (RepeatsFrom (EncodesText kind text free) times written)
   pub refused : IsRefusedToEncode number slices → result ≡ 0xFFFF_FFFF_FFFF_FFFF
   pub malformed : (is_text → ⊥) → result ≡ 0xFFFF_FFFF_FFFF_FFFF

@@ -3,12 +3,13 @@ ghost use Rattle.std.specs.Prelude.{◌≡◌, ◌≤◌, ◌↔◌, length, tak
 ghost use Rattle.legacy_exports.specs.AcceptedIndexes.{AreTaken, IsRefused};
 ghost use Rattle.legacy_encodings.specs.Coders.{decoder_of};
 ghost use Rattle.legacy_exports.specs.NewCoders.{HoldsOfNew, HoldsOverTables};
-ghost use Rattle.legacy_exports.specs.Decoding.{DecodesTimes, DecodesTo, ReturnsText};
+ghost use Rattle.legacy_exports.specs.Decoding.{DecodesSource, ReturnsText};
+ghost use Rattle.legacy_exports.specs.Repeated.{Repeats, RepeatsFrom};
 
 use crate::calls::Calls;
 use crate::codec::codec_of_number;
 use crate::indexes::{IndexSlices, RANGE_LIMIT, range_pairs, single_byte_table, tables_with};
-use crate::pieces::{Reading, decode_times};
+use crate::pieces::{Reading, decode_once};
 use crate::unit::CodeUnit;
 use legacy_base::{RawDecoder, SingleByteTable, Tables};
 use legacy_encodings::{AnyDecoder, DecoderTask};
@@ -16,17 +17,21 @@ use legacy_index_files::Codec;
 
 impl<C: Calls, U: CodeUnit> DecoderTask<U> for Reading<C, &[u8]> {
     ghost gives = { λ reading before after old new written. (written ≤ length new)
-        × DecodesTimes U.form reading.source.now (length old) before reading.times after
+        × Repeats (DecodesSource U.form reading.source.now (length old)) before reading.times after
         (U.units (take written new)) };
 
-    // The loop of `decode_times` is inlined here, so a decoder's loop is compiled together with it.
+    // `decode_once` is inlined here, so a decoder's loop is compiled together with its own.
     #[inline(always)]
     fn run<D: RawDecoder>(&self, decoder: &mut D, output: &mut [U]) -> usize {
-        decode_times(decoder, self, output)
+        let mut written = 0;
+        for _time in 0..self.times {
+            written = decode_once(decoder, self, output);
+        }
+        written
     }
 }
 
-/// Decodes by the codec's decoder over these tables as `decode_times` does.
+/// Decodes by the codec's decoder over these tables, and returns the units of the last time.
 ///
 /// Returns `None` if the codec is single-byte and `single_byte` is `None`.
 fn decode_over<'a, C: Calls, U: CodeUnit>(
@@ -39,8 +44,8 @@ fn decode_over<'a, C: Calls, U: CodeUnit>(
     ensures units { IfSome result (λ written. written ≤ length output.new) }
     ensures text { IfSome result (λ written. HoldsOfNew decoder_of codec tables.now.flat
         (option_map (λ table. table.now.entries) single_byte.entry)
-        (DecodesTo U.form reading.now.source.now reading.now.times (length output.old)
-        (U.units (take written output.new)))) }
+        (RepeatsFrom (DecodesSource U.form reading.now.source.now (length output.old))
+        reading.now.times (U.units (take written output.new)))) }
     ensures unchanged { IfNone result (output.new ≡ output.old) }
     ensures taken { IsSome result ↔ (codec ≡ Codec.SingleByte → IsSome single_byte.entry) }
 {
@@ -48,7 +53,7 @@ fn decode_over<'a, C: Calls, U: CodeUnit>(
     Some(decoder.lend(reading, output))
 }
 
-/// Decodes by the codec's decoder as `decode_times` does.
+/// Decodes by the codec's decoder, and returns the number of code units written the last time.
 ///
 /// Returns `None` if the indexes are refused.
 pub fn decode<C: Calls, U: CodeUnit>(
@@ -59,8 +64,8 @@ pub fn decode<C: Calls, U: CodeUnit>(
 ) -> Option<usize>
     ensures units { IfSome result (λ written. written ≤ length output.new) }
     ensures text { IfSome result (λ written. HoldsOverTables decoder_of codec indexes.now
-        (DecodesTo U.form reading.entry.source.now reading.entry.times (length output.old)
-        (U.units (take written output.new)))) }
+        (RepeatsFrom (DecodesSource U.form reading.entry.source.now (length output.old))
+        reading.entry.times (U.units (take written output.new)))) }
     ensures unchanged { IfNone result (output.new ≡ output.old) }
     ensures taken { IsSome result ↔ AreTaken codec indexes.now }
 {

@@ -4,7 +4,8 @@ ghost use Rattle.legacy_index_files.specs.Encodings.{has_encoder};
 ghost use Rattle.legacy_exports.specs.AcceptedIndexes.{AreTakenToEncode, IsRefusedToEncode};
 ghost use Rattle.legacy_encodings.specs.Coders.{encoder_of};
 ghost use Rattle.legacy_exports.specs.NewCoders.{HoldsOfNew, HoldsOverTables};
-ghost use Rattle.legacy_exports.specs.Encoding.{EncodesText, EncodesTimes, EncodesTo, ReturnsBytes};
+ghost use Rattle.legacy_exports.specs.Encoding.{EncodesText, ReturnsBytes};
+ghost use Rattle.legacy_exports.specs.Repeated.{Repeats, RepeatsFrom};
 
 use crate::calls::{CallEnd, Calls};
 use crate::codec::codec_of_number;
@@ -15,26 +16,26 @@ use legacy_base::{RawEncoder, SingleByteTable, Tables};
 use legacy_encodings::{AnyEncoder, EncoderTask, ListedEncoder};
 use legacy_index_files::Codec;
 
-/// Encodes the text in pieces by calls of a kind, and returns the number of bytes written.
+/// Encodes the text once, and returns the number of bytes written.
 ///
 /// It stops if the output is full.
 #[inline(always)]
 fn encode_once<C: Calls, T: Text, E: RawEncoder>(
-    calls: C,
     encoder: &mut E,
-    text: T,
+    reading: &Reading<C, T>,
     output: &mut [u8],
-    piece: usize,
 ) -> usize
-    ensures bytes { EncodesText C.kind (T.scalars text) (length output.old) (E.state encoder.old)
-        (E.state encoder.new) (take result output.new) }
+    ensures bytes { EncodesText C.kind (T.scalars reading.now.source) (length output.old)
+        (E.state encoder.old) (E.state encoder.new) (take result output.new) }
     ensures within { result ≤ length output.new }
 {
     let mut written = 0;
-    let (mut unread, mut later) = text.cut(piece);
+    let (mut unread, mut later) = reading.source.cut(reading.piece);
     'pieces: loop {
         let last = later.is_over();
-        let (answer, left, bytes) = calls.encode(encoder, unread, &mut output[written..], last);
+        let (answer, left, bytes) = reading
+            .calls
+            .encode(encoder, unread, &mut output[written..], last);
         unread = left;
         written += bytes;
         match answer {
@@ -42,7 +43,7 @@ fn encode_once<C: Calls, T: Text, E: RawEncoder>(
                 if last {
                     return written;
                 }
-                (unread, later) = later.cut(piece);
+                (unread, later) = later.cut(reading.piece);
             }
             CallEnd::Full => return written,
             CallEnd::Replaced => {}
@@ -50,45 +51,23 @@ fn encode_once<C: Calls, T: Text, E: RawEncoder>(
     }
 }
 
-/// Encodes a text by one encoder, `times` times.
-///
-/// Returns the number of bytes written the last time.
-#[inline(always)]
-fn encode_times<C: Calls, T: Text, E: RawEncoder>(
-    encoder: &mut E,
-    reading: &Reading<C, T>,
-    output: &mut [u8],
-) -> usize
-    ensures bytes { EncodesTimes C.kind (T.scalars reading.now.source) (length output.old)
-        (E.state encoder.old) reading.now.times (E.state encoder.new) (take result output.new) }
-    ensures within { result ≤ length output.new }
-{
-    let mut written = 0;
-    for _time in 0..reading.times {
-        written = encode_once(
-            reading.calls,
-            encoder,
-            reading.source,
-            output,
-            reading.piece,
-        );
-    }
-    written
-}
-
 impl<C: Calls, T: Text> EncoderTask for Reading<C, T> {
     ghost gives = { λ reading before after old new written. (written ≤ length new)
-        × EncodesTimes C.kind (T.scalars reading.source) (length old) before reading.times after
-        (take written new) };
+        × Repeats (EncodesText C.kind (T.scalars reading.source) (length old)) before reading.times
+        after (take written new) };
 
-    // The loop of `encode_times` is inlined here, as that of the decoders is.
+    // `encode_once` is inlined here, so an encoder's loop is compiled together with its own.
     #[inline(always)]
     fn run<E: RawEncoder>(&self, encoder: &mut E, output: &mut [u8]) -> usize {
-        encode_times(encoder, self, output)
+        let mut written = 0;
+        for _time in 0..self.times {
+            written = encode_once(encoder, self, output);
+        }
+        written
     }
 }
 
-/// Encodes by the codec's encoder over these tables as `encode_times` does.
+/// Encodes by the codec's encoder over these tables, and returns the bytes of the last time.
 ///
 /// Returns `None` if the codec has no encoder, or is single-byte and `single_byte` is `None`. An
 /// encoder of pairs caches them in the room if it is long enough.
@@ -103,8 +82,8 @@ fn encode_over<'a, C: Calls, T: Text>(
     ensures units { IfSome result (λ written. written ≤ length output.new) }
     ensures bytes { IfSome result (λ written. HoldsOfNew encoder_of codec tables.now.flat
         (option_map (λ table. table.now.entries) single_byte.entry)
-        (EncodesTo C.kind (T.scalars reading.now.source) reading.now.times (length output.old)
-        (take written output.new))) }
+        (RepeatsFrom (EncodesText C.kind (T.scalars reading.now.source) (length output.old))
+        reading.now.times (take written output.new))) }
     ensures unchanged { IfNone result (output.new ≡ output.old) }
     ensures taken { IsSome result ↔ ((has_encoder codec ≡ true)
         × (codec ≡ Codec.SingleByte → IsSome single_byte.entry)) }
@@ -116,7 +95,7 @@ fn encode_over<'a, C: Calls, T: Text>(
     Some(encoder.lend(reading, output))
 }
 
-/// Encodes by the codec's encoder as `encode_times` does.
+/// Encodes by the codec's encoder, and returns the number of bytes written the last time.
 ///
 /// Returns `None` if the codec has no encoder or the indexes are refused. An encoder of pairs lists
 /// them in `room` if it is long enough.
@@ -129,8 +108,8 @@ pub fn encode<C: Calls, T: Text>(
 ) -> Option<usize>
     ensures units { IfSome result (λ written. written ≤ length output.new) }
     ensures bytes { IfSome result (λ written. HoldsOverTables encoder_of codec indexes.now
-        (EncodesTo C.kind (T.scalars reading.source) reading.times (length output.old)
-        (take written output.new))) }
+        (RepeatsFrom (EncodesText C.kind (T.scalars reading.source) (length output.old))
+        reading.times (take written output.new))) }
     ensures unchanged { IfNone result (output.new ≡ output.old) }
     ensures taken { IsSome result ↔ AreTakenToEncode codec indexes.now }
 {

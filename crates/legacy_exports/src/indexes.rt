@@ -1,10 +1,10 @@
 //! The indexes as a caller in another language passes them.
 ghost use Rattle.std.specs.Prelude.{◌≡◌, ◌≤◌, ◌↔◌, length, map, take, IfSome, IsSome};
 ghost use Rattle.legacy_tables.specs.Tables.{flat_indexes};
-ghost use Rattle.legacy_exports.specs.AcceptedIndexes.{indexes_with, packed_with, range_pair};
+ghost use Rattle.legacy_exports.specs.AcceptedIndexes.{indexes_with, range_pair};
 ghost use Rattle.legacy_exports.specs.AcceptedIndexes.{AreTablesOf, AreTakenIndexes, IsTakenTable};
 
-use legacy_base::{GB18030_2022_PUA, Indexes, Packed, Run, SingleByteTable, Tables};
+use legacy_base::{GB18030_2022_PUA, Indexes, Packed, SingleByteTable, Tables};
 
 /// A range of index gb18030 ranges: its first pointer and its first scalar.
 #[repr(C)]
@@ -13,33 +13,6 @@ pub struct IndexRange {
     pub pointer: u16,
     /// The scalar.
     pub scalar: u16,
-}
-
-/// Packed indexes that are not checked yet: the parts of `Packed`.
-///
-/// They are runs, and the pointers that encoders use in the order of their scalars.
-#[repr(C)]
-pub struct PackedSlices<'a> {
-    /// Index Big5.
-    pub big5: &'a [Run],
-    /// Index EUC-KR.
-    pub euc_kr: &'a [Run],
-    /// Index jis0208.
-    pub jis0208: &'a [Run],
-    /// Index jis0212.
-    pub jis0212: &'a [Run],
-    /// Index gb18030.
-    pub gb18030: &'a [Run],
-    /// The pointers of Big5's encoder.
-    pub big5_order: &'a [u16],
-    /// The pointers of EUC-KR's encoder.
-    pub euc_kr_order: &'a [u16],
-    /// The pointers of Shift_JIS's encoder.
-    pub shift_jis_order: &'a [u16],
-    /// The pointers of the encoders of EUC-JP and ISO-2022-JP.
-    pub euc_jp_order: &'a [u16],
-    /// The pointers of GB18030's encoder.
-    pub gb18030_order: &'a [u16],
 }
 
 /// Flat indexes that are not checked yet: entry `p` is the scalar of pointer `p`, or 0 for none.
@@ -65,8 +38,8 @@ pub struct IndexSlices<'a> {
     pub single_byte: &'a [u16],
     /// Whether the tables are packed ones.
     pub is_packed: bool,
-    /// The parts of packed tables. Flat tables do not read them.
-    pub packed: PackedSlices<'a>,
+    /// The runs and orders of packed tables. Flat tables do not read them.
+    pub packed: Packed<'a>,
 }
 
 /// The greatest number of ranges that is accepted.
@@ -103,24 +76,6 @@ fn with_ranges<'a: 'r, 'r>(slices: &IndexSlices<'a>, ranges: &'r [(u16, u16)]) -
     }
 }
 
-/// Returns the parts of packed indexes.
-fn packed_parts<'a>(parts: &PackedSlices<'a>) -> Packed<'a>
-    ensures { result ≡ packed_with parts.now }
-{
-    Packed {
-        big5: parts.big5,
-        euc_kr: parts.euc_kr,
-        jis0208: parts.jis0208,
-        jis0212: parts.jis0212,
-        gb18030: parts.gb18030,
-        big5_order: parts.big5_order,
-        euc_kr_order: parts.euc_kr_order,
-        shift_jis_order: parts.shift_jis_order,
-        euc_jp_order: parts.euc_jp_order,
-        gb18030_order: parts.gb18030_order,
-    }
-}
-
 /// Returns the tables of the indexes with these ranges, or `None` if they are refused.
 ///
 /// The tables are packed ones if the caller asks for that.
@@ -134,7 +89,7 @@ pub fn tables_with<'a: 'r, 'r>(
 {
     let flat = with_ranges(slices, ranges);
     if slices.is_packed {
-        Tables::packed_of(&flat, &packed_parts(&slices.packed)).ok()
+        Tables::packed_of(&flat, &slices.packed).ok()
     } else {
         Tables::new(&flat).ok()
     }

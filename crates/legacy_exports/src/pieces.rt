@@ -1,6 +1,6 @@
 //! Whole sources, piece by piece.
 ghost use Rattle.std.specs.Prelude.{◌≡◌, ◌<◌, ◌≤◌, ◌+◌, ◌-◌, length, min, take};
-ghost use Rattle.legacy_exports.specs.Decoding.{DecodesSource, DecodesTimes};
+ghost use Rattle.legacy_exports.specs.Decoding.{DecodesSource};
 
 use crate::calls::{CallEnd, Calls};
 use crate::unit::CodeUnit;
@@ -49,29 +49,27 @@ pub fn piece_end(read: usize, len: usize, piece: usize) -> usize
     }
 }
 
-/// Decodes the source in pieces by calls of a kind, and returns the number of code units written.
+/// Decodes the source once, and returns the number of code units written.
 ///
 /// It stops if the output is full.
 #[inline(always)]
-fn decode_once<C: Calls, U: CodeUnit, D: RawDecoder>(
-    calls: C,
+pub fn decode_once<C: Calls, U: CodeUnit, D: RawDecoder>(
     decoder: &mut D,
-    source: &[u8],
+    reading: &Reading<C, &[u8]>,
     output: &mut [U],
-    piece: usize,
 ) -> usize
-    ensures text { DecodesSource U.form source.now (length output.old) (D.state decoder.old)
-        (D.state decoder.new) (U.units (take result output.new)) }
+    ensures text { DecodesSource U.form reading.now.source.now (length output.old)
+        (D.state decoder.old) (D.state decoder.new) (U.units (take result output.new)) }
     ensures within { result ≤ length output.new }
 {
     let mut read = 0;
     let mut written = 0;
-    let mut end = piece_end(0, source.len(), piece);
+    let mut end = piece_end(0, reading.source.len(), reading.piece);
     'pieces: loop {
-        let last = end == source.len();
-        let (answer, more, units) = calls.decode(
+        let last = end == reading.source.len();
+        let (answer, more, units) = reading.calls.decode(
             decoder,
-            &source[read..end],
+            &reading.source[read..end],
             &mut output[written..],
             last,
         );
@@ -82,37 +80,10 @@ fn decode_once<C: Calls, U: CodeUnit, D: RawDecoder>(
                 if last {
                     return written;
                 }
-                end = piece_end(read, source.len(), piece);
+                end = piece_end(read, reading.source.len(), reading.piece);
             }
             CallEnd::Full => return written,
             CallEnd::Replaced => {}
         }
     }
-}
-
-/// Decodes a source by one decoder, `times` times.
-///
-/// Returns the number of code units written the last time.
-#[inline(always)]
-pub fn decode_times<C: Calls, U: CodeUnit, D: RawDecoder>(
-    decoder: &mut D,
-    reading: &Reading<C, &[u8]>,
-    output: &mut [U],
-) -> usize
-    ensures text { DecodesTimes U.form reading.now.source.now (length output.old)
-        (D.state decoder.old) reading.now.times (D.state decoder.new)
-        (U.units (take result output.new)) }
-    ensures within { result ≤ length output.new }
-{
-    let mut written = 0;
-    for _time in 0..reading.times {
-        written = decode_once(
-            reading.calls,
-            decoder,
-            reading.source,
-            output,
-            reading.piece,
-        );
-    }
-    written
 }

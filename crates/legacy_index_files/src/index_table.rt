@@ -7,6 +7,7 @@ ghost use Rattle.legacy_index_files.specs.IndexTable.{entries_of, table_length, 
 
 use crate::index_file::{EncoderIndex, FileIndex};
 use crate::index_line::{LineKind, parse_line, split_line};
+use legacy_tables::Entry;
 use std::alloc::{AllocError, Global};
 
 /// Returns the length of the lines' table, or the number of the first malformed line.
@@ -44,7 +45,7 @@ pub(crate) fn read_wide(
     ensures { IfOk result (λ v. IsIndexOf (file_entries name (lines text.now)) v.items) }
 {
     let mut values = vec![in alloc; 0; length]?;
-    fill_wide(&mut values, name, text);
+    fill(&mut values, name, text);
     Ok(values)
 }
 
@@ -60,7 +61,7 @@ pub(crate) fn read_narrow(
     ensures { IfOk result (λ v. IsIndexOf (file_entries name (lines text.now)) v.items) }
 {
     let mut values = vec![in alloc; 0; length]?;
-    fill_narrow(&mut values, name, text);
+    fill(&mut values, name, text);
     Ok(values)
 }
 
@@ -70,7 +71,7 @@ pub(crate) fn read_single_byte(text: &[u8]) -> [u16; 128]
     ensures { IsSingleByteIndexOf (entries_of FileIndex.SingleByte (lines text.now)) result }
 {
     let mut values = [0; 128];
-    fill_narrow(&mut values, EncoderIndex::Of(FileIndex::SingleByte), text);
+    fill(&mut values, EncoderIndex::Of(FileIndex::SingleByte), text);
     values
 }
 
@@ -94,33 +95,18 @@ pub(crate) fn read_ranges(alloc: Global, text: &[u8]) -> Result<Vec<(u16, u16)>,
 }
 
 /// Writes the value of each line to the place of its pointer, in order.
-fn fill_wide(values: &mut [u32], name: EncoderIndex, text: &[u8])
-    requires { table_length (file_entries name (lines text.now)) ≤ length values.old }
-    ensures { (p : ℕ) → p < length values.old → slice_index values.new p
-        ≡ unwrap_or (last_value (file_entries name (lines text.now)) p) (slice_index values.old p) }
-{
-    let mut rest = text;
-    while !rest.is_empty() {
-        let (line, behind) = split_line(rest);
-        if let LineKind::Entry(pointer, value) = read_line(name, line) {
-            values[pointer as usize] = value;
-        }
-        rest = behind;
-    }
-}
-
-/// Writes the value of each line to the place of its pointer, in order.
-fn fill_narrow(values: &mut [u16], name: EncoderIndex, text: &[u8])
-    requires narrow { greatest_value name ≡ 0xFFFF }
+fn fill<E: Entry>(values: &mut [E], name: EncoderIndex, text: &[u8])
+    requires small { greatest_value name < E.limit }
     requires room { table_length (file_entries name (lines text.now)) ≤ length values.old }
-    ensures { (p : ℕ) → p < length values.old → slice_index values.new p
-        ≡ unwrap_or (last_value (file_entries name (lines text.now)) p) (slice_index values.old p) }
+    ensures { (p : ℕ) → p < length values.old → slice_index (E.numbers values.new) p
+        ≡ unwrap_or (last_value (file_entries name (lines text.now)) p)
+        (slice_index (E.numbers values.old) p) }
 {
     let mut rest = text;
     while !rest.is_empty() {
         let (line, behind) = split_line(rest);
         if let LineKind::Entry(pointer, value) = read_line(name, line) {
-            values[pointer as usize] = value as u16;
+            E::put(values, pointer as usize, value as usize);
         }
         rest = behind;
     }

@@ -1,5 +1,5 @@
 -- The moves of the ISO-2022-JP encoder, by its tables and by a list of pairs.
-use Rattle.std.proofs.Common.{◌≡◌, ◌∙◌, ℕ, ◌+◌, List, [], ◌∷◌, ◌++◌, refl, sym, arith, Bool, true, false, IsTrue, ◌||◌, Option, Some, eqb, map, ◌⊎◌, inl}
+use Rattle.std.proofs.Common.{◌≡◌, ◌∙◌, ℕ, List, [], ◌∷◌, ◌++◌, refl, sym, arith, Bool, true, false, IsTrue, ◌||◌, Option, Some, eqb, map, ◌⊎◌, inl}
 use Rattle.std.proofs.{Common.{inr, ◌/◌, ◌%◌}, lemmas.Bool.{lt-ltb, cases_Bool, false≢true}, lemmas.Bool.Decides.nat_tests}
 use Rattle.legacy_base.specs.{declared.results.EncodeEvent.EncodeEvent, Iso2022Jp.{iso_2022_jp_code, iso_2022_jp_reported, escape_to, escape_between}}
 use Rattle.legacy_base.specs.{Iso2022Jp.mode_behind, EncoderProfile.{EncoderMode, in_ascii, in_two_byte}, Beginnings.BeginsWith}

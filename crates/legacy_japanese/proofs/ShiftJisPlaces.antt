@@ -1,7 +1,11 @@
 -- The tables contain the places of leads and trails; index jis0208 is read at their sum.
-use Rattle.std.proofs.Common.{◌≡◌, ℕ, ◌+◌, ◌≤◌, List, [], length, Bool, cond, Some, None, refl, arith}
+use Rattle.std.proofs.Common.{◌≡◌, ℕ, ◌+◌, ◌≤◌, List, [], ◌∷◌, length, Bool, false, cond, Some, None, refl, ap, arith}
 use Rattle.std.proofs.lemmas.Bool.Decides.{nat_tests}
 use Rattle.std.specs.Option.{option_map_or}
+use Rattle.std.specs.{Int.is_in_range, Prelude.option_to_list}
+use Rattle.legacy_tables.specs.{AcceptedTables.AcceptedIndexes, Indexes.idx}
+use Rattle.legacy_tables.specs.declared.tables.IndexName.TheVariants as names
+use Rattle.legacy_tables.proofs.Accepted.{entry-used}
 use Rattle.legacy_base.specs.ShiftJis.{is_shift_jis_lead, shift_jis_scalars}
 use Rattle.legacy_decoder_engine.specs.Places.{IsTableOf}
 use Rattle.legacy_japanese.specs.{ShiftJisPlaces.{shift_jis_lead_place, shift_jis_trail_place}, ShiftJisMachine.shift_jis_pair_scalars}
@@ -26,3 +30,9 @@ pub shift_jis_entry : (index : List ℕ) → length index ≤ 65535 → (lead tr
     ≡ cond (is_shift_jis_lead lead) (shift_jis_pair_scalars index lead trail) []
 unfolding shift_jis_lead_place shift_jis_trail_place
 shift_jis_entry index short lead trail = grind (arith, pair_entry, nat_tests, none_past, of_pointer)
+
+-- the entry of a pointer is its only scalar, as no entry is at a pointer for private use
+pub entry_alone : (tables : AcceptedIndexes) (p c : ℕ) → Some c ≡ idx tables.flat.jis0208 p → c ∷ [] ≡ shift_jis_scalars tables.flat.jis0208 p
+entry_alone tables p c e =
+    let shared : is_in_range 8836 10715 p ≡ false = entry-used tables.flat tables.accepted names.Jis0208 p c e in
+    rw shared (ap option_to_list e)

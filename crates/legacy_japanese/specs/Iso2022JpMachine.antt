@@ -22,11 +22,9 @@ mode_meaning TwoByte = iso.two_byte
 
 -- the second byte of an escape
 abbrev pub second_of : Escape → ℕ
-second_of ToAscii = 0x28
-second_of ToRoman = 0x28
-second_of ToKatakana = 0x28
 second_of ToJis1978 = 0x24
 second_of ToJis1983 = 0x24
+second_of _ = 0x28
 
 -- the third byte of an escape
 abbrev pub third_of : Escape → ℕ

@@ -1,5 +1,5 @@
 -- The entry of index EUC-KR at the place of a lead and a trail.
-use Rattle.std.proofs.Common.{◌≡◌, ◌≢◌, ◌∙◌, ℕ, ◌+◌, ◌-◌, ◌*◌, ◌/◌, ◌%◌, ◌<◌, ◌≤◌, ◌&&◌, List, [], ◌∷◌, Bool, true, false, cond, Option, Some, None}
+use Rattle.std.proofs.Common.{◌≡◌, ◌∙◌, ℕ, ◌+◌, ◌-◌, ◌*◌, ◌/◌, ◌%◌, ◌<◌, ◌≤◌, ◌&&◌, List, [], ◌∷◌, Bool, true, false, cond, Option, Some, None}
 use Rattle.std.proofs.Common.{if◌then◌else◌, length, get_or, option_to_list, refl, sym, arith}
 use Rattle.std.specs.{Char.IsScalar, Int.is_in_range}
 use Rattle.legacy_tables.specs.{declared.tables.IndexName.TheVariants.EucKr, AcceptedTables.AcceptedIndexes, Indexes.idx, Unicode.IsByte}

@@ -1,21 +1,15 @@
 -- The bytes of the codes of EUC-KR.
-use Rattle.std.proofs.Common.{ℕ, ◌≢◌, ◌+◌, ◌*◌, ◌/◌, ◌%◌, ◌≤◌, List, refl, arith}
-use Rattle.std.proofs.lemmas.Bool.{lt-ltb}
-use Rattle.legacy_base.specs.EncodeEvents.{code_length}
+use Rattle.std.proofs.Common.{ℕ, ◌≢◌, ◌+◌, ◌*◌, ◌/◌, ◌%◌, List, refl, arith}
 use Rattle.legacy_tables.specs.Pointers.{euc_kr_pointer_of}
 use Rattle.legacy_base.specs.EucKr.{euc_kr_code, euc_kr_bytes}
 use Rattle.legacy_base.specs.Encoders.{euc_kr}
 use Rattle.legacy_encoder_engine.specs.PairCodecs.{IsPairCodec}
-use Rattle.legacy_encoder_engine.proofs.PlainServes.{short_past, short_map}
-
-short : (index : List ℕ) (c : ℕ) → 128 ≤ c → code_length (euc_kr_code index c) ≤ 2
-unfolding euc_kr_code
-short index c h = short_past c _ _ 2 h (short_map euc_kr_bytes (euc_kr_pointer_of index c) 2 (λ p. omega arith))
+use Rattle.legacy_encoder_engine.proofs.PairAnswers.{by_pointers}
 
 -- EUC-KR is a codec of ASCII and pairs, with any index
 pub euc_kr_pairs : (index : List ℕ) → IsPairCodec (euc_kr index)
 unfolding euc_kr_code
-euc_kr_pairs index = record { code = euc_kr_code index; profile_is = refl; ascii = λ c h. rw (lt-ltb c 128 h) refl; short = short index }
+euc_kr_pairs index = by_pointers (euc_kr index) (euc_kr_code index) euc_kr_bytes (euc_kr_pointer_of index) refl (λ c. refl) (λ p. omega arith)
 
 -- the lead and the trail of a pointer as one number, with the lead in the low byte
 abbrev pub euc_kr_mark : ℕ → ℕ

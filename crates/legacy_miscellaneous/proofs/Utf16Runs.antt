@@ -63,10 +63,10 @@ below_scalar c h = search rules
 
 -- a block of which `r` units of ASCII were written
 pub reads_block : {D : Type 0} (T : Ghosts D) (be : Bool) (source block : List ℕ) (old new : D) (r : ℕ) → ((k : ℕ) → IsByte (get_or source k 0)) →
-    32 ≤ length source → length block ≡ 16 → HasAsciiUnits be source block 16 → r ≤ length block → IsAscii (take r block) →
-    T.contents new ≡ T.contents old ++ take r block → T.room new + r ≡ T.room old → T.loan new ≡ T.loan old → 19 ≤ T.room old →
+    2 * length block ≤ length source → HasAsciiUnits be source block (length block) → r ≤ length block → IsAscii (take r block) →
+    T.contents new ≡ T.contents old ++ take r block → T.room new + r ≡ T.room old → T.loan new ≡ T.loan old → 1 ≤ length block → length block + 3 ≤ T.room old →
     ReadsAhead T (new_state (utf16 be)) source (2 * r) old new
-reads_block T be source block old new r bytes within long narrow count ascii contents room loan enough =
+reads_block T be source block old new r bytes within narrow count ascii contents room loan some enough =
     let all = All-from_ascii (take r block) ascii in
     let l : length (take r block) ≡ r = length-take-le r block count in
     let same = all_code_units_ascii T.form (take r block) ascii in
@@ -85,12 +85,18 @@ rest_bytes : (source : List ℕ) (at : ℕ) → ((k : ℕ) → IsByte (get_or so
 rest_bytes source at bytes k = rw (rest_of source at, get_or-drop at source k 0) (bytes (at + k))
 
 -- a unit of the rest of a source
+pub unit_after : (be : Bool) (source : List ℕ) (at k : ℕ) → unit_at be (take (length source - 2 * at) (drop (2 * at) source)) k ≡ unit_at be source (at + k)
+unit_after be source at k =
+    let first : 2 * at + 2 * k ≡ 2 * (at + k) = omega arith in
+    let second : 2 * at + (2 * k + 1) ≡ 2 * (at + k) + 1 = omega arith in
+    rw (rest_of source (2 * at), get_or-drop (2 * at) source (2 * k) 0, get_or-drop (2 * at) source (2 * k + 1) 0, first, second) refl
+
+-- the same after groups of eight units
 pub rest_unit : (be : Bool) (source : List ℕ) (group k : ℕ) →
     unit_at be (take (length source - 16 * group) (drop (16 * group) source)) k ≡ unit_at be source (8 * group + k)
 rest_unit be source group k =
-    let first : 16 * group + 2 * k ≡ 2 * (8 * group + k) = omega arith in
-    let second : 16 * group + (2 * k + 1) ≡ 2 * (8 * group + k) + 1 = omega arith in
-    rw (rest_of source (16 * group), get_or-drop (16 * group) source (2 * k) 0, get_or-drop (16 * group) source (2 * k + 1) 0, first, second) refl
+    let same : 2 * (8 * group) ≡ 16 * group = omega arith in
+    subst (λ n. unit_at be (take (length source - n) (drop n source)) k ≡ unit_at be source (8 * group + k)) same (unit_after be source (8 * group) k)
 
 -- eight units have at most three code units each
 few_units : (form : EncodingForm) (be : Bool) (source units : List ℕ) → ((k : ℕ) → IsByte (get_or source k 0)) → length units ≡ 8 →

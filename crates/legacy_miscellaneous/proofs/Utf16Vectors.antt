@@ -4,30 +4,15 @@ use Rattle.std.proofs.{lemmas.List.{get_or-take, get_or_append_left, get_or-drop
 use Rattle.std.proofs.{lemmas.List.FromFn.length-map-range_with_len, lemmas.Simd.{get_or_wider, Each1-from_get_or}}
 use Rattle.std.specs.{List.range_with_len, Simd.Lanes.{number_l, digits_l}}
 use Rattle.legacy_tables.specs.Unicode.{IsByte}
+use Rattle.legacy_text.proofs.ScalarTurns.{lane}
 use Rattle.legacy_miscellaneous.specs.Utf16Decoder.{unit_at}
-
--- two bytes as a number, the lower first
-pair : (bytes : List ℕ) → 2 ≤ length bytes → number_l 256 (take 2 bytes) ≡ get_or bytes 1 0 * 256 + get_or bytes 0 0
-pair (a ∷ b ∷ bytes) h = omega arith
-pair _ h = absurd (omega arith)
-
--- a lane of two bytes
-lane : (n : ℕ) (bytes : List ℕ) (k : ℕ) → ((i : ℕ) → i < 2 * n → IsByte (get_or bytes i 0)) → length bytes ≡ 2 * n → k < n
-    → get_or (digits_l 65536 n (number_l 256 bytes)) k 0 ≡ get_or bytes (2 * k + 1) 0 * 256 + get_or bytes (2 * k) 0
-lane n bytes k are long h =
-    let rest : 2 ≤ length (drop (2 * k) bytes) = omega (arith, length-drop (2 * k) bytes) in
-    let high = get_or-drop (2 * k) bytes 1 0 in
-    let low = get_or-drop (2 * k) bytes 0 0 in
-    let same : 2 * k + 0 ≡ 2 * k = omega arith in
-    get_or_wider 256 2 65536 n bytes k refl (Each1-from_get_or (λ x. x < 256) bytes 0 (λ i l. are i (omega arith))) h
-    ∙ pair (drop (2 * k) bytes) rest ∙ rw (high, low, same) refl
 
 -- units in little-endian order
 pub little : (n : ℕ) (src : List ℕ) → 2 * n ≤ length src → ((i : ℕ) → IsByte (get_or src i 0)) → (k : ℕ) → k < n
     → get_or (digits_l 65536 n (number_l 256 (take (2 * n) src))) k 0 ≡ unit_at false src k
 little n src within are k h =
     lane n (take (2 * n) src) k (λ i l. subst IsByte (sym (get_or-take (2 * n) src i 0 l)) (are i)) (length-take-le (2 * n) src within) h
-    ∙ rw (get_or-take (2 * n) src (2 * k) 0 (omega arith), get_or-take (2 * n) src (2 * k + 1) 0 (omega arith)) refl
+    ∙ rw (get_or-take (2 * n) src (2 * k) 0 (omega arith), get_or-take (2 * n) src (2 * k + 1) 0 (omega arith)) (omega arith)
 
 -- ---- units in big-endian order: the bytes of each are swapped
 
@@ -49,4 +34,4 @@ big n src within are k h =
     let low : 2 * k + 1 - 2 * ((2 * k) % 2) ≡ 2 * k + 1 = omega arith in
     let long = length-map-range_with_len (λ i. get_or (take (2 * n) src ++ take (2 * n) src) (i + 1 - 2 * (i % 2)) 0) 0 (2 * n) in
     lane n (swapped n src) k (λ i l. rw (swapped_at n src within i l) (are (i + 1 - 2 * (i % 2)))) long h
-    ∙ rw (swapped_at n src within (2 * k + 1) (omega arith), swapped_at n src within (2 * k) (omega arith), high, low) refl
+    ∙ rw (swapped_at n src within (2 * k + 1) (omega arith), swapped_at n src within (2 * k) (omega arith), high, low) (omega arith)

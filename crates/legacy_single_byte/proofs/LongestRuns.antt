@@ -1,5 +1,5 @@
 -- The longest run of letters: how one more place changes it, and that the encoder accepts it.
-use Rattle.std.proofs.Common.{◌≡◌, ◌≢◌, ℕ, zero, suc, ◌+◌, ◌-◌, ◌<◌, ◌≤◌, ◌==◌, List, get_or, refl, sym, subst, arith, inl, inr, None, not}
+use Rattle.std.proofs.Common.{◌≡◌, ◌≢◌, ℕ, zero, suc, ◌+◌, ◌-◌, ◌<◌, ◌≤◌, ◌==◌, List, get_or, max, refl, sym, subst, arith, inl, inr, None, not}
 use Rattle.std.proofs.{lemmas.Bool.{cases_lt, le-ltb}, lemmas.Bool.Decides.nat_tests}
 use Rattle.legacy_tables.proofs.FirstPlaces.{find-none}
 use Rattle.legacy_single_byte.specs.{SingleByteRun.{IsRun, first_mismatch, single_byte_run_fault}, LongestRun.{IsLetterRun, LongestToThe, LongestUpTo}}
@@ -126,29 +126,22 @@ module _ (table : List ℕ) where
   -- ---- the longest run up to a place
 
   module _ (scalar start count place : ℕ) (best : LongestUpTo table scalar start count place) (c s n : ℕ) (run : LongestToThe table c s n (place + 1)) where
+    -- a run that ends by then is no longer than the longer of the two
+    most : (d t m : ℕ) → IsLetterRun table d t m → t + m ≤ place + 1 → m ≤ max count n
+    most d t m other ends = elim (cases_lt (t + m) (place + 1)) [
+      | inl z ↦ let k : m ≤ count = best.longest d t m other (omega arith) in omega arith
+      | inr z ↦ let k : m ≤ n = run.longest d t m other (omega arith) in omega arith
+    ]
+
     pub kept : n ≤ count → LongestUpTo table scalar start count (place + 1)
     kept h =
         let within = best.within in
-        record {
-          is = best.is;
-          within = omega arith;
-          longest = λ d t m other ends. elim (cases_lt (t + m) (place + 1)) [
-            | inl z ↦ best.longest d t m other (omega arith)
-            | inr z ↦ let k : m ≤ n = run.longest d t m other (omega arith) in omega arith
-          ];
-        }
+        record { is = best.is; within = omega arith; longest = λ d t m other ends. omega (arith, most d t m other ends) }
 
     pub replaced : count < n → LongestUpTo table c s n (place + 1)
     replaced h =
         let ends = run.ends in
-        record {
-          is = run.is;
-          within = omega arith;
-          longest = λ d t m other ends. elim (cases_lt (t + m) (place + 1)) [
-            | inl z ↦ let k : m ≤ count = best.longest d t m other (omega arith) in omega arith
-            | inr z ↦ run.longest d t m other (omega arith)
-          ];
-        }
+        record { is = run.is; within = omega arith; longest = λ d t m other ends. omega (arith, most d t m other ends) }
 
   -- no run that the encoder accepts is longer than the longest one up to the end
   pub none_longer : (scalar start count place : ℕ) → 128 ≤ place → LongestUpTo table scalar start count place →

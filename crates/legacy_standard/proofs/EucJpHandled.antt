@@ -6,7 +6,7 @@ use Rattle.legacy_base.specs.{EucJp.{euc_jp_second, euc_jp_pair, euc_jp_front}, 
 use Rattle.legacy_base.proofs.FrontLaws.{euc_jp_front-of}
 use Rattle.legacy_tables.specs.{Indexes.idx, Unicode.{is_katakana_byte, katakana_of}}
 use Rattle.legacy_standard.specs.{Queue.return_or_error, Processing.process, EucJp.{euc_jp_state, euc_jp_initial, euc_jp_handler}}
-use Rattle.legacy_standard.proofs.{Turns.{goes_on, error_at_end}, Fronts.{Reads, whole, by_test, one, bad_one, returns_scalars, trailing, third_trailing}}
+use Rattle.legacy_standard.proofs.{Turns.{goes_on, error_at_end}, Fronts.{Reads, whole, by_test, one, malformed_one, returns_scalars, trailing, third_trailing}}
 use Rattle.legacy_standard.proofs.{Fronts.{lead_alone, pair}, OneResult.{Runs, IsDecodedBy}}
 
 lead-some : (b : ℕ) → is_euc_jp_lead b ≡ true → (b == 0) ≡ false
@@ -61,7 +61,7 @@ module _ (jis0208 jis0212 : List ℕ) where
       (λ k. by_test (b == 0x8F) _ _ (λ f. let is = eqb-true b 0x8F f in rw is (second-reads rest)) (λ f. by_test (is_euc_jp_lead b) _ _
       (λ l. let some = lead-some b l in
       pair {s = euc_jp_state false b} (rw (h, k, f, l) refl) (euc_jp_scalars jis0208 b) (rw some refl) (λ t. rw (k, f, some) (code-is jis0208 b t l)) rest)
-      (λ l. bad_one (rw (h, k, f, l) refl)))))
+      (λ l. malformed_one (rw (h, k, f, l) refl)))))
 
   pub euc_jp_handled : IsDecodedBy (euc_jp jis0208 jis0212) (euc_jp_handler jis0208 jis0212) euc_jp_initial
   unfolding events_of euc_jp_handler

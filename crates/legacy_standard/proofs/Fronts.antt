@@ -49,8 +49,8 @@ module _ {S : Type 0} {handler : S → Item → Handled S} {initial : S} where
   one {b} {c} e = record { go = λ place es h. gives (c ∷ []) e h }
 
   -- one byte that is an error
-  pub bad_one : {b : ℕ} {rest : List ℕ} → handler initial (byte b) ≡ returns error initial → Reads handler initial (b ∷ rest) (malformed 1)
-  bad_one e = record { go = λ place es h. error_at [] e h }
+  pub malformed_one : {b : ℕ} {rest : List ℕ} → handler initial (byte b) ≡ returns error initial → Reads handler initial (b ∷ rest) (malformed 1)
+  malformed_one e = record { go = λ place es h. error_at [] e h }
 
   -- the byte after a leading byte
   module _ {b : ℕ} {s : S} (leads : handler initial (byte b) ≡ returns continue s) where

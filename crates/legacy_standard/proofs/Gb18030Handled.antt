@@ -7,7 +7,7 @@ use Rattle.legacy_base.proofs.FrontLaws.{gb18030_front-of}
 use Rattle.legacy_tables.specs.Indexes.{range}
 use Rattle.legacy_standard.specs.{Queue.{Item, byte, end_of_queue, Handled, returns, restores, continue, error, code_point_or_error}, Gb18030.Gb18030}
 use Rattle.legacy_standard.specs.Gb18030.{gb18030_state, gb18030_initial, gb18030_handler}
-use Rattle.legacy_standard.proofs.{LeadHandled.lead-some, Turns.{goes_on, gives, error_at, error_at_end}, Fronts.{Reads, whole, by_test, one, bad_one}}
+use Rattle.legacy_standard.proofs.{LeadHandled.lead-some, Turns.{goes_on, gives, error_at, error_at_end}, Fronts.{Reads, whole, by_test, one, malformed_one}}
 use Rattle.legacy_standard.proofs.{Fronts.{returns_scalars, trailing, lead_alone}, OneResult.{Runs, IsDecodedBy}}
 
 digit-some : (b : ℕ) → is_ascii_digit b ≡ true → (b == 0) ≡ false
@@ -98,7 +98,7 @@ module _ (index : List ℕ) (ranges : List (ℕ × ℕ)) where
   unfolding gb18030_front gb18030_handler
   gb18030-reads b rest =
       by_test (is_ascii b) _ _ (λ h. one (rw h refl)) (λ h. by_test (b == 0x80) _ _ (λ k. one (rw (h, k) refl))
-      (λ k. by_test (is_lead b) _ _ (λ l. second-reads b h k l rest) (λ l. bad_one (rw (h, k, l) refl))))
+      (λ k. by_test (is_lead b) _ _ (λ l. second-reads b h k l rest) (λ l. malformed_one (rw (h, k, l) refl))))
 
   pub gb18030_handled : IsDecodedBy (gb18030 index ranges) (gb18030_handler index ranges) gb18030_initial
   unfolding events_of gb18030_handler

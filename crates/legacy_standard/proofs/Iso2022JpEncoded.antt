@@ -51,7 +51,7 @@ module _ (index katakana_index : List ℕ) where
 
   -- the handler's result in any mode: in another mode it writes an escape, and goes on with the scalar d
   abbrev acts : EncoderMode → EncoderMode → ℕ → ℕ → Option (List ℕ) → TextHandled EncoderState
-  acts mode home c d o = cond (same_mode mode home) (here mode c o) (restores d (bytes (escape_to home)) (state_of home))
+  acts mode home c d o = cond (same_mode mode home) (here mode c o) (restores (d ∷ []) (bytes (escape_to home)) (state_of home))
 
   -- the scalar c, or d in its place, in the mode of c
   at_home : (mode : EncoderMode) (c d : ℕ) (more : List ℕ) (o : Option (List ℕ)) → IsWritten index katakana_index mode c mode o →

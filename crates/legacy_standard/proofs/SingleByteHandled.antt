@@ -6,12 +6,12 @@ use Rattle.legacy_base.specs.Grammar.{events_of}
 use Rattle.legacy_base.proofs.FrontLaws.{single_byte_front-of, user_defined_front-of}
 use Rattle.legacy_tables.specs.Indexes.{idx}
 use Rattle.legacy_standard.specs.{Queue.{byte, returns, code_point_or_error}, SingleByte.single_byte_handler, UserDefined.user_defined_handler}
-use Rattle.legacy_standard.proofs.{Fronts.{Reads, whole, by_test, one, bad_one}, OneResult.IsDecodedBy}
+use Rattle.legacy_standard.proofs.{Fronts.{Reads, whole, by_test, one, malformed_one}, OneResult.IsDecodedBy}
 
 module _ (table : List ℕ) where
   past_ascii : {b : ℕ} {rest : List ℕ} (o : Option ℕ) → single_byte_handler table tt (byte b) ≡ returns (code_point_or_error o) tt →
       Reads (single_byte_handler table) tt (b ∷ rest) (reads_or 1 (option_to_list o) (malformed 1))
-  past_ascii None e = bad_one e
+  past_ascii None e = malformed_one e
   past_ascii (Some c) e = one e
 
   front : (b : ℕ) (rest : List ℕ) → Reads (single_byte_handler table) tt (b ∷ rest) (single_byte_front table b rest)

@@ -54,7 +54,7 @@ module _ {S : Type 0} {handler : S → TextItem → TextHandled S} where
   unfolding process
   gives_error e h = record { turns = suc h.turns; run = rw (e, h.run) refl }
 
-  pub gives_escape : {s t : S} {c d : ℕ} (bs : List ℕ) {rest : List ℕ} {es : List EncodeEvent} → handler s (scalar c) ≡ restores d (bytes bs) t →
+  pub gives_escape : {s t : S} {c d : ℕ} (bs : List ℕ) {rest : List ℕ} {es : List EncodeEvent} → handler s (scalar c) ≡ restores (d ∷ []) (bytes bs) t →
       Writes handler t (d ∷ rest) es → Writes handler s (c ∷ rest) (map Byte bs ++ es)
   unfolding process
   gives_escape bs e h = record { turns = suc h.turns; run = rw (e, h.run) refl }

@@ -1,9 +1,8 @@
 -- The Standard's "Big5 decoder". Its state is the Big5 leading byte, initially 0x00.
-use Rattle.std.specs.Prelude.{ℕ, ◌+◌, ◌-◌, ◌*◌, ◌==◌, ◌||◌, not, nat_lt, List, [], ◌∷◌, Option, Some, None, if◌then◌else◌}
+use Rattle.std.specs.Prelude.{ℕ, ◌+◌, ◌-◌, ◌*◌, ◌==◌, ◌||◌, nat_lt, List, [], ◌∷◌, Option, Some, None, if◌then◌else◌}
 use Rattle.std.specs.Int.{is_in_range}
-use Rattle.std.specs.Char.{is_ascii}
 use Rattle.legacy_tables.specs.Indexes.{idx}
-use Rattle.legacy_standard.specs.Queue.{Item, byte, end_of_queue, Handled, continue, finished, error, code_point, code_points, returns, return_or_error}
+use Rattle.legacy_standard.specs.Queue.{Item, Handled, code_points, returns, return_or_error, lead_handler}
 
 -- the steps from "if there is a row in the table below" on
 abbrev pub big5_pointer_returns : List ℕ → Option ℕ → ℕ → Handled ℕ
@@ -25,11 +24,4 @@ big5_trailing index leading b =
 
 -- the handler of the "Big5 decoder", by index Big5 and the leading byte
 unfoldable pub big5_handler : List ℕ → ℕ → Item → Handled ℕ
-big5_handler index leading end_of_queue =
-    if not (leading == 0x00) then returns error 0x00
-    else returns finished leading
-big5_handler index leading (byte b) =
-    if not (leading == 0x00) then big5_trailing index leading b
-    else if is_ascii b then returns (code_point b) leading
-    else if is_in_range 0x81 0xFE b then returns continue b
-    else returns error leading
+big5_handler index = lead_handler (big5_trailing index)

@@ -1,18 +1,14 @@
 -- The Standard's "EUC-JP encoder".
-use Rattle.std.specs.Prelude.{ℕ, ◌+◌, ◌-◌, ◌/◌, ◌%◌, ◌==◌, List, [], ◌∷◌, Option, Some, None, if◌then◌else◌}
+use Rattle.std.specs.Prelude.{ℕ, ◌+◌, ◌-◌, ◌==◌, List, [], ◌∷◌, Option, if◌then◌else◌}
 use Rattle.std.specs.Int.{is_in_range}
 use Rattle.std.specs.Char.{is_ascii}
-use Rattle.legacy_standard.specs.TextQueue.{TextOutcome, bytes, error_with}
+use Rattle.legacy_standard.specs.TextQueue.{TextOutcome, bytes, bytes_or_error, pointer_bytes}
 use Rattle.legacy_standard.specs.IndexPointers.{index_pointer}
 use Rattle.legacy_standard.specs.ShiftJisEncoder.{minus_set}
 
 -- the steps after the index pointer is known
 abbrev pub euc_jp_at : Option ℕ → ℕ → TextOutcome
-euc_jp_at None c = error_with c
-euc_jp_at (Some pointer) c =
-    let leading : ℕ = pointer / 94 + 0xA1 in
-    let trailing : ℕ = pointer % 94 + 0xA1 in
-    bytes (leading ∷ trailing ∷ [])
+euc_jp_at = bytes_or_error (pointer_bytes 94 0xA1 0xA1)
 
 -- the result of the "EUC-JP encoder" for a code point, by index jis0208
 unfoldable pub euc_jp_encodes : List ℕ → ℕ → TextOutcome

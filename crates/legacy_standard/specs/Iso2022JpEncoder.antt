@@ -1,9 +1,10 @@
 -- The Standard's "ISO-2022-JP encoder". Its state is the ISO-2022-JP encoder state, initially ASCII.
-use Rattle.std.specs.Prelude.{ℕ, ◌+◌, ◌-◌, ◌/◌, ◌%◌, ◌==◌, ◌||◌, ◌&&◌, not, Bool, true, false, List, [], ◌∷◌, Option, Some, None, if◌then◌else◌}
+use Rattle.std.specs.Prelude.{ℕ, ◌-◌, ◌==◌, ◌||◌, ◌&&◌, not, Bool, true, false, List, [], ◌∷◌, Option, Some, None, if◌then◌else◌}
 use Rattle.std.specs.Int.{is_in_range}
 use Rattle.std.specs.Char.{is_ascii}
 use Rattle.legacy_tables.specs.Indexes.{idx}
-use Rattle.legacy_standard.specs.TextQueue.{TextItem, scalar, end_of_queue, TextOutcome, TextHandled, finished, bytes, error_with, returns, restores}
+use Rattle.legacy_standard.specs.TextQueue.{TextItem, scalar, end_of_queue, TextOutcome, TextHandled, finished, bytes, error_with}
+use Rattle.legacy_standard.specs.TextQueue.{returns, restores, pointer_bytes}
 use Rattle.legacy_standard.specs.IndexPointers.{index_pointer}
 
 -- the values of the "ISO-2022-JP encoder state"
@@ -51,11 +52,11 @@ set_scalar katakana_index c =
 -- the steps after the index pointer is known
 abbrev pub at_pointer : EncoderState → Option ℕ → ℕ → TextHandled EncoderState
 at_pointer state None c =
-    if is_jis0208_state state then restores c to_ascii ascii
+    if is_jis0208_state state then restores (c ∷ []) to_ascii ascii
     else returns (error_with c) state
 at_pointer state (Some pointer) c =
-    if not (is_jis0208_state state) then restores c to_jis0208 jis0208
-    else returns (bytes ((pointer / 94 + 0x21) ∷ (pointer % 94 + 0x21) ∷ [])) state
+    if not (is_jis0208_state state) then restores (c ∷ []) to_jis0208 jis0208
+    else returns (bytes (pointer_bytes 94 0x21 0x21 pointer)) state
 
 -- the steps after the code point is replaced; if the katakana index has no entry for it, c itself is taken, without a
 -- pointer
@@ -72,6 +73,6 @@ iso_2022_jp_encodes index katakana_index state (scalar c) =
     else if is_ascii_state state && is_ascii c then returns (bytes (c ∷ [])) state
     else if is_roman_state state && ((is_ascii c && not (c == 0x5C || c == 0x7E)) || (c == 0xA5 || c == 0x203E))
     then returns (bytes (roman_byte c ∷ [])) state
-    else if is_ascii c && not (is_ascii_state state) then restores c to_ascii ascii
-    else if (c == 0xA5 || c == 0x203E) && not (is_roman_state state) then restores c to_roman roman
+    else if is_ascii c && not (is_ascii_state state) then restores (c ∷ []) to_ascii ascii
+    else if (c == 0xA5 || c == 0x203E) && not (is_roman_state state) then restores (c ∷ []) to_roman roman
     else at_set index state (set_scalar katakana_index c) c

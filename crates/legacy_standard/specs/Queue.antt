@@ -1,5 +1,6 @@
 -- The items that a decoder's handler reads, and its results (Encoding Standard, "Encodings").
-use Rattle.std.specs.Prelude.{ℕ, List, [], ◌∷◌, Option, Some, None, if◌then◌else◌}
+use Rattle.std.specs.Prelude.{ℕ, ◌==◌, List, [], ◌∷◌, Option, Some, None, not, if◌then◌else◌}
+use Rattle.std.specs.Int.{is_in_range}
 use Rattle.std.specs.Char.{is_ascii}
 
 -- an item of a queue of bytes
@@ -14,19 +15,23 @@ pub data Outcome : Type 0 where
   error : Outcome
   code_points : List ℕ → Outcome
 
--- A handler's result, its state after it, and the bytes that it restores to the beginning of the queue.
-pub record Handled (State : Type 0) : Type 0 where
-  pub outcome : Outcome
+-- A handler's result, its state after it, and the items that it restores to the beginning of the queue.
+pub record HandledAs (Result State : Type 0) : Type 0 where
+  pub outcome : Result
   pub state : State
   pub restored : List ℕ
 
--- a result with no bytes restored
-abbrev pub returns : {State : Type 0} → Outcome → State → Handled State
-returns outcome state = record { outcome = outcome; state = state; restored = [] }
+-- the same for a decoder
+abbrev pub Handled : Type 0 → Type 0
+Handled State = HandledAs Outcome State
 
--- a result with these bytes restored
-abbrev pub restores : {State : Type 0} → List ℕ → Outcome → State → Handled State
-restores bytes outcome state = record { outcome = outcome; state = state; restored = bytes }
+-- a result with these items restored
+abbrev pub restores : {Result State : Type 0} → List ℕ → Result → State → HandledAs Result State
+restores items outcome state = record { outcome = outcome; state = state; restored = items }
+
+-- a result with no items restored
+abbrev pub returns : {Result State : Type 0} → Result → State → HandledAs Result State
+returns outcome state = restores [] outcome state
 
 -- one code point
 abbrev pub code_point : ℕ → Outcome
@@ -42,3 +47,18 @@ code_point_or_error None = error
 abbrev pub return_or_error : {State : Type 0} → Option ℕ → ℕ → State → Handled State
 return_or_error (Some c) b state = returns (code_point c) state
 return_or_error None b state = if is_ascii b then restores (b ∷ []) error state else returns error state
+
+-- ---- decoders whose state is a leading byte, initially 0x00
+
+-- the result at the end of the queue
+abbrev pub end_with_leading : ℕ → Handled ℕ
+end_with_leading leading = if not (leading == 0x00) then returns error 0x00 else returns finished leading
+
+-- the handler of the "Big5 decoder" and the "EUC-KR decoder", by the steps with a leading byte
+abbrev pub lead_handler : (ℕ → ℕ → Handled ℕ) → ℕ → Item → Handled ℕ
+lead_handler trailing leading end_of_queue = end_with_leading leading
+lead_handler trailing leading (byte b) =
+    if not (leading == 0x00) then trailing leading b
+    else if is_ascii b then returns (code_point b) leading
+    else if is_in_range 0x81 0xFE b then returns continue b
+    else returns error leading

@@ -3,7 +3,7 @@ use Rattle.std.specs.Prelude.{ℕ, ◌+◌, ◌-◌, ◌*◌, ◌==◌, ◌||◌
 use Rattle.std.specs.Int.{is_in_range}
 use Rattle.std.specs.Char.{is_ascii}
 use Rattle.legacy_tables.specs.Indexes.{idx}
-use Rattle.legacy_standard.specs.Queue.{Item, byte, end_of_queue, Handled, continue, finished, error, code_point, returns, return_or_error}
+use Rattle.legacy_standard.specs.Queue.{Item, byte, end_of_queue, Handled, continue, error, code_point, returns, return_or_error, end_with_leading}
 
 -- the steps from "if pointer is in the range 8836 to 10715" on
 abbrev pub shift_jis_pointer_returns : List ℕ → Option ℕ → ℕ → Handled ℕ
@@ -24,9 +24,7 @@ shift_jis_trailing jis0208 leading b =
 
 -- the handler of the "Shift_JIS decoder", by index jis0208 and the leading byte
 unfoldable pub shift_jis_handler : List ℕ → ℕ → Item → Handled ℕ
-shift_jis_handler jis0208 leading end_of_queue =
-    if not (leading == 0x00) then returns error 0x00
-    else returns finished leading
+shift_jis_handler jis0208 leading end_of_queue = end_with_leading leading
 shift_jis_handler jis0208 leading (byte b) =
     if not (leading == 0x00) then shift_jis_trailing jis0208 leading b
     else if is_ascii b || b == 0x80 then returns (code_point b) leading

@@ -1,8 +1,9 @@
 -- The items that an encoder's handler reads, its results, and its run over a queue of scalar values (Encoding Standard,
 -- "process a queue" and "process an item").
-use Rattle.std.specs.Prelude.{◌≡◌, ℕ, zero, suc, ◌+◌, List, [], ◌∷◌, ◌++◌, map, Option, Some, None, option_map}
+use Rattle.std.specs.Prelude.{◌≡◌, ℕ, zero, suc, ◌+◌, ◌/◌, ◌%◌, List, [], ◌∷◌, ◌++◌, map, Option, Some, None, option_map}
 use Rattle.legacy_base.specs.declared.results.EncodeEvent.{EncodeEvent}
 use Rattle.legacy_base.specs.declared.results.EncodeEvent.TheVariants.{Byte, Unmappable}
+pub use Rattle.legacy_standard.specs.Queue.{HandledAs, returns, restores}
 
 -- an item of a queue of scalar values
 pub data TextItem : Type 0 where
@@ -16,18 +17,18 @@ pub data TextOutcome : Type 0 where
   error_with : ℕ → TextOutcome
 
 -- a handler's result, its state after it, and the scalar values that it restores
-pub record TextHandled (State : Type 0) : Type 0 where
-  pub outcome : TextOutcome
-  pub state : State
-  pub restored : List ℕ
+abbrev pub TextHandled : Type 0 → Type 0
+TextHandled State = HandledAs TextOutcome State
 
--- a result with no scalar value restored
-abbrev pub returns : {State : Type 0} → TextOutcome → State → TextHandled State
-returns outcome state = record { outcome = outcome; state = state; restored = [] }
+-- the result for a code point, by its index pointer and the bytes of a pointer
+abbrev pub bytes_or_error : (ℕ → List ℕ) → Option ℕ → ℕ → TextOutcome
+bytes_or_error bytes_of None c = error_with c
+bytes_or_error bytes_of (Some pointer) c = bytes (bytes_of pointer)
 
--- a result with this scalar value restored
-abbrev pub restores : {State : Type 0} → ℕ → TextOutcome → State → TextHandled State
-restores c outcome state = record { outcome = outcome; state = state; restored = c ∷ [] }
+-- the leading and the trailing byte of a pointer, by the length of a row and the two offsets
+abbrev pub pointer_bytes : ℕ → ℕ → ℕ → ℕ → List ℕ
+pointer_bytes row_length leading_offset trailing_offset pointer =
+    (pointer / row_length + leading_offset) ∷ (pointer % row_length + trailing_offset) ∷ []
 
 -- a handler without a state, by its result for each scalar value
 abbrev pub by_scalar : (ℕ → TextOutcome) → Unit {0} → TextItem → TextHandled (Unit {0})

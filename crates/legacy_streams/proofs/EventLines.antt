@@ -20,10 +20,10 @@ unfolding event_line
 line_of_six c k h = rw (hexadecimal_6 c k h) refl
 
 -- the line of a malformed sequence is made of five parts
-pub bad_line : (o : List ℕ) {a b c d e : List ℕ} (place n : ℕ) → a ≡ o ++ 98 ∷ 97 ∷ 100 ∷ 32 ∷ [] → b ≡ a ++ decimal place
+pub malformed_line : (o : List ℕ) {a b c d e : List ℕ} (place n : ℕ) → a ≡ o ++ 98 ∷ 97 ∷ 100 ∷ 32 ∷ [] → b ≡ a ++ decimal place
     → c ≡ b ++ 32 ∷ [] → d ≡ c ++ decimal n → e ≡ d ++ 10 ∷ [] → e ≡ o ++ event_line (Bad place n)
 unfolding event_line
-bad_line o place n p q r s t = rw (t, s, r, q, p) (simp append_assoc)
+malformed_line o place n p q r s t = rw (t, s, r, q, p) (simp append_assoc)
 
 pub event_lines-append : (xs ys : List DecodeEvent) → event_lines (xs ++ ys) ≡ event_lines xs ++ event_lines ys
 unfolding event_lines
@@ -90,4 +90,4 @@ pub malformed_byte_line : (o : List ℕ) {a b e : List ℕ} (number rest : ℕ) 
     → a ≡ o ++ 98 ∷ 97 ∷ 100 ∷ 32 ∷ [] → b ≡ a ++ decimal number
     → e ≡ b ++ (48 + rest / 10) ∷ (48 + rest % 10) ∷ 32 ∷ 49 ∷ 10 ∷ []
     → e ≡ o ++ event_line (Bad (number * 100 + rest) 1)
-malformed_byte_line o {a} {b} number rest some few within p q r = grind (arith, decimal, decimal_of_hundreds, append_assoc, decimal_digit, bad_line)
+malformed_byte_line o {a} {b} number rest some few within p q r = grind (arith, decimal, decimal_of_hundreds, append_assoc, decimal_digit, malformed_line)

@@ -7,8 +7,9 @@ use Rattle.legacy_text.specs.EncodingForm.{Utf8, all_code_units}
 use Rattle.legacy_base.proofs.{Progress.{stay, at_less, after_that}, Rooms.lacks_small}
 use Rattle.legacy_text.proofs.CodeUnits.{all_code_units-append}
 use Rattle.legacy_codecs.specs.{declared.results.CoderResult.CoderResult, declared.results.CoderResult.TheVariants.{InputEmpty, OutputFull}}
-use Rattle.legacy_codecs.specs.Replacing.{replaced_scalars, has_bad, ReplacingDecoderCall}
-use Rattle.legacy_codecs.proofs.{Replacements.end_found-last, Replaced.{replaced-append, replaced-shift, has_bad-append, has_bad-shift, length-shift}}
+use Rattle.legacy_codecs.specs.Replacing.{replaced_scalars, has_malformed, ReplacingDecoderCall}
+use Rattle.legacy_codecs.proofs.{Replacements.end_found-last, Replaced.{has_malformed-append, has_malformed-shift}}
+use Rattle.legacy_codecs.proofs.Replaced.{replaced-append, replaced-shift, length-shift}
 use Rattle.legacy_streams.specs.{Streams.AppendsFront, Text.{text_of, WritesPiece, WritesFront}}
 use Rattle.legacy_streams.proofs.Whole.{Joins, front_of, front_after}
 
@@ -21,8 +22,8 @@ text-append : (xs ys : List DecodeEvent) (k : ℕ) → text_of (xs ++ shift k ys
 unfolding text_of
 text-append xs ys k = grind (arith, replaced-append, replaced-shift, all_code_units-append)
 
-found-append : (xs ys : List DecodeEvent) (k : ℕ) → has_bad (xs ++ shift k ys) ≡ (has_bad xs || has_bad ys)
-found-append xs ys k = has_bad-append xs (shift k ys) ∙ ap (λ b. has_bad xs || b) (has_bad-shift k ys)
+found-append : (xs ys : List DecodeEvent) (k : ℕ) → has_malformed (xs ++ shift k ys) ≡ (has_malformed xs || has_malformed ys)
+found-append xs ys k = has_malformed-append xs (shift k ys) ∙ ap (λ b. has_malformed xs || b) (has_malformed-shift k ys)
 
 text_is : (events : List DecodeEvent) (written : List ℕ) → written ≡ all_code_units Utf8 (replaced_scalars events) → written ≡ text_of events
 unfolding text_of
@@ -44,7 +45,7 @@ pub record TextUnderWay (before : DecoderState) (piece : List ℕ) (last : Bool)
   pub passed : ℕ
   pub events : List DecodeEvent
   pub progress : Progress last before piece passed now (drop offset piece) events
-  pub found_is : found ≡ has_bad events
+  pub found_is : found ≡ has_malformed events
   pub written : Appends old new (text_of events)
 
 pub text_start : (before : DecoderState) (piece : List ℕ) (last : Bool) (old : Option (List ℕ)) → TextUnderWay before piece last before 0 false old old
@@ -102,14 +103,15 @@ module _ {before : DecoderState} {piece : List ℕ} {last : Bool} {now : Decoder
 
 -- ---- the whole input
 
-pub whole_text_start : (old : Option (List ℕ)) → (false ≡ has_bad []) × Appends old old (text_of [])
+pub whole_text_start : (old : Option (List ℕ)) → (false ≡ has_malformed []) × Appends old old (text_of [])
 whole_text_start old = (refl, rw text-none (Appends-nil old))
 
 module _ (before now : DecoderState) (total : ℕ) (found : Bool) (old mid new : Option (List ℕ)) where
-  pub text_join : (more : Bool) → Joins before now total (λ events. (found ≡ has_bad events) × Appends old mid (text_of events))
-      (λ events. (more ≡ has_bad events) × Appends mid new (text_of events)) (λ events. ((found || more) ≡ has_bad events) × Appends old new (text_of events))
+  pub text_join : (more : Bool) → Joins before now total (λ events. (found ≡ has_malformed events) × Appends old mid (text_of events))
+      (λ events. (more ≡ has_malformed events) × Appends mid new (text_of events))
+      (λ events. ((found || more) ≡ has_malformed events) × Appends old new (text_of events))
   text_join more = grind (arith, found-append, text-append, Appends-trans)
 
-  pub text_front_join : Joins before now total (λ events. (found ≡ has_bad events) × Appends old mid (text_of events))
+  pub text_front_join : Joins before now total (λ events. (found ≡ has_malformed events) × Appends old mid (text_of events))
       (λ events. AppendsFront mid new (text_of events)) (λ events. AppendsFront old new (text_of events))
   text_front_join = record { join = λ passed xs ys e one front. rw (text-append xs ys passed) (front_after mid _ one.1 front) }

@@ -4,7 +4,7 @@ use Rattle.std.specs.Io.KnownBytes.{Appends}
 use Rattle.legacy_base.specs.declared.results.DecodeEvent.{DecodeEvent}
 use Rattle.legacy_text.specs.EncodingForm.{Utf8, all_code_units}
 use Rattle.legacy_base.specs.States.{DecoderState}
-use Rattle.legacy_codecs.specs.Replacing.{replaced_scalars, has_bad}
+use Rattle.legacy_codecs.specs.Replacing.{replaced_scalars, has_malformed}
 use Rattle.legacy_streams.specs.Streams.{AppendsFront, DecodesPiece, DecodesFront, DecodesAll, DecodesBeginning, DecodesPartly}
 
 -- the text of events in UTF-8, with U+FFFD for each malformed sequence
@@ -17,7 +17,7 @@ text_of events = all_code_units Utf8 (replaced_scalars events)
 -- sequence.
 abbrev pub WritesPiece : DecoderState → List ℕ → Bool → DecoderState → Bool → Option (List ℕ) → Option (List ℕ) → Type 0
 WritesPiece before piece last after found old new =
-    DecodesPiece before piece last after (λ events. (found ≡ has_bad events) × Appends old new (text_of events))
+    DecodesPiece before piece last after (λ events. (found ≡ has_malformed events) × Appends old new (text_of events))
 
 -- a part of the piece was decoded, and a front of the text of its events was written, which may end inside a scalar
 abbrev pub WritesFront : DecoderState → List ℕ → Bool → DecoderState → Option (List ℕ) → Option (List ℕ) → Type 0
@@ -29,7 +29,7 @@ WritesFront before piece last after old new = DecodesFront before piece last aft
 -- one of them is a malformed sequence.
 abbrev pub WritesAll : DecoderState → DecoderState → Bool → Option (List ℕ) → Option (List ℕ) → Option (List ℕ) → Option (List ℕ) → Type 0
 WritesAll before after found input_old input_new output_old output_new =
-    DecodesAll before after input_old input_new (λ events. (found ≡ has_bad events) × Appends output_old output_new (text_of events))
+    DecodesAll before after input_old input_new (λ events. (found ≡ has_malformed events) × Appends output_old output_new (text_of events))
 
 -- some bytes of the input were read and decoded, and the text of their events was written
 abbrev pub WritesBeginning : DecoderState → DecoderState → Option (List ℕ) → Option (List ℕ) → Option (List ℕ) → Option (List ℕ) → Type 0

@@ -164,16 +164,17 @@ module _ (flat : FlatIndexes) (accepted : AreAccepted flat) where
   pub gb18030-below : All (λ c. c < 0x1_0000) flat.gb18030
   gb18030-below = (narrow_index names.Gb18030 refl).0
 
-  -- a pointer of Big5 that is looked up has no other rule
-  pub big5-used : (p c : ℕ) → Some c ≡ idx flat.big5 p → must_be_empty names.Big5 p ≡ false
-  big5-used p c e =
+  -- a pointer of an index that has a scalar has no other rule
+  pub entry-used : (name : IndexName) (p c : ℕ) → Some c ≡ idx (index_list flat name) p → must_be_empty name p ≡ false
+  entry-used name p c e =
+      let index = index_list flat name in
       let same : 0 + p ≡ p = omega arith in
-      let fine = rw same at (entry_at names.Big5 0 flat.big5 (parts flat accepted).big5.1 p) in
-      elim (cases_eq (get_or flat.big5 p 0) 0) [
-        | inl none ↦ let no = rw (eq-eqb (get_or flat.big5 p 0) 0 none) at e in cc
+      let fine = rw same at (entry_at name 0 index (entries-fine name) p) in
+      elim (cases_eq (get_or index p 0) 0) [
+        | inl none ↦ let no = rw (eq-eqb (get_or index p 0) 0 none) at e in cc
         | inr some ↦
-            (untaken _ (NotEmpty names.Big5 p) None
-            (untaken _ (BadEntry names.Big5 p) _ (rw (ne_eqb (get_or flat.big5 p 0) 0 some) at fine)).1).0
+            (untaken _ (NotEmpty name p) None
+            (untaken _ (BadEntry name p) _ (rw (ne_eqb (get_or index p 0) 0 some) at fine)).1).0
       ]
 
   pub length-big5 : length flat.big5 ≤ 19782

@@ -8,6 +8,6 @@ mod tables;
 
 pub use single_byte_table::SingleByteTable;
 pub use tables::{
-    DecoderTables, EncoderTables, FlatTables, GB18030_2022_PUA, IndexName, Indexes, Marks, Packed,
-    PackedPart, RangePart, Ranges, Run, TableError, Tables,
+    DecoderTables, EncoderTables, Entry, FlatTables, GB18030_2022_PUA, IndexName, Indexes, Marks,
+    Packed, PackedPart, RangePart, Ranges, Run, TableError, Tables,
 };

@@ -4,6 +4,7 @@ ghost use Rattle.std.specs.Prelude.{◌≡◌, MatchResult, Some};
 pub(crate) mod checks;
 pub(crate) mod decoder_tables;
 pub(crate) mod encoder_tables;
+pub(crate) mod entries;
 pub(crate) mod flat;
 pub(crate) mod lookups;
 pub(crate) mod numbers;
@@ -22,6 +23,7 @@ pub(crate) mod walks;
 
 pub use decoder_tables::DecoderTables;
 pub use encoder_tables::EncoderTables;
+pub use entries::Entry;
 pub use flat::FlatTables;
 pub use packed::{Packed, PackedPart, Run};
 use packed_tables::PackedTables;

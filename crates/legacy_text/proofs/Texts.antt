@@ -1,6 +1,6 @@
 -- The scalars of texts, one by one from the front, and the places between them.
 use Rattle.std.proofs.{lemmas.Bool.Decides.nat_tests, Common.{◌≡◌, ◌∙◌, ℕ, suc, ◌+◌, ◌-◌, ◌≤◌, ◌<◌, List, [], ◌∷◌, ◌++◌, length, take, drop, get_or, refl, sym}}
-use Rattle.std.proofs.Common.{◌*◌, ◌/◌, ◌%◌, add-zero, ap, subst, arith, length-append, length-drop, Some, None, Option, true, false, ◌⊎◌, inl, inr, ◌&&◌, map}
+use Rattle.std.proofs.Common.{◌*◌, ◌%◌, add-zero, ap, subst, arith, length-append, length-drop, Some, None, Option, true, false, ◌⊎◌, inl, inr, ◌&&◌, map}
 use Rattle.std.proofs.{Common.{slice_get, IsAscii}, lemmas.Bool.and_parts, lemmas.List.{drop-drop, take-append-drop, length-take-le, take_all, get_or-drop}}
 use Rattle.std.proofs.{Math.Seq.{drop-append_seam, take-append_seam}, lemmas.Str.{IsUtf8-from_is_utf8, is_utf8-from_IsUtf8, encodes-chars, chars_past_char}}
 use Rattle.std.proofs.lemmas.Str.{IsUtf8-past_char, drop_past_char, length-encode, utf16_chars-nil, len_utf8_bounds, utf16_chars_lone, utf16_chars_pair}
@@ -77,6 +77,11 @@ utf8_tells text place c u e =
 stands_byte : (text : List ℕ) (place c : ℕ) → (s : StandsAt text place c) → (k : ℕ) → get_or text (place + k) 0 ≡ get_or (encode c ++ s.rest) k 0
 stands_byte text place c s k = sym (get_or-drop place text k 0) ∙ ap (λ l. get_or l k 0) s.is
 
+-- the same, by the bytes of the scalar
+scalar_byte : {text : List ℕ} {place c : ℕ} (s : StandsAt text place c) {bytes : List ℕ} → encode c ≡ bytes → (at k : ℕ) → at ≡ place + k
+    → get_or text at 0 ≡ get_or (bytes ++ s.rest) k 0
+scalar_byte {text} {place} {c} s is at k e = ap (λ n. get_or text n 0) e ∙ stands_byte text place c s k ∙ ap (λ l. get_or (l ++ s.rest) k 0) is
+
 pub utf8_stands : (text : List ℕ) (place c : ℕ) → is_utf8 (drop place text) ≡ true → Some c ≡ slice_get (chars (drop place text)) 0 → StandsAt text place c
 utf8_stands text place c u e = record { rest = encodes (drop 1 (chars (drop place text))); is = utf8_bytes text place c u e }
 
@@ -103,13 +108,9 @@ pub record MadeOfTwo (text : List ℕ) (place c : ℕ) : Type 0 where
 pub made_of_two : {text : List ℕ} {place c : ℕ} → StandsAt text place c → 0x80 ≤ get_or text place 0 → get_or text place 0 < 0xE0 → MadeOfTwo text place c
 made_of_two {text} {place} {c} s low high =
     let count = (stands_tells text place c s).two low high in
-    let below = two_below c count in
-    let above = two_above c count in
-    let bytes = encode_2 c above below in
-    let first : get_or text place 0 ≡ 192 + c / 64 =
-    ap (λ n. get_or text n 0) (sym (add-zero place)) ∙ stands_byte text place c s 0 ∙ ap (λ l. get_or (l ++ s.rest) 0 0) bytes in
-    let second : get_or text (place + 1) 0 ≡ 128 + c % 64 = stands_byte text place c s 1 ∙ ap (λ l. get_or (l ++ s.rest) 1 0) bytes in
-    record { within = omega (arith, count, stands_within text place c s); count = count; made = rw (first, second) (omega arith) }
+    let byte = scalar_byte s (encode_2 c (two_above c count) (two_below c count)) in
+    let first = byte place 0 (omega arith) in
+    record { within = omega (arith, count, stands_within text place c s); count = count; made = rw (first, byte (place + 1) 1 refl) (omega arith) }
 
 pub record MadeOfThree (text : List ℕ) (place c : ℕ) : Type 0 where
   pub within : place + 3 ≤ length text
@@ -119,14 +120,13 @@ pub record MadeOfThree (text : List ℕ) (place c : ℕ) : Type 0 where
 pub made_of_three : {text : List ℕ} {place c : ℕ} → StandsAt text place c → 0xE0 ≤ get_or text place 0 → get_or text place 0 < 0xF0 → MadeOfThree text place c
 made_of_three {text} {place} {c} s low high =
     let count = (stands_tells text place c s).three low high in
-    let below = three_below c count in
-    let above = three_above c count in
-    let bytes = encode_3 c above below in
-    let first : get_or text place 0 ≡ 224 + c / 4096 =
-    ap (λ n. get_or text n 0) (sym (add-zero place)) ∙ stands_byte text place c s 0 ∙ ap (λ l. get_or (l ++ s.rest) 0 0) bytes in
-    let second : get_or text (place + 1) 0 ≡ 128 + c / 64 % 64 = stands_byte text place c s 1 ∙ ap (λ l. get_or (l ++ s.rest) 1 0) bytes in
-    let third : get_or text (place + 2) 0 ≡ 128 + c % 64 = stands_byte text place c s 2 ∙ ap (λ l. get_or (l ++ s.rest) 2 0) bytes in
-    record { within = omega (arith, count, stands_within text place c s); count = count; made = rw (first, second, third) (omega arith) }
+    let byte = scalar_byte s (encode_3 c (three_above c count) (three_below c count)) in
+    let first = byte place 0 (omega arith) in
+    record {
+      within = omega (arith, count, stands_within text place c s);
+      count = count;
+      made = rw (first, byte (place + 1) 1 refl, byte (place + 2) 2 refl) (omega arith);
+    }
 
 -- ---- UTF-16
 

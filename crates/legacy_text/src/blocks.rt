@@ -48,16 +48,17 @@ pub(crate) fn wide_ascii_count(block: u8x64) -> usize
     (past.trailing_zeros() as usize).min(63)
 }
 
-/// Stores a wide block from the place `at` on, and returns the number of ASCII bytes at its front.
+/// Stores a wide block from the place `at` on, and returns the number of ASCII bytes at its front, but at most `most`.
 #[inline(always)]
-fn store_wide_block(dst: &mut [u8], at: usize, block: u8x64) -> usize
+pub(crate) fn store_wide_block(dst: &mut [u8], at: usize, block: u8x64, most: usize) -> usize
     requires { at + 64 ≤ length dst.old }
+    ensures most { result ≤ most }
     ensures count { result ≤ 64 }
     ensures ascii { IsAscii (take result block) }
     ensures stored { take (at + result) dst.new ≡ take at dst.old ++ take result block }
 {
     block.copy_to_slice(&mut dst[at..]);
-    wide_ascii_count(block)
+    wide_ascii_count(block).min(most)
 }
 
 /// Returns the number of bytes of a block.
@@ -81,7 +82,7 @@ fn store_front(bytes: &[u8], dst: &mut [u8], at: usize, is_wide: bool) -> usize
     ensures stored { take (at + result) dst.new ≡ take at dst.old ++ take result bytes.now }
 {
     if is_wide {
-        store_wide_block(dst, at, u8x64::from_slice(bytes))
+        store_wide_block(dst, at, u8x64::from_slice(bytes), 64)
     } else {
         store_block(dst, at, u8x16::from_slice(bytes))
     }
@@ -91,7 +92,7 @@ fn store_front(bytes: &[u8], dst: &mut [u8], at: usize, is_wide: bool) -> usize
 ///
 /// Returns their number, and whether all blocks were ASCII.
 #[inline(always)]
-fn copy_blocks(bytes: &[u8], dst: &mut [u8], at: usize, is_wide: bool) -> (usize, bool)
+pub(crate) fn copy_blocks(bytes: &[u8], dst: &mut [u8], at: usize, is_wide: bool) -> (usize, bool)
     requires { at ≤ length dst.old }
     ensures read { result.0 ≤ length bytes.now }
     ensures ascii { IsAscii (take result.0 bytes.now) }

@@ -8,7 +8,7 @@ ghost use Rattle.legacy_text.specs.EncodingForm.{all_code_units, total_unit_coun
 ghost use Rattle.legacy_text.specs.UnitBytes.{AreShort};
 ghost use Rattle.legacy_text.specs.EncodingForm.{bmp_room, wide_room};
 
-use crate::blocks::{ascii_count, wide_ascii_count};
+use crate::blocks::{ascii_count, copy_blocks, store_wide_block, wide_ascii_count};
 use crate::eight_units::{put_eight_units, put_first_units};
 use crate::scalar_bytes::put_scalar;
 use crate::short_units::put_short_units;
@@ -163,46 +163,6 @@ impl<'a> Utf8Destination<'a> {
     {
         Utf8Destination { buffer, filled: 0 }
     }
-
-    /// Stores a block after what was written, keeps its ASCII front, and returns its length.
-    // It is always inlined, as `ascii_count` is.
-    #[inline(always)]
-    #[tactic(auto, using(crate::proofs::Ascii::stored))]
-    fn put_block(&mut self, block: u8x16) -> usize
-        requires { 16 ≤ utf8_free self.old }
-        ensures count { result ≤ 16 }
-        ensures ascii { IsAscii (take result block) }
-        ensures written { utf8_written self.new ≡ utf8_written self.old ++ take result block }
-        ensures free { utf8_free self.new + result ≡ utf8_free self.old }
-        ensures loan { utf8_loan self.new ≡ utf8_loan self.old }
-    {
-        let at = self.filled;
-        block.copy_to_slice(&mut self.buffer[at..]);
-        let count = ascii_count(block);
-        self.filled = at + count;
-        count
-    }
-
-    /// Stores a wide block after what was written, and keeps at most `most` of its ASCII front.
-    ///
-    /// Returns the number of bytes kept.
-    #[inline(always)]
-    #[tactic(auto, using(crate::proofs::Ascii::stored))]
-    fn put_wide_block(&mut self, block: u8x64, most: usize) -> usize
-        requires { 64 ≤ utf8_free self.old }
-        ensures most { result ≤ most }
-        ensures count { result ≤ 64 }
-        ensures ascii { IsAscii (take result block) }
-        ensures written { utf8_written self.new ≡ utf8_written self.old ++ take result block }
-        ensures free { utf8_free self.new + result ≡ utf8_free self.old }
-        ensures loan { utf8_loan self.new ≡ utf8_loan self.old }
-    {
-        let at = self.filled;
-        block.copy_to_slice(&mut self.buffer[at..]);
-        let count = wide_ascii_count(block).min(most);
-        self.filled = at + count;
-        count
-    }
 }
 
 impl Destination for Utf8Destination<'_> {
@@ -248,22 +208,18 @@ impl Destination for Utf8Destination<'_> {
     }
 
     #[inline]
-    #[tactic(auto, using(crate::proofs::Ascii::block_steps))]
     fn copy_ascii(&mut self, bytes: &[u8]) -> usize {
-        let mut at = 0;
-        while bytes.len() - at >= 16 && self.buffer.len() - self.filled >= 16 {
-            let count = self.put_block(u8x16::from_slice(&bytes[at..]));
-            at += count;
-            if count < 16 {
-                return at;
-            }
-        }
-        at
+        let (count, _) = copy_blocks(bytes, self.buffer, self.filled, false);
+        self.filled += count;
+        count
     }
 
     #[inline(always)]
     fn put_front(&mut self, bytes: &[u8], most: usize) -> usize {
-        self.put_wide_block(u8x64::from_slice(bytes), most)
+        let block = u8x64::from_slice(bytes);
+        let count = store_wide_block(self.buffer, self.filled, block, most);
+        self.filled += count;
+        count
     }
 
     #[inline(always)]
@@ -280,6 +236,16 @@ impl Destination for Utf8Destination<'_> {
     fn put_eight_short(&mut self, units: u16x8) {
         self.filled = put_short_units(self.buffer, self.filled, units);
     }
+}
+
+/// Stores eight code units from the place `at` on.
+// It takes the output as a slice. So its address is loaded once, and not again for each code unit.
+#[inline(always)]
+fn store_units(dst: &mut [u16], at: usize, units: u16x8)
+    requires { at + 8 ≤ length dst.old }
+    ensures { (k : ℕ) → k ≤ 8 → take (at + k) dst.new ≡ take at dst.old ++ take k units }
+{
+    units.copy_to_slice(&mut dst[at..]);
 }
 
 /// A destination that writes UTF-16 to a slice of code units, from its beginning on.
@@ -427,7 +393,7 @@ impl Destination for Utf16Destination<'_> {
 
     #[inline(always)]
     fn put_first(&mut self, units: u16x8, count: usize) {
-        units.copy_to_slice(&mut self.buffer[self.filled..]);
+        store_units(self.buffer, self.filled, units);
         self.filled += count;
     }
 }

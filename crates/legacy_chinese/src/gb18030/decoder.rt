@@ -306,7 +306,7 @@ impl DecoderMoves for Gb18030Decoder<'_> {
 
     // Over packed tables only ASCII is read ahead.
     #[inline(always)]
-    fn read_ahead<T: Destination>(&self, src: &[u8], dst: &mut T) -> usize {
+    fn read_runs<T: Destination>(&mut self, src: &[u8], dst: &mut T) -> usize {
         if !self.in_neutral_state() {
             return 0;
         }
@@ -316,11 +316,6 @@ impl DecoderMoves for Gb18030Decoder<'_> {
             }
             None => read_ascii(src, dst),
         }
-    }
-
-    #[inline(always)]
-    fn read_runs<T: Destination>(&mut self, src: &[u8], dst: &mut T) -> usize {
-        self.read_ahead(src, dst)
     }
 }
 

@@ -293,11 +293,6 @@ impl PlainCodes for Gb18030Encoder<'_> {
     fn code_of(&self, c: char) -> EncoderMove {
         any_code_of(self.tables, self.extended_range, c)
     }
-
-    #[inline(always)]
-    fn goes_past_pairs(&self) -> bool {
-        self.extended_range
-    }
 }
 
 impl PlainEncoder for Gb18030Encoder<'_> {
@@ -337,10 +332,7 @@ impl<V: EncoderTables, const EXTENDED: bool, const LISTED: bool> PlainCodes
     }
 
     // With a list, `four_past_pairs` has the codes of four bytes, and other codes are uncommon.
-    #[inline(always)]
-    fn goes_past_pairs(&self) -> bool {
-        !LISTED
-    }
+    const GOES_PAST_PAIRS: bool = !LISTED;
 }
 
 /// Reads ahead in GB18030 or GBK by one kind of tables, and returns the place after the bytes.

@@ -109,6 +109,17 @@ impl LaneCodec for Gb18030 {
         first >= 0x80 && second >= 0x30 && second <= 0x39
     }
 
+    // A sequence of four bytes begins like a pair whose trail is a digit. Few blocks have any trail in ASCII.
+    #[inline(always)]
+    fn end_of_pairs(block: u8x64, past: u64, leads: u64, end: usize) -> usize {
+        if (leads << 1) & !past == 0 {
+            return end;
+        }
+        let digits = block.simd_ge(u8x64::splat(0x30)) & block.simd_le(u8x64::splat(0x39));
+        let longer = leads & (digits.to_bitmask() >> 1);
+        end.min(longer.trailing_zeros() as usize)
+    }
+
     /// Reads sequences of four bytes and ASCII bytes from the front, up to two ASCII bytes in a row.
     ///
     /// It reads whole sequences while at least four bytes are left.

@@ -296,7 +296,7 @@ impl DecoderMoves for EucJpDecoder<'_> {
 
     // Over packed tables only ASCII is read ahead.
     #[inline(always)]
-    fn read_ahead<T: Destination>(&self, src: &[u8], dst: &mut T) -> usize {
+    fn read_runs<T: Destination>(&mut self, src: &[u8], dst: &mut T) -> usize {
         match self.held {
             Held::Nothing => match self.tables.flat() {
                 Some(tables) => {
@@ -307,11 +307,6 @@ impl DecoderMoves for EucJpDecoder<'_> {
             },
             _ => 0,
         }
-    }
-
-    #[inline(always)]
-    fn read_runs<T: Destination>(&mut self, src: &[u8], dst: &mut T) -> usize {
-        self.read_ahead(src, dst)
     }
 }
 

@@ -54,10 +54,7 @@ impl PairCodec for EucJp {
     ghost pairs = { λ flat. euc_jp_pairs flat.jis0208 flat.jis0212 };
 
     // Half-width katakana are not among the scalars that are looked up first.
-    #[inline(always)]
-    fn goes_past_pairs() -> bool {
-        true
-    }
+    const GOES_PAST_PAIRS: bool = true;
 
     #[inline]
     #[tactic(auto, unfolding(legacy_base::specs::EucJp::euc_jp_code))]

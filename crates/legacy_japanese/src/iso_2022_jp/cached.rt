@@ -120,10 +120,7 @@ impl AheadCodes for ListedPairs<'_, '_> {
         Some(at + 2)
     }
 
-    #[inline(always)]
-    fn begins_by_tens(&self) -> bool {
-        true
-    }
+    const BEGINS_BY_TENS: bool = true;
 
     #[inline(always)]
     #[tactic(auto, using(crate::proofs::Iso2022JpEncoderMoves::reads_listed))]

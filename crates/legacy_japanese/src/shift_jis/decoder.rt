@@ -72,15 +72,21 @@ fn katakana(byte: u8) -> char
 }
 
 /// Returns the scalar of a pointer, or `None`; the pointers 8836 to 10715 are for private use.
+// No entry is at such a pointer. So the index is asked first, as nearly all text needs nothing else.
 #[inline]
+#[tactic(auto, using(crate::proofs::ShiftJisPlaces::entry_alone))]
 fn pointer_scalar<V: DecoderTables>(tables: &V, pointer: usize) -> Option<char>
     ensures { option_to_list result
         ≡ shift_jis_scalars (V.indexes tables.now).flat.jis0208 pointer }
 {
-    if pointer >= 8836 && pointer <= 10715 {
-        return char::from_u32(0xE000 + (pointer - 8836) as u32);
+    if let Some(scalar) = tables.idx(IndexName::Jis0208, pointer) {
+        return Some(scalar);
     }
-    tables.idx(IndexName::Jis0208, pointer)
+    if pointer >= 8836 && pointer <= 10715 {
+        char::from_u32(0xE000 + (pointer - 8836) as u32)
+    } else {
+        None
+    }
 }
 
 /// Returns the scalar of two bytes, or `None` if they are not a lead and a trail with a scalar.

@@ -59,10 +59,7 @@ impl PairCodec for ShiftJis {
     ghost pairs = { λ flat. shift_jis_pairs flat.jis0208 };
 
     // Half-width katakana are not among the scalars that are looked up first.
-    #[inline(always)]
-    fn goes_past_pairs() -> bool {
-        true
-    }
+    const GOES_PAST_PAIRS: bool = true;
 
     #[inline]
     #[tactic(auto, unfolding(legacy_base::specs::ShiftJis::shift_jis_code))]

@@ -9,6 +9,7 @@ ghost use Rattle.legacy_decoder_engine.specs.ReadAhead.{ReadsAhead};
 ghost use Rattle.legacy_miscellaneous.specs.UserDefinedUnits.{unit_of_byte};
 
 use legacy_base::Destination;
+use legacy_decoder_engine::eights::has_past_ascii;
 use legacy_decoder_engine::read_ahead::{Blocks, read_blocks};
 use std::simd::prelude::*;
 
@@ -60,15 +61,6 @@ pub fn read_units<T: Destination>(src: &[u8], dst: &mut T) -> usize
         at += 1;
     }
     count
-}
-
-/// Checks whether one of the first eight bytes is past ASCII.
-#[inline(always)]
-fn has_past_ascii(src: &[u8]) -> bool
-    requires { 8 ≤ length src.now }
-{
-    let past = u8x8::from_slice(src).simd_ge(u8x8::splat(0x80));
-    past.to_bitmask() != 0
 }
 
 /// Decodes eight bytes at a time, and leaves three units free. Returns the number of bytes read.

@@ -72,18 +72,12 @@ impl DecoderMoves for UserDefinedDecoder {
     }
 
     #[inline(always)]
-    fn read_ahead<T: Destination>(&self, src: &[u8], dst: &mut T) -> usize {
+    fn read_runs<T: Destination>(&mut self, src: &[u8], dst: &mut T) -> usize {
         if T::narrow() == 1 {
             read_units(src, dst)
         } else {
             read_text(src, dst)
         }
-    }
-
-    // Provided here because a default method is not always inlined.
-    #[inline(always)]
-    fn read_runs<T: Destination>(&mut self, src: &[u8], dst: &mut T) -> usize {
-        self.read_ahead(src, dst)
     }
 }
 

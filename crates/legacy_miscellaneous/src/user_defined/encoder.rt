@@ -61,15 +61,9 @@ impl PlainCodes for UserDefinedEncoder {
         None
     }
 
-    #[inline(always)]
-    fn goes_past_pairs(&self) -> bool {
-        true
-    }
+    const GOES_PAST_PAIRS: bool = true;
 
-    #[inline(always)]
-    fn goes_by_units(&self) -> bool {
-        true
-    }
+    const GOES_BY_UNITS: bool = true;
 
     #[inline(always)]
     #[tactic(auto, unfolding(legacy_base::specs::UserDefined::user_defined_code))]

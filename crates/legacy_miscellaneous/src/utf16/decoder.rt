@@ -128,7 +128,7 @@ impl DecoderMoves for Utf16Decoder {
 
     // The byte order is decided here, and not at each unit.
     #[inline(always)]
-    fn read_ahead<T: Destination>(&self, src: &[u8], dst: &mut T) -> usize {
+    fn read_runs<T: Destination>(&mut self, src: &[u8], dst: &mut T) -> usize {
         if !matches!(self.held, Held::Nothing) {
             0
         } else if self.big_endian {
@@ -136,12 +136,6 @@ impl DecoderMoves for Utf16Decoder {
         } else {
             read_blocks(&Units { big_endian: false }, src, dst)
         }
-    }
-
-    // Provided here because a default method is not always inlined.
-    #[inline(always)]
-    fn read_runs<T: Destination>(&mut self, src: &[u8], dst: &mut T) -> usize {
-        self.read_ahead(src, dst)
     }
 }
 

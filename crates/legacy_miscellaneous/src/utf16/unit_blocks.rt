@@ -1,7 +1,7 @@
 //! Blocks of UTF-16 code units without surrogates: by 64, by eight, and one by one.
 // Functions that run for each block are always inlined. A call would pass vectors through memory, and
 // keep the destination's place there.
-ghost use Rattle.std.specs.Prelude.{◌≡◌, ◌+◌, ◌*◌, ◌<◌, ◌≤◌, ◌++◌, ℕ, length, true, false, slice_index};
+ghost use Rattle.std.specs.Prelude.{◌≡◌, ◌+◌, ◌*◌, ◌%◌, ◌<◌, ◌≤◌, ◌++◌, ℕ, length, true, false, slice_index};
 ghost use Rattle.std.specs.Char.{IsScalar};
 ghost use Rattle.legacy_text.specs.EncodingForm.{code_units, unit_count};
 ghost use Rattle.legacy_base.specs.Grammar.{utf16};
@@ -94,7 +94,24 @@ impl Blocks for Sixteens<'_> {
     }
 }
 
-/// Blocks of ASCII, sixteen units at a time.
+/// Stores sixteen units as bytes from the place `at` on: a unit below 0x100 as it is, and 0xFF for others.
+// The compiler makes two vector operations of this.
+#[inline(always)]
+fn put_narrow(units: &[u16], block: &mut [u8], at: usize)
+    requires units { 16 ≤ length units.now }
+    requires room { at + 16 ≤ length block.old }
+    ensures before { (k : ℕ) → k < at → slice_index block.new k ≡ slice_index block.old k }
+    ensures narrow { (k : ℕ) → k < 16 → slice_index block.new (at + k) < 0x80 →
+        slice_index units.now k ≡ slice_index block.new (at + k) }
+{
+    let mut unit = 0;
+    while unit < 16 {
+        block[at + unit] = units[unit].min(0xFF) as u8;
+        unit += 1;
+    }
+}
+
+/// Blocks of ASCII, 64 units at a time, or sixteen.
 #[derive(Drop)]
 struct AsciiUnits<'a> {
     units: &'a Units,
@@ -103,35 +120,39 @@ struct AsciiUnits<'a> {
 impl Blocks for AsciiUnits<'_> {
     ghost grammar = { λ blocks. utf16 blocks.units.now.big_endian };
 
-    /// Decodes the ASCII at the start of sixteen units.
+    /// Decodes the ASCII at the start of 64 units, or of sixteen.
     #[inline(always)]
     fn read_block<T: Destination>(&self, src: &[u8], dst: &mut T) -> (usize, bool) {
+        if src.len() >= 128 && dst.free() >= 67 {
+            let mut block = [0; 64];
+            self.units.narrow(src, &mut block);
+            let count = dst.put_front(&block, 64);
+            return (2 * count, count >= 64);
+        }
         if src.len() < 32 || dst.free() < 19 {
             return (0, false);
         }
-        let block = self.units.narrow_block(src);
+        let mut block = [0; 16];
+        self.units.narrow(src, &mut block);
         let count = dst.copy_ascii(&block);
         (2 * count, count >= 16)
     }
 }
 
 impl Units {
-    /// Returns the first sixteen units as bytes: a unit below 0x100 as it is, and 0xFF for others.
-    // The compiler makes two vector operations of this.
+    /// Stores the first units as bytes, sixteen at a time: a unit below 0x100 as it is, and 0xFF for others.
     #[inline(always)]
-    fn narrow_block(&self, src: &[u8]) -> [u8; 16]
-        requires { 32 ≤ length src.now }
-        ensures count { length result ≡ 16 }
-        ensures narrow { HasAsciiUnits self.now.big_endian src.now result 16 }
+    fn narrow(&self, src: &[u8], block: &mut [u8])
+        requires sixteens { length block.old % 16 ≡ 0 }
+        requires source { 2 * length block.old ≤ length src.now }
+        ensures { HasAsciiUnits self.now.big_endian src.now block.new (length block.new) }
     {
-        let units = sixteen_units(self.big_endian, src).to_array();
-        let mut block = [0u8; 16];
         let mut at = 0;
-        while at < 16 {
-            block[at] = units[at].min(0xFF) as u8;
-            at += 1;
+        while at < block.len() {
+            let units = sixteen_units(self.big_endian, &src[2 * at..]);
+            put_narrow(&units.to_array(), block, at);
+            at += 16;
         }
-        block
     }
 
     /// Checks whether the units of the first groups of eight are below the bound.

@@ -10,17 +10,9 @@ ghost use Rattle.legacy_decoder_engine.specs.ReadAhead.{ReadsAhead};
 
 use super::scalars::ByteScalars;
 use legacy_base::Destination;
+use legacy_decoder_engine::eights::has_past_ascii;
 use legacy_text::are_all_below;
 use std::simd::prelude::*;
-
-/// Checks whether one of the first eight bytes is past ASCII.
-#[inline(always)]
-fn has_past_ascii(src: &[u8]) -> bool
-    requires { 8 ≤ length src.now }
-{
-    let past = u8x8::from_slice(src).simd_ge(u8x8::splat(0x80));
-    past.to_bitmask() != 0
-}
 
 /// Returns whether one of the units is 0.
 #[inline(always)]

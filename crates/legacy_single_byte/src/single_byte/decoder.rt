@@ -143,14 +143,8 @@ impl DecoderMoves for SingleByteDecoder<'_> {
     }
 
     #[inline(always)]
-    fn read_ahead<T: Destination>(&self, src: &[u8], dst: &mut T) -> usize {
-        read_text(&self.scalars, src, dst)
-    }
-
-    // A provided body would not always be inlined.
-    #[inline(always)]
     fn read_runs<T: Destination>(&mut self, src: &[u8], dst: &mut T) -> usize {
-        self.read_ahead(src, dst)
+        read_text(&self.scalars, src, dst)
     }
 }
 

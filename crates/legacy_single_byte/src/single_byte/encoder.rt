@@ -198,15 +198,9 @@ impl PlainCodes for SingleByteEncoder<'_> {
         None
     }
 
-    #[inline(always)]
-    fn goes_past_pairs(&self) -> bool {
-        true
-    }
+    const GOES_PAST_PAIRS: bool = true;
 
-    #[inline(always)]
-    fn goes_by_units(&self) -> bool {
-        true
-    }
+    const GOES_BY_UNITS: bool = true;
 
     // There is no branch, so that the compiler makes vectors of it.
     #[inline(always)]

@@ -4,6 +4,7 @@ ghost use Rattle.legacy_tables.specs.Tables.{flat_indexes};
 ghost use Rattle.legacy_tables.specs.TableChecks.{AreAccepted};
 
 use super::checks::check_indexes;
+use super::numbers::number_at;
 use super::private_use::row_bytes;
 use super::{
     DecoderTables, EncoderTables, IndexName, Indexes, Marks, PackedPart, Ranges, TableError,
@@ -32,7 +33,7 @@ impl<'a> Model for FlatTables<'a> {
 impl<'a> FlatTables<'a> {
     ghost use Rattle.legacy_tables.specs.TableChecks.{table_fault};
     ghost use Rattle.legacy_tables.specs.Tables.{flat_indexes, index_list, is_narrow_index};
-    ghost use Rattle.std.specs.Prelude.{true, false, length};
+    ghost use Rattle.std.specs.Prelude.{true, false, length, slice_index};
 
     /// Returns what `Tables::new` does.
     pub(super) fn new(indexes: &Indexes<'a>) -> Result<FlatTables<'a>, TableError>
@@ -77,6 +78,22 @@ impl<'a> FlatTables<'a> {
     {
         self.given.big5
     }
+
+    /// Returns the entry of a pointer in the named index, or 0 past the index's end.
+    #[inline(always)]
+    fn entry(&self, name: IndexName, pointer: usize) -> usize
+        ensures { result ≡ slice_index (index_list self.now.flat name) pointer }
+    {
+        match name {
+            IndexName::Big5 => number_at(&self.given.big5, pointer),
+            IndexName::EucKr => number_at(&self.given.euc_kr, pointer),
+            IndexName::Jis0208 => number_at(&self.given.jis0208, pointer),
+            IndexName::Jis0212 => number_at(&self.given.jis0212, pointer),
+            IndexName::Gb18030 => number_at(&self.given.gb18030, pointer),
+            IndexName::Katakana => number_at(&self.given.katakana, pointer),
+            IndexName::Ranges => 0,
+        }
+    }
 }
 
 impl<'a> DecoderTables for FlatTables<'a> {
@@ -84,15 +101,7 @@ impl<'a> DecoderTables for FlatTables<'a> {
 
     #[inline]
     fn idx(&self, name: IndexName, pointer: usize) -> Option<char> {
-        match name {
-            IndexName::Big5 => lookups::scalar_in(&self.given.big5, pointer),
-            IndexName::EucKr => lookups::scalar_in(&self.given.euc_kr, pointer),
-            IndexName::Jis0208 => lookups::scalar_in(&self.given.jis0208, pointer),
-            IndexName::Jis0212 => lookups::scalar_in(&self.given.jis0212, pointer),
-            IndexName::Gb18030 => lookups::scalar_in(&self.given.gb18030, pointer),
-            IndexName::Katakana => lookups::scalar_in(&self.given.katakana, pointer),
-            IndexName::Ranges => None,
-        }
+        lookups::scalar_of(self.entry(name, pointer))
     }
 
     #[inline(always)]

@@ -1,24 +1,33 @@
 //! Look-ups in checked indexes.
 ghost use Rattle.std.specs.Prelude.{◌≡◌, ℕ, ◌<◌, ◌≤◌, None, length};
 ghost use Rattle.std.specs.Prelude.{slice_index_or};
+ghost use Rattle.std.specs.Char.{IsScalar};
 ghost use Rattle.legacy_tables.specs.Unicode.{AreScalars};
-ghost use Rattle.legacy_tables.specs.Indexes.{idx, last_range_scalar, range};
+ghost use Rattle.legacy_tables.specs.Indexes.{entry_scalar, idx, last_range_scalar, range};
 ghost use Rattle.legacy_tables.specs.TableChecks.{range_order_fault, range_value_fault};
 
 use super::numbers::{Numbers, number_at};
 
-/// Returns the scalar of a pointer in an index.
+/// Returns the scalar of an entry, or `None` if the entry is 0.
 // The check of the tables has shown that entries are scalars. To test it again would be a branch in each look-up.
+#[inline]
+pub(super) fn scalar_of(entry: usize) -> Option<char>
+    requires { IsScalar entry }
+    ensures { result ≡ entry_scalar entry }
+{
+    if entry == 0 {
+        return None;
+    }
+    Some(unsafe { char::from_u32_unchecked(entry as u32) })
+}
+
+/// Returns the scalar of a pointer in an index.
 #[inline]
 pub(crate) fn scalar_in<N: Numbers>(index: &N, pointer: usize) -> Option<char>
     requires { AreScalars (N.numbers index.now) }
     ensures { result ≡ idx (N.numbers index.now) pointer }
 {
-    let entry = number_at(index, pointer);
-    if entry == 0 {
-        return None;
-    }
-    Some(unsafe { char::from_u32_unchecked(entry as u32) })
+    scalar_of(number_at(index, pointer))
 }
 
 /// Returns the number of ranges that start at or before a pointer. Ranges rise, so these are the first ones.

@@ -1,6 +1,8 @@
 //! Lists of numbers in any form.
 ghost use Rattle.std.specs.Prelude.{◌≡◌, ◌≢◌, ℕ, ◌+◌, ◌<◌, ◌≤◌, List, true, length, slice_index};
 
+use super::entries::Entry;
+
 /// A list of numbers, read one at a time.
 pub(super) trait Numbers {
     ghost numbers: { Self → List ℕ };
@@ -46,9 +48,9 @@ pub(super) trait Blocks: Numbers {
             slice_index (Self.numbers self.now) k ≢ number };
 }
 
-/// A flat index of wide entries.
-impl<'a> Numbers for &'a [u32] {
-    ghost numbers = { λ s. s.now };
+/// A flat index.
+impl<'a, E: Entry> Numbers for &'a [E] {
+    ghost numbers = { λ s. E.numbers s.now };
 
     ghost begins = { λ _. tt };
 
@@ -56,77 +58,21 @@ impl<'a> Numbers for &'a [u32] {
         self.len()
     }
 
+    #[inline(always)]
     fn number(&self, at: usize) -> usize {
-        self[at] as usize
+        E::number(self, at)
     }
 
     #[inline(always)]
     fn row(&self, place: usize, at: usize) -> (usize, usize, usize, usize) {
-        (at, self[at] as usize, 1, place)
+        (at, E::number(self, at), 1, place)
     }
 }
 
-/// Checks whether none of the 32 entries from a pointer on is the number.
-#[inline(always)]
-fn is_past_wide(index: &[u32], from: usize, number: usize) -> bool
-    requires { from + 32 ≤ length index.now }
-    ensures { result ≡ true → (k : ℕ) → from ≤ k → k < from + 32 →
-        slice_index index.now k ≢ number }
-{
-    if number > 0xFFFF_FFFF {
-        return true;
-    }
-    // The library compares 16 entries as vectors.
-    if index[from..from + 16].contains(&(number as u32)) {
-        return false;
-    }
-    !index[from + 16..from + 32].contains(&(number as u32))
-}
-
-impl<'a> Blocks for &'a [u32] {
+impl<'a, E: Entry> Blocks for &'a [E] {
     #[inline(always)]
     fn lacks(&self, from: usize, number: usize) -> bool {
-        is_past_wide(self, from, number)
-    }
-}
-
-/// A flat index of narrow entries.
-impl<'a> Numbers for &'a [u16] {
-    ghost numbers = { λ s. s.now };
-
-    ghost begins = { λ _. tt };
-
-    fn count(&self) -> usize {
-        self.len()
-    }
-
-    fn number(&self, at: usize) -> usize {
-        usize::from(self[at])
-    }
-
-    #[inline(always)]
-    fn row(&self, place: usize, at: usize) -> (usize, usize, usize, usize) {
-        (at, usize::from(self[at]), 1, place)
-    }
-}
-
-/// Checks whether none of the 32 entries from a pointer on is the number.
-#[inline(always)]
-fn is_past_narrow(index: &[u16], from: usize, number: usize) -> bool
-    requires { from + 32 ≤ length index.now }
-    ensures { result ≡ true → (k : ℕ) → from ≤ k → k < from + 32 →
-        slice_index index.now k ≢ number }
-{
-    if number > 0xFFFF {
-        return true;
-    }
-    !index[from..from + 32].contains(&(number as u16))
-}
-
-impl<'a> Blocks for &'a [u16] {
-    #[inline(always)]
-    fn lacks(&self, from: usize, number: usize) -> bool {
-        is_past_narrow(self, from, number)
+        E::lacks(self, from, number)
     }
 }
 

@@ -19,6 +19,8 @@ pub struct Run {
 ///
 /// They are the runs of the indexes and, for each codec, the pointers that its encoder uses, in the order of their
 /// scalar values.
+// It has the layout of C, so that a caller in C can lend them.
+#[repr(C)]
 #[derive(Drop)]
 pub struct Packed<'a> {
     /// Index Big5.

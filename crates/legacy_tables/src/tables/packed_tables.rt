@@ -4,6 +4,7 @@ ghost use Rattle.legacy_tables.specs.TableChecks.{AreAccepted};
 ghost use Rattle.legacy_tables.specs.PackedTables.{lists_of_runs, AnswerPointersOf};
 
 use super::checks::check_indexes;
+use super::numbers::number_at;
 use super::order::pointer_in_order;
 use super::order_checks::{CheckedOrders, all_orders_of};
 use super::packed::Packed;
@@ -50,7 +51,7 @@ impl<'a> Model for PackedTables<'a> {
 
 impl<'a> PackedTables<'a> {
     ghost use Rattle.legacy_tables.specs.Tables.{flat_indexes, index_list, is_narrow_index};
-    ghost use Rattle.std.specs.Prelude.{◌<◌, length, true, MatchOption};
+    ghost use Rattle.std.specs.Prelude.{◌<◌, length, slice_index, true, MatchOption};
     ghost use Rattle.legacy_tables.specs.Packed.{packed_fault, ArePackedTables};
 
     /// Returns what `Tables::packed_of` does.
@@ -100,6 +101,22 @@ impl<'a> PackedTables<'a> {
             _ => None,
         }
     }
+
+    /// Returns the entry of a pointer in the named index, or 0 past the index's end.
+    #[inline(always)]
+    fn entry(&self, name: IndexName, pointer: usize) -> usize
+        ensures { result ≡ slice_index (index_list self.now.flat name) pointer }
+    {
+        match name {
+            IndexName::Big5 => number_at(&self.runs.big5, pointer),
+            IndexName::EucKr => number_at(&self.runs.euc_kr, pointer),
+            IndexName::Jis0208 => number_at(&self.runs.jis0208, pointer),
+            IndexName::Jis0212 => number_at(&self.runs.jis0212, pointer),
+            IndexName::Gb18030 => number_at(&self.runs.gb18030, pointer),
+            IndexName::Katakana => number_at(&self.katakana, pointer),
+            IndexName::Ranges => 0,
+        }
+    }
 }
 
 impl<'a> DecoderTables for PackedTables<'a> {
@@ -107,15 +124,7 @@ impl<'a> DecoderTables for PackedTables<'a> {
 
     #[inline]
     fn idx(&self, name: IndexName, pointer: usize) -> Option<char> {
-        match name {
-            IndexName::Big5 => lookups::scalar_in(&self.runs.big5, pointer),
-            IndexName::EucKr => lookups::scalar_in(&self.runs.euc_kr, pointer),
-            IndexName::Jis0208 => lookups::scalar_in(&self.runs.jis0208, pointer),
-            IndexName::Jis0212 => lookups::scalar_in(&self.runs.jis0212, pointer),
-            IndexName::Gb18030 => lookups::scalar_in(&self.runs.gb18030, pointer),
-            IndexName::Katakana => lookups::scalar_in(&self.katakana, pointer),
-            IndexName::Ranges => None,
-        }
+        lookups::scalar_of(self.entry(name, pointer))
     }
 
     #[inline(always)]

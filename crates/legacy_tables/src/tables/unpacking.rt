@@ -1,69 +1,8 @@
 //! Writes flat indexes into memory that the caller lends.
 ghost use Rattle.std.specs.Prelude.{◌≡◌, ℕ, ◌+◌, ◌<◌, ◌≤◌, List, length, slice_index, slice_set, MatchOption};
 
+use super::entries::Entry;
 use super::numbers::Numbers;
-
-/// An entry of a flat index, narrow or wide.
-pub(super) trait Entry: Sized {
-    /// The numbers of a list of entries.
-    ghost numbers: { List Self → List ℕ };
-
-    /// All numbers of entries are below this one.
-    ghost limit: { ℕ };
-
-    /// Writes a number at a place.
-    fn put(entries: &mut [Self], at: usize, number: usize)
-        requires within { at < length entries.old }
-        requires small { number < limit }
-        ensures { numbers entries.new ≡ slice_set (numbers entries.old) at number };
-
-    /// Writes 0 at each place.
-    fn clear(entries: &mut [Self])
-        ensures { (k : ℕ) → slice_index (numbers entries.new) k ≡ 0 };
-
-    /// Each entry has one number.
-    ghost all: { (entries : List Self) → length (numbers entries) ≡ length entries };
-}
-
-impl Entry for u16 {
-    ghost use Rattle.std.proofs.Common.{refl};
-
-    ghost numbers = { λ entries. entries };
-
-    ghost limit = { 0x1_0000 };
-
-    #[inline(always)]
-    fn put(entries: &mut [u16], at: usize, number: usize) {
-        entries[at] = number as u16;
-    }
-
-    #[inline(always)]
-    fn clear(entries: &mut [u16]) {
-        entries.fill(0);
-    }
-
-    ghost all = { λ _. refl };
-}
-
-impl Entry for u32 {
-    ghost use Rattle.std.proofs.Common.{refl};
-
-    ghost numbers = { λ entries. entries };
-
-    ghost limit = { 0x1_0000_0000 };
-
-    #[inline(always)]
-    fn put(entries: &mut [u32], at: usize, number: usize) {
-        entries[at] = number as u32;
-    }
-
-    #[inline(always)]
-    fn clear(entries: &mut [u32]) {
-        entries.fill(0);
-    }
-
-    ghost all = { λ _. refl };
-}
 
 /// Writes consecutive numbers.
 // Most rows have one number, which is written without a loop.

@@ -1,4 +1,4 @@
-use Rattle.std.proofs.{Common.{◌-◌, length-drop, arith}, lemmas.List.length-take-le}
+use Rattle.std.proofs.{Common.{length-drop, arith}, lemmas.List.length-take-le}
 use Rattle.legacy_codecs.proofs.ReferenceTexts.{front_of_part}
 use Rattle.legacy_codecs.proofs.character_references.encode_from.Goals as goal
 

@@ -2,9 +2,6 @@ use Rattle.std.proofs.Common.{arith}
 use Rattle.legacy_text.proofs.Texts.{utf16_read, unit_boundary}
 use Rattle.legacy_codecs.proofs.character_references.encode_replacing_utf16.Goals as goal
 
-pub returns-clause-call : goal.returns-clause-call
-returns-clause-call g c = grind (arith, utf16_read)
-
 pub returns-clause-boundary : goal.returns-clause-boundary
 returns-clause-boundary g c =
     let call = rw (c.new-source.ensures.units, c.new-source.ensures.place) at c.encode_replacing-answer.ensures.call in

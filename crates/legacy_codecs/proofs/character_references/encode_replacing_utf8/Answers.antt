@@ -1,9 +1,5 @@
-use Rattle.std.proofs.Common.{arith}
 use Rattle.legacy_text.proofs.Texts.{utf8_read}
 use Rattle.legacy_codecs.proofs.character_references.encode_replacing_utf8.Goals as goal
-
-pub returns-clause-call : goal.returns-clause-call
-returns-clause-call g c = grind (arith, utf8_read)
 
 pub returns-clause-boundary : goal.returns-clause-boundary
 returns-clause-boundary g c =

@@ -1,4 +1,4 @@
-use Rattle.std.proofs.Common.{◌++◌, decimal, arith}
+use Rattle.std.proofs.Common.{decimal, arith}
 use Rattle.legacy_codecs.proofs.ReferenceTexts.{marks_before, mark_behind}
 use Rattle.legacy_codecs.proofs.character_references.make_reference.Goals as goal
 

@@ -1,7 +1,6 @@
-use Rattle.std.proofs.Common.{◌≡◌, ℕ, ◌+◌, ◌≤◌, ◌<◌, ◌++◌, List, [], drop, take, get_or, length, map, vec_len, Vec, Global, All, Some, refl, arith, ap, sym}
-use Rattle.std.proofs.{Common.{◌∙◌, length-append, length-drop, length-take}, lemmas.Bool.true≢false, lemmas.Option.slice_get-get_or, lemmas.List.length-map}
+use Rattle.std.proofs.Common.{◌≡◌, ℕ, ◌+◌, ◌≤◌, ◌<◌, ◌++◌, List, [], drop, get_or, length, map, vec_len, Vec, Global, All, refl, arith, ap, sym}
+use Rattle.std.proofs.{Common.{◌∙◌, length-append, length-drop, length-take}, lemmas.Bool.true≢false, lemmas.List.length-map}
 use Rattle.std.proofs.lemmas.List.{get_or-map}
-use Rattle.std.specs.Prelude.{slice_get}
 use Rattle.legacy_codecs.specs.{Pieces.place_before, EncodeRuns.EncodeReaches.begun}
 use Rattle.legacy_codecs.proofs.{Places.{place_before-state, place_at-begin, place_at-next, same_end, not_last, room_step}, EncodeRunEvents.reaches_call}
 use Rattle.legacy_codecs.proofs.encode_run.run_calls.Goals.{then-call_once+else-last, else-call_once}
@@ -22,11 +21,6 @@ loop-calls-init g c =
       inside = omega arith;
     }
 
--- the length of a call's output is the next of the lengths
-free_is : (lengths output : List ℕ) (calls : ℕ) → calls < length lengths → All (λ n. n ≤ length output) lengths →
-    slice_get lengths calls ≡ Some (length (take (get_or lengths calls 0) output))
-free_is lengths output calls h fits = grind (arith, length-take, slice_get-get_or)
-
 -- the scalars of the piece at an index
 piece_is : {A : Type 0} (f : A → List ℕ) (pieces : List A) (index : ℕ) (piece : A) → index < length pieces → piece ≡ get_or pieces index piece →
     get_or (map f pieces) index [] ≡ f piece
@@ -39,13 +33,12 @@ returns-then-last g c =
     let i = c.loop-calls.invariant in
     let after = g.E.RawEncoder.state c.call_once.new.encoder in
     let call = c.call_once.ensures.call in
-    let given = free_is c.args.lengths.now c.loop-calls.output c.loop-calls.calls c.loop-calls-test.true i.output in
     let last = c.is_last-last.ensures ∙ same_end g.T.Piece.units g.T.Text.scalars pieces (index + 1) in
     let few = c.loop-calls-test.true in
     let emptied = sym c.if-call_once.true ∙ call.3 in
     record {
       place = place_before after (drop (index + 1) (map g.T.Text.scalars pieces));
-      reaches = reaches_call i.reaches given call.2 last emptied call.4 (sym c.if-last.true ∙ last) refl;
+      reaches = reaches_call c.loop-calls.output i.reaches c.loop-calls-test.true i.output call.2 last emptied call.4 (sym c.if-last.true ∙ last) refl;
       state = place_before-state after _;
       few = omega arith;
       all = λ e. absurd (true≢false e);
@@ -64,7 +57,6 @@ loop-calls-preserved g c =
     let i = c.loop-calls.invariant in
     let after = g.E.RawEncoder.state c.call_once.new.encoder in
     let call = c.call_once.ensures.call in
-    let given = free_is c.args.lengths.now c.loop-calls.output c.loop-calls.calls c.loop-calls-test.true i.output in
     let last = c.is_last-last.ensures ∙ same_end g.T.Piece.units g.T.Text.scalars pieces (index + 1) in
     let step = room_step c.args.lengths.now c.loop-calls.calls c.loop-calls-test.true in
     let len = c.call_once.ensures.len in
@@ -88,7 +80,9 @@ loop-calls-preserved g c =
           w.cursor-unread-then-call_once.ensures
           ∙ sym (piece_is g.T.Text.scalars pieces (index + 1) _ (omega (arith, more, same)) w.index-pieces-index.is) in
           rw (w.index-is, w.unread-is, left) record {
-            reaches = reaches_call i.reaches given call.2 last emptied call.4 goes (place_at-next texts after index more);
+            reaches =
+                reaches_call c.loop-calls.output i.reaches c.loop-calls-test.true i.output call.2 last emptied call.4 goes
+                (place_at-next texts after index more);
             room = omega arith;
             output = output;
             inside = omega (arith, more, same);
@@ -96,7 +90,7 @@ loop-calls-preserved g c =
       | else-call_once w ↦
           let going = sym w.if-call_once.false ∙ call.3 in
           rw (w.index-is, w.unread-is) record {
-            reaches = reaches_call i.reaches given call.2 last going call.4 refl refl;
+            reaches = reaches_call c.loop-calls.output i.reaches c.loop-calls-test.true i.output call.2 last going call.4 refl refl;
             room = omega arith;
             output = output;
             inside = i.inside;

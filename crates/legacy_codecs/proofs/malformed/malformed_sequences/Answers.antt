@@ -1,4 +1,4 @@
-use Rattle.std.proofs.Common.{◌∙◌, ◌++◌, ◌∷◌, [], length, arith, ap}
+use Rattle.std.proofs.Common.{◌∙◌, ◌++◌, ◌∷◌, [], arith, ap}
 use Rattle.legacy_codecs.specs.declared.malformed.MalformedSequence.{MalformedSequence}
 use Rattle.legacy_base.proofs.Enough.{room-answer}
 use Rattle.legacy_codecs.proofs.{MalformedSequences.{finds_start, finds_step, finds_stop, sequence_is}, Replaced.fault_less}

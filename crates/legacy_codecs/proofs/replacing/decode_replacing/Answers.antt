@@ -8,26 +8,22 @@ calls-init g c = grind (arith, replaces_start)
 pub returns-in-InputEmpty-clause-call : goal.returns-in-InputEmpty-clause-call
 returns-in-InputEmpty-clause-call g c =
     let call = c.step-answer.ensures.call in
-    let one = rw (c.rest_of.ensures, c.in-InputEmpty.is) at call.1 in
-    replaces_end c.calls.invariant.replaces call.2 one
+    replaces_end c.calls.invariant.replaces call.2 (rw (c.rest_of.ensures, c.in-InputEmpty.is) at call.1)
 
 pub returns-in-OutputFull-clause-call : goal.returns-in-OutputFull-clause-call
 returns-in-OutputFull-clause-call g c =
     let call = c.step-answer.ensures.call in
-    let one = rw (c.rest_of.ensures, c.in-OutputFull.is) at call.1 in
-    replaces_full c.calls.invariant.replaces call.2 one
+    replaces_full c.calls.invariant.replaces call.2 (rw (c.rest_of.ensures, c.in-OutputFull.is) at call.1)
 
 pub put_replacement-requires : goal.put_replacement-requires
 put_replacement-requires g c =
     let call = c.step-answer.ensures.call in
-    let one = rw (c.rest_of.ensures, c.in-Malformed.is) at call.1 in
-    replaces_fits c.calls.invariant.replaces call.2 one _ c.step-answer.ensures.room
+    replaces_fits c.calls.invariant.replaces call.2 (rw (c.rest_of.ensures, c.in-Malformed.is) at call.1) _ c.step-answer.ensures.room
 
 pub calls-smaller : goal.calls-smaller
 calls-smaller g c =
     let call = c.step-answer.ensures.call in
-    let one = rw (c.rest_of.ensures, c.in-Malformed.is) at call.1 in
-    replaces_less c.calls.invariant.replaces call.2 one
+    replaces_less c.calls.invariant.replaces call.2 (rw (c.rest_of.ensures, c.in-Malformed.is) at call.1)
 
 pub calls-preserved : goal.calls-preserved
 calls-preserved g c =

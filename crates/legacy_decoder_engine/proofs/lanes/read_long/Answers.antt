@@ -1,4 +1,3 @@
-use Rattle.std.proofs.{Common.{◌-◌, length, drop, arith}, lemmas.List.{length-take, length-drop}}
 use Rattle.legacy_base.specs.States.{new_state}
 use Rattle.legacy_decoder_engine.proofs.{JoinedRuns.reads_more, WrittenRuns.reads_none}
 use Rattle.legacy_decoder_engine.proofs.lanes.read_long.Goals as goal
@@ -6,19 +5,8 @@ use Rattle.legacy_decoder_engine.proofs.lanes.read_long.Goals as goal
 pub loop-codes-init : goal.loop-codes-init
 loop-codes-init g c = reads_none g.T.Destination (new_state (g.C.LaneCodec.grammar c.args.tables.now.flat)) c.args.src.now c.args.dst.now
 
-pub loop-codes-smaller : goal.loop-codes-smaller
-loop-codes-smaller g c =
-    let at = c.loop-codes.at in
-    omega (
-      arith,
-      c.read_front-read.ensures.goes_on c.if-not-goes_on.false,
-      c.read_front-read.ensures.ahead.within,
-      length-take (length c.args.src.now - at) (drop at c.args.src.now),
-      length-drop at c.args.src.now,
-    )
-
 pub loop-codes-preserved : goal.loop-codes-preserved
-loop-codes-preserved g c = reads_more c.loop-codes.invariant c.read_front-read.ensures.ahead
+loop-codes-preserved g c = reads_more (reads_more c.loop-codes.invariant c.read_front-read.ensures.ahead) c.read_any_longer-longer.ensures
 
-pub returns-then-not-goes_on : goal.returns-then-not-goes_on
-returns-then-not-goes_on g c = reads_more c.loop-codes.invariant c.read_front-read.ensures.ahead
+pub returns-then-longer-eq0 : goal.returns-then-longer-eq0
+returns-then-longer-eq0 g c = reads_more (reads_more c.loop-codes.invariant c.read_front-read.ensures.ahead) c.read_any_longer-longer.ensures

@@ -6,7 +6,7 @@ use Rattle.legacy_exports.proofs.encode.encode_once.Given as goal
 -- what was read up to now was encoded, and its bytes are at the beginning of the output
 abbrev pub invariant-pieces : goal.invariant-pieces
 invariant-pieces g l = record {
-  encodes : Encodes g.C.Calls.kind false (g.E.RawEncoder.state l.fn.encoder) (g.T.Text.scalars l.fn.text) (g.E.RawEncoder.state l.encoder)
+  encodes : Encodes g.C.Calls.kind false (g.E.RawEncoder.state l.fn.encoder) (g.T.Text.scalars l.reading.source) (g.E.RawEncoder.state l.encoder)
       (g.T.Text.scalars l.unread ++ g.T.Text.scalars l.later)
       (take l.written l.output)
       [];

@@ -17,14 +17,15 @@ returns-then-last-clause-text g c =
     let i = c.pieces.invariant in
     let front = front_of_units g.U.CodeUnit.units g.met.U.CodeUnit.units_append c.pieces.written _ c.decode-answer.result.2 c.pieces.output
     c.decode-answer.new.output i.within_output c.decode-answer.ensures.written in
-    let last = at_length c.pieces.end c.args.source.now c.if-last.true in
-    at_end i.decodes c.decode-answer.ensures.call i.within_piece (none_later c.pieces.end c.args.source.now) _ _ front c.in-Read.is last
+    let last = at_length c.pieces.end c.args.reading.now.source.now c.if-last.true in
+    at_end i.decodes c.decode-answer.ensures.call i.within_piece (none_later c.pieces.end c.args.reading.now.source.now) _ _ front c.in-Read.is last
 
 pub pieces-smaller-in-Read : goal.pieces-smaller-in-Read
 pieces-smaller-in-Read g c =
     let i = c.pieces.invariant in
-    let few = no_more_events i.decodes c.decode-answer.ensures.call i.within_piece (none_later c.pieces.end c.args.source.now) in
-    let all = whole_piece i.decodes c.decode-answer.ensures.call i.within_piece (none_later c.pieces.end c.args.source.now) c.in-Read.is i.within_source in
+    let few = no_more_events i.decodes c.decode-answer.ensures.call i.within_piece (none_later c.pieces.end c.args.reading.now.source.now) in
+    let all = whole_piece i.decodes c.decode-answer.ensures.call i.within_piece (none_later c.pieces.end c.args.reading.now.source.now) c.in-Read.is
+    i.within_source in
     omega (arith, few, all, i.within_source, c.if-last.false, c.piece_end-end-in-Read.ensures)
 
 pub pieces-preserved-in-Read : goal.pieces-preserved-in-Read
@@ -33,7 +34,7 @@ pieces-preserved-in-Read g c =
     let front = front_of_units g.U.CodeUnit.units g.met.U.CodeUnit.units_append c.pieces.written _ c.decode-answer.result.2 c.pieces.output
     c.decode-answer.new.output i.within_output c.decode-answer.ensures.written in
     record {
-      decodes = after_call i.decodes c.decode-answer.ensures.call i.within_piece (none_later c.pieces.end c.args.source.now) _ front;
+      decodes = after_call i.decodes c.decode-answer.ensures.call i.within_piece (none_later c.pieces.end c.args.reading.now.source.now) _ front;
       within_piece = omega arith;
       within_source = omega arith;
       within_output = search rules;
@@ -44,13 +45,13 @@ returns-in-Full-clause-text g c =
     let i = c.pieces.invariant in
     let front = front_of_units g.U.CodeUnit.units g.met.U.CodeUnit.units_append c.pieces.written _ c.decode-answer.result.2 c.pieces.output
     c.decode-answer.new.output i.within_output c.decode-answer.ensures.written in
-    at_full i.decodes c.decode-answer.ensures.call i.within_piece (none_later c.pieces.end c.args.source.now) _ _ front
+    at_full i.decodes c.decode-answer.ensures.call i.within_piece (none_later c.pieces.end c.args.reading.now.source.now) _ _ front
     (free_after g.U.CodeUnit.units g.met.U.CodeUnit.units_length c.pieces.written _ c.pieces.output i.within_output c.pieces.auto.output) c.in-Full.is
 
 pub pieces-smaller : goal.pieces-smaller
 pieces-smaller g c =
     let i = c.pieces.invariant in
-    let few = fewer_events i.decodes c.decode-answer.ensures.call i.within_piece (none_later c.pieces.end c.args.source.now) c.in-Replaced.is in
+    let few = fewer_events i.decodes c.decode-answer.ensures.call i.within_piece (none_later c.pieces.end c.args.reading.now.source.now) c.in-Replaced.is in
     omega (arith, few)
 
 pub pieces-preserved : goal.pieces-preserved
@@ -59,8 +60,8 @@ pieces-preserved g c =
     let front = front_of_units g.U.CodeUnit.units g.met.U.CodeUnit.units_append c.pieces.written _ c.decode-answer.result.2 c.pieces.output
     c.decode-answer.new.output i.within_output c.decode-answer.ensures.written in
     record {
-      decodes = after_call i.decodes c.decode-answer.ensures.call i.within_piece (none_later c.pieces.end c.args.source.now) _ front;
-      within_piece = in_piece i.decodes c.decode-answer.ensures.call i.within_piece (none_later c.pieces.end c.args.source.now) i.within_source;
+      decodes = after_call i.decodes c.decode-answer.ensures.call i.within_piece (none_later c.pieces.end c.args.reading.now.source.now) _ front;
+      within_piece = in_piece i.decodes c.decode-answer.ensures.call i.within_piece (none_later c.pieces.end c.args.reading.now.source.now) i.within_source;
       within_source = i.within_source;
       within_output = search rules;
     }

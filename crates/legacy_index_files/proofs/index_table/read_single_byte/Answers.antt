@@ -7,10 +7,10 @@ pub returns : goal.returns
 returns c =
     let entries = entries_of SingleByte (lines c.args.text.now) in
     record {
-      len = omega (arith, c.fill_narrow.auto.values);
+      len = omega (arith, c.fill.auto.values);
       at_each = record {
         at = λ p within.
-            let below : p < 128 = omega (arith, c.fill_narrow.auto.values) in
-            c.fill_narrow.ensures p below ∙ ap (unwrap_or (last_value entries p)) (get_or-replicate 128 p 0 0 below);
+            let below : p < 128 = omega (arith, c.fill.auto.values) in
+            c.fill.ensures p below ∙ ap (unwrap_or (last_value entries p)) (get_or-replicate 128 p 0 0 below);
       };
     }

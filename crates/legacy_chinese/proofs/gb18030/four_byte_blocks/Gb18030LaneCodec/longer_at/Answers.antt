@@ -1,4 +1,4 @@
-use Rattle.std.proofs.{Common.{◌∙◌, [], ◌∷◌, ◌++◌, get_or, sym, ap, subst, arith}, lemmas.List.take_more}
+use Rattle.std.proofs.Common.{◌∙◌, [], ◌∷◌, ◌++◌, get_or, sym, ap, subst, arith}
 use Rattle.legacy_base.specs.Grammar.{gb18030}
 use Rattle.legacy_decoder_engine.specs.ReadAhead.{Runs}
 use Rattle.legacy_decoder_engine.proofs.WrittenRuns.{take_two}

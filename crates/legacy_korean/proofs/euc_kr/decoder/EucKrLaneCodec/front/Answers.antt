@@ -1,4 +1,4 @@
-use Rattle.std.proofs.Common.{◌<◌, ◌^◌, arith}
+use Rattle.std.proofs.Common.{arith}
 use Rattle.legacy_korean.proofs.EucKrPlaces.{pair_form}
 use Rattle.legacy_korean.proofs.euc_kr.decoder.EucKrLaneCodec.front.Goals as goal
 

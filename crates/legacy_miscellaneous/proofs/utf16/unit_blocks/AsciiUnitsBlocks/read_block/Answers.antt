@@ -7,10 +7,18 @@ use Rattle.legacy_miscellaneous.proofs.utf16.unit_blocks.AsciiUnitsBlocks.read_b
 pub returns-then-src-lt32-clause-ahead : goal.returns-then-src-lt32-clause-ahead
 returns-then-src-lt32-clause-ahead g c = reads_none g.T.Destination (new_state (utf16 c.args.self.now.units.now.big_endian)) c.args.src.now c.args.dst.now
 
+pub returns-then-free-ge67-clause-ahead : goal.returns-then-free-ge67-clause-ahead
+returns-then-free-ge67-clause-ahead g c =
+    let long = c.narrow.auto.block in
+    let e = c.put_front-count.ensures in
+    reads_block g.T.Destination c.args.self.now.units.now.big_endian c.args.src.now c.narrow.new.block c.args.dst.now c.put_front-count.new.self
+    c.put_front-count.result
+    (λ k. let f = c.type_inv.src k in omega arith) (omega arith) c.narrow.ensures (omega arith) e.ascii e.contents e.room e.loan (omega arith) (omega arith)
+
 pub returns-clause-ahead : goal.returns-clause-ahead
 returns-clause-ahead g c =
-    let b = c.narrow_block-block in
+    let long = c.narrow-2.auto.block in
     let e = c.copy_ascii-count.ensures in
-    reads_block g.T.Destination c.args.self.now.units.now.big_endian c.args.src.now b.result c.args.dst.now c.copy_ascii-count.new.self
+    reads_block g.T.Destination c.args.self.now.units.now.big_endian c.args.src.now c.narrow-2.new.block c.args.dst.now c.copy_ascii-count.new.self
     c.copy_ascii-count.result
-    (λ k. let f = c.type_inv.src k in omega arith) (omega arith) b.ensures.count b.ensures.narrow e.read e.ascii e.contents e.room e.loan (omega arith)
+    (λ k. let f = c.type_inv.src k in omega arith) (omega arith) c.narrow-2.ensures e.read e.ascii e.contents e.room e.loan (omega arith) (omega arith)

@@ -1,0 +1,29 @@
+use Rattle.std.proofs.{Common.{◌≡◌, ◌∙◌, ℕ, ◌+◌, ◌-◌, ◌<◌, slice_index, ap, subst, sym, inl, inr, arith}, lemmas.Bool.cases_lt}
+use Rattle.legacy_miscellaneous.specs.Utf16Decoder.{unit_at}
+use Rattle.legacy_miscellaneous.proofs.Utf16Runs.{unit_after}
+use Rattle.legacy_miscellaneous.proofs.utf16.unit_blocks.Units.narrow.Goals as goal
+
+pub loop-at-preserved : goal.loop-at-preserved
+loop-at-preserved c =
+    let big_endian = c.args.self.now.big_endian in
+    let src = c.args.src.now in
+    let at = c.loop-at.at in
+    let i = c.loop-at.invariant in
+    let e = c.put_narrow.ensures in
+    let new = c.put_narrow.new.block in
+    record {
+      within = omega (arith, i.within, i.sixteens, i.long, c.requires.sixteens, c.loop-at-test.true, c.put_narrow.auto.block);
+      sixteens = omega (arith, i.sixteens);
+      long = omega (arith, i.long, c.put_narrow.auto.block);
+      narrow = λ k h low.
+          elim (cases_lt k at) [
+            | inl l ↦ i.narrow k l (subst (λ n. n < 128) (e.before k l) low) ∙ sym (e.before k l)
+            | inr l ↦
+                let j = k - at in
+                let small : j < 16 = omega (arith, h, l) in
+                let place : at + j ≡ k = omega (arith, l) in
+                let stored = e.narrow j small (subst (λ n. slice_index new n < 128) (sym place) low) in
+                ap (unit_at big_endian src) (sym place) ∙ sym (unit_after big_endian src at j) ∙ sym (c.sixteen_units-units.ensures j small) ∙ stored
+                ∙ ap (slice_index new) place
+          ];
+    }
