@@ -54,9 +54,14 @@ impl<F: CommonForms> Forms for FormsInTurn<'_, F> {
 
     const FOUR_AT_LEAST: usize = F::FOUR_AT_LEAST;
 
+    // A division by three takes as long as a form. Most outputs have more room.
     #[inline(always)]
     fn fitting(&self, bytes: usize, units: usize) -> usize {
-        (bytes / 2).min(units / 3)
+        if units / 2 >= bytes {
+            bytes / 2
+        } else {
+            (bytes / 2).min(units / 3)
+        }
     }
 
     /// Reads the forms, and also stops at two ASCII bytes in a row.

@@ -496,7 +496,7 @@ fn stands_alone<C: LaneCodec>(src: &[u8]) -> bool {
 }
 
 /// The least number of bytes of ASCII between tags.
-const LONG_ASCII: usize = 64;
+const LONG_ASCII: usize = 32;
 
 /// The number of bytes that are read form by form before lanes, after long ASCII and at the beginning.
 const LONG_DELAY: usize = 512;
@@ -648,7 +648,7 @@ fn read_last<C: LaneCodec, T: Destination>(
 /// Reads ASCII by blocks and other forms one by one from the front, up to an uncommon form or to many forms.
 ///
 /// Returns the number of bytes read, and whether a block with many bytes past ASCII may follow.
-// Most runs of pairs between tags are short, and lanes are no faster in them. ASCII counts against the forms fourfold.
+// Most runs of pairs between tags are short, and lanes are no faster in them. Forms are counted since the last long ASCII.
 #[inline(always)]
 fn read_few<C: LaneCodec, T: Destination>(
     blocks: &LaneBlocks<'_, '_, C>,
@@ -682,9 +682,8 @@ fn read_few<C: LaneCodec, T: Destination>(
         if few == 0 {
             return (at, false);
         }
-        many = many
-            .saturating_sub(ascii.saturating_mul(4))
-            .saturating_add(few);
+        let before = if ascii >= LONG_ASCII { 0 } else { many };
+        many = before.saturating_add(few);
         if many.saturating_add(2) >= delay {
             return (at, true);
         }

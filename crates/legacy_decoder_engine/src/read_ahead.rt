@@ -120,13 +120,6 @@ pub fn read_blocks<B: Blocks, T: Destination>(blocks: &B, src: &[u8], dst: &mut 
     }
 }
 
-/// Returns whether the run of ASCII at the front seems to be long, and the input too.
-// In text without tags most runs are short. Two bytes in a row tell, as one of them is past ASCII in most other text.
-#[inline(always)]
-fn begins_long(src: &[u8]) -> bool {
-    src.len() >= 128 && (src[14] | src[15]) < 0x80
-}
-
 /// Reads ASCII from the front by blocks of 64 bytes, but no block that ends fewer than 64 bytes before the end.
 ///
 /// Returns the number of bytes read, which may be 0, and whether all of them were whole blocks.
@@ -136,9 +129,6 @@ fn read_wide_blocks<T: Destination>(src: &[u8], dst: &mut T) -> (usize, bool)
     ensures ahead { (grammar : Grammar) → HasAscii grammar
         → ReadsAhead T.Destination (new_state grammar) src.now result.0 dst.old dst.new }
 {
-    if !begins_long(src) {
-        return (0, true);
-    }
     let mut at = 0;
     while src.len() - at >= 128 && dst.free() >= 67 {
         let count = dst.put_front(&src[at..], 64);

@@ -3,9 +3,6 @@ use Rattle.legacy_base.specs.States.{new_state}
 use Rattle.legacy_decoder_engine.proofs.{JoinedRuns.{reads_ascii, reads_more}, WrittenRuns.reads_none}
 use Rattle.legacy_decoder_engine.proofs.read_ahead.read_wide_blocks.Goals as goal
 
-pub returns-then-not-begins_long-clause-ahead : goal.returns-then-not-begins_long-clause-ahead
-returns-then-not-begins_long-clause-ahead g c grammar law = reads_none g.T.Destination (new_state grammar) c.args.src.now c.args.dst.now
-
 pub loop-at-init : goal.loop-at-init
 loop-at-init g c = (omega arith, λ grammar law. reads_none g.T.Destination (new_state grammar) c.args.src.now c.args.dst.now)
 
