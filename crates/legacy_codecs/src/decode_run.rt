@@ -53,7 +53,7 @@ fn call_once<D: RawDecoder, F: OutputForm>(
 /// Returns a malformed sequence that ends `back` bytes before the end of `total` bytes.
 ///
 /// Its place is 0 if it began before the first of them.
-fn bad_event(total: usize, length: u8, back: u8) -> DecodeEvent
+fn malformed_event(total: usize, length: u8, back: u8) -> DecodeEvent
     ensures { result ≡ DecodeEvent.Bad (total - (length + back)) length }
 {
     let behind = usize::from(length) + usize::from(back);
@@ -113,7 +113,7 @@ fn run_calls<D: RawDecoder, F: OutputForm>(
             DecoderResult::OutputFull => offset += read,
             DecoderResult::Malformed(length, back) => {
                 offset += read;
-                push_within(&mut events, bad_event(total, length, back));
+                push_within(&mut events, malformed_event(total, length, back));
             }
         }
     }

@@ -30,15 +30,12 @@ fn fault_of<'a>(indexes: &Indexes<'a>) -> Option<TableError> {
     Tables::new(indexes).err()
 }
 
-/// Packs indexes.
+/// Packs indexes, and asserts that what comes has no fault of its own beside them.
 fn packed_of(rt: &(impl AllocGlobal + Abort), indexes: &Indexes) -> OwnedPacked {
-    pack(rt.alloc(), indexes).expect(rt, "no memory")
-}
-
-/// Asserts that packed indexes have no fault of their own beside their indexes.
-fn has_no_own_fault<'a>(rt: &impl Abort, indexes: &Indexes<'a>, packed: &Packed<'a>) {
-    let (came, wanted) = (fault_with(indexes, packed), fault_of(indexes));
+    let made = pack(rt.alloc(), indexes).expect(rt, "no memory");
+    let (came, wanted) = (fault_with(indexes, &made.packed()), fault_of(indexes));
     is_error(rt, "packed", came.as_ref(), wanted.as_ref());
+    made
 }
 
 /// Puts each entry at its pointer.
@@ -124,7 +121,6 @@ fn an_index_is_packed_to_runs_and_an_order_and_unpacked(rt: HostRuntime) {
             ..no_entries()
         };
         let made = packed_of(&rt, &indexes);
-        has_no_own_fault(&rt, &indexes, &made.packed());
         holds(&rt, "the runs of EUC-KR", are_runs(&made.euc_kr, *runs));
         are_pointers(&rt, "EUC-KR", &made.euc_kr_order, *order);
         let flat = packed_entries(*entries, *runs);
@@ -155,7 +151,6 @@ fn two_orders_of_jis0208(rt: HostRuntime) {
             ..no_entries()
         };
         let made = packed_of(&rt, &indexes);
-        has_no_own_fault(&rt, &indexes, &made.packed());
         let count = made.jis0208.len();
         holds(&rt, "a run for each place", count == places.len());
         are_pointers(&rt, "Shift_JIS", &made.shift_jis_order, *shift_jis);
@@ -191,7 +186,6 @@ fn an_order_of_big5(rt: HostRuntime) {
             ..no_entries()
         };
         let made = packed_of(&rt, &indexes);
-        has_no_own_fault(&rt, &indexes, &made.packed());
         are_pointers(&rt, "Big5", &made.big5_order, *order);
     }
 }
@@ -213,7 +207,6 @@ fn indexes_that_are_refused_are_packed_too(rt: HostRuntime) {
             ..no_entries()
         };
         let made = packed_of(&rt, &indexes);
-        has_no_own_fault(&rt, &indexes, &made.packed());
     }
 }
 
