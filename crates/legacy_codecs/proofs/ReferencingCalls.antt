@@ -9,7 +9,7 @@ use Rattle.legacy_base.specs.{Encoders.{EncoderState, encoded, end_bytes, encode
 use Rattle.legacy_text.specs.EncodingForm.{EncodingForm, total_unit_count}
 use Rattle.legacy_base.proofs.{Beginnings.begins_later, EncoderLaws.{end-encoded, encoder_need-small}}
 use Rattle.legacy_codecs.specs.References.{reference, reference_room, referenced_bytes, has_unmappable, Gives, KeepsReserve, LacksReferenceRoom}
-use Rattle.legacy_codecs.specs.References.{ReplacingEncoderCall}
+use Rattle.legacy_codecs.specs.{References.{ReplacingEncoderCall, tells_text_end}, declared.results.CoderResult.CoderResult}
 use Rattle.legacy_codecs.proofs.ReferenceTexts.{referenced-append, referenced-of_bytes, has_unmappable-append, has_unmappable-of_bytes}
 use Rattle.legacy_base.specs.declared.results.EncodeEvent.TheVariants as event
 use Rattle.legacy_codecs.specs.declared.results.CoderResult.TheVariants as coder
@@ -59,6 +59,29 @@ nothing_reported {before} {after = after} {c} {left} {bytes} call =
     let some : has_unmappable (map byte bytes ++ (event.Unmappable c ∷ rest)) ≡ true =
     has_unmappable-append (map byte bytes) (event.Unmappable c ∷ rest) ∙ or-true (has_unmappable (map byte bytes)) in
     true≢false (sym some ∙ none)
+
+-- ---- the result of all calls
+
+-- the result of the last call of the encoder, after which the calls end with this result
+abbrev pub last_answer : CoderResult → EncoderResult
+last_answer coder.InputEmpty = InputEmpty
+last_answer coder.OutputFull = OutputFull
+
+no_report : (result : CoderResult) → reported (last_answer result) ≡ []
+no_report result = grind arith
+
+no_bytes : (result : CoderResult) → reported_bytes (last_answer result) ≡ []
+no_bytes result = grind arith
+
+same_found : (found : Bool) (result : CoderResult) → found ≡ found_after found (last_answer result)
+same_found found result = grind arith
+
+same_end : (last : Bool) (result : CoderResult) → tells_end last (last_answer result) ≡ tells_text_end last result
+same_end last result = grind arith
+
+is_full : (result : CoderResult) → last_answer result ≡ OutputFull → result ≡ coder.OutputFull
+is_full coder.InputEmpty e = cc
+is_full coder.OutputFull e = refl
 
 -- ---- the room of a reference
 
@@ -125,10 +148,6 @@ module _ {before : EncoderState} {source : List ℕ} {last : Bool} {free : ℕ} 
 
   text_after : (written : List ℕ) (answer : EncoderResult) → bytes ++ (written ++ reported_bytes answer) ≡ referenced_bytes (out_after written answer)
   text_after written answer = ap (λ l. l ++ (written ++ reported_bytes answer)) u.text ∙ sym (referenced-call u.out written answer)
-
-  -- a result that reports nothing adds no bytes
-  end_text : (written : List ℕ) (answer : EncoderResult) → reported_bytes answer ≡ [] → bytes ++ written ≡ referenced_bytes (out_after written answer)
-  end_text written answer e = rw (e, append-nil written) at (text_after written answer)
 
   -- the reserve is kept after a call, if its bytes leave it free and its report keeps it
   reserve_after : (room : ℕ) → room ≡ free - length bytes - reference_room → (written : List ℕ) (answer : EncoderResult) → length written ≤ room →
@@ -199,29 +218,7 @@ module _ {before : EncoderState} {source : List ℕ} {last : Bool} {free : ℕ} 
         let n = ap length f ∙ length-append (map byte written) (event.Unmappable c ∷ encoded after rest true) in
         omega (arith, n)
 
-    -- ---- the ends
-
-    pub referencing_end : EncoderCall now left last room after InputEmpty rest written →
-        ReplacingEncoderCall before source last free after coder.InputEmpty rest (bytes ++ written) found
-    unfolding KeepsReserve
-    referencing_end c =
-        let x = InputEmpty in
-        let long = length-append bytes written in
-        record {
-          taken = u.taken ++ c.taken;
-          cut = cut_after x c;
-          fits = omega (arith, long, c.fits, u.fits);
-          out = out_after written x;
-          gives = gives_after x c;
-          text = end_text written x refl;
-          reserve = reserve_after room room_is written x c.fits tt;
-          found_is = u.found_is ∙ found-call u.out written x;
-          input_empty = λ _. c.input_empty refl;
-          output_full = λ e. cc;
-          few = λ e. cc;
-          full_at_once = λ need lacks. let never : x ≡ OutputFull = (full_so x c need lacks).0 in cc;
-          enough = λ form n k h e f full. cc;
-        }
+    -- ---- the end
 
     -- with a queried length free, the room is lacking only after an unmappable scalar
     found_if_full : (found : Bool) → (found ≡ false → (now ≡ before) × (left ≡ source) × (bytes ≡ [])) →
@@ -229,28 +226,27 @@ module _ {before : EncoderState} {source : List ℕ} {last : Bool} {free : ℕ} 
         (form : EncodingForm) (n k : ℕ) → total_unit_count form source ≤ n → encoder_answer form before n ≡ Some k → k + reference_room ≤ free → IsTrue found
     found_if_full found h h1 form n k h2 h3 h4 = grind arith
 
-    pub referencing_full : EncoderCall now left last room after OutputFull rest written →
-        ReplacingEncoderCall before source last free after coder.OutputFull rest (bytes ++ written) found
+    pub referencing_end : (result : CoderResult) → EncoderCall now left last room after (last_answer result) rest written →
+        ReplacingEncoderCall before source last free after result rest (bytes ++ written) found
     unfolding KeepsReserve
-    referencing_full c =
-        let x = OutputFull in
+    referencing_end result c =
+        let x = last_answer result in
         let long = length-append bytes written in
-        let lacks = c.output_full refl in
         let small = encoder_need-small after rest last in
         record {
           taken = u.taken ++ c.taken;
           cut = cut_after x c;
           fits = omega (arith, long, c.fits, u.fits);
           out = out_after written x;
-          gives = gives_after x c;
-          text = end_text written x refl;
-          reserve = reserve_after room room_is written x c.fits tt;
-          found_is = u.found_is ∙ found-call u.out written x;
-          input_empty = λ e. cc;
-          output_full = λ _. omega (arith, long, c.fits, u.fits, lacks);
-          few = λ _. omega (arith, long, c.fits, u.fits, lacks, small);
-          full_at_once = λ need l. let full = full_so x c need l in (refl, full.1, full.2, u.unfound need l, full.3);
-          enough = λ form n k h e f _. found_if_full found u.untouched c form n k h e f;
+          gives = rw (same_end last result) at (gives_after x c);
+          text = rw (no_bytes result, append-nil written) at (text_after written x);
+          reserve = reserve_after room room_is written x c.fits (rw (no_report result) tt);
+          found_is = u.found_is ∙ same_found (has_unmappable u.out) result ∙ found-call u.out written x;
+          input_empty = λ e. c.input_empty (ap last_answer e);
+          output_full = λ e. let lacks = c.output_full (ap last_answer e) in omega (arith, long, c.fits, u.fits, lacks);
+          few = λ e. let lacks = c.output_full (ap last_answer e) in omega (arith, long, c.fits, u.fits, lacks, small);
+          full_at_once = λ need l. let full = full_so x c need l in (is_full result full.0, full.1, full.2, u.unfound need l, full.3);
+          enough = λ form n k h e f full. found_if_full found u.untouched (rw full at c) form n k h e f;
         }
 
   -- ---- no room for a reference
@@ -259,18 +255,10 @@ module _ {before : EncoderState} {source : List ℕ} {last : Bool} {free : ℕ} 
   same_bytes written h = rw (nil_from_length written (omega arith)) (append-nil bytes)
 
   -- no scalar is left, and a call without room shows whether the end has something to write
-  module _ (none : free < length bytes + reference_room) {after : EncoderState} {rest written : List ℕ} where
-    pub referencing_done : EncoderCall now left last 0 after InputEmpty rest written →
-        ReplacingEncoderCall before source last free after coder.InputEmpty rest bytes found
-    referencing_done c =
-        subst (λ l. ReplacingEncoderCall before source last free after coder.InputEmpty rest l found) (same_bytes written c.fits)
-        (referencing_end (omega arith) c)
-
-    pub referencing_pending : EncoderCall now left last 0 after OutputFull rest written →
-        ReplacingEncoderCall before source last free after coder.OutputFull rest bytes found
-    referencing_pending c =
-        subst (λ l. ReplacingEncoderCall before source last free after coder.OutputFull rest l found) (same_bytes written c.fits)
-        (referencing_full (omega arith) c)
+  pub referencing_done : free < length bytes + reference_room → {after : EncoderState} {rest written : List ℕ} (result : CoderResult) →
+      EncoderCall now left last 0 after (last_answer result) rest written → ReplacingEncoderCall before source last free after result rest bytes found
+  referencing_done none {after} {rest} {written} result c =
+      subst (λ l. ReplacingEncoderCall before source last free after result rest l found) (same_bytes written c.fits) (referencing_end (omega arith) result c)
 
 -- the list of scalars is at its end
 pub nothing_left : (xs : List ℕ) → is_some (slice_get xs 0) ≡ false → xs ≡ []

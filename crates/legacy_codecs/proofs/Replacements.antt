@@ -14,6 +14,7 @@ use Rattle.legacy_base.proofs.{Enough.room-answer, Progress.{stay, at_less, afte
 use Rattle.legacy_codecs.specs.Replacing.{replaced_scalars, has_malformed, replacing_query, may_replace_end, ReplacingDecoderCall}
 use Rattle.legacy_codecs.proofs.Replaced.{replaced-append, replaced-shift, replaced-of_scalars, fault_less}
 use Rattle.legacy_codecs.proofs.Replaced.{has_malformed-append, has_malformed-shift, has_malformed-of_scalars}
+use Rattle.legacy_codecs.specs.declared.results.CoderResult.{CoderResult}
 use Rattle.legacy_codecs.specs.declared.results.CoderResult.TheVariants as coder
 
 -- ---- what one call adds
@@ -43,6 +44,27 @@ found-reported found seen answer = grind (arith, or-false, or-true)
 found-call : (events : List DecodeEvent) (k seen : ℕ) (cs : List ℕ) (answer : DecoderResult) →
     found_after (has_malformed events) answer ≡ has_malformed (events ++ shift k (out_events seen cs answer))
 found-call events k seen cs answer = grind (arith, has_malformed-shift, has_malformed-append, has_malformed-of_scalars, found-reported)
+
+-- ---- the result of all calls
+
+-- the result of the last call of the decoder, after which the calls end with this result
+abbrev pub last_answer : CoderResult → DecoderResult
+last_answer coder.InputEmpty = InputEmpty
+last_answer coder.OutputFull = OutputFull
+
+no_report : (result : CoderResult) → reported_scalars (last_answer result) ≡ []
+no_report result = grind arith
+
+same_found : (found : Bool) (result : CoderResult) → found ≡ found_after found (last_answer result)
+same_found found result = grind arith
+
+is_full : (result : CoderResult) → last_answer result ≡ OutputFull → result ≡ coder.OutputFull
+is_full coder.InputEmpty e = cc
+is_full coder.OutputFull e = refl
+
+is_empty : (result : CoderResult) → (last_answer result ≡ OutputFull → ⊥) → result ≡ coder.InputEmpty
+is_empty coder.InputEmpty h = refl
+is_empty coder.OutputFull h = absurd (h refl)
 
 -- ---- the room for U+FFFD
 
@@ -130,11 +152,6 @@ module _ {form : EncodingForm} {before : DecoderState} {source : List ℕ} {last
       r.written ++ all_code_units form (scalars ++ reported_scalars answer) ≡ all_code_units form (replaced_scalars (out_after count scalars answer))
   text_after count scalars answer =
       rw (replaced_after count scalars answer, all_code_units-append form (replaced_scalars r.out) (scalars ++ reported_scalars answer), ← r.text) refl
-
-  -- a result that reports nothing adds no code units
-  end_text : (count : ℕ) (scalars : List ℕ) (answer : DecoderResult) → reported_scalars answer ≡ [] →
-      r.written ++ all_code_units form scalars ≡ all_code_units form (replaced_scalars (out_after count scalars answer))
-  end_text count scalars answer e = rw (e, append-nil scalars) at (text_after count scalars answer)
 
   found_is_after : (count : ℕ) (scalars : List ℕ) (answer : DecoderResult) → found_after found answer ≡ has_malformed (out_after count scalars answer)
   found_is_after count scalars answer = ap (λ b. found_after b answer) r.found_is ∙ found-call r.out r.passed (length now.held + count) scalars answer
@@ -228,62 +245,38 @@ module _ {form : EncodingForm} {before : DecoderState} {source : List ℕ} {last
           (events_of now.grammar (now.held ++ drop read source))
       replaces_less = rw (← drop-drop count read source) (fault_less c)
 
-    -- ---- the ends
+    -- ---- the end
 
-    pub replaces_full : DecoderCall form now (drop read source) last left after OutputFull count scalars →
-        (written : List ℕ) × ReplacingDecoderCall form before source last free after coder.OutputFull (read + count) written found × (stepped ≡ old ++ written)
-    replaces_full c =
+    pub replaces_end : (result : CoderResult) → DecoderCall form now (drop read source) last left after (last_answer result) count scalars →
+        (written : List ℕ) × ReplacingDecoderCall form before source last free after result (read + count) written found × (stepped ≡ old ++ written)
+    replaces_end result c =
+        let answer = last_answer result in
         let units = all_code_units form scalars in
         let long = length-append r.written units in
         let query = replacing_query form in
         let low = rw (add-zero (length (drop read source)), add-zero (length source)) at (r.lowers 0 (λ _. refl)) in
-        let short : room query before (length source) ≤ free → ⊥ = λ h. c.suffices query (query_form-is form) (omega (arith, low, r.fits)) refl in
+        let wide : room query before (length source) ≤ free → result ≡ coder.InputEmpty =
+        λ h. is_empty result (c.suffices query (query_form-is form) (omega (arith, low, r.fits))) in
         let left_now : left - total_unit_count form scalars ≡ free - length (r.written ++ units) = omega (arith, r.fits, long, c.fits) in (
           r.written ++ units,
           record {
             within = within_after c;
             fits = omega (arith, r.fits, c.fits, long);
             passed = r.passed + c.passed;
-            out = out_after count scalars OutputFull;
-            progress = progress_after c;
+            out = out_after count scalars answer;
+            progress = rw (← same_found found result) at (progress_after c);
             allowed = c.allowed;
             scalar = scalar_after c;
-            text = end_text count scalars OutputFull refl;
-            found_is = found_is_after count scalars OutputFull;
-            input_empty = λ e. cc;
-            output_full = λ _. rw (drop-drop count read source, left_now) at (c.output_full refl);
-            full_at_once = λ h. let full = full_so c h in (refl, full.1, full.2, full.3, full.4);
+            text = rw (no_report result, append-nil scalars) at (text_after count scalars answer);
+            found_is = same_found found result ∙ found_is_after count scalars answer;
+            input_empty = λ e.
+                let done = c.input_empty (ap last_answer e) in
+                (omega (arith, done.0, r.within, length-drop read source), done.1, done.2);
+            output_full = λ e. rw (drop-drop count read source, left_now) at (c.output_full (ap last_answer e));
+            full_at_once = λ h. let full = full_so c h in (is_full result full.0, full.1, full.2, full.3, full.4);
             lowers = λ more h. omega (arith, lowers_after c more h, long);
-            suffices = λ h. absurd (short h);
-            enough = λ n k h e f. absurd (short (omega (arith, room-answer query before (length source) n k h e)));
-          },
-          contents_now scalars stepped_is,
-        )
-
-    pub replaces_end : DecoderCall form now (drop read source) last left after InputEmpty count scalars →
-        (written : List ℕ) × ReplacingDecoderCall form before source last free after coder.InputEmpty (read + count) written found × (stepped ≡ old ++ written)
-    replaces_end c =
-        let units = all_code_units form scalars in
-        let long = length-append r.written units in
-        let done = c.input_empty refl in
-        let all : read + count ≡ length source = omega (arith, done.0, r.within, length-drop read source) in (
-          r.written ++ units,
-          record {
-            within = within_after c;
-            fits = omega (arith, r.fits, c.fits, long);
-            passed = r.passed + c.passed;
-            out = out_after count scalars InputEmpty;
-            progress = progress_after c;
-            allowed = c.allowed;
-            scalar = scalar_after c;
-            text = end_text count scalars InputEmpty refl;
-            found_is = found_is_after count scalars InputEmpty;
-            input_empty = λ _. (all, done.1, done.2);
-            output_full = λ e. cc;
-            full_at_once = λ h. let never : InputEmpty ≡ OutputFull = (full_so c h).0 in cc;
-            lowers = λ more h. omega (arith, lowers_after c more h, long);
-            suffices = λ _. refl;
-            enough = λ n k h e f. refl;
+            suffices = wide;
+            enough = λ n k h e f. wide (omega (arith, room-answer query before (length source) n k h e));
           },
           contents_now scalars stepped_is,
         )

@@ -172,8 +172,7 @@ pub fn encode_replacing_utf8<E: RawEncoder>(
 {
     let mut source = Utf8Source::new(src);
     let (answer, written, replaced) = encode_replacing(encoder, &mut source, dst, last);
-    let read = source.consumed();
-    (answer, read, written, replaced)
+    (answer, source.consumed(), written, replaced)
 }
 
 /// Encodes text in UTF-16, with a numeric character reference for each unmappable scalar.
@@ -196,6 +195,5 @@ pub fn encode_replacing_utf16<E: RawEncoder>(
 {
     let mut source = Utf16Source::new(src);
     let (answer, written, replaced) = encode_replacing(encoder, &mut source, dst, last);
-    let read = source.consumed();
-    (answer, read, written, replaced)
+    (answer, source.consumed(), written, replaced)
 }

@@ -35,7 +35,9 @@ pub use legacy_standard::{decoders_are_the_standards, encoders_are_the_standards
 pub fn runs_are_the_standards()
     ensures decoders { RunsAreDecodedByHandlers }
     ensures encoders { RunsAreEncodedByHandlers }
-{}
+{
+    // A finished run returns all events of its input, and the handlers give the same ones.
+}
 
 /// Shows that a length queried of a decoder for all bytes to come suffices for all calls over them.
 ///
@@ -47,7 +49,9 @@ pub fn queried_length_suffices()
     ensures utf16 { QueriedLengthSuffices to_utf16 }
     ensures utf8 { QueriedLengthSuffices to_utf8 }
     ensures utf8_without_replacement { QueriedLengthSuffices to_utf8_without_replacement }
-{}
+{
+    // Each call lowers the room that the rest needs by at least what it writes.
+}
 
 /// Shows that two finished runs over the same bytes return the same events.
 ///
@@ -56,7 +60,9 @@ pub fn queried_length_suffices()
 /// malformed sequences in the same order. No place and no length depends on the cuts.
 pub fn cuts_do_not_matter()
     ensures { CutsDoNotMatter }
-{}
+{
+    // The events of a finished run are those of the grammar for all its bytes together.
+}
 
 /// Shows that a length queried of an encoder for all code units to come suffices for all calls.
 ///
@@ -67,7 +73,9 @@ pub fn cuts_do_not_matter()
 pub fn encode_queried_length_suffices()
     ensures from_utf16 { EncodeQueriedLengthSuffices Utf16 }
     ensures from_utf8 { EncodeQueriedLengthSuffices Utf8 }
-{}
+{
+    // Each byte that a call writes lowers the room that the rest of the text needs.
+}
 
 /// Shows that two finished runs over the same scalars return the same events.
 ///
@@ -76,7 +84,9 @@ pub fn encode_queried_length_suffices()
 /// runs are finished, they return the same bytes and the same unmappable scalars in the same order.
 pub fn encode_cuts_do_not_matter()
     ensures { EncodeCutsDoNotMatter }
-{}
+{
+    // The events of a finished run are those of the codec for all its scalars together.
+}
 
 /// Shows that an encoded text decodes to the same text.
 ///
@@ -101,7 +111,9 @@ pub fn round_trips()
     ensures escapes { EscapesAreInPlace }
     ensures written { RunsEncode }
     ensures runs { RunsRoundTrip }
-{}
+{
+    // The code of a scalar that is no fold is read as that scalar, whatever comes after it.
+}
 
 /// Shows that an encoded text decodes to a text that is encoded as the same bytes.
 ///
@@ -121,7 +133,9 @@ pub fn reencodes_to_the_same()
     ensures texts { ReencodesToTheSame }
     ensures any_text { ReencodesAnyText }
     ensures runs { RunsReencodeToTheSame }
-{}
+{
+    // The decoded text is the text itself, or has scalars with the same codes.
+}
 
 /// Shows that the output of an encoder is well formed.
 ///
@@ -143,4 +157,6 @@ pub fn encodes_well_formed()
     ensures texts { EncodesWellFormed }
     ensures escapes { EscapesStayApart }
     ensures runs { RunsEncodeWellFormed }
-{}
+{
+    // An unmappable scalar leaves no bytes, so what is read are the codes of the others.
+}

@@ -1,9 +1,10 @@
 //! The malformed sequences of an input, with their places.
-ghost use Rattle.std.specs.Prelude.{◌≡◌, ◌↔◌, ◌+◌, ◌-◌, ◌≤◌, ◌++◌, length, drop, Err, IfOk, None};
+ghost use Rattle.std.specs.Prelude.{◌≡◌, ◌↔◌, ◌+◌, ◌-◌, ◌++◌, length, Err, IfOk, None};
 ghost use Rattle.legacy_base.specs.Grammar.{events_of};
 ghost use Rattle.legacy_base.specs.Lengths.{query_answer, to_utf8_without_replacement};
 ghost use Rattle.legacy_codecs.specs.MalformedSequences.{malformed_of};
 
+use crate::replacing::rest_of;
 use crate::whole::SizedError;
 use legacy_base::{DecoderResult, RawDecoder};
 use std::alloc::Global;
@@ -27,14 +28,6 @@ fn sequence_at(read: usize, length: u8, back: u8) -> MalformedSequence
         place: read.saturating_sub(behind),
         length: usize::from(length),
     }
-}
-
-/// Returns the bytes after the first `count`.
-fn behind(bytes: &[u8], count: usize) -> &[u8]
-    requires { count ≤ length bytes.now }
-    ensures { result.now ≡ drop count bytes.now }
-{
-    &bytes[count..]
 }
 
 /// Finds every malformed sequence of a whole input, in order.
@@ -74,7 +67,7 @@ pub fn malformed_sequences<D: RawDecoder>(
         let DecoderResult::Malformed(length, back) = answer else {
             return Ok(found);
         };
-        rest = behind(rest, count);
+        rest = rest_of(rest, count);
         read += count;
         let Ok(()) = found.push(sequence_at(read, length, back)) else {
             return Err(SizedError::Memory);

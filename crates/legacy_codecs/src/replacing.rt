@@ -8,7 +8,7 @@ use legacy_base::{DecoderResult, Destination, RawDecoder, Utf8Destination, Utf16
 
 /// Returns the bytes from the offset on.
 #[inline]
-fn rest_of(bytes: &[u8], offset: usize) -> &[u8]
+pub(crate) fn rest_of(bytes: &[u8], offset: usize) -> &[u8]
     requires { offset ≤ length bytes.now }
     ensures { result.now ≡ drop offset bytes.now }
 {
@@ -95,8 +95,7 @@ pub fn decode_replacing_utf8<D: RawDecoder>(
 {
     let mut destination = Utf8Destination::new(dst);
     let (answer, read, replaced) = decode_replacing(decoder, src, &mut destination, last);
-    let written = destination.written();
-    (answer, read, written, replaced)
+    (answer, read, destination.written(), replaced)
 }
 
 /// Decodes bytes to UTF-16, with U+FFFD for each malformed sequence.
@@ -117,6 +116,5 @@ pub fn decode_replacing_utf16<D: RawDecoder>(
 {
     let mut destination = Utf16Destination::new(dst);
     let (answer, read, replaced) = decode_replacing(decoder, src, &mut destination, last);
-    let written = destination.written();
-    (answer, read, written, replaced)
+    (answer, read, destination.written(), replaced)
 }

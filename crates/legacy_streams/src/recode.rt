@@ -53,10 +53,9 @@ fn lines_of_one_call<D: RawDecoder>(
     unread: &[u8],
     last: bool,
     total: usize,
-    batch: &mut [u16],
+    batch: &mut [u16; BATCH],
     lines: &mut LineBuffer,
 ) -> (DecoderResult, usize)
-    requires batch { length batch.old ≡ BATCH }
     requires room { CALL_LINES ≤ line_room lines.old }
     requires total { total + length unread.now < 2 ^ 64 }
     ensures { (given : List ℕ)
@@ -106,11 +105,10 @@ fn recode_piece<D: RawDecoder, W: Write>(
     piece: &[u8],
     last: bool,
     total: usize,
-    batch: &mut [u16],
+    batch: &mut [u16; BATCH],
     lines: &mut LineBuffer,
     output: &mut W,
 ) -> io::Result<()>
-    requires batch { length batch.old ≡ BATCH }
     requires empty { line_bytes lines.old ≡ [] }
     requires total { total + length piece.now < 2 ^ 64 }
     ensures piece { OnOk result (RecodesPiece

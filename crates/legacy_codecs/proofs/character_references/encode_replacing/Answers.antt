@@ -2,8 +2,9 @@ use Rattle.std.proofs.Common.{◌≡◌, ◌∙◌, ℕ, ◌+◌, ◌-◌, ◌�
 use Rattle.std.proofs.lemmas.List.{length-take-le}
 use Rattle.legacy_base.specs.declared.results.EncoderResult.TheVariants.{OutputFull}
 use Rattle.legacy_codecs.specs.References.{reference}
-use Rattle.legacy_codecs.proofs.ReferencingCalls.{referencing_start, referencing_step, referencing_less, referencing_end, referencing_full, referencing_done}
-use Rattle.legacy_codecs.proofs.ReferencingCalls.{referencing_pending, nothing_reported, nothing_left}
+use Rattle.legacy_codecs.specs.declared.results.CoderResult.TheVariants as coder
+use Rattle.legacy_codecs.proofs.ReferencingCalls.{referencing_start, referencing_step, referencing_less, referencing_end, referencing_done, nothing_reported}
+use Rattle.legacy_codecs.proofs.ReferencingCalls.{nothing_left}
 use Rattle.legacy_codecs.proofs.character_references.encode_replacing.Goals as goal
 
 -- the room of a call after the bytes that are written
@@ -17,12 +18,12 @@ calls-init g c = grind (arith, referencing_start)
 pub returns-in-InputEmpty-clause-call : goal.returns-in-InputEmpty-clause-call
 returns-in-InputEmpty-clause-call g c =
     let call = c.encode_from-answer.ensures.call in
-    rw call.2 (referencing_end c.calls.invariant.calls (room_of c.calls.dst _ _ c.calls.invariant.within c.calls.auto.dst) (rw c.in-InputEmpty.is at call.1))
+    rw call.2 (referencing_end c.calls.invariant.calls (room_of c.calls.dst _ _ c.calls.invariant.within c.calls.auto.dst) coder.InputEmpty (rw c.in-InputEmpty.is at call.1))
 
 pub returns-in-OutputFull-clause-call : goal.returns-in-OutputFull-clause-call
 returns-in-OutputFull-clause-call g c =
     let call = c.encode_from-answer.ensures.call in
-    rw call.2 (referencing_full c.calls.invariant.calls (room_of c.calls.dst _ _ c.calls.invariant.within c.calls.auto.dst) (rw c.in-OutputFull.is at call.1))
+    rw call.2 (referencing_end c.calls.invariant.calls (room_of c.calls.dst _ _ c.calls.invariant.within c.calls.auto.dst) coder.OutputFull (rw c.in-OutputFull.is at call.1))
 
 pub calls-smaller : goal.calls-smaller
 calls-smaller g c =
@@ -55,7 +56,7 @@ pub returns-in-InputEmpty-0₀-clause-call : goal.returns-in-InputEmpty-0₀-cla
 returns-in-InputEmpty-0₀-clause-call g c =
     let long = length-take-le c.calls.written c.calls.dst c.calls.invariant.within in
     let one = rw c.in-InputEmpty-0₀.is at c.step.ensures.call in
-    referencing_done c.calls.invariant.calls (omega (arith, long, c.calls.auto.dst)) one
+    referencing_done c.calls.invariant.calls (omega (arith, long, c.calls.auto.dst)) coder.InputEmpty one
 
 pub returns-in-OutputFull-0₀ : goal.returns-in-OutputFull-0₀
 returns-in-OutputFull-0₀ g c =
@@ -66,7 +67,7 @@ returns-in-OutputFull-0₀ g c =
     elim c.in-OutputFull-0₀.is as (λ _. c.step.result.0 ≡ OutputFull) [ inl e ↦ e | inr w ↦ absurd (nothing_reported (rw w.1 at step)) ] in
     let one = rw full at c.step.ensures.call in
     record {
-      call = referencing_pending c.calls.invariant.calls (omega (arith, long, c.calls.auto.dst)) one;
+      call = referencing_done c.calls.invariant.calls (omega (arith, long, c.calls.auto.dst)) coder.OutputFull one;
       written = c.calls.invariant.within;
       passed = c.step.ensures.passed ∙ c.calls.invariant.passed;
     }

@@ -7,4 +7,4 @@ returns-clause-boundary g c =
     let call = rw (c.new-source.ensures.units, c.new-source.ensures.place) at c.encode_replacing-answer.ensures.call in
     let passed = rw (c.new-source.ensures.units, c.new-source.ensures.place) at c.encode_replacing-answer.ensures.passed in
     let cut = utf16_read c.args.src.now call.taken _ c.encode_replacing-answer.new.src.place (λ i. let f = c.type_inv.src i in omega arith) call.cut passed in
-    rw c.consumed-read.ensures (unit_boundary _ _ _ cut)
+    rw c.consumed.ensures (unit_boundary _ _ _ cut)

@@ -5,4 +5,4 @@ pub returns-clause-boundary : goal.returns-clause-boundary
 returns-clause-boundary g c =
     let call = rw (c.new-source.ensures.text, c.new-source.ensures.place) at c.encode_replacing-answer.ensures.call in
     let passed = rw (c.new-source.ensures.text, c.new-source.ensures.place) at c.encode_replacing-answer.ensures.passed in
-    rw c.consumed-read.ensures (utf8_read c.args.src.now call.taken _ c.encode_replacing-answer.new.src.place c.utf8.src call.cut passed).boundary
+    rw c.consumed.ensures (utf8_read c.args.src.now call.taken _ c.encode_replacing-answer.new.src.place c.utf8.src call.cut passed).boundary

@@ -17,7 +17,7 @@ pub calls-smaller : goal.calls-smaller
 calls-smaller g c =
     let call = c.decode_to_utf8_raw-answer.ensures.call in
     let one = rw (c.as_mut_slice.ensures.len, c.in-Malformed.is) at call.1 in
-    rw c.behind-rest.ensures (fault_less one)
+    rw c.rest_of-rest.ensures (fault_less one)
 
 pub calls-preserved : goal.calls-preserved
 calls-preserved g c =
@@ -26,4 +26,4 @@ calls-preserved g c =
     let step = finds_step c.calls.invariant one in
     let sequence = sequence_is c.sequence_at.result _ _ c.sequence_at.ensures.place c.sequence_at.ensures.length in
     let items = c.in-Ok-push.ensures.items ∙ ap (λ (s : MalformedSequence). c.calls.found.items ++ s ∷ []) sequence in
-    rw (c.behind-rest.ensures, items) step
+    rw (c.rest_of-rest.ensures, items) step
