@@ -1,5 +1,5 @@
 -- What a decoder writes, in one call and in conversions of a whole source.
-use Rattle.std.specs.Prelude.{◌≡◌, ℕ, ◌+◌, ◌-◌, ◌≤◌, List, [], length, drop, Bool, true, IsTrue, ◌⊎◌}
+use Rattle.std.specs.Prelude.{◌≡◌, ℕ, ◌-◌, ◌≤◌, List, [], length, drop, Bool, true, IsTrue, ◌⊎◌}
 use Rattle.legacy_text.specs.EncodingForm.{EncodingForm, all_code_units}
 use Rattle.legacy_base.specs.declared.results.DecodeEvent.{DecodeEvent}
 use Rattle.legacy_base.specs.Grammar.{events_of}
@@ -30,9 +30,8 @@ pub record Decodes (form : EncodingForm) (last : Bool) (before : DecoderState) (
     (read : ℕ) (written : List ℕ) : Type 0 where
   -- at most the source is read
   pub within : read ≤ length source
-  -- the number of bytes, of those held back and of the source, that are done with
+  -- the number of bytes, of those held back and of the source, that are done with, and their events
   pub passed : ℕ
-  -- the events of these bytes
   pub out : List DecodeEvent
   -- these, and then the events of what is left, are the grammar's events, whatever bytes follow; after a malformed
   -- sequence at the end of the input, only if the events with those bytes still begin so

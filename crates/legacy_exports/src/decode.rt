@@ -1,12 +1,12 @@
 //! The decoder of a codec.
 ghost use Rattle.std.specs.Prelude.{◌≡◌, ◌≤◌, ◌↔◌, length, take, option_map, IfNone, IfSome, IsSome};
-ghost use Rattle.legacy_exports.specs.AcceptedIndexes.{AreTaken, IsRefused};
+ghost use Rattle.legacy_exports.specs.AcceptedIndexes.{IsTaken};
 ghost use Rattle.legacy_encodings.specs.Coders.{decoder_of};
-ghost use Rattle.legacy_exports.specs.NewCoders.{HoldsOfNew, HoldsOverTables};
-ghost use Rattle.legacy_exports.specs.Decoding.{DecodesSource, ReturnsText};
+ghost use Rattle.legacy_exports.specs.NewCoders.{HoldsOfNew, HoldsByNumber};
+ghost use Rattle.legacy_exports.specs.Decoding.{DecodesSource};
 ghost use Rattle.legacy_exports.specs.Repeated.{Repeats, RepeatsFrom};
 
-use crate::calls::Calls;
+use crate::calls::DecoderCalls;
 use crate::codec::codec_of_number;
 use crate::indexes::{IndexSlices, RANGE_LIMIT, range_pairs, single_byte_table, tables_with};
 use crate::pieces::{Reading, decode_once};
@@ -15,7 +15,7 @@ use legacy_base::{RawDecoder, SingleByteTable, Tables};
 use legacy_encodings::{AnyDecoder, DecoderTask};
 use legacy_index_files::Codec;
 
-impl<C: Calls, U: CodeUnit> DecoderTask<U> for Reading<C, &[u8]> {
+impl<C: DecoderCalls<U>, U: CodeUnit> DecoderTask<U> for Reading<C, &[u8]> {
     ghost gives = { λ reading before after old new written. (written ≤ length new)
         × Repeats (DecodesSource U.form reading.source.now (length old)) before reading.times after
         (U.units (take written new)) };
@@ -34,7 +34,7 @@ impl<C: Calls, U: CodeUnit> DecoderTask<U> for Reading<C, &[u8]> {
 /// Decodes by the codec's decoder over these tables, and returns the units of the last time.
 ///
 /// Returns `None` if the codec is single-byte and `single_byte` is `None`.
-fn decode_over<'a, C: Calls, U: CodeUnit>(
+fn decode_over<'a, C: DecoderCalls<U>, U: CodeUnit>(
     codec: Codec,
     tables: &'a Tables<'a>,
     single_byte: Option<&'a SingleByteTable>,
@@ -53,22 +53,23 @@ fn decode_over<'a, C: Calls, U: CodeUnit>(
     Some(decoder.lend(reading, output))
 }
 
-/// Decodes by the codec's decoder, and returns the number of code units written the last time.
+/// Decodes by the codec of this number, and returns the number of code units written the last time.
 ///
-/// Returns `None` if the indexes are refused.
-pub fn decode<C: Calls, U: CodeUnit>(
-    codec: Codec,
+/// Returns `None` if no codec has the number or the indexes are refused.
+pub fn decode_by_number<C: DecoderCalls<U>, U: CodeUnit>(
+    number: u32,
     indexes: &IndexSlices,
     reading: Reading<C, &[u8]>,
     output: &mut [U],
 ) -> Option<usize>
     ensures units { IfSome result (λ written. written ≤ length output.new) }
-    ensures text { IfSome result (λ written. HoldsOverTables decoder_of codec indexes.now
+    ensures text { IfSome result (λ written. HoldsByNumber decoder_of number indexes.now
         (RepeatsFrom (DecodesSource U.form reading.entry.source.now (length output.old))
         reading.entry.times (U.units (take written output.new)))) }
     ensures unchanged { IfNone result (output.new ≡ output.old) }
-    ensures taken { IsSome result ↔ AreTaken codec indexes.now }
+    ensures taken { IsSome result ↔ IsTaken number indexes.now }
 {
+    let codec = codec_of_number(number)?;
     let range_count = indexes.ranges.len();
     if range_count > RANGE_LIMIT {
         return None;
@@ -77,23 +78,4 @@ pub fn decode<C: Calls, U: CodeUnit>(
     let tables = tables_with(indexes, &pairs[..range_count])?;
     let table = single_byte_table(indexes.single_byte);
     decode_over(codec, &tables, table.as_ref(), &reading, output)
-}
-
-/// Decodes by the codec of this number as `decode` does.
-///
-/// Returns `usize::MAX` if no codec has the number or the indexes are refused.
-pub fn decode_by_number<C: Calls, U: CodeUnit>(
-    number: u32,
-    indexes: &IndexSlices,
-    reading: Reading<C, &[u8]>,
-    output: &mut [U],
-) -> usize
-    ensures text { ReturnsText number indexes.now U.form reading.entry.source.now
-        reading.entry.times (length output.old) (U.units (take result output.new)) result }
-    ensures unchanged { IsRefused number indexes.now → output.new ≡ output.old }
-{
-    let Some(codec) = codec_of_number(number) else {
-        return usize::MAX;
-    };
-    decode(codec, indexes, reading, output).unwrap_or(usize::MAX)
 }

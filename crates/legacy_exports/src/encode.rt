@@ -1,13 +1,13 @@
 //! The encoder of a codec.
-ghost use Rattle.std.specs.Prelude.{◌≡◌, ◌≤◌, ◌↔◌, ⊤, length, true, take, option_map, IfNone, IfSome, IsSome};
+ghost use Rattle.std.specs.Prelude.{◌≡◌, ◌≤◌, ◌↔◌, length, true, take, option_map, IfNone, IfSome, IsSome};
 ghost use Rattle.legacy_index_files.specs.Encodings.{has_encoder};
-ghost use Rattle.legacy_exports.specs.AcceptedIndexes.{AreTakenToEncode, IsRefusedToEncode};
+ghost use Rattle.legacy_exports.specs.AcceptedIndexes.{IsTakenToEncode};
 ghost use Rattle.legacy_encodings.specs.Coders.{encoder_of};
-ghost use Rattle.legacy_exports.specs.NewCoders.{HoldsOfNew, HoldsOverTables};
-ghost use Rattle.legacy_exports.specs.Encoding.{EncodesText, ReturnsBytes};
+ghost use Rattle.legacy_exports.specs.NewCoders.{HoldsOfNew, HoldsByNumber};
+ghost use Rattle.legacy_exports.specs.Encoding.{EncodesText};
 ghost use Rattle.legacy_exports.specs.Repeated.{Repeats, RepeatsFrom};
 
-use crate::calls::{CallEnd, Calls};
+use crate::calls::{CallEnd, EncoderCalls};
 use crate::codec::codec_of_number;
 use crate::indexes::{IndexSlices, RANGE_LIMIT, range_pairs, single_byte_table, tables_with};
 use crate::pieces::Reading;
@@ -20,7 +20,7 @@ use legacy_index_files::Codec;
 ///
 /// It stops if the output is full.
 #[inline(always)]
-fn encode_once<C: Calls, T: Text, E: RawEncoder>(
+fn encode_once<C: EncoderCalls<T>, T: Text, E: RawEncoder>(
     encoder: &mut E,
     reading: &Reading<C, T>,
     output: &mut [u8],
@@ -30,9 +30,8 @@ fn encode_once<C: Calls, T: Text, E: RawEncoder>(
     ensures within { result ≤ length output.new }
 {
     let mut written = 0;
-    let (mut unread, mut later) = reading.source.cut(reading.piece);
+    let (mut unread, mut later, mut last) = reading.source.cut(reading.piece);
     'pieces: loop {
-        let last = later.is_over();
         let (answer, left, bytes) = reading
             .calls
             .encode(encoder, unread, &mut output[written..], last);
@@ -43,7 +42,7 @@ fn encode_once<C: Calls, T: Text, E: RawEncoder>(
                 if last {
                     return written;
                 }
-                (unread, later) = later.cut(reading.piece);
+                (unread, later, last) = later.cut(reading.piece);
             }
             CallEnd::Full => return written,
             CallEnd::Replaced => {}
@@ -51,7 +50,7 @@ fn encode_once<C: Calls, T: Text, E: RawEncoder>(
     }
 }
 
-impl<C: Calls, T: Text> EncoderTask for Reading<C, T> {
+impl<C: EncoderCalls<T>, T: Text> EncoderTask for Reading<C, T> {
     ghost gives = { λ reading before after old new written. (written ≤ length new)
         × Repeats (EncodesText C.kind (T.scalars reading.source) (length old)) before reading.times
         after (take written new) };
@@ -71,7 +70,7 @@ impl<C: Calls, T: Text> EncoderTask for Reading<C, T> {
 ///
 /// Returns `None` if the codec has no encoder, or is single-byte and `single_byte` is `None`. An
 /// encoder of pairs caches them in the room if it is long enough.
-fn encode_over<'a, C: Calls, T: Text>(
+fn encode_over<'a, C: EncoderCalls<T>, T: Text>(
     codec: Codec,
     tables: &'a Tables<'a>,
     single_byte: Option<&'a SingleByteTable>,
@@ -95,24 +94,25 @@ fn encode_over<'a, C: Calls, T: Text>(
     Some(encoder.lend(reading, output))
 }
 
-/// Encodes by the codec's encoder, and returns the number of bytes written the last time.
+/// Encodes by the codec of this number, and returns the number of bytes written the last time.
 ///
-/// Returns `None` if the codec has no encoder or the indexes are refused. An encoder of pairs lists
-/// them in `room` if it is long enough.
-pub fn encode<C: Calls, T: Text>(
-    codec: Codec,
+/// Returns `None` if no codec with an encoder has the number or the indexes are refused. An encoder
+/// of pairs lists them in `room` if it is long enough.
+pub fn encode_by_number<C: EncoderCalls<T>, T: Text>(
+    number: u32,
     indexes: &IndexSlices,
     reading: Reading<C, T>,
     output: &mut [u8],
     room: &mut [u16],
 ) -> Option<usize>
     ensures units { IfSome result (λ written. written ≤ length output.new) }
-    ensures bytes { IfSome result (λ written. HoldsOverTables encoder_of codec indexes.now
+    ensures bytes { IfSome result (λ written. HoldsByNumber encoder_of number indexes.now
         (RepeatsFrom (EncodesText C.kind (T.scalars reading.source) (length output.old))
         reading.times (take written output.new))) }
     ensures unchanged { IfNone result (output.new ≡ output.old) }
-    ensures taken { IsSome result ↔ AreTakenToEncode codec indexes.now }
+    ensures taken { IsSome result ↔ IsTakenToEncode number indexes.now }
 {
+    let codec = codec_of_number(number)?;
     let range_count = indexes.ranges.len();
     if range_count > RANGE_LIMIT {
         return None;
@@ -121,24 +121,4 @@ pub fn encode<C: Calls, T: Text>(
     let tables = tables_with(indexes, &pairs[..range_count])?;
     let table = single_byte_table(indexes.single_byte);
     encode_over(codec, &tables, table.as_ref(), &reading, output, room)
-}
-
-/// Encodes by the codec of this number as `encode` does.
-///
-/// Returns `usize::MAX` if no codec with an encoder has the number or the indexes are refused.
-pub fn encode_by_number<C: Calls, T: Text>(
-    number: u32,
-    indexes: &IndexSlices,
-    reading: Reading<C, T>,
-    output: &mut [u8],
-    room: &mut [u16],
-) -> usize
-    ensures bytes { ReturnsBytes ⊤ number indexes.now C.kind (T.scalars reading.source)
-        reading.times (length output.old) (take result output.new) result }
-    ensures unchanged { IsRefusedToEncode number indexes.now → output.new ≡ output.old }
-{
-    let Some(codec) = codec_of_number(number) else {
-        return usize::MAX;
-    };
-    encode(codec, indexes, reading, output, room).unwrap_or(usize::MAX)
 }

@@ -52,7 +52,7 @@ pub extern "C" fn legacy_decode_to_utf8(
     ensures unchanged { IsRefused codec indexes.now → output.new ≡ output.old }
 {
     let reading = Reading::new(Raw, source, piece, times);
-    decode_by_number(codec, indexes, reading, output)
+    decode_by_number(codec, indexes, reading, output).unwrap_or(usize::MAX)
 }
 
 /// Decodes the source to UTF-16 by the codec of this number.
@@ -70,7 +70,7 @@ pub extern "C" fn legacy_decode_to_utf16(
     ensures unchanged { IsRefused codec indexes.now → output.new ≡ output.old }
 {
     let reading = Reading::new(Raw, source, piece, times);
-    decode_by_number(codec, indexes, reading, output)
+    decode_by_number(codec, indexes, reading, output).unwrap_or(usize::MAX)
 }
 
 /// Encodes the source, a text in UTF-8, by the codec of this number.
@@ -95,7 +95,7 @@ pub extern "C" fn legacy_encode_from_utf8(
         return usize::MAX;
     };
     let reading = Reading::new(Raw, text, piece, times);
-    encode_by_number(codec, indexes, reading, output, room)
+    encode_by_number(codec, indexes, reading, output, room).unwrap_or(usize::MAX)
 }
 
 /// Encodes the source, a text in UTF-16, by the codec of this number.
@@ -116,7 +116,7 @@ pub extern "C" fn legacy_encode_from_utf16(
     ensures unchanged { IsRefusedToEncode codec indexes.now → output.new ≡ output.old }
 {
     let reading = Reading::new(Raw, source, piece, times);
-    encode_by_number(codec, indexes, reading, output, room)
+    encode_by_number(codec, indexes, reading, output, room).unwrap_or(usize::MAX)
 }
 
 /// Decodes the source to UTF-8 by the codec of this number, by calls with replacement.
@@ -134,7 +134,7 @@ pub extern "C" fn legacy_decode_replacing_to_utf8(
     ensures unchanged { IsRefused codec indexes.now → output.new ≡ output.old }
 {
     let reading = Reading::new(Replacing, source, piece, times);
-    decode_by_number(codec, indexes, reading, output)
+    decode_by_number(codec, indexes, reading, output).unwrap_or(usize::MAX)
 }
 
 /// Decodes the source to UTF-16 by the codec of this number, by calls with replacement.
@@ -152,7 +152,7 @@ pub extern "C" fn legacy_decode_replacing_to_utf16(
     ensures unchanged { IsRefused codec indexes.now → output.new ≡ output.old }
 {
     let reading = Reading::new(Replacing, source, piece, times);
-    decode_by_number(codec, indexes, reading, output)
+    decode_by_number(codec, indexes, reading, output).unwrap_or(usize::MAX)
 }
 
 /// Encodes the source, a text in UTF-8, by the codec of this number, by calls with replacement.
@@ -177,7 +177,7 @@ pub extern "C" fn legacy_encode_replacing_from_utf8(
         return usize::MAX;
     };
     let reading = Reading::new(Replacing, text, piece, times);
-    encode_by_number(codec, indexes, reading, output, room)
+    encode_by_number(codec, indexes, reading, output, room).unwrap_or(usize::MAX)
 }
 
 /// Encodes the source, a text in UTF-16, by the codec of this number, by calls with replacement.
@@ -198,5 +198,5 @@ pub extern "C" fn legacy_encode_replacing_from_utf16(
     ensures unchanged { IsRefusedToEncode codec indexes.now → output.new ≡ output.old }
 {
     let reading = Reading::new(Replacing, source, piece, times);
-    encode_by_number(codec, indexes, reading, output, room)
+    encode_by_number(codec, indexes, reading, output, room).unwrap_or(usize::MAX)
 }

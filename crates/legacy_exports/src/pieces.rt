@@ -2,13 +2,13 @@
 ghost use Rattle.std.specs.Prelude.{◌≡◌, ◌<◌, ◌≤◌, ◌+◌, ◌-◌, length, min, take};
 ghost use Rattle.legacy_exports.specs.Decoding.{DecodesSource};
 
-use crate::calls::{CallEnd, Calls};
+use crate::calls::{CallEnd, DecoderCalls};
 use crate::unit::CodeUnit;
 use legacy_base::RawDecoder;
 
 /// How a source is read: by which calls, in pieces of what length, and how often.
 #[derive(Clone, Copy)]
-pub struct Reading<C: Calls, S: Copy> {
+pub struct Reading<C: Copy, S: Copy> {
     /// The kind of calls.
     pub calls: C,
     /// The bytes of a decoder, or the text of an encoder.
@@ -19,7 +19,7 @@ pub struct Reading<C: Calls, S: Copy> {
     pub times: usize,
 }
 
-impl<C: Calls, S: Copy> Reading<C, S> {
+impl<C: Copy, S: Copy> Reading<C, S> {
     /// Reads the source by these calls, in pieces of this length, and this number of times.
     pub fn new(calls: C, source: S, piece: usize, times: usize) -> Reading<C, S>
         ensures { result ≡ record { calls = calls; source = source; piece = piece; times = times } }
@@ -53,7 +53,7 @@ pub fn piece_end(read: usize, len: usize, piece: usize) -> usize
 ///
 /// It stops if the output is full.
 #[inline(always)]
-pub fn decode_once<C: Calls, U: CodeUnit, D: RawDecoder>(
+pub fn decode_once<C: DecoderCalls<U>, U: CodeUnit, D: RawDecoder>(
     decoder: &mut D,
     reading: &Reading<C, &[u8]>,
     output: &mut [U],

@@ -8,21 +8,21 @@ returns-then-last-clause-bytes g c =
     let i = c.pieces.invariant in
     let front = front_of_part c.pieces.written _ c.encode-answer.result.2 c.pieces.output c.encode-answer.new.output i.within c.encode-answer.ensures.written in
     let call = rw (c.in-Read.is, c.if-last.true) at c.encode-answer.ensures.call in
-    text_encoded _ i.encodes _ front _ call (c.is_over-last.ensures.0 c.if-last.true)
+    text_encoded _ i.encodes _ front _ call (i.is_over.0 c.if-last.true)
 
 pub pieces-preserved-in-Read : goal.pieces-preserved-in-Read
 pieces-preserved-in-Read g c =
     let i = c.pieces.invariant in
     let front = front_of_part c.pieces.written _ c.encode-answer.result.2 c.pieces.output c.encode-answer.new.output i.within c.encode-answer.ensures.written in
     let call = rw (c.in-Read.is, c.if-last.false) at c.encode-answer.ensures.call in
-    record { encodes = after_piece _ i.encodes _ front call _ c.cut.ensures.parts; within = search rules }
+    record { encodes = after_piece _ i.encodes _ front call _ c.cut.ensures.parts; within = search rules; is_over = c.cut.ensures.is_over }
 
 pub returns-in-Full-clause-bytes : goal.returns-in-Full-clause-bytes
 returns-in-Full-clause-bytes g c =
     let i = c.pieces.invariant in
     let front = front_of_part c.pieces.written _ c.encode-answer.result.2 c.pieces.output c.encode-answer.new.output i.within c.encode-answer.ensures.written in
     let call = rw c.in-Full.is at c.encode-answer.ensures.call in
-    text_full _ i.encodes _ front _ call c.is_over-last.ensures.0
+    text_full _ i.encodes _ front _ call i.is_over.0
     (free_after (λ xs. xs) (λ xs. refl) c.pieces.written _ c.pieces.output i.within c.pieces.auto.output)
 
 pub pieces-preserved : goal.pieces-preserved
@@ -30,4 +30,4 @@ pieces-preserved g c =
     let i = c.pieces.invariant in
     let front = front_of_part c.pieces.written _ c.encode-answer.result.2 c.pieces.output c.encode-answer.new.output i.within c.encode-answer.ensures.written in
     let call = rw c.in-Replaced.is at c.encode-answer.ensures.call in
-    record { encodes = after_replaced _ i.encodes _ front call; within = search rules }
+    record { encodes = after_replaced _ i.encodes _ front call; within = search rules; is_over = i.is_over }

@@ -1,11 +1,11 @@
 use Rattle.std.proofs.Common.{◌≤◌, ◌∙◌, ◌-◌, refl, [], length, take, drop, arith, sym, ap, length-drop, length-take}
 use Rattle.legacy_text.specs.Texts.{unit_scalars}
-use Rattle.legacy_exports.proofs.TextCuts.{IsApart, apart, apart_after, unit_parts, no_units, no_piece, no_scalars}
-use Rattle.legacy_exports.proofs.source_texts.RefSliceU16Text.cut.Goals.{After-result-1, then-parts_pair, else-parts_pair}
+use Rattle.legacy_exports.proofs.TextCuts.{IsApart, apart, apart_after, unit_parts, units_over, no_units, no_piece, no_scalars}
+use Rattle.legacy_exports.proofs.source_texts.RefSliceU16Text.cut.Goals.{After-is_empty, then-parts_pair, else-parts_pair}
 use Rattle.legacy_exports.proofs.source_texts.RefSliceU16Text.cut.Goals as goal
 
 -- where the text is cut
-cut_at : (c : After-result-1) → IsApart c.args.self.now c.if-parts_pair.end × (c.if-parts_pair.end ≤ length c.args.self.now)
+cut_at : (c : After-is_empty) → IsApart c.args.self.now c.if-parts_pair.end × (c.if-parts_pair.end ≤ length c.args.self.now)
     × (c.piece_end-end.result ≤ c.if-parts_pair.end)
 cut_at c =
     let units = c.args.self.now in
@@ -37,3 +37,9 @@ returns-clause-whole c e =
     let cut = cut_at c in
     let rest = length-take (length units - end) (drop end units) in
     no_scalars (take (length units - end) (drop end units)) (omega (arith, cut.2, all, rest, length-drop end units))
+
+pub returns-clause-is_over : goal.returns-clause-is_over
+returns-clause-is_over c =
+    let units = c.args.self.now in
+    let end = c.if-parts_pair.end in
+    rw c.is_empty.ensures (units_over (take (length units - end) (drop end units)))

@@ -1,0 +1,12 @@
+use Rattle.legacy_exports.proofs.DecodingLaws.{raw_empty, raw_full, raw_malformed}
+use Rattle.legacy_exports.proofs.calls.replace_malformed.Goals as goal
+
+pub returns-in-InputEmpty-clause-call : goal.returns-in-InputEmpty-clause-call
+returns-in-InputEmpty-clause-call g c before source last after read call = raw_empty call.2 (rw c.in-InputEmpty.is at call.1)
+
+pub returns-in-OutputFull-clause-call : goal.returns-in-OutputFull-clause-call
+returns-in-OutputFull-clause-call g c before source last after read call = raw_full call.2 (rw c.in-OutputFull.is at call.1)
+
+pub returns-in-Some-clause-call : goal.returns-in-Some-clause-call
+returns-in-Some-clause-call g c before source last after read call =
+    raw_malformed _ call.2 c.in-Some.ensures.text (rw c.in-Malformed.is at call.1)
