@@ -23,6 +23,8 @@ pub(crate) enum EncoderRow<'a> {
     FromUtf8(&'a str, usize, bool, EncoderResult, usize, &'a [u8]),
     /// A call from UTF-16: the same, but code units are read.
     FromUtf16(&'a [u16], usize, bool, EncoderResult, usize, &'a [u8]),
+    /// A last call from UTF-8 with so few free bytes that it reads and writes nothing.
+    Full(&'a str, usize),
     /// The queried length for a number of bytes of UTF-8.
     Utf8Length(usize, Option<usize>),
     /// The queried length for a number of UTF-16 code units.
@@ -243,6 +245,10 @@ fn follow_call<E: RawEncoder>(rt: &impl Abort, place: Place, encoder: &mut E, ro
         EncoderRow::FromUtf16(units, room, last, answer, read, bytes) => (
             (Text::Utf16(*units), *room, *last, false),
             (*answer, *read, *bytes, false),
+        ),
+        EncoderRow::Full(text, room) => (
+            (Text::Utf8(*text), *room, true, false),
+            (EncoderResult::OutputFull, 0, [].as_slice(), false),
         ),
         EncoderRow::ReplacedFromUtf8(text, room, last, answer, read, bytes, replaced) => (
             (Text::Utf8(*text), *room, *last, true),

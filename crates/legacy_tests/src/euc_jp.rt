@@ -2,13 +2,12 @@
 pub(crate) mod encoder;
 
 use crate::codecs::DecoderCase;
-use crate::events::bad;
 use crate::indexes::{EMPTY, Flat, flat};
 use crate::rows::Row;
 use crate::rows::Row::{
-    BareLength, Cut, Decoder, Events, Lengths, Neutral, ToUtf8, ToUtf16, Utf8Length, Utf16Length,
+    BareLength, Cut, Decoder, Events, FullUtf8, Lengths, Neutral, ToUtf8, ToUtf16, Utf8Length,
+    Utf16Length,
 };
-use legacy_base::DecodeEvent::Scalar;
 use legacy_base::DecoderResult::{InputEmpty, Malformed, OutputFull};
 use legacy_index_files::Codec;
 
@@ -34,34 +33,24 @@ const WITHOUT_ENTRIES: &[Row] = &[
     Decoder("behind 8E stand A1 to DF, which are U+FF61 to U+FF9F, and behind 8F a lead"),
     Events(
         b"\x8E\xA1\x8E\xE0\x8F\x41\x8F\x80",
-        &[
-            Scalar('\u{FF61}'),
-            bad!(2, 2),
-            bad!(4, 1),
-            Scalar('A'),
-            bad!(6, 2),
-        ],
+        "\u{FF61}\u{FFFD}\u{FFFD}A\u{FFFD}",
+        &[(2, 2), (4, 1), (6, 2)],
     ),
-    Cut(b"\x8F\xA2\x41\x8F", &[bad!(0, 2), Scalar('A'), bad!(3, 1)]),
+    Cut(b"\x8F\xA2\x41\x8F", "\u{FFFD}A\u{FFFD}", &[(0, 2), (3, 1)]),
     Events(
         b"\x80\xA1\x7F\x8E\x30",
-        &[
-            bad!(0, 1),
-            bad!(1, 1),
-            Scalar('\u{7F}'),
-            bad!(3, 1),
-            Scalar('0'),
-        ],
+        "\u{FFFD}\u{FFFD}\u{7F}\u{FFFD}0",
+        &[(0, 1), (1, 1), (3, 1)],
     ),
     Decoder("a byte past ASCII needs three bytes or one unit"),
     ToUtf8(b"\x61\x8E", 3, false, OutputFull, 1, "a"),
     ToUtf16(b"\x8E", 0, false, OutputFull, 0, &[]),
     ToUtf16(b"\x8E", 1, false, InputEmpty, 1, &[]),
-    ToUtf8(b"\xA1", 2, true, OutputFull, 0, ""),
+    FullUtf8(b"\xA1", 2),
     ToUtf8(b"\xA1", 3, true, InputEmpty, 1, "\u{FF61}"),
     Decoder("a lead at the end is reported where there is room for U+FFFD"),
     ToUtf8(b"\xA1", 3, false, InputEmpty, 1, ""),
-    ToUtf8(b"", 2, true, OutputFull, 0, ""),
+    FullUtf8(b"", 2),
     ToUtf8(b"", 3, true, Malformed(1, 0), 0, ""),
 ];
 
@@ -76,7 +65,7 @@ const PAIRS: &[Row] = &[
         &[0x3000, 0xFF0D, 0x02D8, 0xFF9F],
     ),
     Decoder("what is encoded of U+2212 decodes to U+FF0D"),
-    Events(b"\xA1\xDD", &[Scalar('\u{FF0D}')]),
+    Events(b"\xA1\xDD", "\u{FF0D}", &[]),
     Decoder("a pointer that index jis0208 lacks"),
     ToUtf16(b"\xA2\xAF", 8, true, Malformed(2, 0), 2, &[]),
     Decoder("a pointer that index jis0212 lacks"),

@@ -2,21 +2,19 @@
 pub(crate) mod encoder;
 
 use crate::codecs::DecoderCase;
-use crate::events::bad;
 use crate::indexes::{Flat, flat};
 use crate::rows::Row;
 use crate::rows::Row::{
-    BareLength, Cut, Decoder, Events, Lengths, Neutral, ToUtf8, ToUtf16, Utf8Length, Utf16Length,
+    BareLength, Cut, Decoder, Events, HeldBack, Lengths, Neutral, OneMalformed, ToUtf8, ToUtf16,
+    Utf8Length, Utf16Length,
 };
-use legacy_base::DecodeEvent::Scalar;
 use legacy_base::DecoderResult::{InputEmpty, Malformed, OutputFull};
 use legacy_index_files::Codec;
 
 /// The rows with U+AC02 at pointer 0, and no other scalar.
 const ROWS: &[Row] = &[
     Decoder("a lead and a byte past ASCII without a scalar are malformed together"),
-    ToUtf8(b"\x81\xFF", 16, true, Malformed(2, 0), 2, ""),
-    Events(b"\x81\xFF", &[bad!(0, 2)]),
+    OneMalformed(b"\x81\xFF"),
     Decoder("a lead before an ASCII byte without a scalar is malformed alone"),
     ToUtf8(
         b"\x81\x41\x81\x5B",
@@ -27,26 +25,23 @@ const ROWS: &[Row] = &[
         "\u{AC02}",
     ),
     ToUtf8(b"\x5B", 16, true, InputEmpty, 1, "["),
-    Events(
-        b"\x81\x41\x81\x5B",
-        &[Scalar('\u{AC02}'), bad!(2, 1), Scalar('[')],
-    ),
+    Events(b"\x81\x41\x81\x5B", "\u{AC02}\u{FFFD}[", &[(2, 1)]),
     Decoder("a lead at the end is malformed"),
     Neutral(true),
-    ToUtf8(b"\x81", 16, false, InputEmpty, 1, ""),
+    HeldBack(b"\x81"),
     Neutral(false),
     ToUtf8(b"", 16, true, Malformed(1, 0), 0, ""),
     Neutral(true),
     ToUtf8(b"", 16, true, InputEmpty, 0, ""),
-    Events(b"\x81", &[bad!(0, 1)]),
-    Cut(b"\x81\x41\x81", &[Scalar('\u{AC02}'), bad!(2, 1)]),
+    Events(b"\x81", "\u{FFFD}", &[(0, 1)]),
+    Cut(b"\x81\x41\x81", "\u{AC02}\u{FFFD}", &[(2, 1)]),
     Decoder("a lead that is held back counts in the lengths"),
     Utf16Length(usize::MAX, Some(usize::MAX)),
     Utf16Length(5, Some(5)),
     BareLength(5, Some(10)),
     BareLength(usize::MAX, None),
     Utf8Length(5, Some(15)),
-    ToUtf8(b"\x81", 16, false, InputEmpty, 1, ""),
+    HeldBack(b"\x81"),
     Utf16Length(usize::MAX, None),
     Lengths(5, Some(6), Some(11), Some(18)),
     Decoder("a byte past ASCII needs three bytes or one unit, an ASCII byte one"),

@@ -43,6 +43,25 @@ impl Found {
     }
 }
 
+/// Returns the events of a text in which each U+FFFD is the next malformed sequence, given by its place and length.
+pub(crate) fn events_of(text: &str, malformed: &[(usize, usize)]) -> Found {
+    let mut found = Found::new();
+    let mut count = 0usize;
+    for scalar in text.chars() {
+        match malformed.get(count) {
+            Some((place, length)) if scalar == '\u{FFFD}' => {
+                found.push(bad!(*place, *length));
+                count = count.saturating_add(1);
+            }
+            _ => found.push(Scalar(scalar)),
+        }
+    }
+    for (place, length) in &malformed[count.min(malformed.len())..] {
+        found.push(bad!(*place, *length));
+    }
+    found
+}
+
 /// Returns the malformed sequence that a result reports after `seen` bytes were read.
 fn reported(answer: DecoderResult, seen: usize) -> Option<DecodeEvent> {
     match answer {

@@ -2,14 +2,13 @@
 pub(crate) mod encoder;
 
 use crate::codecs::DecoderCase;
-use crate::events::bad;
 use crate::gb18030::encoder::ROW_AND_ENTRY;
 use crate::indexes::{EMPTY, Flat, flat};
 use crate::rows::Row;
 use crate::rows::Row::{
-    Cut, Decoder, Events, Lengths, Neutral, Replaced, ToUtf8, ToUtf16, Utf8Length, Utf16Length,
+    Cut, Decoder, Events, FullUtf8, FullUtf16, Lengths, Neutral, Replaced, ToUtf8, ToUtf16,
+    Utf8Length, Utf16Length,
 };
-use legacy_base::DecodeEvent::Scalar;
 use legacy_base::DecoderResult::{InputEmpty, Malformed, OutputFull};
 use legacy_index_files::Codec;
 
@@ -22,16 +21,14 @@ const WITHOUT_ENTRIES: &[Row] = &[
     ToUtf8(b"\x00", 8, true, InputEmpty, 1, "\0"),
     Events(
         b"\xE3\x32\x9A\x00",
-        &[bad!(0, 1), Scalar('2'), bad!(2, 1), Scalar('\0')],
+        "\u{FFFD}2\u{FFFD}\0",
+        &[(0, 1), (2, 1)],
     ),
     Decoder("the lead behind a digit begins a form"),
     ToUtf8(b"\x81\x30\x82\x40", 8, true, Malformed(1, 2), 3, ""),
     ToUtf8(b"\x40", 8, true, Malformed(1, 0), 0, "0"),
     ToUtf8(b"\x40", 8, true, InputEmpty, 1, "@"),
-    Events(
-        b"\x81\x30\x82\x40",
-        &[bad!(0, 1), Scalar('0'), bad!(2, 1), Scalar('@')],
-    ),
+    Events(b"\x81\x30\x82\x40", "\u{FFFD}0\u{FFFD}@", &[(0, 1), (2, 1)]),
     Decoder("a digit that was put back is written first"),
     ToUtf8(b"\x81\x30\x41", 8, true, Malformed(1, 1), 2, ""),
     Neutral(false),
@@ -39,7 +36,7 @@ const WITHOUT_ENTRIES: &[Row] = &[
     Neutral(true),
     Decoder("a digit that was put back waits for its room"),
     ToUtf8(b"\x81\x30\x41", 8, true, Malformed(1, 1), 2, ""),
-    ToUtf8(b"\x41", 3, true, OutputFull, 0, ""),
+    FullUtf8(b"\x41", 3),
     Neutral(false),
     Decoder("a digit is written also where no byte comes"),
     ToUtf16(b"\x81\x39\x41", 2, false, Malformed(1, 1), 2, &[]),
@@ -71,10 +68,10 @@ const WITHOUT_ENTRIES: &[Row] = &[
     Lengths(0, Some(4), Some(10), Some(10)),
     Decoder("a byte past ASCII needs four bytes or two units"),
     ToUtf8(b"\x61\x80", 4, true, OutputFull, 1, "a"),
-    ToUtf16(b"\x80", 1, true, OutputFull, 0, &[]),
+    FullUtf16(b"\x80", 1),
     ToUtf8(b"\x80", 4, true, InputEmpty, 1, "\u{20AC}"),
     ToUtf8(b"\x81\x30\x81", 4, false, InputEmpty, 3, ""),
-    ToUtf8(b"", 3, true, OutputFull, 0, ""),
+    FullUtf8(b"", 3),
     ToUtf8(b"", 4, true, Malformed(3, 0), 0, ""),
     Decoder("13 bytes, the length for 4, are enough with U+FFFD for each malformed sequence"),
     Utf8Length(4, Some(13)),
@@ -89,33 +86,28 @@ const WITHOUT_ENTRIES: &[Row] = &[
     ToUtf8(b"\x00", 10, true, Malformed(1, 0), 0, "2"),
     ToUtf8(b"\x00", 6, true, InputEmpty, 1, "\0"),
     Decoder("malformed forms"),
-    Events(b"\xE3\xFF\x9A\x33", &[bad!(0, 2), bad!(2, 2)]),
+    Events(b"\xE3\xFF\x9A\x33", "\u{FFFD}\u{FFFD}", &[(0, 2), (2, 2)]),
     Events(
         b"\xE3\xFF\x9A\x33\x00",
-        &[bad!(0, 2), bad!(2, 1), Scalar('3'), Scalar('\0')],
+        "\u{FFFD}\u{FFFD}3\0",
+        &[(0, 2), (2, 1)],
     ),
     Cut(
         b"\xE3\x32\x9A\x00\x81\x30\x81",
-        &[
-            bad!(0, 1),
-            Scalar('2'),
-            bad!(2, 1),
-            Scalar('\0'),
-            bad!(4, 3),
-        ],
+        "\u{FFFD}2\u{FFFD}\0\u{FFFD}",
+        &[(0, 1), (2, 1), (4, 3)],
     ),
-    Events(b"\xE3\x32\x9A\x36\x81\x30", &[bad!(0, 4), bad!(4, 2)]),
+    Events(
+        b"\xE3\x32\x9A\x36\x81\x30",
+        "\u{FFFD}\u{FFFD}",
+        &[(0, 4), (4, 2)],
+    ),
     Events(
         b"\xFF\x32\x9A\x33\x00",
-        &[
-            bad!(0, 1),
-            Scalar('2'),
-            bad!(2, 1),
-            Scalar('3'),
-            Scalar('\0'),
-        ],
+        "\u{FFFD}2\u{FFFD}3\0",
+        &[(0, 1), (2, 1)],
     ),
-    Events(b"\x80\x81", &[Scalar('\u{20AC}'), bad!(1, 1)]),
+    Events(b"\x80\x81", "\u{20AC}\u{FFFD}", &[(1, 1)]),
     Decoder("four bytes that are no form, and two at the end"),
     Replaced(b"\xE3\x32\x9A\x36\x81\x30", "\u{FFFD}\u{FFFD}"),
     Decoder("the digits behind a byte that is no lead stay"),
@@ -137,28 +129,14 @@ const PAIRS: &[Row] = &[
 /// The rows with the ranges from pointer 0 and U+0080, and from pointer 36 and U+00A5.
 const RANGES: &[Row] = &[
     Decoder("forms of four bytes go by the ranges"),
-    Events(
-        b"\x81\x30\x81\x30\x94\x39\xDA\x33",
-        &[Scalar('\u{80}'), Scalar('\u{1F4A9}')],
-    ),
+    Events(b"\x81\x30\x81\x30\x94\x39\xDA\x33", "\u{80}\u{1F4A9}", &[]),
     Decoder(
         "pointers 0, 1 and 36, U+1F4A9, the last scalar, the pointer behind it, and three bytes",
     ),
     Events(
         b"\x81\x30\x81\x30\x61\x81\x30\x81\x31\x81\x30\x84\x36\x94\x39\xDA\x33\x62\x63\xE3\x32\x9A\x35\xE3\x32\x9A\x36\x81\x30\x81\x30\x81\x30\x81",
-        &[
-            Scalar('\u{80}'),
-            Scalar('a'),
-            Scalar('\u{81}'),
-            Scalar('\u{A5}'),
-            Scalar('\u{1F4A9}'),
-            Scalar('b'),
-            Scalar('c'),
-            Scalar('\u{10FFFF}'),
-            bad!(23, 4),
-            Scalar('\u{80}'),
-            bad!(31, 3),
-        ],
+        "\u{80}a\u{81}\u{A5}\u{1F4A9}bc\u{10FFFF}\u{FFFD}\u{80}\u{FFFD}",
+        &[(23, 4), (31, 3)],
     ),
 ];
 

@@ -4,7 +4,7 @@
 use crate::codecs::Over;
 use crate::compared::{Place, is_answer, is_refusal};
 use crate::cuts::{byte_pieces, small_lengths, spaced};
-use crate::events::events;
+use crate::events::{bad, events, events_of};
 use crate::replacing::{follow_pieces, follow_text};
 use crate::units::{Call, Form, Output, Units};
 use legacy_base::{DecodeEvent, DecoderResult, RawDecoder};
@@ -24,6 +24,16 @@ pub(crate) enum Row<'a> {
     ToUtf8(&'a [u8], usize, bool, DecoderResult, usize, &'a str),
     /// A call into UTF-16: the same, but code units are free and written.
     ToUtf16(&'a [u8], usize, bool, DecoderResult, usize, &'a [u16]),
+    /// A call into UTF-8 with 16 free bytes that reads all these bytes, which are not the last, and writes nothing.
+    HeldBack(&'a [u8]),
+    /// A last call into UTF-8 with so few free bytes that it reads and writes nothing.
+    FullUtf8(&'a [u8], usize),
+    /// A last call into UTF-16: the same, but code units are free.
+    FullUtf16(&'a [u8], usize),
+    /// A last call into UTF-8 with 16 free bytes, to which all these bytes are one malformed sequence.
+    ///
+    /// It is also their only event.
+    OneMalformed(&'a [u8]),
     /// The queried length in UTF-16 for a number of bytes.
     Utf16Length(usize, Option<usize>),
     /// The queried length in UTF-8 for a number of bytes.
@@ -40,13 +50,16 @@ pub(crate) enum Row<'a> {
     Additional(usize),
     /// The events that new decoders find in these bytes by calls, in UTF-8 and in UTF-16.
     ///
+    /// They are the scalars of a text in which each U+FFFD is a malformed sequence, whose place and length follow.
     /// Calls get all bytes with large outputs, or one byte with the smallest output.
-    Events(&'a [u8], &'a [DecodeEvent]),
+    Events(&'a [u8], &'a str, &'a [(usize, usize)]),
+    /// The same events as a list.
+    EventList(&'a [u8], &'a [DecodeEvent]),
     /// The same events, and those that runs of new decoders find, in UTF-8 and in UTF-16.
     ///
     /// The outputs of the runs have 0 to 4 code units. The input comes whole, byte by byte, and with an empty
     /// piece after each. A run with five outputs of 0 finds none and ends before the input does.
-    Cut(&'a [u8], &'a [DecodeEvent]),
+    Cut(&'a [u8], &'a str, &'a [(usize, usize)]),
     /// A run into a form.
     ///
     /// It has the form, the pieces, the lengths of the outputs, the events, the number of calls, and whether
@@ -70,6 +83,13 @@ pub(crate) enum Row<'a> {
     /// Refused runs over a piece with one output of this length, in either form, and their error.
     RefusedRuns(&'a [u8], usize, &'a RunError),
 }
+
+/// The rows of any decoder for an empty input.
+pub(crate) const NO_INPUT: &[Row] = &[
+    Row::Decoder("empty input gives nothing"),
+    Row::ToUtf8(b"", 16, true, DecoderResult::InputEmpty, 0, ""),
+    Row::Events(b"", "", &[]),
+];
 
 /// Returns whether the decoder is in its neutral state, if it has that query.
 fn neutral(decoder: &AnyDecoder) -> Option<bool> {
@@ -95,6 +115,25 @@ fn additional(decoder: &AnyDecoder) -> Option<usize> {
 /// A call with or without replacement, and its wanted result, with whether something is replaced.
 type Called<'a> = (Call<'a>, bool, (DecoderResult, usize, Units<'a>, bool));
 
+/// Returns a call that reads and writes nothing, because its output is full.
+fn full<'a>(call: Call<'a>, nothing: Units<'a>) -> Called<'a> {
+    (call, false, (DecoderResult::OutputFull, 0, nothing, false))
+}
+
+/// Returns a call into UTF-8 with 16 free bytes that reads all these bytes and writes nothing.
+fn silent<'a>(source: &'a [u8], last: bool, answer: DecoderResult) -> Called<'a> {
+    let wanted = (answer, source.len(), Units::Utf8(b""), false);
+    ((source, 16, last), false, wanted)
+}
+
+/// Returns the result of a call to which all these bytes are one malformed sequence.
+fn malformed(bytes: &[u8]) -> DecoderResult {
+    match u8::try_from(bytes.len()) {
+        Ok(length) => DecoderResult::Malformed(length, 0),
+        Err(_) => DecoderResult::InputEmpty,
+    }
+}
+
 /// Returns the call of a row.
 fn call_of<'a>(row: &Row<'a>) -> Option<Called<'a>> {
     match row {
@@ -106,6 +145,10 @@ fn call_of<'a>(row: &Row<'a>) -> Option<Called<'a>> {
             let wanted = (*answer, *read, Units::Utf16(*units), false);
             Some(((*source, *room, *last), false, wanted))
         }
+        Row::HeldBack(source) => Some(silent(*source, false, DecoderResult::InputEmpty)),
+        Row::OneMalformed(source) => Some(silent(*source, true, malformed(*source))),
+        Row::FullUtf8(source, room) => Some(full((*source, *room, true), Units::Utf8(b""))),
+        Row::FullUtf16(source, room) => Some(full((*source, *room, true), Units::Utf16(&[]))),
         Row::ReplacedToUtf8(source, room, last, answer, read, text, replaced) => {
             let wanted = (*answer, *read, Units::Utf8(text.as_bytes()), *replaced);
             Some(((*source, *room, *last), true, wanted))
@@ -293,10 +336,19 @@ fn follow_run(
     row: &Row,
 ) {
     match row {
-        Row::Events(input, events) => finds_by_calls(rt, place, of, input, events),
-        Row::Cut(input, events) => {
-            finds_by_calls(rt, place, of, input, events);
-            finds_in_cuts(rt, place, of, input, events);
+        Row::EventList(input, events) => finds_by_calls(rt, place, of, input, events),
+        Row::OneMalformed(input) => {
+            let events = [bad!(0, input.len())];
+            finds_by_calls(rt, place, of, input, &events);
+        }
+        Row::Events(input, text, places) => {
+            let events = events_of(text, places);
+            finds_by_calls(rt, place, of, input, events.as_slice());
+        }
+        Row::Cut(input, text, places) => {
+            let events = events_of(text, places);
+            finds_by_calls(rt, place, of, input, events.as_slice());
+            finds_in_cuts(rt, place, of, input, events.as_slice());
         }
         Row::RunTo(form, pieces, lengths, events, calls, finished) => {
             let wanted = (*events, Some(*calls), *finished);

@@ -3,22 +3,24 @@ pub(crate) mod encoder;
 
 use crate::codecs::{DecoderCase, follow_each};
 use crate::compared::is_answer;
-use crate::events::{Found, bad};
+use crate::events::Found;
 use crate::indexes::{EMPTY, Flat, byte_table_of, entries_of, flat};
 use crate::rows::Row;
-use crate::rows::Row::{BareLength, Cut, Decoder, Events, ToUtf8, Utf8Length, Utf16Length};
+use crate::rows::Row::{
+    BareLength, Cut, Decoder, EventList, Events, FullUtf8, ToUtf8, Utf8Length, Utf16Length,
+};
 use legacy_base::DecodeEvent;
 use legacy_base::DecodeEvent::{Bad, Scalar};
-use legacy_base::DecoderResult::{InputEmpty, Malformed, OutputFull};
+use legacy_base::DecoderResult::{InputEmpty, Malformed};
 use legacy_decoders::SingleByteDecoder;
 use legacy_index_files::Codec;
 
 const WITHOUT_ENTRIES: &[Row] = &[
     Decoder("an ASCII byte needs one byte, any other three"),
     ToUtf8(b"\x41", 1, true, InputEmpty, 1, "A"),
-    ToUtf8(b"\x80", 2, true, OutputFull, 0, ""),
+    FullUtf8(b"\x80", 2),
     ToUtf8(b"\x80", 3, true, Malformed(1, 0), 1, ""),
-    Cut(b"\x41\x80", &[Scalar('A'), bad!(1, 1)]),
+    Cut(b"\x41\x80", "A\u{FFFD}", &[(1, 1)]),
     Decoder("the lengths are one unit and three bytes for each byte"),
     Utf16Length(usize::MAX, Some(usize::MAX)),
     Utf8Length(7, Some(21)),
@@ -38,13 +40,8 @@ const GREEK: &[Row] = &[
     ToUtf8(b"\xF4\xFC", 16, true, InputEmpty, 2, "\u{3C4}\u{3CC}"),
     Events(
         b"\xC1\xF5\xD2\xF4\xFC",
-        &[
-            Scalar('\u{391}'),
-            Scalar('\u{3C5}'),
-            bad!(2, 1),
-            Scalar('\u{3C4}'),
-            Scalar('\u{3CC}'),
-        ],
+        "\u{391}\u{3C5}\u{FFFD}\u{3C4}\u{3CC}",
+        &[(2, 1)],
     ),
 ];
 
@@ -108,7 +105,7 @@ fn decodes_words_of_letters_and_ascii(rt: HostRuntime) {
         events.push(event_of(place, *byte));
     }
     let letters = letters();
-    let rows = [Events(input, events.as_slice())];
+    let rows = [EventList(input, events.as_slice())];
     follow_each(
         &rt,
         &[(Codec::SingleByte, &flat!(single_byte: &letters), &rows)],

@@ -3,9 +3,8 @@ pub(crate) mod encoder;
 
 use crate::codecs::DecoderCase;
 use crate::indexes::EMPTY;
-use crate::rows::Row;
-use crate::rows::Row::{Cut, Decoder, Events, Lengths, ToUtf8, ToUtf16, Utf8Length};
-use legacy_base::DecodeEvent::Scalar;
+use crate::rows::Row::{Cut, Decoder, Events, FullUtf8, Lengths, ToUtf8, ToUtf16, Utf8Length};
+use crate::rows::{NO_INPUT, Row};
 use legacy_base::DecoderResult::{InputEmpty, OutputFull};
 use legacy_index_files::Codec;
 
@@ -27,23 +26,12 @@ const ROWS: &[Row] = &[
         3,
         &[0x61, 0xF780, 0xF7FF],
     ),
-    Cut(b"\x7F\x80", &[Scalar('\u{7F}'), Scalar('\u{F780}')]),
-    Events(b"\xFF\x00", &[Scalar('\u{F7FF}'), Scalar('\0')]),
-    Events(
-        b"\x61\x80\xC3\xFF\x62",
-        &[
-            Scalar('a'),
-            Scalar('\u{F780}'),
-            Scalar('\u{F7C3}'),
-            Scalar('\u{F7FF}'),
-            Scalar('b'),
-        ],
-    ),
-    Events(b"\xE4", &[Scalar('\u{F7E4}')]),
-    Decoder("empty input gives nothing"),
-    ToUtf8(b"", 16, true, InputEmpty, 0, ""),
+    Cut(b"\x7F\x80", "\u{7F}\u{F780}", &[]),
+    Events(b"\xFF\x00", "\u{F7FF}\0", &[]),
+    Events(b"\x61\x80\xC3\xFF\x62", "a\u{F780}\u{F7C3}\u{F7FF}b", &[]),
+    Events(b"\xE4", "\u{F7E4}", &[]),
     Decoder("a byte needs three bytes or one unit"),
-    ToUtf8(b"\x80", 2, true, OutputFull, 0, ""),
+    FullUtf8(b"\x80", 2),
     ToUtf8(b"\x80", 3, true, InputEmpty, 1, "\u{F780}"),
     Decoder("the lengths are one unit and three bytes for each byte"),
     Lengths(3, Some(3), Some(9), Some(9)),
@@ -88,4 +76,7 @@ const ROWS: &[Row] = &[
     ),
 ];
 
-pub(crate) const CASES: &[DecoderCase] = &[(Codec::UserDefined, EMPTY, ROWS)];
+pub(crate) const CASES: &[DecoderCase] = &[
+    (Codec::UserDefined, EMPTY, NO_INPUT),
+    (Codec::UserDefined, EMPTY, ROWS),
+];

@@ -4,8 +4,8 @@ use crate::events::{Found, bad};
 use crate::indexes::{EMPTY, fill};
 use crate::rows::Row;
 use crate::rows::Row::{
-    Additional, BareLength, Cut, Decoder, Events, Pieces, Replaced, ReplacedToUtf8, ToUtf8,
-    ToUtf16, Utf16Length,
+    Additional, BareLength, Cut, Decoder, EventList, Events, FullUtf16, HeldBack, OneMalformed,
+    Pieces, Replaced, ReplacedToUtf8, ToUtf8, ToUtf16, Utf16Length,
 };
 use legacy_base::DecodeEvent;
 use legacy_base::DecodeEvent::Scalar;
@@ -15,7 +15,7 @@ use std::process::Abort;
 
 const LITTLE_ENDIAN: &[Row] = &[
     Decoder("the unit behind a lone high surrogate is held back"),
-    ToUtf8(b"\x00\xD8", 16, false, InputEmpty, 2, ""),
+    HeldBack(b"\x00\xD8"),
     ToUtf8(
         b"\x00\x00\x00\x4E\x00\x4E",
         16,
@@ -48,26 +48,25 @@ const LITTLE_ENDIAN: &[Row] = &[
     ToUtf16(b"", 8, true, InputEmpty, 0, &[0x42]),
     Decoder("the unit held back waits for its room"),
     ToUtf16(b"\x3D\xD8\x42\x00", 8, true, Malformed(2, 2), 4, &[]),
-    ToUtf16(b"", 0, true, OutputFull, 0, &[]),
+    FullUtf16(b"", 0),
     Additional(3),
     Decoder("a high surrogate and an odd byte at the end are one malformed sequence"),
-    ToUtf8(b"\x3D\xD8\xA9", 16, true, Malformed(3, 0), 3, ""),
+    OneMalformed(b"\x3D\xD8\xA9"),
     Decoder("a high and a low surrogate are one scalar"),
     ToUtf8(b"\x3D\xD8\xA9\xDC", 16, true, InputEmpty, 4, "\u{1F4A9}"),
     Decoder("an odd byte adds one to the lengths, a unit held back two"),
     Additional(1),
-    ToUtf8(b"\x3D", 16, false, InputEmpty, 1, ""),
+    HeldBack(b"\x3D"),
     Additional(2),
-    ToUtf8(b"\xD8", 16, false, InputEmpty, 1, ""),
+    HeldBack(b"\xD8"),
     Additional(3),
-    ToUtf8(b"\xA9", 16, false, InputEmpty, 1, ""),
+    HeldBack(b"\xA9"),
     Additional(4),
     Decoder("an odd byte waits for the next call"),
-    ToUtf8(b"\xFF", 16, false, InputEmpty, 1, ""),
+    HeldBack(b"\xFF"),
     ToUtf8(b"\xFD", 16, true, InputEmpty, 1, "\u{FDFF}"),
     Decoder("an odd byte at the end is malformed"),
-    ToUtf8(b"\xFF", 16, true, Malformed(1, 0), 1, ""),
-    Events(b"\xFF", &[bad!(0, 1)]),
+    OneMalformed(b"\xFF"),
     Decoder("a run stops where a unit lacks the room of any scalar"),
     ToUtf16(
         b"\x41\x00\x42\x00\x43\x00\x44\x00\x45\x00\x46\x00",
@@ -80,20 +79,14 @@ const LITTLE_ENDIAN: &[Row] = &[
     Decoder("a surrogate without its other half is malformed"),
     Cut(
         b"\x00\xD8\x00\x00\x3D\xD8\xA9",
-        &[bad!(0, 2), Scalar('\0'), bad!(4, 3)],
+        "\u{FFFD}\0\u{FFFD}",
+        &[(0, 2), (4, 3)],
     ),
-    Events(
-        b"\x41\x00\x3D\xD8\x42\x00",
-        &[Scalar('A'), bad!(2, 2), Scalar('B')],
-    ),
+    Events(b"\x41\x00\x3D\xD8\x42\x00", "A\u{FFFD}B", &[(2, 2)]),
     Events(
         b"\x00\xD8\x00\x00\x00\x4E\x00\x4E",
-        &[
-            bad!(0, 2),
-            Scalar('\0'),
-            Scalar('\u{4E00}'),
-            Scalar('\u{4E00}'),
-        ],
+        "\u{FFFD}\0\u{4E00}\u{4E00}",
+        &[(0, 2)],
     ),
     Decoder("lone surrogates are replaced, also at the end"),
     Replaced(
@@ -112,12 +105,8 @@ const BIG_ENDIAN: &[Row] = &[
     ToUtf8(b"\xD8\x3D\xDC\xA9", 16, true, InputEmpty, 4, "\u{1F4A9}"),
     Events(
         b"\x00\x61\x00\xE4\x26\x03\xD8\x3D\xDC\xA9",
-        &[
-            Scalar('a'),
-            Scalar('\u{E4}'),
-            Scalar('\u{2603}'),
-            Scalar('\u{1F4A9}'),
-        ],
+        "a\u{E4}\u{2603}\u{1F4A9}",
+        &[],
     ),
     Decoder("the length in UTF-16 is one more than the units"),
     Utf16Length(usize::MAX - 1, Some(usize::MAX / 2 + 1)),
@@ -156,7 +145,7 @@ fn in_either_order(
         } else {
             Codec::Utf16Le
         };
-        follow_each(rt, &[(codec, EMPTY, &[Events(&bytes, events)])]);
+        follow_each(rt, &[(codec, EMPTY, &[EventList(&bytes, events)])]);
     }
 }
 

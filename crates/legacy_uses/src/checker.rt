@@ -14,9 +14,8 @@ pub fn is_well_formed(
     input: &[u8],
 ) -> Result<bool, RegistryError>
     ensures { MatchResult result
-        (λ is_so. IsChecked coders.now.tables.flat coders.now.single_bytes.now name.now input.now is_so)
-        (λ error. IsMailError coders.now.tables.flat coders.now.single_bytes.now name.now input.now
-        error) }
+        (λ is_so. IsChecked coders.now name.now input.now is_so)
+        (λ error. IsMailError coders.now name.now input.now error) }
 {
     let found = faults_of_message(alloc, coders, name, input)?;
     Ok(found.is_empty())

@@ -14,10 +14,8 @@ pub fn faults_of_message(
     message: &[u8],
 ) -> Result<Vec<MalformedSequence>, RegistryError>
     ensures { MatchResult result
-        (λ found. AreMalformedIn coders.now.tables.flat coders.now.single_bytes.now name.now message.now
-        found.items)
-        (λ error. IsMailError coders.now.tables.flat coders.now.single_bytes.now name.now message.now
-        error) }
+        (λ found. AreMalformedIn coders.now name.now message.now found.items)
+        (λ error. IsMailError coders.now name.now message.now error) }
 {
     let mut decoder = coders.decoder(name)?;
     Ok(malformed_sequences(alloc, &mut decoder, message)?)

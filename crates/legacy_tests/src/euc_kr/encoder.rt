@@ -3,7 +3,7 @@ use crate::ahead::{encode_ahead, pair_room};
 use crate::codecs::EncoderCase;
 use crate::encode_events::Wanted::{Bytes, Report};
 use crate::encoder_rows::EncoderRow;
-use crate::encoder_rows::EncoderRow::{Encoder, Encodes, FromUtf8, FromUtf16, Replaced};
+use crate::encoder_rows::EncoderRow::{Encoder, Encodes, FromUtf8, FromUtf16, Full, Replaced};
 use crate::euc_kr::ONE_ENTRY;
 use crate::indexes::{EMPTY, Filled, Flat, flat, tables_of};
 use crate::pairs;
@@ -24,7 +24,7 @@ const ROWS: &[EncoderRow] = &[
     Encoder("a scalar past ASCII needs two bytes, an ASCII scalar one"),
     FromUtf8("a\u{AC02}", 2, true, OutputFull, 1, b"a"),
     FromUtf8("\u{AC02}", 2, true, InputEmpty, 3, b"\x81\x41"),
-    FromUtf8("\u{AC03}", 1, true, OutputFull, 0, b""),
+    Full("\u{AC03}", 1),
     FromUtf8("\u{AC03}", 2, true, Unmappable('\u{AC03}'), 3, b""),
     FromUtf8("a", 1, true, InputEmpty, 1, b"a"),
     Encoder("an unpaired surrogate is U+FFFD"),

@@ -4,7 +4,7 @@ use crate::codecs::EncoderCase;
 use crate::encode_events::Wanted::{Bytes, Report};
 use crate::encoder_rows::EncoderRow;
 use crate::encoder_rows::EncoderRow::{
-    Encoder, Encodes, FromUtf8, FromUtf16, Utf8Length, Utf16Length,
+    Encoder, Encodes, FromUtf8, FromUtf16, Full, Utf8Length, Utf16Length,
 };
 use crate::indexes::{EMPTY, Filled, Flat, flat, tables_of};
 use legacy_base::EncoderResult::{InputEmpty, OutputFull, Unmappable};
@@ -27,7 +27,7 @@ const WITHOUT_ENTRIES: &[EncoderRow] = &[
     Encodes("\u{20AC}", &[Report('\u{20AC}')]),
     Encoder("a scalar past ASCII needs four bytes, an ASCII scalar one"),
     FromUtf8("a\u{E843}", 4, true, OutputFull, 1, b"a"),
-    FromUtf8("\u{E843}", 3, true, OutputFull, 0, b""),
+    Full("\u{E843}", 3),
     FromUtf8("\u{E843}", 4, true, InputEmpty, 3, b"\xFE\x7E"),
     Encoder("the lengths are four bytes for a unit, and two for a byte and two more"),
     Utf16Length(5, Some(20)),
@@ -46,7 +46,7 @@ const GBK_WITHOUT_ENTRIES: &[EncoderRow] = &[
     Encodes("\u{E843}", &[Bytes(b"\xFE\x7E")]),
     Encodes("\u{E5E5}", &[Report('\u{E5E5}')]),
     Encoder("a scalar past ASCII needs four bytes"),
-    FromUtf8("\u{20AC}", 3, true, OutputFull, 0, b""),
+    Full("\u{20AC}", 3),
     FromUtf8("\u{20AC}", 4, true, InputEmpty, 3, b"\x80"),
     Encoder(
         "the lengths are two bytes more than for two bytes a unit, and three more than the bytes",

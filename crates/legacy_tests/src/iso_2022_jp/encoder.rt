@@ -3,7 +3,7 @@ use crate::ahead::pair_room;
 use crate::codecs::{EncoderCase, follow_each};
 use crate::encode_events::Wanted::{Bytes, Report};
 use crate::encoder_rows::EncoderRow::{
-    Encoder, Encodes, FromUtf8, FromUtf16, Pending, Replaced, ReplacedFromUtf8, Utf8Length,
+    Encoder, Encodes, FromUtf8, FromUtf16, Full, Pending, Replaced, ReplacedFromUtf8, Utf8Length,
     Utf16Length,
 };
 use crate::encoder_rows::{EncoderRow, TestedEncoder, follow_encoder};
@@ -75,7 +75,7 @@ const WITHOUT_ENTRIES: &[EncoderRow] = &[
     Pending(true),
     FromUtf8("b", 64, false, InputEmpty, 1, b"b"),
     Pending(true),
-    FromUtf8("", 2, true, OutputFull, 0, b""),
+    Full("", 2),
     Pending(true),
     FromUtf8("", 3, true, InputEmpty, 0, b"\x1B(B"),
     Pending(false),
@@ -96,7 +96,7 @@ const WITHOUT_ENTRIES: &[EncoderRow] = &[
         &[Bytes(b"\x1B(J\x5C"), Report('\u{2212}'), Bytes(b"\x1B(B")],
     ),
     Encoder("each act needs three bytes"),
-    FromUtf8("a", 2, true, OutputFull, 0, b""),
+    Full("a", 2),
     FromUtf8("a\u{A5}", 3, true, OutputFull, 1, b"a"),
     FromUtf8("\u{A5}", 5, true, OutputFull, 0, b"\x1B(J"),
     Pending(true),
@@ -140,7 +140,7 @@ const PAIRS: &[EncoderRow] = &[
     ),
     Encoder("the escape before what has no bytes is an act of its own"),
     FromUtf8("\u{58FA}", 64, false, InputEmpty, 3, b"\x1B$BTd"),
-    FromUtf8("\u{1F4A9}", 2, true, OutputFull, 0, b""),
+    Full("\u{1F4A9}", 2),
     FromUtf8("\u{1F4A9}", 5, true, OutputFull, 0, b"\x1B(B"),
     Pending(false),
     FromUtf8("\u{1F4A9}", 3, true, Unmappable('\u{1F4A9}'), 4, b""),

@@ -2,10 +2,10 @@
 use crate::codecs::EncoderCase;
 use crate::encode_events::Wanted::{Bytes, Report};
 use crate::encoder_rows::EncoderRow;
-use crate::encoder_rows::EncoderRow::{Encoder, Encodes, FromUtf8};
+use crate::encoder_rows::EncoderRow::{Encoder, Encodes, FromUtf8, Full};
 use crate::indexes::{EMPTY, Flat, flat};
 use crate::pairs;
-use legacy_base::EncoderResult::{InputEmpty, OutputFull};
+use legacy_base::EncoderResult::InputEmpty;
 use legacy_index_files::Codec;
 
 const WITHOUT_ENTRIES: &[EncoderRow] = &[
@@ -13,16 +13,13 @@ const WITHOUT_ENTRIES: &[EncoderRow] = &[
     Encodes("\u{80}\u{FF9F}", &[Bytes(b"\x80\xDF")]),
     Encodes("\u{A5}\u{203E}\u{FF61}", &[Bytes(b"\x5C\x7E\xA1")]),
     Encoder("a scalar past ASCII needs two bytes"),
-    FromUtf8("\u{80}", 1, true, OutputFull, 0, b""),
+    Full("\u{80}", 1),
     FromUtf8("\u{80}", 2, true, InputEmpty, 2, b"\x80"),
 ];
 
-const MINUS: &[EncoderRow] = &[
+const WITH_ENTRIES: &[EncoderRow] = &[
     Encoder("the minus sign is written as U+FF0D"),
     Encodes("\u{2212}\u{FF0D}", &[Bytes(b"\x81\x7C\x81\x7C")]),
-];
-
-const DUPLICATE: &[EncoderRow] = &[
     Encoder("a pointer of the range that has duplicates is not written"),
     Encodes("\u{FF02}", &[Bytes(b"\xFA\x57")]),
 ];
@@ -32,9 +29,8 @@ const ONLY_THERE: &[EncoderRow] = &[
     Encodes("\u{FF02}", &[Report('\u{FF02}')]),
 ];
 
-const ONE_POINTER: &Flat = &flat!(jis0208: (11280, &[(60, 0xFF0D)]));
-
-const TWO_POINTERS: &Flat = &flat!(jis0208: (11280, &[(8647, 0xFF02), (10739, 0xFF02)]));
+/// U+FF0D, and U+FF02 at two pointers of which the second is used.
+const ENTRIES: &Flat = &flat!(jis0208: (11280, &[(60, 0xFF0D), (8647, 0xFF02), (10739, 0xFF02)]));
 
 const A_DUPLICATE: &Flat = &flat!(jis0208: (11280, &[(8647, 0xFF02)]));
 
@@ -42,7 +38,6 @@ pub(crate) const CASES: &[EncoderCase] = &[
     (Codec::ShiftJis, EMPTY, pairs::WITHOUT_ENTRIES),
     (Codec::ShiftJis, EMPTY, pairs::JAPANESE),
     (Codec::ShiftJis, EMPTY, WITHOUT_ENTRIES),
-    (Codec::ShiftJis, ONE_POINTER, MINUS),
-    (Codec::ShiftJis, TWO_POINTERS, DUPLICATE),
+    (Codec::ShiftJis, ENTRIES, WITH_ENTRIES),
     (Codec::ShiftJis, A_DUPLICATE, ONLY_THERE),
 ];

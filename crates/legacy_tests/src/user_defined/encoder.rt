@@ -3,7 +3,7 @@ use crate::codecs::EncoderCase;
 use crate::encode_events::Wanted::{Bytes, Report};
 use crate::encoder_rows::EncoderRow;
 use crate::encoder_rows::EncoderRow::{
-    Encoder, Encodes, FromUtf8, FromUtf16, Replaced, Utf8Length, Utf16Length,
+    Encoder, Encodes, FromUtf8, FromUtf16, Full, Replaced, Utf8Length, Utf16Length,
 };
 use crate::indexes::EMPTY;
 use crate::source_texts::Text;
@@ -40,7 +40,7 @@ const ROWS: &[EncoderRow] = &[
     ),
     Encoder("each scalar needs one byte, also one that is reported"),
     FromUtf8("a\u{F780}", 1, true, OutputFull, 1, b"a"),
-    FromUtf8("\u{80}", 0, true, OutputFull, 0, b""),
+    Full("\u{80}", 0),
     FromUtf8("\u{80}", 1, true, Unmappable('\u{80}'), 2, b""),
     FromUtf8("", 0, true, InputEmpty, 0, b""),
     Encoder("the lengths are one byte for each code unit"),
