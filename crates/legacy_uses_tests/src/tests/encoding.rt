@@ -2,13 +2,13 @@
 //! stream or memory fails.
 use crate::tests::programs::{
     Failure, JIS, JIS_FILE, KR_FILE, RANGES_FILE, Refused, Request, UNREAD, UNWRITTEN, USER,
-    answers, fails, lacks_memory, refuses, writes_once,
+    answers, fails, lacks_memory, writes_once,
 };
 use legacy_command::host::Program;
 
 const USAGE: &[u8] = b"usage: legacy_encode CODEC [INDEX FILE]...\n";
 
-const REQUESTS: &[Request] = &[
+pub(crate) const REQUESTS: &[Request] = &[
     // without files
     (USER, &[], b"", b""),
     (USER, &[], b"a\xEF\x9E\x80\xE3\x81\x82z", b"a\x80&#12354;z"),
@@ -42,25 +42,7 @@ const REQUESTS: &[Request] = &[
         b"\xE5\xA3\xBA\xC2\xA5A\xF0\x9F\x92\xA9",
         b"\x1B$BTd\x1B(J\\A&#128169;\x1B(B",
     ),
-    // A malformed sequence is U+FFFD. Each byte counts alone if it continues nothing, or is in an overlong form, a
-    // surrogate or a number past the last scalar. A beginning of a character counts once.
-    (USER, &[], b"x\x80y", b"x&#65533;y"),
-    (USER, &[], b"\xC0\xAF", b"&#65533;&#65533;"),
-    (USER, &[], b"\xE0\x80\xAF", b"&#65533;&#65533;&#65533;"),
-    (USER, &[], b"\xED\xA0\x80", b"&#65533;&#65533;&#65533;"),
-    (
-        USER,
-        &[],
-        b"\xF4\x90\x80\x80",
-        b"&#65533;&#65533;&#65533;&#65533;",
-    ),
-    (USER, &[], b"\xE3\x81a", b"&#65533;a"),
-    (USER, &[], b"\xF0\x9F\x92a", b"&#65533;a"),
-    (USER, &[], b"\xF0\x9F\xE3\x81\x82", b"&#65533;&#12354;"),
-    // So is a beginning of a character at the end of the input.
-    (USER, &[], b"a\xC2", b"a&#65533;"),
-    (USER, &[], b"a\xE3\x81", b"a&#65533;"),
-    (USER, &[], b"a\xF0\x9F\x92", b"a&#65533;"),
+    // A beginning of a character at the end of the input is U+FFFD.
     (
         JIS,
         JIS_FILE,
@@ -69,12 +51,32 @@ const REQUESTS: &[Request] = &[
     ),
 ];
 
+/// Inputs that are not UTF-8, and the bytes of x-user-defined with references.
+const MALFORMED: &[(&[u8], &[u8])] = &[
+    // A malformed sequence is U+FFFD. Each byte counts alone if it continues nothing, or is in an overlong form, a
+    // surrogate or a number past the last scalar. A beginning of a character counts once.
+    (b"x\x80y", b"x&#65533;y"),
+    (b"\xC0\xAF", b"&#65533;&#65533;"),
+    (b"\xE0\x80\xAF", b"&#65533;&#65533;&#65533;"),
+    (b"\xED\xA0\x80", b"&#65533;&#65533;&#65533;"),
+    (b"\xF4\x90\x80\x80", b"&#65533;&#65533;&#65533;&#65533;"),
+    (b"\xE3\x81a", b"&#65533;a"),
+    (b"\xF0\x9F\x92a", b"&#65533;a"),
+    (b"\xF0\x9F\xE3\x81\x82", b"&#65533;&#12354;"),
+    // A beginning of a character at the end of the input is U+FFFD too.
+    (b"a\xC2", b"a&#65533;"),
+    (b"a\xE3\x81", b"a&#65533;"),
+    (b"a\xF0\x9F\x92", b"a&#65533;"),
+];
+
 #[test]
-fn encodes_as_the_words_ask_however_the_input_is_cut(rt: HostRuntime) {
-    answers(&rt, Program::Encode, REQUESTS);
+fn writes_a_reference_for_each_malformed_sequence(rt: HostRuntime) {
+    for (input, output) in MALFORMED {
+        answers(&rt, Program::Encode, &[(USER, &[], *input, *output)]);
+    }
 }
 
-const REFUSED: &[Refused] = &[
+pub(crate) const REFUSED: &[Refused] = &[
     // Words that do not have the program's form are refused, and codecs without an encoder.
     ("", &[], 2, USAGE),
     ("latin", &[], 2, USAGE),
@@ -93,11 +95,6 @@ const REFUSED: &[Refused] = &[
         b"tables: single-byte entry 3 is bad\n",
     ),
 ];
-
-#[test]
-fn refuses_words_and_files_to_encode_by(rt: HostRuntime) {
-    refuses(&rt, Program::Encode, REFUSED);
-}
 
 // The text is read one byte at a time, and a write takes at most three bytes.
 const FAILURES: &[Failure] = &[

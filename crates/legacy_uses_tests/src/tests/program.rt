@@ -1,7 +1,7 @@
 //! The program: its statuses and texts, and its errors if a stream or memory fails or a word is not UTF-8 text.
 use crate::tests::programs::{
     Failure, JIS, JIS_FILE, KR_FILE, RANGES_FILE, Refused, Request, UNREAD, UNWRITTEN, USER,
-    answers, fails, lacks_memory, refuses,
+    answers, fails, lacks_memory,
 };
 use crate::tests::streams::{BYTES, TEXT};
 use legacy_command::arguments::{ArgumentsError, arguments, status_of};
@@ -31,7 +31,7 @@ fn tells_each_malformed_byte(rt: HostRuntime) -> Result<(), Fail> {
     Ok(())
 }
 
-const REQUESTS: &[Request] = &[
+pub(crate) const REQUESTS: &[Request] = &[
     // Without files.
     (USER, &[], BYTES, b"U+0061\nU+F780\nU+F7FF\n"),
     ("replacement", &[], b"AB", b"bad 0 1\n"),
@@ -121,14 +121,9 @@ const REQUESTS: &[Request] = &[
     ),
 ];
 
-#[test]
-fn recodes_as_the_words_ask(rt: HostRuntime) {
-    answers(&rt, Program::Recode, REQUESTS);
-}
-
 const TWO_FILES: &str = "euc-kr euc-kr KR single-byte SB";
 
-const REFUSED: &[Refused] = &[
+pub(crate) const REFUSED: &[Refused] = &[
     // The error says what is wrong with the files.
     (TWO_FILES, &[None, None], 1, b"KR: cannot be read\n"),
     (TWO_FILES, &[Some(b""), None], 1, b"SB: cannot be read\n"),
@@ -174,11 +169,6 @@ const REFUSED: &[Refused] = &[
     ("big5 big5 FILE big5 FILE", &[], 2, USAGE),
     ("big5 big5 FILE ranges FILE big5 FILE", &[], 2, USAGE),
 ];
-
-#[test]
-fn refuses_words_and_files(rt: HostRuntime) {
-    refuses(&rt, Program::Recode, REFUSED);
-}
 
 /// An environment with these words, of which the first is the program's name, and nothing else.
 #[derive(Drop)]

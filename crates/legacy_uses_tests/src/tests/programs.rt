@@ -2,6 +2,7 @@
 use crate::tests::compared::holds;
 use crate::tests::streams::{FailingReader, FailingWriter};
 use crate::tests::words::words_in;
+use crate::tests::{encoding, program};
 use legacy_command::host::{Program, run_program};
 use std::alloc::Global;
 use std::process::Abort;
@@ -116,10 +117,22 @@ pub(crate) fn answers(rt: &(impl AllocGlobal + Abort), program: Program, request
 }
 
 /// Asserts that the program refuses words and files, and writes nothing.
-pub(crate) fn refuses(rt: &(impl AllocGlobal + Abort), program: Program, refused: &[Refused]) {
+fn refuses(rt: &(impl AllocGlobal + Abort), program: Program, refused: &[Refused]) {
     for (line, files, status, error) in refused {
         is_so(rt, program, (*line, *files, b"A"), (*status, b"", *error));
     }
+}
+
+#[test]
+fn the_programs_do_as_the_words_ask_however_the_input_is_cut(rt: HostRuntime) {
+    answers(&rt, Program::Recode, program::REQUESTS);
+    answers(&rt, Program::Encode, encoding::REQUESTS);
+}
+
+#[test]
+fn the_programs_refuse_words_and_files(rt: HostRuntime) {
+    refuses(&rt, Program::Recode, program::REFUSED);
+    refuses(&rt, Program::Encode, encoding::REFUSED);
 }
 
 /// Asserts what the program returns and writes if streams fail.

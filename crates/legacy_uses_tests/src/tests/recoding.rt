@@ -5,6 +5,7 @@ use legacy_codecs::{EucKrDecoder, RawDecoder, Tables, UserDefinedDecoder, Utf16D
 use legacy_streams::recode::{RecodeError, recode};
 use legacy_streams::text::recode_text;
 use std::alloc::Global;
+use std::process::Abort;
 
 /// The result of recoding. Recoding to lines returns what text without a malformed sequence does.
 type Recoded = Result<bool, RecodeError>;
@@ -25,55 +26,10 @@ fn recodes(
     }
 }
 
-/// Checks the result of recoding, and what it wrote to a writer that fails after `writes` writes.
-fn gives(
-    alloc: Global,
-    is_text: bool,
-    decoder: &mut impl RawDecoder,
-    input: &mut FailingReader,
-    (most, writes): (usize, usize),
-    answer: &Recoded,
-    bytes: &[u8],
-) -> bool {
-    let mut output = FailingWriter {
-        written: Vec::new(alloc),
-        most,
-        writes,
-        flushes: true,
-    };
-    let found = recodes(is_text, decoder, input, &mut output);
-    found == *answer && output.written.as_slice() == bytes
-}
-
-/// Checks the result of recoding bytes of x-user-defined, and what it wrote.
-///
-/// Reads and writes have a greatest length, and fail after some of them.
-fn user_defined_gives(
-    alloc: Global,
-    is_text: bool,
-    bytes: &[u8],
-    (most, reads): (usize, usize),
-    written: (usize, usize),
-    answer: &Recoded,
-    wanted: &[u8],
-) -> bool {
-    let mut input = FailingReader { bytes, most, reads };
-    let mut decoder = UserDefinedDecoder::new();
-    gives(
-        alloc,
-        is_text,
-        &mut decoder,
-        &mut input,
-        written,
-        answer,
-        wanted,
-    )
-}
-
 /// A flag for text output, two pairs of limits, the result, and the output.
 ///
 /// The limits are bytes a read, and reads; and bytes a write, and writes.
-type Recoding = (bool, (usize, usize), (usize, usize), Recoded, &'static [u8]);
+type Recoding<'a> = (bool, (usize, usize), (usize, usize), Recoded, &'a [u8]);
 
 const READ: Recoded = Err(RecodeError::Read);
 
@@ -81,77 +37,107 @@ const WRITE: Recoded = Err(RecodeError::Write);
 
 const CLEAN: Recoded = Ok(false);
 
+/// Asserts the result of recoding the bytes, and what it writes.
+fn recodes_as(
+    rt: &(impl AllocGlobal + Abort),
+    decoder: &mut impl RawDecoder,
+    bytes: &[u8],
+    (is_text, read, written, answer, wanted): &Recoding,
+) {
+    let mut input = FailingReader {
+        bytes,
+        most: read.0,
+        reads: read.1,
+    };
+    let mut output = FailingWriter {
+        written: Vec::new(rt.alloc()),
+        most: written.0,
+        writes: written.1,
+        flushes: true,
+    };
+    let came = recodes(*is_text, decoder, &mut input, &mut output);
+    assert!(rt;
+        came == *answer && output.written.as_slice() == *wanted,
+        "{is_text} {read:?} {written:?}"
+    );
+}
+
+/// Asserts the result of recoding bytes of x-user-defined, and what it writes.
+fn recodes_user_defined(rt: &(impl AllocGlobal + Abort), bytes: &[u8], row: &Recoding) {
+    recodes_as(rt, &mut UserDefinedDecoder::new(), bytes, row);
+}
+
 /// The lines of the three bytes.
 const LINES: &[u8] = b"U+0061\nU+F780\nU+F7FF\n";
 
-// A read of all three bytes makes one piece, whose lines or text are written at once. A read of each byte makes three
-// pieces.
+/// Returns the whole text or all lines, up to a length.
+fn first(is_text: bool, length: usize) -> &'static [u8] {
+    let all = if is_text { TEXT } else { LINES };
+    &all[..length.min(all.len())]
+}
+
 const RECODINGS: &[Recoding] = &[
+    // A read of all three bytes makes one piece.
     (false, (9, 9), (99, 99), CLEAN, LINES),
-    // After a failed read the lines before it are kept.
-    (false, (1, 0), (99, 99), READ, b""),
-    (false, (1, 1), (99, 99), READ, b"U+0061\n"),
-    (false, (1, 2), (99, 99), READ, b"U+0061\nU+F780\n"),
-    (false, (1, 3), (99, 99), READ, LINES),
-    (false, (1, 4), (99, 99), CLEAN, LINES),
-    // After a failed write the bytes before it are kept: of one line after another, and of all three.
-    (false, (1, 4), (7, 0), WRITE, b""),
-    (false, (1, 4), (7, 1), WRITE, b"U+0061\n"),
-    (false, (1, 4), (7, 2), WRITE, b"U+0061\nU+F780\n"),
-    (false, (1, 4), (7, 3), CLEAN, LINES),
-    (false, (1, 4), (4, 1), WRITE, b"U+00"),
-    (false, (1, 4), (4, 2), WRITE, b"U+0061\n"),
-    (false, (1, 4), (4, 3), WRITE, b"U+0061\nU+F7"),
-    (false, (1, 4), (4, 4), WRITE, b"U+0061\nU+F780\n"),
-    (false, (1, 4), (4, 5), WRITE, b"U+0061\nU+F780\nU+F7"),
-    (false, (1, 4), (4, 6), CLEAN, LINES),
+    // A write that takes nothing fails.
     (false, (1, 4), (0, 9), WRITE, b""),
-    (false, (9, 9), (10, 1), WRITE, b"U+0061\nU+F"),
-    (false, (9, 9), (10, 2), WRITE, b"U+0061\nU+F780\nU+F7FF"),
-    (false, (9, 9), (10, 3), CLEAN, LINES),
-    (false, (9, 9), (21, 1), CLEAN, LINES),
-    // After a failed read the text before it is kept.
-    (true, (1, 0), (99, 99), READ, b""),
-    (true, (1, 1), (99, 99), READ, b"\x61"),
-    (true, (1, 2), (99, 99), READ, b"\x61\xEF\x9E\x80"),
-    (true, (1, 3), (99, 99), READ, TEXT),
-    (true, (1, 4), (99, 99), CLEAN, TEXT),
-    // After a failed write the text before it is kept: of one scalar after another, and of all three.
-    (true, (1, 4), (3, 0), WRITE, b""),
-    (true, (1, 4), (3, 1), WRITE, b"\x61"),
-    (true, (1, 4), (3, 2), WRITE, b"\x61\xEF\x9E\x80"),
-    (true, (1, 4), (3, 3), CLEAN, TEXT),
-    (true, (1, 4), (2, 2), WRITE, b"\x61\xEF\x9E"),
-    (true, (1, 4), (2, 3), WRITE, b"\x61\xEF\x9E\x80"),
-    (true, (1, 4), (2, 4), WRITE, b"\x61\xEF\x9E\x80\xEF\x9F"),
-    (true, (1, 4), (2, 5), CLEAN, TEXT),
-    (true, (9, 9), (7, 0), WRITE, b""),
-    (true, (9, 9), (7, 1), CLEAN, TEXT),
-    (true, (9, 9), (4, 1), WRITE, b"\x61\xEF\x9E\x80"),
-    (true, (9, 9), (4, 2), CLEAN, TEXT),
     (true, (9, 9), (0, 9), WRITE, b""),
 ];
 
+/// A flag for text output, and how many bytes are written before the first read fails, the second, and so on.
+///
+/// Each read gives one byte. One more read tells that the input ends.
+const READS: &[(bool, &[usize])] = &[(false, &[0, 7, 14, 21]), (true, &[0, 1, 4, 7])];
+
 #[test]
-fn a_failed_stream_keeps_what_stands_before_it(rt: HostRuntime) {
-    for (is_text, read, written, answer, bytes) in RECODINGS {
-        assert!(rt;
-            user_defined_gives(rt.alloc(), *is_text, BYTES, *read, *written, answer, *bytes),
-            "{read:?} {written:?}"
-        );
+fn a_failed_read_keeps_what_stands_before_it(rt: HostRuntime) {
+    for row in RECODINGS {
+        recodes_user_defined(&rt, BYTES, row);
     }
-    let read = Err(RecodeError::Read);
-    assert!(rt;
-        user_defined_gives(
-            rt.alloc(),
-            false,
-            b"\x80",
-            (1, 1),
-            (99, 99),
-            &read,
-            b"U+F780\n"
-        )
-    );
+    for (is_text, lengths) in READS {
+        for (reads, length) in lengths.iter().enumerate() {
+            let output = first(*is_text, *length);
+            let row = (*is_text, (1, reads), (99, 99), READ, output);
+            recodes_user_defined(&rt, BYTES, &row);
+        }
+        let all = first(*is_text, usize::MAX);
+        let row = (*is_text, (1, lengths.len()), (99, 99), CLEAN, all);
+        recodes_user_defined(&rt, BYTES, &row);
+    }
+    let row = (false, (1, 1), (99, 99), READ, b"U+F780\n".as_slice());
+    recodes_user_defined(&rt, b"\x80", &row);
+}
+
+/// A flag for text output, the limits of reads, the bytes of a write, and how many bytes are written before the first
+/// write fails, the second, and so on.
+///
+/// One more write writes the rest.
+type Writes<'a> = (bool, (usize, usize), usize, &'a [usize]);
+
+// A read of all three bytes makes one piece, whose lines or text are written at once. A read of each byte makes three
+// pieces.
+const WRITES: &[Writes] = &[
+    (false, (1, 4), 7, &[0, 7, 14]),
+    (false, (1, 4), 4, &[0, 4, 7, 11, 14, 18]),
+    (false, (9, 9), 10, &[0, 10, 20]),
+    (false, (9, 9), 21, &[0]),
+    (true, (1, 4), 3, &[0, 1, 4]),
+    (true, (1, 4), 2, &[0, 1, 3, 4, 6]),
+    (true, (9, 9), 7, &[0]),
+    (true, (9, 9), 4, &[0, 4]),
+];
+
+#[test]
+fn a_failed_write_keeps_what_stands_before_it(rt: HostRuntime) {
+    for (is_text, read, most, lengths) in WRITES {
+        for (writes, length) in lengths.iter().enumerate() {
+            let output = first(*is_text, *length);
+            let row = (*is_text, *read, (*most, writes), WRITE, output);
+            recodes_user_defined(&rt, BYTES, &row);
+        }
+        let (written, all) = ((*most, lengths.len()), first(*is_text, usize::MAX));
+        recodes_user_defined(&rt, BYTES, &(*is_text, *read, written, CLEAN, all));
+    }
 }
 
 /// Returns these bytes, `times` times.
@@ -174,31 +160,17 @@ fn recodes_more_than_a_piece(rt: HostRuntime) {
     };
     let (read, written) = ((5000, 9), (usize::MAX, usize::MAX));
     let lines = lines.as_slice();
-    assert!(rt; user_defined_gives(rt.alloc(), false, &bytes, read, written, &Ok(false), lines));
-    assert!(rt; user_defined_gives(rt.alloc(), true, &bytes, read, written, &Ok(false), &bytes));
+    recodes_user_defined(&rt, &bytes, &(false, read, written, CLEAN, lines));
+    recodes_user_defined(&rt, &bytes, &(true, read, written, CLEAN, &bytes));
 }
 
 // The malformed sequence begins in one piece, and no later piece has one.
 #[test]
 fn tells_of_a_replacement_in_any_piece(rt: HostRuntime) {
-    let mut input = FailingReader {
-        bytes: b"\x41\x00\x00\xD8\x42\x00",
-        most: 1,
-        reads: 7,
-    };
     let mut decoder = Utf16Decoder::new(false);
     let text = b"\x41\xEF\xBF\xBD\x42";
-    assert!(rt;
-        gives(
-            rt.alloc(),
-            true,
-            &mut decoder,
-            &mut input,
-            (99, 99),
-            &Ok(true),
-            text
-        )
-    );
+    let row = (true, (1, 7), (99, 99), Ok(true), text.as_slice());
+    recodes_as(&rt, &mut decoder, b"\x41\x00\x00\xD8\x42\x00", &row);
 }
 
 /// Returns a decoder that holds back a lead.
@@ -215,21 +187,7 @@ fn places_count_behind_what_was_held_back(rt: HostRuntime) {
         return;
     };
     let mut decoder = behind_a_lead(&tables);
-    let mut input = FailingReader {
-        bytes: b"\x20\x81",
-        most: 9,
-        reads: 9,
-    };
     let lines = b"bad 0 1\nU+0020\nbad 1 1\n";
-    assert!(rt;
-        gives(
-            rt.alloc(),
-            false,
-            &mut decoder,
-            &mut input,
-            (99, 99),
-            &Ok(false),
-            lines
-        )
-    );
+    let row = (false, (9, 9), (99, 99), CLEAN, lines.as_slice());
+    recodes_as(&rt, &mut decoder, b"\x20\x81", &row);
 }
