@@ -18,16 +18,6 @@ pub(crate) fn no_entries<'a>() -> Indexes<'a> {
     }
 }
 
-/// Indexes of which one has these entries, and the others have none.
-macro_rules! only {
-    ($index:ident: $entries:expr) => {
-        Indexes {
-            $index: $entries,
-            ..no_entries()
-        }
-    };
-}
-
 // The next three functions have no clauses: the prover would search the clauses of their calls at each later statement.
 
 /// Returns the first fault of indexes with these packed parts.
@@ -40,12 +30,15 @@ fn fault_of<'a>(indexes: &Indexes<'a>) -> Option<TableError> {
     Tables::new(indexes).err()
 }
 
-/// Packs indexes, and asserts that what comes has no fault of its own beside them.
+/// Packs indexes.
 fn packed_of(rt: &(impl AllocGlobal + Abort), indexes: &Indexes) -> OwnedPacked {
-    let made = pack(rt.alloc(), indexes).expect(rt, "no memory");
-    let (came, wanted) = (fault_with(indexes, &made.packed()), fault_of(indexes));
+    pack(rt.alloc(), indexes).expect(rt, "no memory")
+}
+
+/// Asserts that packed indexes have no fault of their own beside their indexes.
+fn has_no_own_fault<'a>(rt: &impl Abort, indexes: &Indexes<'a>, packed: &Packed<'a>) {
+    let (came, wanted) = (fault_with(indexes, packed), fault_of(indexes));
     is_error(rt, "packed", came.as_ref(), wanted.as_ref());
-    made
 }
 
 /// Puts each entry at its pointer.
@@ -126,8 +119,12 @@ fn unpacks<'a>(rt: &impl Abort, indexes: &Indexes<'a>, packed: &Packed<'a>, entr
 #[test]
 fn an_index_is_packed_to_runs_and_an_order_and_unpacked(rt: HostRuntime) {
     for (entries, runs, order) in ROWS {
-        let indexes = only!(euc_kr: entries);
+        let indexes = Indexes {
+            euc_kr: entries,
+            ..no_entries()
+        };
         let made = packed_of(&rt, &indexes);
+        has_no_own_fault(&rt, &indexes, &made.packed());
         holds(&rt, "the runs of EUC-KR", are_runs(&made.euc_kr, *runs));
         are_pointers(&rt, "EUC-KR", &made.euc_kr_order, *order);
         let flat = packed_entries(*entries, *runs);
@@ -153,7 +150,12 @@ fn two_orders_of_jis0208(rt: HostRuntime) {
     for (places, shift_jis, euc_jp) in JIS {
         let mut entries = [0u16; 11280];
         fill(&mut entries, *places);
-        let made = packed_of(&rt, &only!(jis0208: &entries));
+        let indexes = Indexes {
+            jis0208: &entries,
+            ..no_entries()
+        };
+        let made = packed_of(&rt, &indexes);
+        has_no_own_fault(&rt, &indexes, &made.packed());
         let count = made.jis0208.len();
         holds(&rt, "a run for each place", count == places.len());
         are_pointers(&rt, "Shift_JIS", &made.shift_jis_order, *shift_jis);
@@ -184,7 +186,12 @@ fn an_order_of_big5(rt: HostRuntime) {
     for (places, order) in BIG5 {
         let mut entries = [0u32; 19782];
         fill(&mut entries, *places);
-        let made = packed_of(&rt, &only!(big5: &entries));
+        let indexes = Indexes {
+            big5: &entries,
+            ..no_entries()
+        };
+        let made = packed_of(&rt, &indexes);
+        has_no_own_fault(&rt, &indexes, &made.packed());
         are_pointers(&rt, "Big5", &made.big5_order, *order);
     }
 }
@@ -201,7 +208,12 @@ const REFUSED: &[&[u32]] = &[
 #[test]
 fn indexes_that_are_refused_are_packed_too(rt: HostRuntime) {
     for entries in REFUSED {
-        packed_of(&rt, &only!(big5: entries));
+        let indexes = Indexes {
+            big5: entries,
+            ..no_entries()
+        };
+        let made = packed_of(&rt, &indexes);
+        has_no_own_fault(&rt, &indexes, &made.packed());
     }
 }
 
@@ -233,7 +245,9 @@ fn an_owning_set_makes_packed_tables(rt: HostRuntime) -> Result<(), Fail> {
 fn answers_memory_only_where_a_growth_is_refused(rt: HostRuntime) {
     let mut refused = false;
     for _ in 0..3 {
-        match pack(rt.alloc(), &only!(euc_kr: &[0xAC02, 0, 0xAC05])) {
+        let mut indexes = no_entries();
+        indexes.euc_kr = &[0xAC02, 0, 0xAC05];
+        match pack(rt.alloc(), &indexes) {
             Ok(made) => {
                 let is_so = made.euc_kr.len() == 2 && made.euc_kr_order.len() == 2;
                 holds(&rt, "two runs and two pointers", is_so);
