@@ -1,10 +1,12 @@
 //! Blocks with many bytes past ASCII: their forms are picked out, and looked up eight at a time.
 // The functions that run for each block are always inlined: a call would pass vectors through memory, and would store
 // the destination's place there for each block.
-ghost use Rattle.std.specs.Prelude.{◌≡◌, ◌≢◌, ℕ, ◌+◌, ◌*◌, ◌/◌, ◌%◌, ◌<◌, ◌≤◌, ◌++◌, List, [], ◌∷◌, All, IfSome, true, length, map, take, get_or, count_by, ltb};
+ghost use Rattle.std.specs.Prelude.{◌≡◌, ◌≢◌, ℕ, ◌+◌, ◌*◌, ◌/◌, ◌%◌, ◌<◌, ◌≤◌, ◌++◌, List, [], ◌∷◌, All, IfSome, true, false, length, map, take, get_or, count_by, ltb};
 ghost use Rattle.std.specs.Char.{IsScalar};
 ghost use Rattle.legacy_tables.specs.AcceptedTables.{AcceptedIndexes};
 ghost use Rattle.legacy_tables.specs.Indexes.{FlatIndexes};
+ghost use Rattle.legacy_tables.specs.Tables.{index_list, is_narrow_index};
+ghost use Rattle.legacy_tables.specs.declared.tables.IndexName.TheVariants as names;
 ghost use Rattle.legacy_base.specs.Grammar.{Grammar};
 ghost use Rattle.legacy_base.specs.States.{new_state};
 ghost use Rattle.legacy_decoder_engine.specs.ReadAhead.{HasAscii, IsCommonForm, ReadsAhead, Runs, Writes};
@@ -13,10 +15,11 @@ ghost use Rattle.legacy_decoder_engine.specs.PickedForms.{forms_of};
 
 use crate::block_picks::pick_blocks;
 use crate::common_forms::{CommonForm, CommonForms, FormsInTurn, read_forms};
+use crate::lane_entries::{entries_at, entry_count};
 use crate::picks::past_ascii;
 use crate::read_ahead::{Blocks, read_ascii, read_blocks, read_one};
 use legacy_base::Destination;
-use legacy_tables::FlatTables;
+use legacy_tables::{FlatTables, IndexName};
 use legacy_text::first_units;
 use std::cell::Cell;
 use std::marker::PhantomData;
@@ -97,18 +100,12 @@ pub trait LaneCodec {
         None
     }
 
-    /// Returns the number of entries of the index. An entry from U+0001 to U+FFFF is the scalar of its pair.
-    fn entry_count(tables: &FlatTables<'_>) -> usize
-        ensures count { result ≡ length (entries tables.now.flat) }
-        ensures pairs { ArePairs (grammar tables.now.flat) (entries tables.now.flat) place };
-
-    /// Returns the entries at eight places, with 0 for an entry past U+FFFF.
-    fn entries_at(tables: &FlatTables<'_>, places: &[u32]) -> u16x8
-        requires eight { 8 ≤ length places.now }
-        requires within { (k : ℕ) → k < 8 →
-            get_or places.now k 0 < length (entries tables.now.flat) }
-        ensures { (k : ℕ) → k < 8 → get_or result k 0 ≢ 0 →
-            get_or result k 0 ≡ get_or (entries tables.now.flat) (get_or places.now k 0) 0 };
+    /// Returns the name of the index. An entry from U+0001 to U+FFFF is the scalar of its pair.
+    fn index() -> IndexName
+        ensures list { (flat : FlatIndexes) → index_list flat result ≡ entries flat }
+        ensures pairs { (tables : AcceptedIndexes) →
+            ArePairs (grammar tables.flat) (entries tables.flat) place }
+        ensures wide { is_narrow_index result ≡ false → result ≡ names.Big5 };
 
     /// Returns the places of eight codes.
     fn places(codes: u16x8) -> u16x8
@@ -167,25 +164,6 @@ fn split_codes<C: LaneCodec>(codes: &mut [u16], places: &mut [u32], groups: usiz
     }
 }
 
-/// Returns the entries at eight places of an index of scalars up to U+FFFF.
-#[inline(always)]
-pub fn narrow_entries(index: &[u16], places: &[u32]) -> u16x8
-    requires eight { 8 ≤ length places.now }
-    requires within { (k : ℕ) → k < 8 → get_or places.now k 0 < length index.now }
-    ensures { (k : ℕ) → k < 8 → get_or result k 0 ≡ get_or index.now (get_or places.now k 0) 0 }
-{
-    u16x8::from_array([
-        index[places[0] as usize],
-        index[places[1] as usize],
-        index[places[2] as usize],
-        index[places[3] as usize],
-        index[places[4] as usize],
-        index[places[5] as usize],
-        index[places[6] as usize],
-        index[places[7] as usize],
-    ])
-}
-
 /// Returns what is kept if it is ASCII, and otherwise the entry, for each of eight codes.
 #[inline(always)]
 fn chosen(kept: u16x8, entries: u16x8) -> u16x8
@@ -234,7 +212,7 @@ fn units_of<C: LaneCodec>(tables: &FlatTables<'_>, kept: &[u16], places: &[u32])
         IsForm (C.grammar tables.now.flat) (get_or codes k 0) (get_or kept.now k 0)
         (get_or result k 0) }
 {
-    let entries = C::entries_at(tables, places);
+    let entries = entries_at::<C>(tables, places);
     chosen(u16x8::from_slice(kept), entries)
 }
 
@@ -297,7 +275,7 @@ fn put_codes<C: LaneCodec, T: Destination>(
     ensures slack { 0 < result → 3 ≤ T.room dst.new }
     ensures had { 0 < result → 4 ≤ T.room dst.old }
 {
-    let entries = C::entry_count(tables);
+    let entries = entry_count::<C>(tables);
     if entries == 0 {
         return 0;
     }

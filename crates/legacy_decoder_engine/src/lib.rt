@@ -8,6 +8,7 @@ pub mod common_forms;
 pub mod drive;
 pub mod eights;
 pub mod held_lead;
+mod lane_entries;
 pub mod lanes;
 pub mod lead_and_trail;
 pub mod lead_decoder;

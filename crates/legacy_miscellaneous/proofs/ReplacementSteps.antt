@@ -10,7 +10,8 @@ use Rattle.legacy_decoder_engine.proofs.Feeding as moves
 pub feeds_first : (reported : Bool) (b : ℕ) → IsByte b → reported ≡ false →
     Feeds (state_of (replacement reported) []) b (state_of (replacement true) []) (MalformedSequence 1 0 false)
 feeds_first reported b byte e =
-    rw e (moves.feeds (replacement_shown false) [] refl (All-nil IsByte) b byte refl (MalformedSequence 1 0 false) [] (record { answer = refl; holds = refl; scalar = tt }))
+    rw e (moves.feeds (replacement_shown false) [] refl (All-nil IsByte) b byte refl (MalformedSequence 1 0 false) []
+    (record { answer = refl; holds = refl; scalar = tt }))
 
 -- each byte after it is dropped
 pub feeds_more : (reported : Bool) (b : ℕ) → IsByte b → reported ≡ true →

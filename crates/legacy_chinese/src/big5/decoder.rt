@@ -80,13 +80,8 @@ impl LaneCodec for Big5 {
     }
 
     #[inline(always)]
-    fn entry_count(tables: &FlatTables<'_>) -> usize {
-        tables.wide().len()
-    }
-
-    #[inline(always)]
-    fn entries_at(tables: &FlatTables<'_>, places: &[u32]) -> u16x8 {
-        narrowed_entries(tables.wide(), places)
+    fn index() -> IndexName {
+        IndexName::Big5
     }
 
     // Two in five trails of common text are ASCII.
@@ -148,36 +143,4 @@ impl LeadCodec for Big5 {
         let thrice = byte_length.checked_add(held)?.checked_mul(3)?;
         thrice.checked_add(3)
     }
-}
-
-/// Returns the entries at eight places, or only zeros if one of them is past U+FFFF.
-#[inline(always)]
-fn narrowed_entries(index: &[u32], places: &[u32]) -> u16x8
-    requires eight { 8 ≤ length places.now }
-    requires within { (k : ℕ) → k < 8 → get_or places.now k 0 < length index.now }
-    ensures { (k : ℕ) → k < 8 → get_or result k 0 ≢ 0 →
-        get_or result k 0 ≡ get_or index.now (get_or places.now k 0) 0 }
-{
-    let a = index[places[0] as usize];
-    let b = index[places[1] as usize];
-    let c = index[places[2] as usize];
-    let d = index[places[3] as usize];
-    let e = index[places[4] as usize];
-    let f = index[places[5] as usize];
-    let g = index[places[6] as usize];
-    let h = index[places[7] as usize];
-    if a >= 0x1_0000
-        || b >= 0x1_0000
-        || c >= 0x1_0000
-        || d >= 0x1_0000
-        || e >= 0x1_0000
-        || f >= 0x1_0000
-        || g >= 0x1_0000
-        || h >= 0x1_0000
-    {
-        return u16x8::splat(0);
-    }
-    u16x8::from_array([
-        a as u16, b as u16, c as u16, d as u16, e as u16, f as u16, g as u16, h as u16,
-    ])
 }

@@ -12,7 +12,7 @@ use super::pair_places::TRAILS;
 use legacy_base::{Destination, IndexName};
 use legacy_decoder_engine::common_forms::CommonForm;
 use legacy_decoder_engine::held_lead::Lead;
-use legacy_decoder_engine::lanes::{LaneCodec, narrow_entries};
+use legacy_decoder_engine::lanes::LaneCodec;
 use legacy_decoder_engine::places::{ROWS_OF_190, pair_pointer};
 use legacy_decoder_engine::split_rows::{lead_places, place_sums, trail_places};
 use legacy_tables::{DecoderTables, FlatTables, RangePart, Ranges};
@@ -172,13 +172,8 @@ impl LaneCodec for Gb18030 {
     }
 
     #[inline(always)]
-    fn entry_count(tables: &FlatTables<'_>) -> usize {
-        tables.narrow(IndexName::Gb18030).len()
-    }
-
-    #[inline(always)]
-    fn entries_at(tables: &FlatTables<'_>, places: &[u32]) -> u16x8 {
-        narrow_entries(tables.narrow(IndexName::Gb18030), places)
+    fn index() -> IndexName {
+        IndexName::Gb18030
     }
 
     #[inline(always)]

@@ -19,7 +19,7 @@ use super::held_lead::EucJpLead;
 use legacy_base::{DecoderStep, Destination, IndexName, RawDecoder, Tables};
 use legacy_decoder_engine::common_forms::CommonForm;
 use legacy_decoder_engine::drive::{count_malformed_bytes, drive_decoder};
-use legacy_decoder_engine::lanes::{LaneBlocks, LaneCodec, narrow_entries, read_common};
+use legacy_decoder_engine::lanes::{LaneBlocks, LaneCodec, read_common};
 use legacy_decoder_engine::lead_and_trail::malformed_through;
 use legacy_decoder_engine::moves::{DecoderMoves, Fed, Room};
 use legacy_decoder_engine::read_ahead::read_ascii;
@@ -338,13 +338,8 @@ impl LaneCodec for EucJp {
     }
 
     #[inline(always)]
-    fn entry_count(tables: &FlatTables<'_>) -> usize {
-        tables.narrow(IndexName::Jis0208).len()
-    }
-
-    #[inline(always)]
-    fn entries_at(tables: &FlatTables<'_>, places: &[u32]) -> u16x8 {
-        narrow_entries(tables.narrow(IndexName::Jis0208), places)
+    fn index() -> IndexName {
+        IndexName::Jis0208
     }
 
     #[inline(always)]

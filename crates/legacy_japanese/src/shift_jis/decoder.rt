@@ -14,7 +14,7 @@ use super::held_lead::ShiftJisLead;
 use super::places::{LEADS, TRAILS};
 use legacy_base::{IndexName, Tables};
 use legacy_decoder_engine::common_forms::CommonForm;
-use legacy_decoder_engine::lanes::{LaneCodec, narrow_entries};
+use legacy_decoder_engine::lanes::LaneCodec;
 use legacy_decoder_engine::lead_and_trail::{malformed_through, read_trail};
 use legacy_decoder_engine::lead_decoder::{LeadCodec, LeadDecoder};
 use legacy_decoder_engine::moves::{Fed, Room};
@@ -139,13 +139,8 @@ impl LaneCodec for ShiftJis {
     }
 
     #[inline(always)]
-    fn entry_count(tables: &FlatTables<'_>) -> usize {
-        tables.narrow(IndexName::Jis0208).len()
-    }
-
-    #[inline(always)]
-    fn entries_at(tables: &FlatTables<'_>, places: &[u32]) -> u16x8 {
-        narrow_entries(tables.narrow(IndexName::Jis0208), places)
+    fn index() -> IndexName {
+        IndexName::Jis0208
     }
 
     // The leads 81 to 9F and E0 to EF are 21 to 4F with two bits changed.

@@ -13,7 +13,7 @@ use super::places::TRAILS;
 use legacy_base::{IndexName, Tables};
 use legacy_decoder_engine::common_forms::CommonForm;
 use legacy_decoder_engine::held_lead::Lead;
-use legacy_decoder_engine::lanes::{LaneCodec, narrow_entries};
+use legacy_decoder_engine::lanes::LaneCodec;
 use legacy_decoder_engine::lead_and_trail::{read_first, read_trail};
 use legacy_decoder_engine::lead_decoder::{LeadCodec, LeadDecoder};
 use legacy_decoder_engine::moves::{Fed, Room};
@@ -73,13 +73,8 @@ impl LaneCodec for EucKr {
     }
 
     #[inline(always)]
-    fn entry_count(tables: &FlatTables<'_>) -> usize {
-        tables.narrow(IndexName::EucKr).len()
-    }
-
-    #[inline(always)]
-    fn entries_at(tables: &FlatTables<'_>, places: &[u32]) -> u16x8 {
-        narrow_entries(tables.narrow(IndexName::EucKr), places)
+    fn index() -> IndexName {
+        IndexName::EucKr
     }
 
     #[inline(always)]

@@ -18,12 +18,14 @@ calls-init g c = grind (arith, referencing_start)
 pub returns-in-InputEmpty-clause-call : goal.returns-in-InputEmpty-clause-call
 returns-in-InputEmpty-clause-call g c =
     let call = c.encode_from-answer.ensures.call in
-    rw call.2 (referencing_end c.calls.invariant.calls (room_of c.calls.dst _ _ c.calls.invariant.within c.calls.auto.dst) coder.InputEmpty (rw c.in-InputEmpty.is at call.1))
+    rw call.2 (referencing_end c.calls.invariant.calls (room_of c.calls.dst _ _ c.calls.invariant.within c.calls.auto.dst) coder.InputEmpty
+    (rw c.in-InputEmpty.is at call.1))
 
 pub returns-in-OutputFull-clause-call : goal.returns-in-OutputFull-clause-call
 returns-in-OutputFull-clause-call g c =
     let call = c.encode_from-answer.ensures.call in
-    rw call.2 (referencing_end c.calls.invariant.calls (room_of c.calls.dst _ _ c.calls.invariant.within c.calls.auto.dst) coder.OutputFull (rw c.in-OutputFull.is at call.1))
+    rw call.2 (referencing_end c.calls.invariant.calls (room_of c.calls.dst _ _ c.calls.invariant.within c.calls.auto.dst) coder.OutputFull
+    (rw c.in-OutputFull.is at call.1))
 
 pub calls-smaller : goal.calls-smaller
 calls-smaller g c =

@@ -75,8 +75,8 @@ loop-calls-preserved g c =
       | in-Malformed w ↦
           rw (w.events-is, w.index-is, w.offset-is) record {
             running =
-                running_call i.running given call.1 unread last w.in-Malformed.is (w.push_within.ensures.items ∙ (rw (w.malformed_event.ensures, call.2) refl)) refl
-                (place_at-more pieces _ index offset _);
+                running_call i.running given call.1 unread last w.in-Malformed.is
+                (w.push_within.ensures.items ∙ (rw (w.malformed_event.ensures, call.2) refl)) refl (place_at-more pieces _ index offset _);
             room = omega arith;
             buffer = λ k d h. let b = i.buffer k d h in omega arith;
             inside = i.inside;

@@ -8,7 +8,8 @@ pub returns-clause-parts : goal.returns-clause-parts
 returns-clause-parts c =
     let text = c.args.self.now in
     let front = c.range.ensures.value ∙ between_from_start text c.loop-end.end in
-    let all : text ≡ c.range.result.now ++ c.range_from-later.result.now = rw (front, c.range_from-later.ensures.value) (sym (take-append-drop c.loop-end.end text)) in
+    let all : text ≡ c.range.result.now ++ c.range_from-later.result.now =
+    rw (front, c.range_from-later.ensures.value) (sym (take-append-drop c.loop-end.end text)) in
     ap chars all ∙ chars-append c.range.result.now c.range_from-later.result.now c.range.utf8
 
 pub returns-clause-some : goal.returns-clause-some

@@ -3,11 +3,10 @@ use Rattle.legacy_tables.specs.Indexes.{idx}
 use Rattle.legacy_tables.proofs.Accepted.{big5-scalars, length-big5}
 use Rattle.legacy_chinese.specs.Big5Places.{big5_place, big5_lead_place, big5_trail_place}
 use Rattle.legacy_chinese.proofs.Big5Places.{big5_runs, some_entry}
-use Rattle.legacy_chinese.proofs.big5.decoder.Big5LaneCodec.entry_count.Goals as goal
+use Rattle.legacy_chinese.proofs.big5.decoder.Big5LaneCodec.index.Goals as goal
 
 pub returns-clause-pairs : goal.returns-clause-pairs
-returns-clause-pairs c code small past within narrow some =
-    let tables = c.args.tables.now in
+returns-clause-pairs c tables code small past within narrow some =
     let entry = get_or tables.flat.big5 (big5_place code) 0 in
     let short : length tables.flat.big5 ≤ 65535 = let most = length-big5 tables.flat tables.accepted in omega arith in
     let at : big5_place code ≡ big5_lead_place (code % 256) + big5_trail_place (code / 256) = omega (arith, within, short) in
