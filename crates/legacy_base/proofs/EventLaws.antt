@@ -82,9 +82,9 @@ module _ (Q : Type 0) where
 
     module _ (n : ℕ) (below : (mode : Mode) (bytes : List ℕ) → length bytes ≤ n → AreOf (length bytes) (iso_2022_jp_events jis0208 mode bytes)) where
       -- an escape byte that begins no valid escape
-      lone_of : (mode : Mode) (rest : List ℕ) → length rest ≤ n → part_mode (esc ∷ rest) ≡ None →
+      single_of : (mode : Mode) (rest : List ℕ) → length rest ≤ n → part_mode (esc ∷ rest) ≡ None →
           AreOf (length (esc ∷ rest)) (iso_2022_jp_events jis0208 mode (esc ∷ rest))
-      lone_of mode rest h none =
+      single_of mode rest h none =
           rw (step_no_escape jis0208 mode rest none)
           (front_and (length (esc ∷ rest)) (malformed 1) (length rest) (iso_2022_jp_events jis0208 mode rest)
           (front_of-malformed {P = Q} (length (esc ∷ rest)) 1 (omega arith) (omega arith) (omega arith)) (omega arith) (below mode rest h))
@@ -92,15 +92,15 @@ module _ (Q : Type 0) where
       -- an escape byte and any bytes after it
       escape_of : (mode : Mode) (rest : List ℕ) → length rest ≤ n → AreOf (length (esc ∷ rest)) (iso_2022_jp_events jis0208 mode (esc ∷ rest))
       unfolding part_mode
-      escape_of mode [] h = lone_of mode [] h refl
-      escape_of mode (a ∷ []) h = lone_of mode (a ∷ []) h refl
+      escape_of mode [] h = single_of mode [] h refl
+      escape_of mode (a ∷ []) h = single_of mode (a ∷ []) h refl
       escape_of mode (a ∷ b ∷ rest) h = by_mode (escape_mode a b) refl
         where
           size : ℕ
           size = length (esc ∷ a ∷ b ∷ rest)
 
           by_mode : (o : Option Mode) → escape_mode a b ≡ o → AreOf size (iso_2022_jp_events jis0208 mode (esc ∷ a ∷ b ∷ rest))
-          by_mode None e = lone_of mode (a ∷ b ∷ rest) h e
+          by_mode None e = single_of mode (a ∷ b ∷ rest) h e
           by_mode (Some next) e =
               let t = is_some (part_mode rest) in
               let bare : AreOf size (cond t (Bad 0 3 ∷ []) []) =

@@ -1,4 +1,4 @@
--- A record that defines a decoder. Each codec's file in this folder has its own value, by what differs from a plain one.
+-- A record that defines a decoder. Each codec's file in this folder has its own value, by what differs from `byte_profile`.
 use Rattle.std.specs.Prelude.{ℕ, List, [], ◌∷◌, length, Bool, true, false}
 use Rattle.std.specs.Int.{is_in_range}
 use Rattle.legacy_base.specs.declared.results.DecodeEvent.{DecodeEvent}

@@ -3,7 +3,7 @@ ghost use Rattle.std.specs.Prelude.{◌≤◌, length};
 
 use std::simd::prelude::*;
 
-/// Checks whether one of the first eight bytes is past ASCII.
+/// Checks whether one of the first eight bytes is past ASCII. It is a hint: any result is right.
 // Always inlined: a call would pass the vector through memory.
 #[inline(always)]
 pub fn has_past_ascii(src: &[u8]) -> bool

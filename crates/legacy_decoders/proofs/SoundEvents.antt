@@ -31,24 +31,24 @@ module _ {Q : Type 0} (be : Bool) where
   gives_one size n c some short within h =
       record { some = some; within = within; short = short; few = (omega arith, omega arith); scalars = λ q. All-cons IsScalar c [] (h q) (All-nil IsScalar) }
 
-  lone_of : (size u : ℕ) → 2 ≤ size → (Q → u < 0x1_0000) → IsFrontOf size Q (single_unit_front u)
-  lone_of size u two below =
+  single_of : (size u : ℕ) → 2 ≤ size → (Q → u < 0x1_0000) → IsFrontOf size Q (single_unit_front u)
+  single_of size u two below =
       cond_both (is_high_surrogate u || is_low_surrogate u) (malformed 2) (reads 2 (u ∷ [])) (IsFrontOf size Q)
       (λ _. front_of-malformed size 2 (omega arith) two (omega arith))
       (λ k. gives_one size 2 u (omega arith) (omega arith) two (λ q. unpaired_scalar u (below q) k))
 
   unit_front-of : (u : ℕ) (rest : List ℕ) (size : ℕ) → size ≡ length rest + 2 → (Q → u < 0x1_0000) → IsFrontOf size Q (unit_front be u rest)
-  unit_front-of u [] size is below = lone_of size u (omega arith) below
+  unit_front-of u [] size is below = single_of size u (omega arith) below
   unit_front-of u (c ∷ []) size is below =
       cond_both (is_high_surrogate u) (malformed 3) (single_unit_front u) (IsFrontOf size Q)
-      (λ _. front_of-malformed size 3 (omega arith) (omega arith) (omega arith)) (λ _. lone_of size u (omega arith) below)
+      (λ _. front_of-malformed size 3 (omega arith) (omega arith) (omega arith)) (λ _. single_of size u (omega arith) below)
   unit_front-of u (c ∷ d ∷ rest) size is below =
       let v = unit_of be c d in
       cond_both (is_high_surrogate u && is_low_surrogate v) (reads 4 (surrogate_pair_char u v ∷ [])) (single_unit_front u) (IsFrontOf size Q)
       (λ k.
       let both = and_parts (is_high_surrogate u) (is_low_surrogate v) k in
       gives_one size 4 (surrogate_pair_char u v) (omega arith) (omega arith) (omega arith) (λ q. paired_scalar u v both.0 both.1))
-      (λ _. lone_of size u (omega arith) below)
+      (λ _. single_of size u (omega arith) below)
 
   utf16_front-of : (b : ℕ) (rest : List ℕ) → (Q → AreBytes (b ∷ rest)) → IsFrontOf (length (b ∷ rest)) Q (utf16_front be b rest)
   unfolding utf16_front

@@ -1,7 +1,7 @@
 -- Writing several UTF-16 code units at a time.
 use Rattle.std.specs.Prelude.{◌≡◌, ℕ, ◌/◌, ◌%◌, ◌<◌, ◌≤◌, List, [], ◌∷◌, ◌++◌, take, Some, false}
 use Rattle.legacy_base.specs.Encoders.{Codec, EncoderState, encoder_profile}
-use Rattle.legacy_text.specs.{UnitCodes.IsNoSurrogate, UnitTurns.AreLone}
+use Rattle.legacy_text.specs.{UnitCodes.IsNoSurrogate, UnitTurns.AreNoSurrogates}
 use Rattle.legacy_encoder_engine.specs.declared.moves.EncoderMove.{EncoderMove}
 use Rattle.legacy_encoder_engine.specs.Moves.{Moves, is_escape, move_bytes, move_report}
 use Rattle.legacy_encoder_engine.specs.UnfinishedCall.{KeepsOn}
@@ -17,7 +17,7 @@ two_bytes both = both % 256 ∷ both / 256 ∷ []
 
 -- the code unit c is a scalar that is read in this state, with the low byte of `both` or both bytes
 pub record ReadsUnit (state : EncoderState) (c both count : ℕ) : Type 0 where
-  pub lone : IsNoSurrogate c
+  pub no_surrogate : IsNoSurrogate c
   pub move : EncoderMove
   pub moves : Moves state c state move
   pub reads : is_escape move ≡ false
@@ -26,5 +26,5 @@ pub record ReadsUnit (state : EncoderState) (c both count : ℕ) : Type 0 where
 
 -- The codes of code units that are scalars are appended to earlier bytes, whatever code units follow.
 pub record PutsUnits (state : EncoderState) (free : ℕ) (units old new : List ℕ) : Type 0 where
-  pub lone : AreLone units
+  pub no_surrogate : AreNoSurrogates units
   pub keeps : (rest : List ℕ) → KeepsOn state free (units ++ rest) old rest new

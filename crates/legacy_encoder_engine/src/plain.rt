@@ -106,7 +106,7 @@ impl<C: PlainCodes> AheadCodes for C {
     #[inline(always)]
     fn read_blocks<S: TextCursor>(&self, src: &mut S, dst: &mut [u8], at: usize) -> usize {
         if C::GOES_BY_UNITS && src.has_blocks() {
-            return at + src.copy_codes(&Units { encoder: self }, dst, at);
+            return Units { encoder: self }.put_bytes(src, dst, at);
         }
         at + src.copy_ascii(dst, at)
     }
@@ -122,7 +122,7 @@ impl<C: PlainCodes> AheadCodes for C {
     #[inline(always)]
     fn read_turns<S: TextCursor>(&self, src: &mut S, dst: &mut [u8], at: usize) -> usize {
         if C::GOES_BY_UNITS && src.has_turns() {
-            return at + src.copy_codes(&Units { encoder: self }, dst, at);
+            return Units { encoder: self }.put_bytes(src, dst, at);
         }
         at
     }

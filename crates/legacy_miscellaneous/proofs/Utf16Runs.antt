@@ -9,7 +9,7 @@ use Rattle.legacy_base.specs.{Grammar.utf16, Utf16.unit_of, States.new_state}
 use Rattle.legacy_decoder_engine.specs.ReadAhead.{Runs, IsPair, Writes, ReadsAhead}
 use Rattle.legacy_miscellaneous.specs.Utf16Decoder.{HasAsciiUnits, AreUnitsBelow, unit_at}
 use Rattle.legacy_decoder_engine.proofs.{RunForms.pair_runs, JoinedRuns.reads_written, WrittenRuns.{runs_none, runs_more, take_two, writes_two, rest_of}}
-use Rattle.legacy_decoder_engine.proofs.WrittenRuns.{writes_run, all_code_units_ascii, all_short}
+use Rattle.legacy_decoder_engine.proofs.WrittenRuns.{writes_none, writes_run, all_code_units_ascii, all_short}
 use Rattle.legacy_miscellaneous.proofs.Utf16Shown.{unit_below, utf16_shown}
 
 -- a unit that is not a surrogate is a run of its own
@@ -104,12 +104,22 @@ few_units : (form : EncodingForm) (be : Bool) (source units : List ℕ) → ((k 
 few_units form be source units bytes long are =
     omega (arith, long, all_short form units (λ k h. rw ((are k (omega arith)).0) (unit_below be _ _ (bytes (2 * k)) (bytes (2 * k + 1)))))
 
-pub eight_more : {D : Type 0} (T : Ghosts D) (be : Bool) (source units : List ℕ) {old mid new : D} (group : ℕ) → ((k : ℕ) → IsByte (get_or source k 0)) →
-    16 * group + 16 ≤ length source → length units ≡ 8 → T.room old ≤ T.room mid + 24 * group → Writes T (utf16 be) (take (16 * group) source) old mid →
+-- The units of the first `group` groups of eight are written, each as at most three code units.
+pub record EightsWritten {D : Type 0} (T : Ghosts D) (be : Bool) (source : List ℕ) (eights group : ℕ) (old new : D) : Type 0 where
+  pub within : group ≤ eights
+  pub room : T.room old ≤ T.room new + 24 * group
+  pub writes : Writes T (utf16 be) (take (16 * group) source) old new
+
+pub no_eights : {D : Type 0} (T : Ghosts D) (be : Bool) (source : List ℕ) (eights : ℕ) (dst : D) → EightsWritten T be source eights 0 dst dst
+no_eights T be source eights dst = record { within = omega arith; room = omega arith; writes = writes_none T (utf16 be) dst }
+
+pub eight_more : {D : Type 0} {T : Ghosts D} {be : Bool} {source : List ℕ} (units : List ℕ) {old mid new : D} {eights group : ℕ} →
+    ((k : ℕ) → IsByte (get_or source k 0)) →
+    16 * eights ≤ length source → group < eights → length units ≡ 8 → EightsWritten T be source eights group old mid →
     ((k : ℕ) → k < 8 → (get_or units k 0 ≡ unit_at be (take (length source - 16 * group) (drop (16 * group) source)) k) × IsScalar (get_or units k 0)) →
     T.contents new ≡ T.contents mid ++ all_code_units T.form units → T.room new + total_unit_count T.form units ≡ T.room mid → T.loan new ≡ T.loan mid →
-    (T.room old ≤ T.room new + 24 * (group + 1)) × Writes T (utf16 be) (take (16 * (group + 1)) source) old new
-eight_more T be source units {old} {mid} {new} group bytes within long less before are contents room loan =
+    EightsWritten T be source eights (group + 1) old new
+eight_more {T = T} {be} {source} units {old} {mid} {new} {eights} {group} bytes within less long before are contents room loan =
     let at = 16 * group in
     let rest : List ℕ = take (length source - at) (drop at source) in
     let longer : length rest ≡ length source - at = length-take-le (length source - at) (drop at source) (omega (arith, length-drop at source)) in
@@ -117,12 +127,15 @@ eight_more T be source units {old} {mid} {new} group bytes within long less befo
     let place : at + 16 ≡ 16 * (group + 1) = omega arith in
     let enough : 2 * 8 ≤ length rest = omega arith in
     let room' : T.room new + total_unit_count T.form (take 8 units) ≡ T.room mid = omega (arith, ap (total_unit_count T.form) all, room) in
-    let few = few_units T.form be rest units (rest_bytes source at bytes) long are in (
-      omega (arith, less, few, room),
-      subst (λ n. Writes T (utf16 be) (take n source) old new) place
-          (writes_run T source at 16 before (writes_units T be rest units 8 (rest_bytes source at bytes) enough (omega arith) are
-          (contents ∙ ap (λ l. T.contents mid ++ all_code_units T.form l) (sym all)) room' loan)),
-    )
+    let few = few_units T.form be rest units (rest_bytes source at bytes) long are in
+    record {
+      within = omega (arith, less);
+      room = omega (arith, before.room, few, room);
+      writes =
+          subst (λ n. Writes T (utf16 be) (take n source) old new) place
+          (writes_run T source at 16 before.writes (writes_units T be rest units 8 (rest_bytes source at bytes) enough (omega arith) are
+          (contents ∙ ap (λ l. T.contents mid ++ all_code_units T.form l) (sym all)) room' loan));
+    }
 
 -- eight units of a source that is below U+0800 are below it
 pub short_eight : (be : Bool) (source units : List ℕ) (group eights : ℕ) → AreUnitsBelow be source (8 * eights) 0x800 → group < eights

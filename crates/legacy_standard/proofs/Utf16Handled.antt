@@ -45,21 +45,21 @@ module _ (is_utf16be : Bool) where
   unpaired-events i u v units odd e = rw (e, units_events)
 
   -- a code unit that is no high surrogate is not paired with the next one
-  lone-events : (i u : ℕ) (units : List ℕ) (odd : Bool) → is_high_surrogate u ≡ false →
+  single-events : (i u : ℕ) (units : List ℕ) (odd : Bool) → is_high_surrogate u ≡ false →
       units_events i (u ∷ units) odd ≡ single_unit_events i u ++ units_events (i + 1) units odd
   unfolding units_events
-  lone-events i u [] odd h = rw h refl
-  lone-events i u (v ∷ units) odd h = unpaired-events i u v units odd (and_left (is_high_surrogate u) (is_low_surrogate v) h)
+  single-events i u [] odd h = rw h refl
+  single-events i u (v ∷ units) odd h = unpaired-events i u v units odd (and_left (is_high_surrogate u) (is_low_surrogate v) h)
 
   -- a high surrogate before a code unit that is no low surrogate
   high-events : (i u v : ℕ) (units : List ℕ) (odd : Bool) → is_high_surrogate u ≡ true → is_low_surrogate v ≡ false →
       units_events i (u ∷ v ∷ units) odd ≡ Bad (2 * i) 2 ∷ units_events (i + 1) (v ∷ units) odd
   high-events i u v units odd h l = rw (unpaired-events i u v units odd (and_right (is_high_surrogate u) (is_low_surrogate v) l), h) refl
 
-  lone : (i a b : ℕ) (rest : List ℕ) → is_high_surrogate (unit a b) ≡ false → Gives (i + 1) rest → Gives i (a ∷ b ∷ rest)
+  single : (i a b : ℕ) (rest : List ℕ) → is_high_surrogate (unit a b) ≡ false → Gives (i + 1) rest → Gives i (a ∷ b ∷ rest)
   unfolding units_of has_odd_byte utf16_handler
-  lone i a b rest h after =
-      rw (lone-events i (unit a b) (units_of is_utf16be rest) (has_odd_byte rest) h, h)
+  single i a b rest h after =
+      rw (single-events i (unit a b) (units_of is_utf16be rest) (has_odd_byte rest) h, h)
       (cond_both (is_low_surrogate (unit a b)) (Bad (2 * i) 2 ∷ []) (Scalar (unit a b) ∷ [])
       (λ es. Runs handler utf16_initial (2 * i) 0 (a ∷ b ∷ rest) (es ++ events (i + 1) rest))
       (λ l. goes_on refl (error_at {t = utf16_initial} [] (rw (h, l) refl) (rw (next i) after)))
@@ -102,7 +102,7 @@ module _ (is_utf16be : Bool) where
   -- by the first code unit's kind
   by_high : (i a b : ℕ) (rest : List ℕ) → (is_high_surrogate (unit a b) ≡ true → Gives i (a ∷ b ∷ rest)) → Gives (i + 1) rest → Gives i (a ∷ b ∷ rest)
   by_high i a b rest high after =
-      cond_both (is_high_surrogate (unit a b)) true false (λ s. Gives i (a ∷ b ∷ rest)) high (λ f. lone i a b rest f after)
+      cond_both (is_high_surrogate (unit a b)) true false (λ s. Gives i (a ∷ b ∷ rest)) high (λ f. single i a b rest f after)
 
   below : (n i : ℕ) (bytes : List ℕ) → AreBytes bytes → length bytes ≤ n → Gives i bytes
   below n i [] all h = nothing i

@@ -174,8 +174,8 @@ pub record Utf16Step (list : List ℕ) (place c n : ℕ) : Type 0 where
 pair_or_not : (u v : ℕ) → IsPair u v ⊎ (IsPair u v → ⊥)
 pair_or_not u v = grind arith
 
-lone_bound : (u : ℕ) → u < 65536 → replaced (lone_unit_char u) < 65536
-lone_bound u h = grind arith
+unpaired_bound : (u : ℕ) → u < 65536 → replaced (lone_unit_char u) < 65536
+unpaired_bound u h = grind arith
 
 -- by the scalar at the place and its number of units
 step_of : (list : List ℕ) (place c n s k : ℕ) → unit_scalars (drop place list) ≡ s ∷ unit_scalars (drop (place + k) list) →
@@ -188,7 +188,7 @@ step_of list place c n s k all e same width within =
 pub utf16_step : (list : List ℕ) (place c n : ℕ) → ((i : ℕ) → get_or list i 0 < 65536) → place < length list →
     Some c ≡ slice_get (unit_scalars (drop place list)) 0 → (c < 65536 → n ≡ 1) → (65536 ≤ c → n ≡ 2) → Utf16Step list place c n
 utf16_step list place c n bound h e short long =
-    grind (arith, pair_or_not, get_or-eq_default, scalars_pair, step_of, utf16_2, scalars_lone, lone_bound, utf16_1)
+    grind (arith, pair_or_not, get_or-eq_default, scalars_pair, step_of, utf16_2, scalars_lone, unpaired_bound, utf16_1)
 
 -- there is a scalar only before the end
 pub some_within : (units : List ℕ) (place c : ℕ) → Some c ≡ slice_get (unit_scalars (drop place units)) 0 → place < length units
@@ -250,7 +250,7 @@ utf16_cut (u ∷ []) (c ∷ taken) left b e = let p : IsPair u 0 → ⊥ = λ q.
     let f : replaced (lone_unit_char u) ∷ unit_scalars [] ≡ c ∷ (taken ++ left) = sym all ∙ e in
     let is : c ≡ replaced (lone_unit_char u) = cc in
     let rest : unit_scalars [] ≡ taken ++ left = cc in
-    let narrow : c < 65536 = rw is (lone_bound u (b 0)) in
+    let narrow : c < 65536 = rw is (unpaired_bound u (b 0)) in
     cut_lone u [] left _ _ p (ap (λ l. length (l ++ all_code_units Utf16 taken)) (utf16_1 c narrow)) (utf16_cut [] taken left (λ i. b (suc i)) rest)
 utf16_cut (u ∷ v ∷ list) (c ∷ taken) left b e = elim (pair_or_not u v) [
   | inl p ↦
@@ -265,7 +265,7 @@ utf16_cut (u ∷ v ∷ list) (c ∷ taken) left b e = elim (pair_or_not u v) [
       let f : replaced (lone_unit_char u) ∷ unit_scalars (v ∷ list) ≡ c ∷ (taken ++ left) = sym all ∙ e in
       let is : c ≡ replaced (lone_unit_char u) = cc in
       let rest : unit_scalars (v ∷ list) ≡ taken ++ left = cc in
-      let narrow : c < 65536 = rw is (lone_bound u (b 0)) in
+      let narrow : c < 65536 = rw is (unpaired_bound u (b 0)) in
       cut_lone u (v ∷ list) left _ _ p (ap (λ l. length (l ++ all_code_units Utf16 taken)) (utf16_1 c narrow))
       (utf16_cut (v ∷ list) taken left (λ i. b (suc i)) rest)
 ]

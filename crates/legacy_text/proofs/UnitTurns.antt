@@ -2,8 +2,8 @@
 use Rattle.std.proofs.{Common.{◌≡◌, ◌∙◌, ℕ, ◌+◌, ◌-◌, ◌≤◌, ◌<◌, List, length, take, drop, get_or, sym, ap, arith, length-drop}, lemmas.List.get_or-take}
 use Rattle.std.proofs.lemmas.List.{length-take-le, take_all, take-append-drop}
 use Rattle.std.specs.Bool.{⊤}
-use Rattle.legacy_text.specs.{EncodingForm.{Utf16, total_unit_count}, Texts.unit_scalars, UnitCodes.IsNoSurrogate, UnitTurns.{AreLone, TakesUnits}}
-use Rattle.legacy_text.proofs.UnitCopies.{lone_front, lone_count}
+use Rattle.legacy_text.specs.{EncodingForm.{Utf16, total_unit_count}, Texts.unit_scalars, UnitCodes.IsNoSurrogate, UnitTurns.{AreNoSurrogates, TakesUnits}}
+use Rattle.legacy_text.proofs.UnitCopies.{bmp_front, bmp_count}
 
 module _ (list : List ℕ) (place n : ℕ) (fits : place + n ≤ length list) (bound : (k : ℕ) → get_or list k 0 < 65536) (units : List ℕ)
     (is : units ≡ take n (drop place list)) where
@@ -16,17 +16,17 @@ module _ (list : List ℕ) (place n : ℕ) (fits : place + n ≤ length list) (b
   count : length units ≡ n
   count = ap length is ∙ length-take-le n (drop place list) long
 
-  lone_here : AreLone units → (k : ℕ) → k < n → IsNoSurrogate (get_or (take (length list - place) (drop place list)) k 0)
-  lone_here lone k h = grind (arith, get_or-take, whole, count)
+  lone_here : AreNoSurrogates units → (k : ℕ) → k < n → IsNoSurrogate (get_or (take (length list - place) (drop place list)) k 0)
+  lone_here no_surrogate k h = grind (arith, get_or-take, whole, count)
 
   pub takes_units : TakesUnits Utf16 (unit_scalars (drop place list)) place units (unit_scalars (drop (place + n) list)) (place + n)
   takes_units = record {
-    front = λ lone.
-        let f = lone_front (λ a b. ⊤) list place n (omega arith) bound (rw whole long) (lone_here lone) in
+    front = λ no_surrogate.
+        let f = bmp_front (λ a b. ⊤) list place n (omega arith) bound (rw whole long) (lone_here no_surrogate) in
         rw (is, f.front_is, f.others_is) (sym (take-append-drop n (unit_scalars (drop place list))));
-    passed_is = λ lone.
-        let f = lone_front (λ a b. ⊤) list place n (omega arith) bound (rw whole long) (lone_here lone) in
-        ap (λ m. place + m) (sym (ap (total_unit_count Utf16) (is ∙ f.front_is) ∙ lone_count (λ a b. ⊤) list place n (omega arith) bound (rw whole long)
-        (lone_here lone)));
+    passed_is = λ no_surrogate.
+        let f = bmp_front (λ a b. ⊤) list place n (omega arith) bound (rw whole long) (lone_here no_surrogate) in
+        ap (λ m. place + m) (sym (ap (total_unit_count Utf16) (is ∙ f.front_is) ∙ bmp_count (λ a b. ⊤) list place n (omega arith) bound (rw whole long)
+        (lone_here no_surrogate)));
     all_passed = λ e. omega (arith, count);
   }

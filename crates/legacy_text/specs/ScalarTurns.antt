@@ -3,7 +3,7 @@ use Rattle.std.specs.Prelude.{◌≡◌, ℕ, ◌+◌, ◌*◌, ◌%◌, ◌<◌
 use Rattle.std.specs.Str.{chars, is_utf8}
 use Rattle.legacy_text.specs.EncodingForm.{Utf8, total_unit_count}
 use Rattle.legacy_text.specs.UnitCodes.{IsNoSurrogate}
-use Rattle.legacy_text.specs.UnitTurns.{AreLone}
+use Rattle.legacy_text.specs.UnitTurns.{AreNoSurrogates}
 
 -- a byte with which a scalar begins: not 80 to BF
 abbrev pub IsStart : ℕ → Type 0
@@ -23,5 +23,5 @@ IsUnitAt bytes place unit = IsUnitOf (slice_index bytes place) (slice_index byte
 pub record ReadsUnits (text : List ℕ) (start : ℕ) (units : List ℕ) (behind : ℕ) : Type 0 where
   pub is_text : is_utf8 (drop behind text) ≡ true
   pub within : behind ≤ length text
-  pub front : AreLone units → chars (drop start text) ≡ units ++ chars (drop behind text)
-  pub passed : AreLone units → behind ≡ start + total_unit_count Utf8 units
+  pub front : AreNoSurrogates units → chars (drop start text) ≡ units ++ chars (drop behind text)
+  pub passed : AreNoSurrogates units → behind ≡ start + total_unit_count Utf8 units
