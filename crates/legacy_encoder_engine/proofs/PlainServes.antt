@@ -167,16 +167,15 @@ module _ (codec : Codec) (past : ℕ) (p : IsPlainCodec codec past) where
   plain_byte c byte is = record { fits = let room = widest_room c in omega (arith, is.0); moves = plain_moves c (One byte) is.1 }
 
   -- the bytes of a code unit
-  module _ (c both : ℕ) (no_surrogate : IsNoSurrogate c) (own : HasUnitCode codec c both) where
+  module _ (c both : ℕ) (bmp : IsNoSurrogate c) (own : HasUnitCode codec c both) where
     pub plain_one : c < 128 → ReadsUnit S c both 1
     plain_one l =
-        record { no_surrogate = no_surrogate; move = One (both % 256); moves = plain_moves c (One (both % 256)) (own.ascii l);
-            reads = refl; silent = refl; bytes = refl }
+        record { bmp = bmp; move = One (both % 256); moves = plain_moves c (One (both % 256)) (own.ascii l); reads = refl; silent = refl; bytes = refl }
 
     pub plain_two : 128 ≤ c → ReadsUnit S c both 2
     plain_two l =
         let move = Two (both % 256) (both / 256) in
-        record { no_surrogate = no_surrogate; move = move; moves = plain_moves c move (own.past l); reads = refl; silent = refl; bytes = refl }
+        record { bmp = bmp; move = move; moves = plain_moves c move (own.past l); reads = refl; silent = refl; bytes = refl }
 
   -- a code that was written
   pub plain_puts : (c : ℕ) (move : EncoderMove) → IsCode (code S c) c move → is_escape move ≡ false

@@ -20,7 +20,7 @@ stays start at old new bytes end within fits le e = grind (arith, common_steps, 
 module _ (state : EncoderState) (free : ℕ) where
   pub units_none : (units old new : List ℕ) → new ≡ old → PutsUnits state free (take 0 units) old new
   units_none units old new e = record {
-    no_surrogate = λ k h. absurd (omega arith);
+    bmp = λ k h. absurd (omega arith);
     keeps = λ rest. rw e (keeps_none state free rest old);
   }
 
@@ -35,16 +35,16 @@ module _ (state : EncoderState) (free : ℕ) where
       let long : length (take k units) ≡ k = length-take-le k units (omega arith) in
       let one : suc k ≡ k + 1 = omega arith in
       subst (λ n. PutsUnits state free (take n units) old new) one (record {
-        no_surrogate = λ j h. elim (cases_lt j k) [
+        bmp = λ j h. elim (cases_lt j k) [
           | inl l ↦
               let below : j < length (take k units) = omega arith in
               let same : get_or (take k units) j 0 ≡ get_or (take (suc k) units) j 0 = grind (arith, common_steps) in
-              subst IsNoSurrogate same (before.no_surrogate j below)
+              subst IsNoSurrogate same (before.bmp j below)
           | inr l ↦
               let all : length (take (suc k) units) ≡ suc k = length-take-le (suc k) units (omega arith) in
               let here : j ≡ k = omega arith in
               let same : c ≡ get_or (take (suc k) units) j 0 = rw here (sym is ∙ sym (get_or-take (suc k) units k 0 (omega arith))) in
-              subst IsNoSurrogate same own.no_surrogate
+              subst IsNoSurrogate same own.bmp
         ];
         keeps = λ rest.
             let second = keeps_move state free serves (c ∷ rest) bytes c rest own.move refl own.moves own.reads own.silent (omega arith) in

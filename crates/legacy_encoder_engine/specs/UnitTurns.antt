@@ -17,7 +17,7 @@ two_bytes both = both % 256 ∷ both / 256 ∷ []
 
 -- the code unit c is a scalar that is read in this state, with the low byte of `both` or both bytes
 pub record ReadsUnit (state : EncoderState) (c both count : ℕ) : Type 0 where
-  pub no_surrogate : IsNoSurrogate c
+  pub bmp : IsNoSurrogate c
   pub move : EncoderMove
   pub moves : Moves state c state move
   pub reads : is_escape move ≡ false
@@ -26,5 +26,5 @@ pub record ReadsUnit (state : EncoderState) (c both count : ℕ) : Type 0 where
 
 -- The codes of code units that are scalars are appended to earlier bytes, whatever code units follow.
 pub record PutsUnits (state : EncoderState) (free : ℕ) (units old new : List ℕ) : Type 0 where
-  pub no_surrogate : AreNoSurrogates units
+  pub bmp : AreNoSurrogates units
   pub keeps : (rest : List ℕ) → KeepsOn state free (units ++ rest) old rest new

@@ -135,5 +135,4 @@ module _ (jis0208 katakana_index : List ℕ) where
     moves_listed = reads modes.TwoByte c (pair_mode in_two_byte) (Two (both % 256) (both / 256)) is.pair
 
     pub reads_listed : ReadsUnit (state_in jis0208 katakana_index modes.TwoByte) c both 2
-    reads_listed = record {
-      no_surrogate = is.no_surrogate; move = Two (both % 256) (both / 256); moves = moves_listed; reads = refl; silent = refl; bytes = refl }
+    reads_listed = record { bmp = is.bmp; move = Two (both % 256) (both / 256); moves = moves_listed; reads = refl; silent = refl; bytes = refl }

@@ -54,4 +54,4 @@ module _ (flat : FlatIndexes) (accepted : AreAccepted flat) where
       → (c : ℕ) → c < 65536 → GoesByPointer c → IsListedEntry flat.jis0208 flat.katakana c (slice_index pairs c)
   walked-listed pairs all filled c h d = λ n.
       let told = (walked-right _ _ _ _ _ iso-2022-jp-by-pointers pairs all filled c h d).told n in
-      record { no_surrogate = told.0; pair = told.1.past (grind (arith, d.ascii)) }
+      record { bmp = told.0; pair = told.1.past (grind (arith, d.ascii)) }

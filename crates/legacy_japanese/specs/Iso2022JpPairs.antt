@@ -6,7 +6,7 @@ use Rattle.legacy_base.specs.Iso2022Jp.{iso_2022_jp_code}
 
 -- the number is the pair of the scalar c
 pub record IsPairOf (jis0208 katakana_index : List ℕ) (c both : ℕ) : Type 0 where
-  pub no_surrogate : IsNoSurrogate c
+  pub bmp : IsNoSurrogate c
   pub pair : iso_2022_jp_code jis0208 katakana_index c ≡ Some (both % 256 ∷ both / 256 ∷ [])
 
 -- the entry is the pair of the scalar c, or 0

@@ -257,7 +257,7 @@ module _ (text : List ℕ) (place : ℕ) (inside : place < length text) (u : is_
 
   -- the code unit at the beginning of a scalar is this scalar, if it is not a surrogate
   pub unit_is : place + 2 ≤ length text → (unit : ℕ) → IsUnitAt text place unit → IsNoSurrogate unit → unit ≡ get_or (chars (drop place text)) 0 0
-  unit_is two unit made no_surrogate = elim (made no_surrogate) [
+  unit_is two unit made bmp = elim (made bmp) [
     | inl one ↦
         let r = reads_ascii text place two u (omega (arith, one.0)) one.0 in
         one.1 ∙ sym (ap (λ l. get_or l 0 0) r.left)
@@ -302,22 +302,22 @@ units_more : (text : List ℕ) (start : ℕ) (units : List ℕ) (place c behind 
 units_more text start units place c behind unit before r is = record {
   is_text = r.is_text;
   within = r.within;
-  front = λ no_surrogate.
-      let same = is (last no_surrogate) in
-      before.front (firsts no_surrogate) ∙ ap (λ l. units ++ l) r.left ∙ rw same (sym (append_assoc units (c ∷ []) (chars (drop behind text))));
-  passed = λ no_surrogate.
-      let same = is (last no_surrogate) in
-      omega (arith, before.passed (firsts no_surrogate), r.passed, total_unit_count-append Utf8 units (unit ∷ []), one_count unit, ap (unit_count Utf8) same);
+  front = λ bmp.
+      let same = is (last bmp) in
+      before.front (firsts bmp) ∙ ap (λ l. units ++ l) r.left ∙ rw same (sym (append_assoc units (c ∷ []) (chars (drop behind text))));
+  passed = λ bmp.
+      let same = is (last bmp) in
+      omega (arith, before.passed (firsts bmp), r.passed, total_unit_count-append Utf8 units (unit ∷ []), one_count unit, ap (unit_count Utf8) same);
 }
   where
     long : length (units ++ unit ∷ []) ≡ length units + 1
     long = length-append units (unit ∷ [])
 
     firsts : AreNoSurrogates (units ++ unit ∷ []) → AreNoSurrogates units
-    firsts no_surrogate k h = subst IsNoSurrogate (get_or_append_left units (unit ∷ []) 0 k h) (no_surrogate k (omega (arith, long)))
+    firsts bmp k h = subst IsNoSurrogate (get_or_append_left units (unit ∷ []) 0 k h) (bmp k (omega (arith, long)))
 
     last : AreNoSurrogates (units ++ unit ∷ []) → IsNoSurrogate unit
-    last no_surrogate = subst IsNoSurrogate (get_or-append-add units (unit ∷ []) 0 0) (no_surrogate (length units + 0) (omega (arith, long)))
+    last bmp = subst IsNoSurrogate (get_or-append-add units (unit ∷ []) 0 0) (bmp (length units + 0) (omega (arith, long)))
 
 -- code units were read up to the lowest bit, and the bits from there on say where scalars begin
 pub record StandsBehind (text : List ℕ) (start : ℕ) (units : List ℕ) (bits : ℕ) : Type 0 where

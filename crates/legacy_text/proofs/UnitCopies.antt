@@ -10,7 +10,7 @@ use Rattle.legacy_text.proofs.{CodeUnits.utf16_1, Texts.{IsFront, front_of, repl
 
 -- the first `count` code units were written, and are no surrogates
 pub record GoesOn (gives : ℕ → ℕ → Type 0) (units : List ℕ) (count : ℕ) (old new : List ℕ) : Type 0 where
-  pub no_surrogate : (k : ℕ) → k < count → IsNoSurrogate (get_or units k 0)
+  pub bmp : (k : ℕ) → k < count → IsNoSurrogate (get_or units k 0)
   pub writes : WritesCodes gives units count old new
 
 -- the code units of a block after others
@@ -21,8 +21,8 @@ pub block_behind : (gives : ℕ → ℕ → Type 0) (units old new front : List 
     → IsAscii (take r marks) → take (at + copied + r) new ≡ take (at + copied) old ++ take r block
     → ((k : ℕ) → k < copied → IsNoSurrogate (get_or units k 0)) → WritesCodes gives units copied front (take (at + copied) old)
     → GoesOn gives units (copied + r) front (take (at + (copied + r)) new)
-block_behind gives units old new front at copied r block marks within few long codes ascii stored no_surrogate writes = record {
-  no_surrogate = λ k h. elim (cases_lt k copied) [ inl l ↦ no_surrogate k l | inr l ↦ (behind k h l).0 ];
+block_behind gives units old new front at copied r block marks within few long codes ascii stored bmp writes = record {
+  bmp = λ k h. elim (cases_lt k copied) [ inl l ↦ bmp k l | inr l ↦ (behind k h l).0 ];
   writes = record {
     bytes = writes.bytes ++ take r block;
     new_is =
@@ -62,10 +62,10 @@ writes_none gives units old new e = record { bytes = []; new_is = e ∙ sym (app
 -- each of them is its own scalar
 bmp_scalars : (front others : List ℕ) → ((k : ℕ) → k < length front → IsNoSurrogate (get_or front k 0)) →
     unit_scalars (front ++ others) ≡ front ++ unit_scalars others
-bmp_scalars [] others no_surrogate = refl
-bmp_scalars (u ∷ front) others no_surrogate =
-    let first : 55296 ≤ u → 57344 ≤ u = no_surrogate 0 (omega arith) in
-    let rest = bmp_scalars front others (λ k h. no_surrogate (suc k) (omega arith)) in
+bmp_scalars [] others bmp = refl
+bmp_scalars (u ∷ front) others bmp =
+    let first : 55296 ≤ u → 57344 ≤ u = bmp 0 (omega arith) in
+    let rest = bmp_scalars front others (λ k h. bmp (suc k) (omega arith)) in
     elim (cases_lt u 55296) [
       | inl l ↦
           ap (map replaced) (utf16_chars_lone u (front ++ others) (λ p. omega (arith, p.0)))
@@ -86,7 +86,7 @@ narrow_units (u ∷ front) b =
 
 module _ (gives : ℕ → ℕ → Type 0) (list : List ℕ) (place n : ℕ) (start : place ≤ length list) (bound : (k : ℕ) → get_or list k 0 < 65536)
     (within : n ≤ length (take (length list - place) (drop place list)))
-    (no_surrogate : (k : ℕ) → k < n → IsNoSurrogate (get_or (take (length list - place) (drop place list)) k 0)) where
+    (bmp : (k : ℕ) → k < n → IsNoSurrogate (get_or (take (length list - place) (drop place list)) k 0)) where
   abbrev Rest : List ℕ
   Rest = drop place list
 
@@ -108,7 +108,7 @@ module _ (gives : ℕ → ℕ → Type 0) (list : List ℕ) (place n : ℕ) (sta
       front_of (unit_scalars Rest) (take n Rest) (unit_scalars (drop (place + n) list)) n front_long
       (ap unit_scalars parts ∙ bmp_scalars (take n Rest) (drop (place + n) list) (λ k h.
       let below : k < n = omega (arith, h, front_long) in
-      subst IsNoSurrogate (ap (λ l. get_or l k 0) whole ∙ sym (at_front k below)) (no_surrogate k below)))
+      subst IsNoSurrogate (ap (λ l. get_or l k 0) whole ∙ sym (at_front k below)) (bmp k below)))
 
   pub bmp_count : total_unit_count Utf16 (take n (unit_scalars Rest)) ≡ n
   bmp_count = grind (arith, nat_tests, bmp_front, narrow_units, front_long, at_front, get_or-drop)

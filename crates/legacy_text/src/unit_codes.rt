@@ -75,7 +75,7 @@ pub(crate) fn copy_unit_codes<C: UnitCodes>(
     requires { at ≤ length dst.old }
     ensures read { result ≤ length units.now }
     ensures fits { at + result ≤ length dst.old }
-    ensures no_surrogate { (k : ℕ) → k < result → IsNoSurrogate (slice_index units.now k) }
+    ensures bmp { (k : ℕ) → k < result → IsNoSurrogate (slice_index units.now k) }
     ensures writes { WritesCodes (C.gives codes.now) units.now result (take at dst.old)
         (take (at + result) dst.new) }
 {

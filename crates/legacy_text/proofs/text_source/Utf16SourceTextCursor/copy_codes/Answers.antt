@@ -8,11 +8,11 @@ returns g c =
     let e = c.copy_unit_codes-count.ensures in
     let n = c.copy_unit_codes-count.result in
     let gives = g.C.UnitCodes.gives c.args.codes.now in
-    let front = bmp_front gives s.units.now s.place n s.in_range s.are_units e.read e.no_surrogate in
+    let front = bmp_front gives s.units.now s.place n s.in_range s.are_units e.read e.bmp in
     record {
       read = front.within;
       left = front.others_is;
-      passed = ap (λ n. s.place + n) (sym (bmp_count gives s.units.now s.place n s.in_range s.are_units e.read e.no_surrogate));
+      passed = ap (λ n. s.place + n) (sym (bmp_count gives s.units.now s.place n s.in_range s.are_units e.read e.bmp));
       fits = e.fits;
-      writes = bmp_writes gives s.units.now s.place n s.in_range s.are_units e.read e.no_surrogate _ _ e.writes;
+      writes = bmp_writes gives s.units.now s.place n s.in_range s.are_units e.read e.bmp _ _ e.writes;
     }
