@@ -26,10 +26,10 @@ no_pair u v e p = grind arith
 pub unit_scalars-append : (xs ys : List ℕ) → IsSeam xs ys → unit_scalars (xs ++ ys) ≡ unit_scalars xs ++ unit_scalars ys
 unit_scalars-append [] ys h = sym (ap (λ l. map replaced l ++ unit_scalars ys) utf16_chars-nil)
 unit_scalars-append (u ∷ []) ys h =
-    let bmp : IsPair u (get_or ys 0 0) → ⊥ = no_pair u (get_or ys 0 0) (h 0 refl) in
+    let unpaired : IsPair u (get_or ys 0 0) → ⊥ = no_pair u (get_or ys 0 0) (h 0 refl) in
     let alone : IsPair u 0 → ⊥ = λ q. omega (arith, q.1) in
     let one = utf16_chars_lone u [] alone ∙ ap (λ l. lone_unit_char u ∷ l) utf16_chars-nil in
-    ap (map replaced) (utf16_chars_lone u ys bmp) ∙ sym (ap (λ l. map replaced l ++ unit_scalars ys) one)
+    ap (map replaced) (utf16_chars_lone u ys unpaired) ∙ sym (ap (λ l. map replaced l ++ unit_scalars ys) one)
 unit_scalars-append (u ∷ v ∷ xs) ys h = elim (pair_or_not u v) [
   | inl p ↦
       ap (map replaced) (utf16_chars_pair u v (xs ++ ys) p)

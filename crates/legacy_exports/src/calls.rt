@@ -96,7 +96,7 @@ fn replace_malformed<U: CodeUnit>(
         DecoderResult::InputEmpty => (CallEnd::Read, written),
         DecoderResult::OutputFull => (CallEnd::Full, written),
         DecoderResult::Malformed(_, _) => match U::replace(output, written) {
-            Some(after) => (CallEnd::Replaced, after),
+            Some(end) => (CallEnd::Replaced, end),
             None => (CallEnd::Full, written),
         },
     }

@@ -74,9 +74,9 @@ pub plain_more : (units : List ℕ) (at u : ℕ) → at < length units → u ≡
     → unit_scalars units ≡ take at units ++ unit_scalars (drop at units)
     → unit_scalars units ≡ take (at + 1) units ++ unit_scalars (drop (at + 1) units)
 plain_more units at u h e plain given =
-    let bmp = rw (← e) at (scalars_lone units at h) in
+    let unpaired = rw (← e) at (scalars_lone units at h) in
     let next : unit_scalars (drop at units) ≡ u ∷ unit_scalars (drop (at + 1) units) =
-    bmp (apart u (get_or units (at + 1) 0) plain) ∙ ap (λ c. c ∷ unit_scalars (drop (at + 1) units)) (replaced_unit u plain) in
+    unpaired (apart u (get_or units (at + 1) 0) plain) ∙ ap (λ c. c ∷ unit_scalars (drop (at + 1) units)) (replaced_unit u plain) in
     let more : take (at + 1) units ≡ take at units ++ u ∷ [] =
     ap (λ n. take n units) (add-one at) ∙ take-suc units at 0 h ∙ ap (λ c. take at units ++ c ∷ []) (sym e) in
     given ∙ ap (λ l. take at units ++ l) next ∙ sym (append_assoc (take at units) (u ∷ []) (unit_scalars (drop (at + 1) units)))

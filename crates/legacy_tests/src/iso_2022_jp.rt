@@ -56,7 +56,7 @@ const WITHOUT_ENTRIES: &[Row] = &[
     ToUtf8(b"\x1B(B", 16, true, InputEmpty, 3, ""),
     Neutral(false),
     Events(b"\x1B(B", "", &[]),
-    Decoder("a bmp escape byte at the end takes the escape before it away"),
+    Decoder("an escape byte alone at the end takes the escape before it away"),
     ToUtf8(b"\x1B(B\x1B", 16, true, Malformed(1, 0), 4, ""),
     Neutral(true),
     HeldBack(b"\x1B(J"),
@@ -100,7 +100,7 @@ const WITHOUT_ENTRIES: &[Row] = &[
 
 /// The rows with pointers 0, 95, 671 and 4861 of index jis0208.
 const PAIRS: &[Row] = &[
-    Decoder("in two-byte mode the byte behind a bmp 1B is a lead"),
+    Decoder("in two-byte mode the byte after a single 1B is a lead"),
     ToUtf8(b"\x1B$B\x1B(.", 16, true, Malformed(1, 1), 5, ""),
     ToUtf8(b".", 16, true, InputEmpty, 1, "\u{250F}"),
     Events(b"\x1B$B\x1B(.", "\u{FFFD}\u{250F}", &[(3, 1)]),

@@ -14,7 +14,7 @@ use legacy_index_files::Codec;
 use std::process::Abort;
 
 const LITTLE_ENDIAN: &[Row] = &[
-    Decoder("the unit behind a bmp high surrogate is held back"),
+    Decoder("the unit after an unpaired high surrogate is held back"),
     HeldBack(b"\x00\xD8"),
     ToUtf8(
         b"\x00\x00\x00\x4E\x00\x4E",
@@ -88,7 +88,7 @@ const LITTLE_ENDIAN: &[Row] = &[
         "\u{FFFD}\0\u{4E00}\u{4E00}",
         &[(0, 2)],
     ),
-    Decoder("bmp surrogates are replaced, also at the end"),
+    Decoder("unpaired surrogates are replaced, also at the end"),
     Replaced(
         b"\0\0\0\0\0\0\0\0\x3D\xD8\xA9\xDC\0\0\0\0\0\0\0\0\x3D\xD8\0\0\0\0\0\0\0\0\xA9\xDC\0\0\0\0\0\0\0\0\0\0\0\0\0\0\0\0\x3D\xD8",
         "\0\0\0\0\u{1F4A9}\0\0\0\0\u{FFFD}\0\0\0\0\u{FFFD}\0\0\0\0\0\0\0\0\u{FFFD}",

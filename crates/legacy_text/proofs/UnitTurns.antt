@@ -16,17 +16,17 @@ module _ (list : List ℕ) (place n : ℕ) (fits : place + n ≤ length list) (b
   count : length units ≡ n
   count = ap length is ∙ length-take-le n (drop place list) long
 
-  lone_here : AreNoSurrogates units → (k : ℕ) → k < n → IsNoSurrogate (get_or (take (length list - place) (drop place list)) k 0)
-  lone_here bmp k h = grind (arith, get_or-take, whole, count)
+  bmp_here : AreNoSurrogates units → (k : ℕ) → k < n → IsNoSurrogate (get_or (take (length list - place) (drop place list)) k 0)
+  bmp_here bmp k h = grind (arith, get_or-take, whole, count)
 
   pub takes_units : TakesUnits Utf16 (unit_scalars (drop place list)) place units (unit_scalars (drop (place + n) list)) (place + n)
   takes_units = record {
     front = λ bmp.
-        let f = bmp_front (λ a b. ⊤) list place n (omega arith) bound (rw whole long) (lone_here bmp) in
+        let f = bmp_front (λ a b. ⊤) list place n (omega arith) bound (rw whole long) (bmp_here bmp) in
         rw (is, f.front_is, f.others_is) (sym (take-append-drop n (unit_scalars (drop place list))));
     passed_is = λ bmp.
-        let f = bmp_front (λ a b. ⊤) list place n (omega arith) bound (rw whole long) (lone_here bmp) in
+        let f = bmp_front (λ a b. ⊤) list place n (omega arith) bound (rw whole long) (bmp_here bmp) in
         ap (λ m. place + m) (sym (ap (total_unit_count Utf16) (is ∙ f.front_is) ∙ bmp_count (λ a b. ⊤) list place n (omega arith) bound (rw whole long)
-        (lone_here bmp)));
+        (bmp_here bmp)));
     all_passed = λ e. omega (arith, count);
   }
