@@ -12,23 +12,6 @@ use Rattle.legacy_base.specs.{EucJp.euc_jp_front, Gb18030.{gb18030_scalars, gb18
 use Rattle.legacy_base.specs.Iso2022Jp.{ascii, roman, katakana, two_byte, iso_2022_jp_front}
 use Rattle.legacy_tables.proofs.Accepted.{idx-all}
 
--- ---- scalars that depend on a test
-
-is_ascii-scalar : (b : ℕ) → is_ascii b ≡ true → IsScalar b
-is_ascii-scalar b h = grind (arith, nat_tests)
-
-katakana-scalar : (t : ℕ) → is_katakana_byte t ≡ true → IsScalar (katakana_of t)
-katakana-scalar t h = grind (arith, nat_tests)
-
-user_defined-scalar : (b : ℕ) → IsByte b → IsScalar (0xF780 + (b - 0x80))
-user_defined-scalar b h = grind (arith, nat_tests)
-
-shift_jis-private : (p : ℕ) → is_in_range 8836 10715 p ≡ true → IsScalar (0xE000 + (p - 8836))
-shift_jis-private p h = grind (arith, nat_tests)
-
-shift_jis-single : (b : ℕ) → (is_ascii b || b == 0x80) ≡ true → IsScalar b
-shift_jis-single b h = grind (arith, nat_tests)
-
 -- ---- the scalars of a front
 
 -- the scalars of a front: at most two, and Unicode scalar values if P holds
@@ -88,7 +71,7 @@ module _ {P : Type 0} where
   -- an ASCII byte is its own scalar
   ascii_or : (b : ℕ) (rest : List ℕ) (other : Front) → IsFrontOf (suc (length rest)) P other →
       IsFrontOf (suc (length rest)) P (cond (is_ascii b) (reads 1 (b ∷ [])) other)
-  ascii_or b rest other h = front_of-cond _ (is_ascii b) _ _ (λ e. byte rest b (λ _. is_ascii-scalar b e)) h
+  ascii_or b rest other h = front_of-cond _ (is_ascii b) _ _ (λ e. byte rest b (λ _. grind (arith, nat_tests))) h
 
   -- a lead, with or without a trail
   pair : (scalars : ℕ → List ℕ) (rest : List ℕ) → ((t : ℕ) → MayGive P (scalars t)) → IsFrontOf (suc (length rest)) P (trail_front 1 scalars rest)
@@ -98,7 +81,7 @@ module _ {P : Type 0} where
 
   pub user_defined_front-of : (b : ℕ) → (P → IsByte b) → (rest : List ℕ) → IsFrontOf (suc (length rest)) P (user_defined_front b rest)
   unfolding user_defined_front
-  user_defined_front-of b is rest = ascii_or b rest _ (byte rest _ (λ p. user_defined-scalar b (is p)))
+  user_defined_front-of b is rest = ascii_or b rest _ (byte rest _ (λ p. let at = is p in grind (arith, nat_tests)))
 
 module _ {P : Type 0} (index : List ℕ) (checked : P → AreScalars index) where
   pub single_byte_front-of : (b : ℕ) (rest : List ℕ) → IsFrontOf (suc (length rest)) P (single_byte_front index b rest)
@@ -124,13 +107,13 @@ module _ {P : Type 0} (index : List ℕ) (checked : P → AreScalars index) wher
       ascii_or b rest _ (front_of-cond _ (is_lead_byte b) _ _ (λ _. pair _ rest (λ t. give-pointer _ (pointers b t) (give-idx index checked))) (bad rest))
 
   shift_jis-gives : (p : ℕ) → MayGive P (shift_jis_scalars index p)
-  shift_jis-gives p = give-cond (is_in_range 8836 10715 p) _ _ (λ e. give-one _ (λ _. shift_jis-private p e)) (give-idx index checked p)
+  shift_jis-gives p = give-cond (is_in_range 8836 10715 p) _ _ (λ e. give-one _ (λ _. grind (arith, nat_tests))) (give-idx index checked p)
 
   pub shift_jis_front-of : (b : ℕ) (rest : List ℕ) → IsFrontOf (suc (length rest)) P (shift_jis_front index b rest)
   unfolding shift_jis_front shift_jis_pair
   shift_jis_front-of b rest =
-      front_of-cond _ (is_ascii b || b == 0x80) _ _ (λ e. byte rest b (λ _. shift_jis-single b e))
-      (front_of-cond _ (is_katakana_byte b) _ _ (λ e. byte rest _ (λ _. katakana-scalar b e))
+      front_of-cond _ (is_ascii b || b == 0x80) _ _ (λ e. byte rest b (λ _. grind (arith, nat_tests)))
+      (front_of-cond _ (is_katakana_byte b) _ _ (λ e. byte rest _ (λ _. grind (arith, nat_tests)))
       (front_of-cond _ (is_shift_jis_lead b) _ _ (λ _. pair _ rest (λ t. give-pointer (shift_jis_scalars index) (shift_jis_pointer b t) shift_jis-gives))
       (bad rest)))
 
@@ -180,13 +163,6 @@ module _ {P : Type 0} (index : List ℕ) (ranges : List (ℕ × ℕ)) (checked :
 
 -- ---- ISO-2022-JP
 
--- a byte that passes the tests of a single-byte mode is ASCII
-ascii_part : (b : ℕ) → ((b == 0x0E || b == 0x0F) || not (is_ascii b)) ≡ false → is_ascii b ≡ true
-ascii_part b h = grind (arith, nat_tests)
-
-katakana_part : (b : ℕ) → is_in_range 0x21 0x5F b ≡ true → IsScalar (0xFF61 + (b - 0x21))
-katakana_part b h = grind (arith, nat_tests)
-
 module _ {P : Type 0} (jis0208 : List ℕ) (checked : P → AreScalars jis0208) where
   -- the second front is used only if the test fails
   unless : (size : ℕ) (t : Bool) (f g : Front) → IsFrontOf size P f → (t ≡ false → IsFrontOf size P g) → IsFrontOf size P (cond t f g)
@@ -194,12 +170,12 @@ module _ {P : Type 0} (jis0208 : List ℕ) (checked : P → AreScalars jis0208) 
 
   pub iso_2022_jp_front-of : (mode : Mode) (b : ℕ) (rest : List ℕ) → IsFrontOf (suc (length rest)) P (iso_2022_jp_front jis0208 mode b rest)
   unfolding iso_2022_jp_front
-  iso_2022_jp_front-of ascii b rest = unless _ _ _ _ (bad rest) (λ e. byte rest b (λ _. is_ascii-scalar b (ascii_part b e)))
+  iso_2022_jp_front-of ascii b rest = unless _ _ _ _ (bad rest) (λ e. byte rest b (λ _. grind (arith, nat_tests)))
   iso_2022_jp_front-of roman b rest =
       unless _ _ _ _ (bad rest) (λ e.
       front_of-cond _ (b == 0x5C) _ _ (λ _. byte rest 0xA5 (λ _. refl))
-      (front_of-cond _ (b == 0x7E) _ _ (λ _. byte rest 0x203E (λ _. refl)) (byte rest b (λ _. is_ascii-scalar b (ascii_part b e)))))
-  iso_2022_jp_front-of katakana b rest = front_of-cond _ (is_in_range 0x21 0x5F b) _ _ (λ e. byte rest _ (λ _. katakana_part b e)) (bad rest)
+      (front_of-cond _ (b == 0x7E) _ _ (λ _. byte rest 0x203E (λ _. refl)) (byte rest b (λ _. grind (arith, nat_tests)))))
+  iso_2022_jp_front-of katakana b rest = front_of-cond _ (is_in_range 0x21 0x5F b) _ _ (λ e. byte rest _ (λ _. grind (arith, nat_tests))) (bad rest)
   iso_2022_jp_front-of two_byte b [] = bad []
   iso_2022_jp_front-of two_byte b (t ∷ rest) =
       let two : IsFrontOf (suc (suc (length rest))) P (malformed 2) = front_of-malformed _ 2 (omega arith) (omega arith) (omega arith) in

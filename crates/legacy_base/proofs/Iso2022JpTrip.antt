@@ -119,15 +119,6 @@ module _ (jis0208 katakana_index : List ℕ) where
       OwnRead (roman_or_ascii mode) c (c ∷ [])
   own_neutral mode c a m o = grind (arith, nat_tests, or_parts, own_byte, front-ascii, front-roman)
 
-  -- a scalar with a known mode and code
-  own_written : (mode new : EncoderMode) (c scalar : ℕ) (own bytes : List ℕ) → IsWritten jis0208 katakana_index mode c new (Some own)
-      → code c ≡ Some bytes → OwnRead new scalar own → OwnRead (mode_of mode c) scalar bytes
-  own_written mode new c scalar own bytes w is o = let code_is = sym w.code_is ∙ is in let same : own ≡ bytes = cc in rw (w.mode_is, ← same) o
-
-  -- a scalar known to have no code
-  no_code : (mode new : EncoderMode) (c : ℕ) (bytes : List ℕ) → IsWritten jis0208 katakana_index mode c new None → code c ≡ Some bytes → ⊥
-  no_code mode new c bytes w is = let none = sym w.code_is ∙ is in cc
-
   -- the scalar that is looked up for c, and its pointer
   record IsLookedUp (c p : ℕ) : Type 0 where
     scalar : ℕ
@@ -148,42 +139,17 @@ module _ (jis0208 katakana_index : List ℕ) where
   pub ascii_stands : (c : ℕ) → is_ascii c ≡ true → own_scalar c ≡ c
   ascii_stands c h = let plain : is_fold (iso_2022_jp jis0208 katakana_index) c ≡ false = grind (arith, nat_tests) in no_fold c plain
 
+  own_looked_up : (c p : ℕ) → iso_2022_jp_pointer_of jis0208 katakana_index c ≡ Some p → OwnRead in_two_byte (own_scalar c) (iso_2022_jp_pair p)
+  own_looked_up c p e =
+      let found = looked_up c p e in
+      let back = leads_back is_jis0208_pointer jis0208 found.scalar _ (first-taken is_jis0208_pointer jis0208 found.scalar) p found.pointer in
+      rw found.fold (own_pair p found.scalar back)
+
   -- the code of a scalar decodes to `own_scalar`, in the scalar's mode
   own_read : (mode : EncoderMode) (c : ℕ) (bytes : List ℕ) → code c ≡ Some bytes → OwnRead (mode_of mode c) (own_scalar c) bytes
-  unfolding iso_2022_jp_front
-  own_read mode c bytes is = by_tests (is_mode_control c) (is_ascii c) (c == 0x5C || c == 0x7E) refl refl refl
-    where
-      by_pointer : (o : Option ℕ) → is_mode_control c ≡ false → is_ascii c ≡ false → (c ≡ 0xA5 → ⊥) → (c ≡ 0x203E → ⊥)
-          → iso_2022_jp_pointer_of jis0208 katakana_index c ≡ o → OwnRead (mode_of mode c) (own_scalar c) bytes
-      by_pointer None m a y v e = absurd (no_code mode _ c bytes (at_none jis0208 katakana_index mode c m a y v e) is)
-      by_pointer (Some p) m a y v e =
-          let found = looked_up c p e in
-          let back = leads_back is_jis0208_pointer jis0208 found.scalar _ (first-taken is_jis0208_pointer jis0208 found.scalar) p found.pointer in
-          own_written mode in_two_byte c (own_scalar c) _ bytes (at_pair jis0208 katakana_index mode c p m a y v e) is
-          (rw found.fold (own_pair p found.scalar back))
-
-      past_ascii : is_mode_control c ≡ false → is_ascii c ≡ false → OwnRead (mode_of mode c) (own_scalar c) bytes
-      past_ascii m a = elim (cases_eq c 0xA5) [
-        | inl e ↦ own_written mode in_roman c (own_scalar c) _ bytes (at_yen jis0208 katakana_index mode c e) is
-            (rw e (own_byte in_roman 0xA5 0x5C refl (λ rest. refl)))
-        | inr y ↦ elim (cases_eq c 0x203E) [
-          | inl e ↦ own_written mode in_roman c (own_scalar c) _ bytes (at_overline jis0208 katakana_index mode c e) is
-              (rw e (own_byte in_roman 0x203E 0x7E refl (λ rest. refl)))
-          | inr v ↦ by_pointer (iso_2022_jp_pointer_of jis0208 katakana_index c) m a y v refl
-        ]
-      ]
-
-      by_tests : (control ascii_byte special : Bool) → is_mode_control c ≡ control → is_ascii c ≡ ascii_byte → (c == 0x5C || c == 0x7E) ≡ special
-          → OwnRead (mode_of mode c) (own_scalar c) bytes
-      by_tests true ascii_byte special m a s = absurd (no_code mode _ c bytes (at_control jis0208 katakana_index mode c m) is)
-      by_tests false true true m a s =
-          let p = or_parts (c == 0x0E || c == 0x0F) (c == esc) m in
-          own_written mode in_ascii c (own_scalar c) _ bytes (at_special jis0208 katakana_index mode c m a s) is
-          (rw (ascii_stands c a) (own_byte in_ascii c c p.1 (λ rest. front-ascii jis0208 c rest a p.0)))
-      by_tests false true false m a s =
-          own_written mode (roman_or_ascii mode) c (own_scalar c) _ bytes (at_neutral jis0208 katakana_index mode c m a s) is
-          (rw (ascii_stands c a) (own_neutral mode c a m s))
-      by_tests false false special m a s = past_ascii m a
+  unfolding iso_2022_jp_code iso_2022_jp_front
+  own_read mode c bytes is =
+      rw (mode_for-by jis0208 katakana_index mode c) (grind (arith, nat_tests, own_byte, own_neutral, own_looked_up, ascii_stands, front-ascii))
 
   -- the mode for a scalar without a code
   pub none_keeps : (mode : EncoderMode) (c : ℕ) → code c ≡ None → mode_of mode c ≡ roman_or_ascii mode

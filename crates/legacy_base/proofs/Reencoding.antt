@@ -21,16 +21,9 @@ unfolding plain_events
 plain-again code read [] same = rw bytes_of-nothing refl
 plain-again code read (c ∷ text) same =
     let P : ℕ → Type 0 = λ c. (bytes : List ℕ) → code c ≡ Some bytes → code (read c) ≡ Some bytes in
-    by_code (code c) refl (All-head P c text same) (plain-again code read text (All-tail P c text same))
-  where
-    by_code : (o : Option (List ℕ)) → code c ≡ o → ((bytes : List ℕ) → code c ≡ Some bytes → code (read c) ≡ Some bytes)
-        → plain_events code (map read (coded code text)) ≡ map Byte (bytes_of (plain_events code text))
-        → plain_events code (map read (cond (is_some o) (c ∷ coded code text) (coded code text)))
-        ≡ map Byte (bytes_of (code_events c o ++ plain_events code text))
-    by_code None e here later = rw (bytes_of-unmappable c (plain_events code text)) later
-    by_code (Some own) e here later =
-        rw (here own e, bytes_of-behind own (plain_events code text), map-append Byte own (bytes_of (plain_events code text)))
-        (ap (λ l. map Byte own ++ l) later)
+    let here = All-head P c text same in
+    let later = plain-again code read text (All-tail P c text same) in
+    grind (arith, nat_tests, bytes_of-unmappable, bytes_of-behind, map-append)
 
 -- the scalar that a fold decodes to has the code of the fold
 folded-same : (code : ℕ → Option (List ℕ)) → code 0x5C ≡ code 0xA5 → code 0x7E ≡ code 0x203E → code 0xFF0D ≡ code 0x2212 → (c : ℕ) →
@@ -162,24 +155,18 @@ module _ (jis0208 katakana_index : List ℕ) where
 
 -- ---- all codecs
 
-same_of : (codec : Codec) (text : List ℕ) → ((c : ℕ) → HasSameCode codec c) → All (HasSameCode codec) text
-same_of codec text each k d h = each _
-
 -- the text that the bytes decode to is encoded as the same bytes
 again : (codec : Codec) (text : List ℕ) → IsSound codec text → KeepsCodes codec text →
     encoded (new_encoder codec) (read_back codec text) true ≡ map Byte (written codec text)
-again (single_byte table) text sound keeps =
-    plain-again (single_byte_code table) (read_as (single_byte table)) text (same_of (single_byte table) text (λ c bytes e. e))
-again user_defined text sound keeps = plain-again user_defined_code (read_as user_defined) text (same_of user_defined text (λ c bytes e. e))
-again (big5 index) text sound keeps = plain-again (big5_code index) (read_as (big5 index)) text (same_of (big5 index) text (λ c bytes e. e))
-again (euc_kr index) text sound keeps = plain-again (euc_kr_code index) (read_as (euc_kr index)) text (same_of (euc_kr index) text (λ c bytes e. e))
-again (shift_jis jis0208) text sound keeps =
-    plain-again (shift_jis_code jis0208) japanese_scalar text (same_of (shift_jis jis0208) text (λ c bytes e. shift_jis-same jis0208 c ∙ e))
-again (euc_jp jis0208 jis0212) text sound keeps =
-    plain-again (euc_jp_code jis0208) japanese_scalar text (same_of (euc_jp jis0208 jis0212) text (λ c bytes e. euc_jp-same jis0208 c ∙ e))
-again (gb18030 index ranges pua) text sound keeps = plain-again (gb18030_code index ranges pua) (private_use_scalar index pua) text keeps
-again (gbk index ranges pua) text sound keeps = plain-again (gbk_code index pua) (private_use_scalar index pua) text keeps
+again (shift_jis jis0208) text sound keeps = plain-again _ _ text (λ k d h bytes e. shift_jis-same jis0208 _ ∙ e)
+again (euc_jp jis0208 jis0212) text sound keeps = plain-again _ _ text (λ k d h bytes e. euc_jp-same jis0208 _ ∙ e)
+again (gb18030 index ranges pua) text sound keeps = plain-again _ _ text keeps
+again (gbk index ranges pua) text sound keeps = plain-again _ _ text keeps
 again (iso_2022_jp jis0208 katakana_index) text sound keeps = iso_2022_jp-again jis0208 katakana_index in_ascii text keeps sound
+again (single_byte table) text sound keeps = plain-again _ _ text (λ k d h bytes e. e)
+again user_defined text sound keeps = plain-again _ _ text (λ k d h bytes e. e)
+again (big5 index) text sound keeps = plain-again _ _ text (λ k d h bytes e. e)
+again (euc_kr index) text sound keeps = plain-again _ _ text (λ k d h bytes e. e)
 
 pub reencodes_any_text : ReencodesAnyText
 reencodes_any_text = grind (arith, nat_tests, same_scalars, encodes_well_formed, again)

@@ -34,24 +34,17 @@ pub record BeginsWith (own bytes : List ℕ) (events : List EncodeEvent) : Type 
   pub split : bytes ≡ own ++ rest
   pub behind : events ≡ map Byte rest
 
-same_bytes : (a b : ℕ) (xs ys : List EncodeEvent) → Byte a ∷ xs ≡ Byte b ∷ ys → (a ≡ b) × (xs ≡ ys)
-same_bytes a b xs ys e = (cc, cc)
-
 pub same_byte_lists : (xs ys : List ℕ) → map Byte xs ≡ map Byte ys → xs ≡ ys
 same_byte_lists [] [] e = refl
-same_byte_lists [] (y ∷ ys) e = cc
-same_byte_lists (x ∷ xs) [] e = cc
-same_byte_lists (x ∷ xs) (y ∷ ys) e =
-    let same = same_bytes x y (map Byte xs) (map Byte ys) e in
-    ap₂ ◌∷◌ same.0 (same_byte_lists xs ys same.1)
+same_byte_lists (x ∷ xs) (y ∷ ys) e = grind (arith, same_byte_lists xs ys)
+same_byte_lists _ _ e = cc
 
 pub begins_with : (own bytes : List ℕ) (events : List EncodeEvent) → map Byte own ++ events ≡ map Byte bytes → BeginsWith own bytes events
 begins_with [] bytes events e = record { rest = bytes; split = refl; behind = e }
 begins_with (b ∷ own) [] events e = cc
 begins_with (b ∷ own) (a ∷ bytes) events e =
-    let same = same_bytes b a (map Byte own ++ events) (map Byte bytes) e in
-    let t = begins_with own bytes events same.1 in
-    record { rest = t.rest; split = ap₂ ◌∷◌ (sym same.0) t.split; behind = t.behind }
+    let t = begins_with own bytes events (cc) in
+    record { rest = t.rest; split = (let first : a ≡ b = cc in ap₂ ◌∷◌ first t.split); behind = t.behind }
 
 -- a scalar whose events are all bytes has a code
 pub record HasCode (c : ℕ) (code : Option (List ℕ)) (bytes : List ℕ) (events : List EncodeEvent) : Type 0 where
