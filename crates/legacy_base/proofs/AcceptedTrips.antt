@@ -1,7 +1,7 @@
 -- Facts about accepted indexes for round trips. The jis0208 entries that Shift_JIS decodes to private use are empty.
 -- Each private-use row has a private-use scalar, a lead and a trail.
-use Rattle.std.proofs.Common.{◌≡◌, ℕ, zero, suc, ◌+◌, List, [], ◌∷◌, Bool, true, false, cond, ◌==◌, Option, Some, None, slice_index, refl, ap, arith, find}
-use Rattle.std.proofs.Common.{option_map, eqb-true}
+use Rattle.std.proofs.Common.{◌≡◌, ℕ, zero, suc, ◌+◌, List, [], ◌∷◌, true, ◌==◌, Option, Some, None, slice_index, refl, arith}
+use Rattle.std.proofs.Common.{eqb-true}
 use Rattle.legacy_tables.specs.{declared.tables.IndexName.IndexName, Indexes.{FlatIndexes, gb18030_pua_of}, TableChecks.{AreAccepted, must_be_empty}}
 use Rattle.legacy_tables.specs.TableChecks.{entry_fault, entries_fault, is_row_scalar, are_row_bytes, row_fault, rows_fault}
 use Rattle.legacy_tables.proofs.Accepted.{or_none, parts}

@@ -3,7 +3,7 @@
 use Rattle.std.proofs.Common.{◌≡◌, ℕ, suc, ◌+◌, ◌-◌, ◌≤◌, ◌<◌, List, [], ◌∷◌, Bool, true, false, not, cond, length, ◌||◌, ◌==◌, Option, Some, None}
 use Rattle.std.proofs.{Common.{option_to_list, refl, arith}, lemmas.Bool.cond_both, lemmas.Bool.Decides.nat_tests, lemmas.List.Elements.{All-nil, All-cons}}
 use Rattle.std.specs.{Option.option_map_or, Int.is_in_range, Char.{IsScalar, is_ascii, is_ascii_digit}}
-use Rattle.legacy_tables.specs.{Indexes.{idx, range}, Unicode.{IsByte, AreScalars, is_katakana_byte, katakana_of}}
+use Rattle.legacy_tables.specs.{Indexes.{idx, range}, Unicode.{IsByte, AreScalars, is_katakana_byte}}
 use Rattle.legacy_base.specs.{Fronts.{Front, reads, malformed, front_length, reads_or, trail_rule, trail_front}, Laws.IsFrontOf, Profile.is_lead}
 use Rattle.legacy_base.specs.{SingleByte.single_byte_front, UserDefined.user_defined_front, Big5.{big5_pointer, big5_scalars, big5_pair, big5_front}}
 use Rattle.legacy_base.specs.{LeadForms.{lead_pair, lead_front}, ShiftJis.{is_shift_jis_lead, shift_jis_pointer, shift_jis_scalars, shift_jis_pair}}

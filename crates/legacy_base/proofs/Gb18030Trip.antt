@@ -1,7 +1,7 @@
 -- The codes of GB18030 and GBK decode to their scalars. The codes of private-use rows decode to the scalars of the
 -- rows' bytes.
 use Rattle.std.proofs.Common.{◌≡◌, ℕ, ◌+◌, ◌*◌, ◌/◌, ◌%◌, ◌<◌, ◌≤◌, List, [], ◌∷◌, length, get_or, Bool, true, false, cond, ◌==◌, nat_lt, Option, Some, None}
-use Rattle.std.proofs.{Common.{option_map, inl, inr, refl, sym, ◌∙◌, arith, if◌then◌else◌, eqb-true}, lemmas.Bool.{false≢true, cases_Bool}, lemmas.Bool.Decides.nat_tests}
+use Rattle.std.proofs.{Common.{option_map, inl, inr, refl, sym, ◌∙◌, arith, if◌then◌else◌}, lemmas.Bool.{false≢true, cases_Bool}, lemmas.Bool.Decides.nat_tests}
 use Rattle.std.specs.{Option.{option_or, option_map_or}, Char.{is_ascii, is_ascii_digit}}
 use Rattle.legacy_base.specs.{Fronts.reads, Profile.is_empty, Gb18030.{gb18030_scalars, gb18030_fourth, gb18030_third, gb18030_second, gb18030_front}}
 use Rattle.legacy_base.specs.{Gb18030.{gb18030_pair_bytes, gb18030_range_bytes, gb18030_pair_code, gb18030_code, gbk_code}, RoundTrips.is_private_use_fold}

@@ -1,7 +1,7 @@
 -- The output of an ISO-2022-JP encoder decodes to its text. The escapes give no events, and each code is read in the
 -- mode in which it was written.
-use Rattle.std.proofs.Common.{◌≡◌, ℕ, ◌+◌, ◌/◌, ◌%◌, List, [], ◌∷◌, ◌++◌, map, length, Bool, true, false, cond, ◌||◌, ◌==◌, Option, Some, None, is_some, inl}
-use Rattle.std.proofs.{Common.{inr, refl, sym, ap, ◌∙◌, append_assoc, length-append, arith}, lemmas.Bool.{and_right, or_parts, cases_eq}}
+use Rattle.std.proofs.Common.{◌≡◌, ℕ, ◌+◌, ◌/◌, ◌%◌, List, [], ◌∷◌, ◌++◌, map, length, true, false, cond, ◌||◌, ◌==◌, Option, Some, None, is_some}
+use Rattle.std.proofs.{Common.{refl, sym, ap, ◌∙◌, append_assoc, length-append, arith}, lemmas.Bool.{and_right, or_parts}}
 use Rattle.std.proofs.lemmas.Bool.Decides.{nat_tests}
 use Rattle.std.specs.Char.{is_ascii}
 use Rattle.legacy_base.specs.{declared.results.DecodeEvent.DecodeEvent, declared.results.DecodeEvent.TheVariants.{Scalar, Bad}}
@@ -14,8 +14,7 @@ use Rattle.legacy_tables.specs.Pointers.{is_jis0208_pointer, euc_jp_pointer_of}
 use Rattle.legacy_base.proofs.{Shifts.{shift-zero, shift-append, shift-shift, shift-scalars}, PointersBack.{LeadsBack, leads_back}, Trips.same_byte_lists}
 use Rattle.legacy_base.proofs.{Trips.{begins_with, has_code, coded, bytes_of-behind, bytes_of-bytes, bytes_of-unmappable}, Iso2022JpParts.first_part}
 use Rattle.legacy_base.proofs.{Iso2022JpFronts.{step_one, step_two, step_escape}, Iso2022JpEncoding.{mode_for, mode_for-by, own_events, text_events}}
-use Rattle.legacy_base.proofs.Iso2022JpEncoding.{text_events-scalar, text_events-end, IsWritten, at_control, at_special, at_neutral, at_yen, at_overline}
-use Rattle.legacy_base.proofs.Iso2022JpEncoding.{at_pair, at_none}
+use Rattle.legacy_base.proofs.Iso2022JpEncoding.{text_events-scalar, text_events-end}
 use Rattle.legacy_tables.proofs.Pointers.{first-taken}
 
 -- the decoder's mode for an encoder's mode

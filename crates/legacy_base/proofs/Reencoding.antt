@@ -1,12 +1,12 @@
 -- The text that encoded bytes decode to is encoded as the same bytes.
 use Rattle.std.proofs.Common.{◌≡◌, ◌∙◌, ℕ, List, [], ◌∷◌, ◌++◌, map, refl, sym, ap, arith, All, Bool, true, false, cond, Option, Some, None, is_some}
 use Rattle.std.proofs.{lemmas.Bool.true≢false, lemmas.Bool.Decides.nat_tests, lemmas.List.map-append, lemmas.List.Elements.{All-head, All-tail}}
-use Rattle.legacy_base.specs.{declared.results.EncodeEvent.EncodeEvent, declared.results.EncodeEvent.TheVariants.Byte, EncodeEvents.{code_events, plain_events}}
-use Rattle.legacy_base.specs.{EncoderProfile.{EncoderMode, in_ascii, in_roman, in_two_byte}, SingleByte.single_byte_code, UserDefined.user_defined_code}
-use Rattle.legacy_base.specs.{Big5.big5_code, EucKr.euc_kr_code, ShiftJis.shift_jis_code, EucJp.euc_jp_code, Gb18030.{gb18030_code, gbk_code}}
+use Rattle.legacy_base.specs.{declared.results.EncodeEvent.EncodeEvent, declared.results.EncodeEvent.TheVariants.Byte, EncodeEvents.{plain_events}}
+use Rattle.legacy_base.specs.{EncoderProfile.{EncoderMode, in_ascii, in_roman, in_two_byte}}
+use Rattle.legacy_base.specs.{ShiftJis.shift_jis_code, EucJp.euc_jp_code}
 use Rattle.legacy_base.specs.Iso2022Jp.{is_pair, keeps_mode, is_roman_scalar, is_two_byte_scalar, iso_2022_jp_code, is_whole_escape, roman_or_ascii, escape_to}
 use Rattle.legacy_base.specs.{Iso2022Jp.escape_between, Encoders.{Codec, single_byte, user_defined, big5, euc_kr, shift_jis, euc_jp, gb18030, gbk, iso_2022_jp}}
-use Rattle.legacy_base.specs.{Encoders.{new_encoder, encoded}, RoundTrips.{japanese_scalar, private_use_scalar, read_as, read_back, bytes_of, written}}
+use Rattle.legacy_base.specs.{Encoders.{new_encoder, encoded}, RoundTrips.{japanese_scalar, read_back, bytes_of, written}}
 use Rattle.legacy_base.specs.RoundTrips.{holds_adjacent_escapes, IsSound, KeepsCodes, HasSameCode, ReencodesAnyText}
 use Rattle.legacy_base.proofs.{Trips.{coded, bytes_of-nothing, bytes_of-behind, bytes_of-unmappable}, Iso2022JpEncoding.{mode_by, mode_for, mode_for-by}}
 use Rattle.legacy_base.proofs.{Iso2022JpEncoding.{text_events, text_events-scalar, text_events-escape, text_events-end}, Iso2022JpTrip.{own_scalar, none_keeps}}

@@ -2,13 +2,13 @@
 use Rattle.std.proofs.{lemmas.Bool.Decides.nat_tests, Common.{arith, ◌≡◌, ℕ, List, [], ◌∷◌, map, filter, append-nil, true, false, is_some, refl, sym, ap, ap₂}}
 use Rattle.std.proofs.{Common.◌∙◌, lemmas.Bool.or_parts}
 use Rattle.std.specs.List.{list_any}
-use Rattle.legacy_base.specs.{declared.results.DecodeEvent.TheVariants.Scalar, declared.results.EncodeEvent.TheVariants.Byte, Profile.is_lead}
-use Rattle.legacy_base.specs.{SingleByte.{single_byte_front, single_byte_code}, UserDefined.{user_defined_front, user_defined_code}, Big5.big5_front}
-use Rattle.legacy_base.specs.{Big5.big5_code, LeadForms.lead_front, EucKr.{euc_kr_pointer, euc_kr_code}, ShiftJis.{shift_jis_front, shift_jis_code}}
-use Rattle.legacy_base.specs.{EucJp.{euc_jp_front, euc_jp_code}, Gb18030.{gb18030_front, gb18030_code, gbk_code}, EncoderProfile.in_ascii, Iso2022Jp.ascii}
+use Rattle.legacy_base.specs.{declared.results.DecodeEvent.TheVariants.Scalar, declared.results.EncodeEvent.TheVariants.Byte}
+use Rattle.legacy_base.specs.{SingleByte.{single_byte_code}, UserDefined.{user_defined_code}}
+use Rattle.legacy_base.specs.{Big5.big5_code, EucKr.{euc_kr_code}, ShiftJis.{shift_jis_code}}
+use Rattle.legacy_base.specs.{EucJp.{euc_jp_code}, Gb18030.{gb18030_code, gbk_code}, EncoderProfile.in_ascii, Iso2022Jp.ascii}
 use Rattle.legacy_base.specs.{Grammar.events_of, Encoders.{Codec, single_byte, user_defined, big5, euc_kr, shift_jis, euc_jp, gb18030, gbk, iso_2022_jp}}
 use Rattle.legacy_base.specs.{Encoders.{new_encoder, code, encoded}, RoundTrips.{grammar_of, is_fold, is_private_use_fold, IsEncodedAs, RoundTrips}}
-use Rattle.legacy_base.specs.RoundTrips.{ReencodesToTheSame, EscapesAreInPlace, japanese_scalar, private_use_scalar, read_as, read_back, bytes_of, written}
+use Rattle.legacy_base.specs.RoundTrips.{ReencodesToTheSame, EscapesAreInPlace, read_as, read_back, bytes_of, written}
 use Rattle.legacy_base.specs.RoundTrips.{has_lost_row, IsSound, EncodesWellFormed, EscapesStayApart}
 use Rattle.legacy_tables.specs.{Indexes.FlatIndexes, TableChecks.AreAccepted}
 use Rattle.legacy_tables.proofs.Accepted.{parts, length-euc_kr, length-jis0208, length-gb18030}

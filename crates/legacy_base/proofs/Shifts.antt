@@ -1,6 +1,6 @@
 -- Laws of shifted lists of events.
-use Rattle.std.proofs.Common.{◌≡◌, ℕ, ◌+◌, List, [], ◌∷◌, ◌++◌, map, refl, ap, ap₂, zero-add, arith}
-use Rattle.legacy_base.specs.{declared.results.DecodeEvent.DecodeEvent, declared.results.DecodeEvent.TheVariants.{Scalar, Bad}, Events.{shift_event, shift}}
+use Rattle.std.proofs.Common.{◌≡◌, ℕ, ◌+◌, List, [], ◌∷◌, ◌++◌, map, refl, ap, arith}
+use Rattle.legacy_base.specs.{declared.results.DecodeEvent.DecodeEvent, declared.results.DecodeEvent.TheVariants.{Scalar}, Events.{shift_event, shift}}
 
 pub shift-append : (k : ℕ) (xs ys : List DecodeEvent) → shift k (xs ++ ys) ≡ shift k xs ++ shift k ys
 shift-append k [] ys = refl

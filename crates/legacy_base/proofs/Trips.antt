@@ -1,6 +1,6 @@
 -- Codes that decode to one scalar whatever bytes follow, and texts of such codes.
 use Rattle.std.proofs.{lemmas.Bool.Decides.nat_tests, Common.{◌≡◌, ℕ, ◌<◌, List, [], ◌∷◌, ◌++◌, drop, length, map, filter, Option, Some, None, is_some, Bool}}
-use Rattle.std.proofs.{Common.{false, cond, refl, sym, ◌∙◌, ap, ap₂, arith}, lemmas.Bool.or_parts}
+use Rattle.std.proofs.{Common.{false, cond, refl, ◌∙◌, ap, ap₂, arith}, lemmas.Bool.or_parts}
 use Rattle.std.specs.List.{list_any}
 use Rattle.legacy_base.specs.{declared.results.DecodeEvent.DecodeEvent, declared.results.DecodeEvent.TheVariants.Scalar}
 use Rattle.legacy_base.specs.{declared.results.EncodeEvent.EncodeEvent, declared.results.EncodeEvent.TheVariants.Byte, Events.shift, Fronts.{Front, reads, cut}}

@@ -1,6 +1,6 @@
 -- The codes of Big5, EUC-KR, Shift_JIS, EUC-JP, the single-byte codecs and x-user-defined decode to their scalars. The
 -- codes of folds decode to other scalars (`read_as`).
-use Rattle.std.proofs.Common.{◌≡◌, ◌≢◌, ℕ, ◌+◌, ◌-◌, ◌*◌, ◌/◌, ◌%◌, ◌<◌, ◌≤◌, List, [], ◌∷◌, length, Bool, true, false, cond, ◌||◌, ◌==◌, nat_lt, Option, Some}
+use Rattle.std.proofs.Common.{◌≡◌, ◌≢◌, ℕ, ◌+◌, ◌*◌, ◌/◌, ◌%◌, ◌<◌, ◌≤◌, List, [], ◌∷◌, length, Bool, true, false, cond, ◌||◌, ◌==◌, nat_lt, Option, Some}
 use Rattle.std.proofs.{Common.{None, option_map, option_to_list, position, refl, sym, arith, if◌then◌else◌}, lemmas.Bool.{cond_both, ne_eqb, eqb-true}}
 use Rattle.std.proofs.{lemmas.Bool.true≢false, lemmas.Bool.Decides.nat_tests, lemmas.List.Quantifiers.position-Some, Math.Nat.div-add-mod, lemmas.Nat.mod_below}
 use Rattle.std.specs.{Int.is_in_range, Char.is_ascii}
@@ -10,7 +10,7 @@ use Rattle.legacy_base.specs.{EucKr.{euc_kr_pointer, euc_kr_bytes, euc_kr_code},
 use Rattle.legacy_base.specs.{ShiftJis.{shift_jis_scalars, shift_jis_pair, shift_jis_front, shift_jis_bytes, shift_jis_code}, EucJp.euc_jp_katakana}
 use Rattle.legacy_base.specs.{EucJp.{euc_jp_pair, euc_jp_front, euc_jp_bytes, euc_jp_code}, RoundTrips.{is_japanese_fold, japanese_scalar}}
 use Rattle.legacy_tables.specs.{Indexes.idx, Pointers.{every_pointer, is_big5_pointer, big5_pointer_of, euc_kr_pointer_of, minus_as_hyphen}}
-use Rattle.legacy_tables.specs.Pointers.{is_shift_jis_pointer, shift_jis_pointer_of, is_jis0208_pointer, euc_jp_pointer_of}
+use Rattle.legacy_tables.specs.Pointers.{is_shift_jis_pointer, is_jis0208_pointer}
 use Rattle.legacy_tables.proofs.Pointers.{first-taken, big5-taken}
 use Rattle.legacy_base.proofs.{PointersBack.{LeadsBack, leads_back}, Trips.Decodes}
 
