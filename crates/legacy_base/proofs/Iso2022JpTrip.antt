@@ -138,6 +138,7 @@ module _ (jis0208 katakana_index : List ℕ) where
   pub ascii_stands : (c : ℕ) → is_ascii c ≡ true → own_scalar c ≡ c
   ascii_stands c h = let plain : is_fold (iso_2022_jp jis0208 katakana_index) c ≡ false = grind (arith, nat_tests) in no_fold c plain
 
+  -- the pair of the pointer that is looked up for c
   own_looked_up : (c p : ℕ) → iso_2022_jp_pointer_of jis0208 katakana_index c ≡ Some p → OwnRead in_two_byte (own_scalar c) (iso_2022_jp_pair p)
   own_looked_up c p e =
       let found = looked_up c p e in

@@ -158,15 +158,15 @@ module _ (jis0208 katakana_index : List ℕ) where
 -- the text that the bytes decode to is encoded as the same bytes
 again : (codec : Codec) (text : List ℕ) → IsSound codec text → KeepsCodes codec text →
     encoded (new_encoder codec) (read_back codec text) true ≡ map Byte (written codec text)
+again (single_byte table) text sound keeps = plain-again _ _ text (λ k d h bytes e. e)
+again user_defined text sound keeps = plain-again _ _ text (λ k d h bytes e. e)
+again (big5 index) text sound keeps = plain-again _ _ text (λ k d h bytes e. e)
+again (euc_kr index) text sound keeps = plain-again _ _ text (λ k d h bytes e. e)
 again (shift_jis jis0208) text sound keeps = plain-again _ _ text (λ k d h bytes e. shift_jis-same jis0208 _ ∙ e)
 again (euc_jp jis0208 jis0212) text sound keeps = plain-again _ _ text (λ k d h bytes e. euc_jp-same jis0208 _ ∙ e)
 again (gb18030 index ranges pua) text sound keeps = plain-again _ _ text keeps
 again (gbk index ranges pua) text sound keeps = plain-again _ _ text keeps
 again (iso_2022_jp jis0208 katakana_index) text sound keeps = iso_2022_jp-again jis0208 katakana_index in_ascii text keeps sound
-again (single_byte table) text sound keeps = plain-again _ _ text (λ k d h bytes e. e)
-again user_defined text sound keeps = plain-again _ _ text (λ k d h bytes e. e)
-again (big5 index) text sound keeps = plain-again _ _ text (λ k d h bytes e. e)
-again (euc_kr index) text sound keeps = plain-again _ _ text (λ k d h bytes e. e)
 
 pub reencodes_any_text : ReencodesAnyText
 reencodes_any_text = grind (arith, nat_tests, same_scalars, encodes_well_formed, again)

@@ -110,7 +110,8 @@ pub shift_jis-decodes : (jis0208 : List ℕ) (c : ℕ) (bytes : List ℕ) → le
     → shift_jis_code jis0208 c ≡ Some bytes → Decodes (shift_jis_front jis0208) bytes (japanese_scalar c)
 unfolding shift_jis_code shift_jis_front
 shift_jis-decodes jis0208 c bytes short empty =
-    japanese-decodes (shift_jis_front jis0208) c bytes _ _ shift_jis_bytes _ (λ more. refl) (λ more. refl) (λ t. (grind (arith, nat_tests), λ more. rw t refl))
+    japanese-decodes (shift_jis_front jis0208) c bytes _ _ shift_jis_bytes _ (λ more. refl) (λ more. refl)
+    (λ t. (grind (arith, nat_tests), λ more. rw t refl))
     (λ k. one_byte (shift_jis_front jis0208) _ c _ refl (λ more. grind (arith, nat_tests)))
     (λ p has. two_bytes (shift_jis_front jis0208) _ _ _ _ refl (λ more. shift_jis_pair_back jis0208 p _ more short empty
     (leads_back is_shift_jis_pointer jis0208 _ _ (first-taken is_shift_jis_pointer jis0208 _) p has)))
@@ -126,7 +127,8 @@ pub euc_jp-decodes : (jis0208 jis0212 : List ℕ) (c : ℕ) (bytes : List ℕ)
     → euc_jp_code jis0208 c ≡ Some bytes → Decodes (euc_jp_front jis0208 jis0212) bytes (japanese_scalar c)
 unfolding euc_jp_code euc_jp_front euc_jp_katakana
 euc_jp-decodes jis0208 jis0212 c bytes =
-    japanese-decodes (euc_jp_front jis0208 jis0212) c bytes _ _ euc_jp_bytes _ (λ more. refl) (λ more. refl) (λ t. (grind (arith, nat_tests), λ more. rw t refl))
+    japanese-decodes (euc_jp_front jis0208 jis0212) c bytes _ _ euc_jp_bytes _ (λ more. refl) (λ more. refl)
+    (λ t. (grind (arith, nat_tests), λ more. rw t refl))
     (λ k. two_bytes (euc_jp_front jis0208 jis0212) _ _ c _ refl (λ more. grind (arith, nat_tests)))
     (λ p has. two_bytes (euc_jp_front jis0208 jis0212) _ _ _ _ refl (λ more. euc_jp_pair_back jis0208 jis0212 p _ more
     (leads_back is_jis0208_pointer jis0208 _ _ (first-taken is_jis0208_pointer jis0208 _) p has)))
