@@ -7,16 +7,10 @@ use Rattle.legacy_base.proofs.FrontLaws.{euc_jp_front-of}
 use Rattle.legacy_tables.specs.{Indexes.idx, Unicode.{is_katakana_byte, katakana_of}}
 use Rattle.legacy_standard.specs.{Queue.return_or_error, Processing.process, EucJp.{euc_jp_state, euc_jp_initial, euc_jp_handler}}
 use Rattle.legacy_standard.proofs.{Turns.{goes_on, error_at_end}, Fronts.{Reads, whole, by_test, one, malformed_one, returns_scalars, trailing, third_trailing}}
-use Rattle.legacy_standard.proofs.{Fronts.{lead_alone, pair}, OneResult.{Runs, IsDecodedBy}}
+use Rattle.legacy_standard.proofs.{Fronts.{lead_alone, pair}, Turns.{Runs, IsDecodedBy}}
 
 lead-some : (b : ℕ) → is_euc_jp_lead b ≡ true → (b == 0) ≡ false
 lead-some b h = grind (arith, nat_tests)
-
-lead-not_8e : (b : ℕ) → is_euc_jp_lead b ≡ true → (b == 0x8E) ≡ false
-lead-not_8e b h = grind (arith, nat_tests)
-
-lead-not_8f : (b : ℕ) → is_euc_jp_lead b ≡ true → (b == 0x8F) ≡ false
-lead-not_8f b h = grind (arith, nat_tests)
 
 module _ (jis0208 jis0212 : List ℕ) where
   abbrev Has : List ℕ → Front → Type 0
@@ -32,7 +26,7 @@ module _ (jis0208 jis0212 : List ℕ) where
   flag_at_end : (place : ℕ) (es : List DecodeEvent) → Runs (euc_jp_handler jis0208 jis0212) euc_jp_initial place 0 [] es →
       Runs (euc_jp_handler jis0208 jis0212) (euc_jp_state true 0) place 0 [] es
   unfolding process euc_jp_handler
-  flag_at_end place es h = grind arith
+  flag_at_end place es h = record { turns = h.turns; run = λ more. grind (arith, h.run more) }
 
   katakana-reads : (rest : List ℕ) → Has (0x8E ∷ rest) (euc_jp_katakana rest)
   unfolding euc_jp_katakana euc_jp_handler
@@ -44,10 +38,11 @@ module _ (jis0208 jis0212 : List ℕ) where
   unfolding euc_jp_third euc_jp_handler
   third-reads t [] l =
       let some = lead-some t l in
-      record { go = λ place es h. goes_on refl (goes_on (rw l refl) (error_at_end {s = euc_jp_state true t} (rw some refl) (flag_at_end (place + 2) es h))) }
+      record { go = λ place es h. goes_on refl (goes_on (rw l refl) (error_at_end {s = euc_jp_state true t} [] (rw some refl) (flag_at_end (place + 2) es h))) }
   third-reads t (u ∷ rest) l =
-      third_trailing refl {r = euc_jp_state true t} (rw l refl) (euc_jp_scalars jis0212 t u)
-      (rw (lead-not_8e t l, lead-not_8f t l, lead-some t l) (code-is jis0212 t u l))
+      let not_8e : (t == 0x8E) ≡ false = grind (arith, nat_tests) in
+      let not_8f : (t == 0x8F) ≡ false = grind (arith, nat_tests) in
+      third_trailing refl {r = euc_jp_state true t} (rw l refl) (euc_jp_scalars jis0212 t u) (rw (not_8e, not_8f, lead-some t l) (code-is jis0212 t u l))
 
   second-reads : (rest : List ℕ) → Has (0x8F ∷ rest) (euc_jp_second jis0212 rest)
   unfolding euc_jp_second euc_jp_handler

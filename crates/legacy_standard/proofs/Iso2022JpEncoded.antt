@@ -7,9 +7,9 @@ use Rattle.legacy_base.specs.Iso2022Jp.{is_mode_control, iso_2022_jp_pointer_of,
 use Rattle.legacy_base.proofs.Iso2022JpEncoding.{text_events, text_events-here, text_events-escape, text_events-end, IsWritten, at_control, at_special}
 use Rattle.legacy_base.proofs.Iso2022JpEncoding.{at_neutral, at_yen, at_overline, at_pair, at_none}
 use Rattle.legacy_tables.specs.Pointers.{euc_jp_pointer_of}
-use Rattle.legacy_standard.specs.{TextQueue.{TextItem, scalar, TextHandled, bytes, error_with, returns, restores}, Iso2022JpEncoder.{EncoderState, ascii}}
+use Rattle.legacy_standard.specs.{TextQueue.{TextItem, scalar, TextHandled, bytes, returns, restores}, Iso2022JpEncoder.{EncoderState, ascii}}
 use Rattle.legacy_standard.specs.{Iso2022JpEncoder.{roman, jis0208, set_scalar, at_pointer, at_set, iso_2022_jp_encodes}, EncoderLaw.{HasRows, HasFolds}}
-use Rattle.legacy_standard.proofs.TextTurns.{IsEncodedBy, Writes, steady, ends, end_bytes, gives_bytes, gives_error, gives_escape}
+use Rattle.legacy_standard.proofs.TextTurns.{IsEncodedBy, Writes, by_code, steady, ends, end_bytes, gives}
 use Rattle.legacy_base.specs.Encoders as codecs
 
 -- the handler's state for a mode
@@ -46,8 +46,7 @@ module _ (index katakana_index : List ℕ) where
 
   -- the handler's result for the scalar c in its mode, by its code
   abbrev here : EncoderMode → ℕ → Option (List ℕ) → TextHandled EncoderState
-  here mode c None = returns (error_with (iso_2022_jp_reported c)) (state_of mode)
-  here mode c (Some bs) = returns (bytes bs) (state_of mode)
+  here mode c o = returns (by_code (iso_2022_jp_reported c) o) (state_of mode)
 
   -- the handler's result in any mode: in another mode it writes an escape, and goes on with the scalar d
   abbrev acts : EncoderMode → EncoderMode → ℕ → ℕ → Option (List ℕ) → TextHandled EncoderState
@@ -56,8 +55,7 @@ module _ (index katakana_index : List ℕ) where
   -- the scalar c, or d in its place, in the mode of c
   at_home : (mode : EncoderMode) (c d : ℕ) (more : List ℕ) (o : Option (List ℕ)) → IsWritten index katakana_index mode c mode o →
       handler (state_of mode) (scalar d) ≡ here mode c o → Gives mode more → Writes handler (state_of mode) (d ∷ more) (events mode (c ∷ more))
-  at_home mode c d more None w does h = rw (text_events-here index katakana_index mode c w.mode_is more true, w.code_is) (gives_error does h)
-  at_home mode c d more (Some bs) w does h = rw (text_events-here index katakana_index mode c w.mode_is more true, w.code_is) (gives_bytes bs does h)
+  at_home mode c d more o w does h = rw (text_events-here index katakana_index mode c w.mode_is more true, w.code_is) (gives _ o [] does h)
 
   -- a scalar in any mode
   module _ (c d : ℕ) (more : List ℕ) (home : EncoderMode → EncoderMode) (o : Option (List ℕ)) (twice : (mode : EncoderMode) → home (home mode) ≡ home mode)
@@ -71,7 +69,7 @@ module _ (index katakana_index : List ℕ) where
           at_home mode c c more o (subst (λ m. IsWritten index katakana_index mode c m o) (sym is) (written mode)) (does mode ∙ rw e refl) (goes mode)
       | inr e ↦
           rw (text_events-escape index katakana_index mode (home mode) c (written mode).mode_is (other-mode mode (home mode) e) more true)
-          (gives_escape (escape_to (home mode)) (does mode ∙ rw e refl)
+          (gives 0 (Some (escape_to (home mode))) (d ∷ []) (does mode ∙ rw e refl)
           (at_home (home mode) c d more o (rw (twice mode) at (written (home mode))) (again mode) (goes (home mode))))
     ]
 

@@ -11,10 +11,10 @@ use Rattle.legacy_base.proofs.{Shifts.{shift-append, shift-shift, shift-zero}, I
 use Rattle.legacy_base.proofs.Iso2022JpFronts.{step_two, step_no_escape, step_escape, escape_ahead}
 use Rattle.legacy_tables.specs.{Unicode.AreBytes, Indexes.idx}
 use Rattle.legacy_standard.specs.Queue.{Item, byte, end_of_queue, Handled, continue, finished, error, code_point, returns, restores, code_point_or_error}
-use Rattle.legacy_standard.specs.{Processing.process, Iso2022JpPlaces.{mode_after, bytes_after, lateness, AreLate}, Iso2022Jp.{DecoderState, ascii, roman}}
-use Rattle.legacy_standard.specs.Iso2022Jp.{katakana, leading_byte, trailing_byte, escape_start, escape, Iso2022Jp, iso_2022_jp_handler, iso_2022_jp_initial}
+use Rattle.legacy_standard.specs.{Iso2022JpPlaces.{mode_after, bytes_after, lateness, AreLate}, Iso2022Jp.{DecoderState, ascii, roman}}
+use Rattle.legacy_standard.specs.Iso2022Jp.{katakana, leading_byte, trailing_byte, escape_start, escape, Iso2022Jp, iso_2022_jp_handler}
 use Rattle.legacy_standard.specs.{Iso2022Jp.escape_state, DecoderLaw.HandlerDecodes}
-use Rattle.legacy_standard.proofs.OneResult.{steady}
+use Rattle.legacy_standard.proofs.Turns.{Runs, steady, at_end, goes_on, error_at, error_at_end, gives}
 use Rattle.legacy_base.specs.Iso2022Jp as iso
 use Rattle.legacy_standard.specs.DecoderLaw as decoders
 
@@ -23,8 +23,7 @@ use Rattle.legacy_standard.specs.DecoderLaw as decoders
 module _ {S : Type 0} (late : ℕ → ℕ → ℕ) (handler : S → Item → Handled S) where
   -- from this place, of which `size` bytes are read, the handler's events are the given ones, late
   abbrev Done : S → ℕ → ℕ → List ℕ → List DecodeEvent → Type 0
-  Done s place size queue others =
-      (turns : ℕ) × (events : List DecodeEvent) × (process handler turns s place size queue ≡ Some events) × AreLate late events others
+  Done s place size queue others = (events : List DecodeEvent) × Runs handler s place size queue events × AreLate late events others
 
   -- the same for any place if `pos` bytes are read, at least `few` of them in the current sequence
   record Out (s : S) (few pos : ℕ) (queue : List ℕ) (others : List DecodeEvent) : Type 0 where
@@ -32,46 +31,34 @@ module _ {S : Type 0} (late : ℕ → ℕ → ℕ) (handler : S → Item → Han
 
 module _ {S : Type 0} {late : ℕ → ℕ → ℕ} {handler : S → Item → Handled S} {s t : S} {few pos : ℕ} where
   out-end : handler s end_of_queue ≡ returns finished t → Out late handler s few pos [] []
-  unfolding process
-  out-end e = record { from = λ place size at enough. (1, [], rw e refl, tt) }
+  out-end e = record { from = λ place size at enough. ([], at_end e, tt) }
 
   out-continue : {then next b : ℕ} {rest : List ℕ} {es : List DecodeEvent} → Out late handler t then next rest es →
       handler s (byte b) ≡ returns continue t → then ≤ few + 1 → pos + 1 ≡ next → Out late handler s few pos (b ∷ rest) es
-  unfolding process
   out-continue out e more is = record {
-    from = λ place size at enough. let o = out.from place (size + 1 - 0) (omega arith) (omega arith) in (suc (o.0), o.1, rw e (o.2), o.3);
+    from = λ place size at enough. let o = out.from place (size + 1 - 0) (omega arith) (omega arith) in (o.0, goes_on e o.1, o.2);
   }
 
   out-error : {next b begin n : ℕ} (bytes : List ℕ) {rest : List ℕ} {es : List DecodeEvent} → Out late handler t 0 next (bytes ++ rest) es →
       handler s (byte b) ≡ restores bytes error t → length bytes ≤ few + 1 → pos + 1 ≡ next + length bytes → next ≡ begin + n + late begin n →
       Out late handler s few pos (b ∷ rest) (Bad begin n ∷ es)
-  unfolding process
-  out-error {next} bytes out e more is ends_late = record {
+  out-error bytes out e more is ends_late = record {
     from = λ place size at enough.
-        let k = size + 1 - length bytes in
-        let ends : place + k ≡ next = omega arith in
-        let o = out.from (place + k) 0 (omega arith) (omega arith) in
-        (suc (o.0), Bad place k ∷ o.1, rw (e, o.2) refl, (omega arith, o.3));
+        let o = out.from (place + (size + 1 - length bytes)) 0 (omega arith) (omega arith) in (_, error_at bytes e o.1, (omega arith, o.2));
   }
 
   out-error_at_end : {next begin n : ℕ} {bytes : List ℕ} {es : List DecodeEvent} → Out late handler t 0 next bytes es →
       handler s end_of_queue ≡ restores bytes error t → length bytes ≤ few → pos ≡ next + length bytes → next ≡ begin + n + late begin n →
       Out late handler s few pos [] (Bad begin n ∷ es)
-  unfolding process
-  out-error_at_end {next} {bytes = bytes} out e more is ends_late = record {
+  out-error_at_end {bytes = bytes} out e more is ends_late = record {
     from = λ place size at enough.
-        let k = size - length bytes in
-        let ends : place + k ≡ next = omega arith in
-        let o = out.from (place + k) 0 (omega arith) (omega arith) in
-        (suc (o.0), Bad place k ∷ o.1, rw (e, o.2) refl, (omega arith, o.3));
+        let o = out.from (place + (size - length bytes)) 0 (omega arith) (omega arith) in (_, error_at_end bytes e o.1, (omega arith, o.2));
   }
 
   out-scalar : {next b c : ℕ} {rest : List ℕ} {es : List DecodeEvent} → Out late handler t 0 next rest es →
       handler s (byte b) ≡ returns (code_point c) t → pos + 1 ≡ next → Out late handler s few pos (b ∷ rest) (Scalar c ∷ es)
-  unfolding process
   out-scalar {c = c} out e is = record {
-    from = λ place size at enough.
-        let o = out.from (place + (size + 1 - 0)) 0 (omega arith) (omega arith) in (suc (o.0), Scalar c ∷ o.1, rw (e, o.2) refl, (refl, o.3));
+    from = λ place size at enough. let o = out.from (place + (size + 1 - 0)) 0 (omega arith) (omega arith) in (_, gives (c ∷ []) e o.1, (refl, o.2));
   }
 
 -- ---- the decoder
@@ -472,6 +459,6 @@ iso_2022_jp_handled jis0208 bytes all =
     let fits : Fits jis0208 (lateness bytes) (λ p. refl) iso.ascii 0 bytes = record { late_is = λ k n. rw (zero-add k) refl } in
     let out = unset jis0208 (lateness bytes) (λ p. refl) 0 (below_all jis0208 (lateness bytes) (λ p. refl) (length bytes)) fits (omega arith) in
     let run = out.from 0 0 refl (omega arith) in
-    let near : AreLate (lateness bytes) (run.1) (iso_2022_jp_events jis0208 iso.ascii bytes) =
-    rw (shift-zero (iso_2022_jp_events jis0208 iso.ascii bytes)) at (run.3) in
-    (run.1, steady {s = iso_2022_jp_initial} (record { turns = run.0; run = run.2 }), near)
+    let near : AreLate (lateness bytes) (run.0) (iso_2022_jp_events jis0208 iso.ascii bytes) =
+    rw (shift-zero (iso_2022_jp_events jis0208 iso.ascii bytes)) at (run.2) in
+    (run.0, steady run.1, near)

@@ -11,7 +11,7 @@ use Rattle.legacy_tables.specs.{Indexes.idx, Unicode.is_katakana_byte}
 use Rattle.legacy_standard.specs.{Queue.{Handled, lead_handler, return_or_error}, EucKr.{euc_kr_handler, euc_kr_trailing}}
 use Rattle.legacy_standard.specs.{Big5.{big5_handler, big5_pointer_returns, big5_trailing}, ShiftJis.shift_jis_handler}
 use Rattle.legacy_standard.specs.ShiftJis.{shift_jis_pointer_returns}
-use Rattle.legacy_standard.proofs.{Fronts.{Reads, whole, by_test, one, malformed_one, returns_scalars, pair}, OneResult.IsDecodedBy}
+use Rattle.legacy_standard.proofs.{Fronts.{Reads, whole, by_test, one, malformed_one, returns_scalars, pair}, Turns.IsDecodedBy}
 
 pub lead-some : (b : ℕ) → is_lead b ≡ true → (b == 0) ≡ false
 lead-some b h = grind (arith, nat_tests)

@@ -6,7 +6,7 @@ use Rattle.legacy_base.specs.{declared.results.DecodeEvent.DecodeEvent, declared
 use Rattle.legacy_base.specs.{Utf16.{has_odd_byte, single_unit_events, units_events, utf16_events}, Grammar.{utf16, events_of}}
 use Rattle.legacy_tables.specs.Unicode.{IsByte, AreBytes}
 use Rattle.legacy_standard.specs.{Queue.{Item, Handled}, Utf16.{Utf16, utf16_state, utf16_initial, unit_bytes, utf16_handler}}
-use Rattle.legacy_standard.proofs.{Turns.{at_end, goes_on, gives, error_at, error_at_end}, OneResult.{Runs, steady, IsDecodedBy}}
+use Rattle.legacy_standard.proofs.Turns.{Runs, steady, IsDecodedBy, at_end, goes_on, gives, error_at, error_at_end}
 
 -- the bytes of a code unit are those that it was made from
 bytes-back : (is_utf16be : Bool) (a b : ℕ) → IsByte a → IsByte b → unit_bytes is_utf16be (unit_of is_utf16be a b) ≡ a ∷ b ∷ []
@@ -77,15 +77,15 @@ module _ (is_utf16be : Bool) where
 
   odd_byte : (i a : ℕ) → Gives i (a ∷ [])
   unfolding units_of has_odd_byte units_events utf16_handler
-  odd_byte i a = goes_on refl (error_at_end refl (at_end refl))
+  odd_byte i a = goes_on refl (error_at_end [] refl (at_end refl))
 
   high_alone : (i a b : ℕ) → is_high_surrogate (unit a b) ≡ true → Gives i (a ∷ b ∷ [])
   unfolding units_of has_odd_byte units_events utf16_handler
-  high_alone i a b h = rw h (over_high h (error_at_end refl (at_end refl)))
+  high_alone i a b h = rw h (over_high h (error_at_end [] refl (at_end refl)))
 
   high_odd : (i a b c : ℕ) → is_high_surrogate (unit a b) ≡ true → Gives i (a ∷ b ∷ c ∷ [])
   unfolding units_of has_odd_byte units_events utf16_handler
-  high_odd i a b c h = rw h (over_high h (goes_on refl (error_at_end refl (at_end refl))))
+  high_odd i a b c h = rw h (over_high h (goes_on refl (error_at_end [] refl (at_end refl))))
 
   high_more : (i a b c d : ℕ) (rest : List ℕ) → IsByte c → IsByte d → is_high_surrogate (unit a b) ≡ true → Gives (i + 2) rest →
       Gives (i + 1) (c ∷ d ∷ rest) → Gives i (a ∷ b ∷ c ∷ d ∷ rest)
