@@ -1,11 +1,11 @@
 -- The ISO-2022-JP decoder's handler reads a list from first to last, as the laws of the grammar do. Its errors end as
 -- late as `lateness` says.
 use Rattle.std.proofs.Common.{◌≡◌, ℕ, zero, suc, ◌+◌, ◌-◌, ◌*◌, ◌≤◌, Bool, cond, List, [], ◌∷◌, ◌++◌, length, Option, Some, None, refl, ap, subst, ◌∙◌, take}
-use Rattle.std.proofs.{Common.{drop, add-zero, zero-add, true, false, inl, inr, arith}, lemmas.Bool.{cond_both, or_parts, cases_Bool, cases_eq, ne_eqb}}
+use Rattle.std.proofs.{Common.{drop, add-zero, zero-add, true, false, inl, inr, arith}, lemmas.Bool.{and_right, cases_Bool, cases_eq, ne_eqb}}
 use Rattle.std.proofs.{lemmas.Bool.false≢true, lemmas.Bool.Decides.nat_tests}
-use Rattle.std.specs.{Prelude.{option_to_list, option_map, is_some, ◌==◌, ◌||◌, not}, Int.is_in_range, Char.is_ascii}
+use Rattle.std.specs.{Prelude.{option_map, is_some, ◌==◌, ◌||◌, ◌&&◌}, Int.is_in_range}
 use Rattle.legacy_base.specs.{declared.results.DecodeEvent.DecodeEvent, declared.results.DecodeEvent.TheVariants.{Scalar, Bad}, Events.shift, Fronts.Front}
-use Rattle.legacy_base.specs.{Fronts.{reads, malformed, reads_or}, Iso2022Jp.{Mode, esc, escape_mode, part_mode, iso_2022_jp_front, iso_2022_jp_events}}
+use Rattle.legacy_base.specs.{Fronts.{reads, malformed, front_events}, Iso2022Jp.{Mode, esc, escape_mode, part_mode, is_two_byte_mode, iso_2022_jp_front, iso_2022_jp_events}}
 use Rattle.legacy_base.specs.Grammar.{iso_2022_jp, events_of}
 use Rattle.legacy_base.proofs.{Shifts.{shift-append, shift-shift, shift-zero}, Iso2022JpParts.{first_part, no_escape}, Iso2022JpFronts.{step_end, step_one}}
 use Rattle.legacy_base.proofs.Iso2022JpFronts.{step_two, step_no_escape, step_escape, escape_ahead}
@@ -87,15 +87,10 @@ behind_lead l = record { state = trailing_byte; output_state = leading_byte; lea
 -- the events before those of the list: if the output flag is set and a valid escape follows, an error for the escape
 -- before it
 abbrev again : Bool → ℕ → List ℕ → List DecodeEvent
-again flag pos bytes = cond (is_some (part_mode bytes)) (cond flag (Bad (pos - 3) 3 ∷ []) []) []
+again flag pos bytes = cond (flag && is_some (part_mode bytes)) (Bad (pos - 3) 3 ∷ []) []
 
-again-unset : (pos : ℕ) (bytes : List ℕ) → again false pos bytes ≡ []
-again-unset pos bytes = cond_both (is_some (part_mode bytes)) (cond false (Bad (pos - 3) 3 ∷ []) []) [] (λ es. es ≡ []) (λ h. refl) (λ h. refl)
-
--- a scalar, or an error of n bytes
-abbrev event : ℕ → ℕ → Option ℕ → DecodeEvent
-event pos n None = Bad pos n
-event pos n (Some c) = Scalar c
+again-none : (flag : Bool) (pos : ℕ) (bytes : List ℕ) → part_mode bytes ≡ None → again flag pos bytes ≡ []
+again-none flag pos bytes none = rw (none, and_right flag false refl) refl
 
 -- the states of escapes correspond to the modes
 escape-is : (a b : ℕ) → escape_state a b ≡ option_map state_of (escape_mode a b)
@@ -111,16 +106,13 @@ late_at m bytes k n = bytes_after (mode_after m (take k bytes)) (drop k bytes) n
 part_mode-cut : (k : ℕ) (rest : List ℕ) → part_mode (esc ∷ rest) ≡ None → part_mode (esc ∷ take k rest) ≡ None
 unfolding part_mode
 part_mode-cut zero rest h = refl
-part_mode-cut (suc k) [] h = refl
-part_mode-cut (suc zero) (a ∷ rest) h = refl
-part_mode-cut (suc (suc k)) (a ∷ []) h = refl
-part_mode-cut (suc (suc k)) (a ∷ b ∷ rest) h = h
+part_mode-cut (suc zero) rest h = grind arith
+part_mode-cut (suc (suc k)) rest h = grind arith
 
 -- an escape byte before a byte that no escape has there begins no valid escape
 part_mode-none : (a : ℕ) (rest : List ℕ) → (a == 0x24 || a == 0x28) ≡ false → part_mode (esc ∷ a ∷ rest) ≡ None
 unfolding part_mode
-part_mode-none a [] h = refl
-part_mode-none a (b ∷ rest) h = let parts = or_parts (a == 0x24) (a == 0x28) h in rw (parts.0, parts.1) refl
+part_mode-none a rest h = grind arith
 
 after-plain : (m : Mode) (b : ℕ) (bytes : List ℕ) → (b == esc) ≡ false → mode_after m (b ∷ bytes) ≡ mode_after m bytes
 unfolding mode_after
@@ -203,28 +195,21 @@ module _ (jis0208 : List ℕ) (late : ℕ → ℕ → ℕ) (third_late : (p : �
   -- decoding with the output flag unset
   unset : {m : Mode} {n pos : ℕ} {bytes : List ℕ} (l : ℕ) → Below n → Fits m pos bytes → length bytes ≤ n →
       Gives (at_rest m l false) 0 pos bytes (events m pos bytes)
-  unset {m} {n} {pos} {bytes} l below fits h =
-      subst (λ es. Gives (at_rest m l false) 0 pos bytes (es ++ events m pos bytes)) (again-unset pos bytes) (below.decodes l (stands-unset fits) h)
+  unset l below fits h = below.decodes l (stands-unset fits) h
 
   -- ---- escapes
 
   none-outs : (m : Mode) (flag : Bool) (pos : ℕ) (rest : List ℕ) → part_mode (esc ∷ rest) ≡ None →
       again flag pos (esc ∷ rest) ++ events m pos (esc ∷ rest) ≡ Bad pos 1 ∷ events m (pos + 1) rest
-  none-outs m flag pos rest none = rw (none, step_no_escape jis0208 m rest none, shift-shift pos 1 (iso_2022_jp_events jis0208 m rest), add-zero pos) refl
+  none-outs m flag pos rest none =
+      rw (again-none flag pos (esc ∷ rest) none, step_no_escape jis0208 m rest none, shift-shift pos 1 (iso_2022_jp_events jis0208 m rest), add-zero pos) refl
 
   some-outs : (m new : Mode) (flag : Bool) (pos a b : ℕ) (more : List ℕ) → escape_mode a b ≡ Some new →
       again flag pos (esc ∷ a ∷ b ∷ more) ++ events m pos (esc ∷ a ∷ b ∷ more)
       ≡ cond flag (Bad (pos - 3) 3 ∷ []) [] ++ (again true (pos + 3) more ++ events new (pos + 3) more)
   some-outs m new flag pos a b more valid =
       rw (escape_ahead a b new more valid, step_escape jis0208 m new a b more valid, shift-append, shift-shift pos 3 (iso_2022_jp_events jis0208 new more))
-      (ap (λ (es : List DecodeEvent). cond flag (Bad (pos - 3) 3 ∷ []) [] ++ (es ++ events new (pos + 3) more)) (bare (is_some (part_mode more))))
-    where
-      same : pos + 0 ≡ pos + 3 - 3
-      same = omega arith
-
-      bare : (t : Bool) → shift pos (cond t (Bad 0 3 ∷ []) []) ≡ cond t (cond true (Bad (pos + 3 - 3) 3 ∷ []) []) []
-      bare true = ap (λ (p : ℕ). Bad p 3 ∷ []) same
-      bare false = refl
+      (grind arith)
 
   -- an escape byte that begins no valid escape is an error, which is not late, and the bytes after it are decoded
   bad_escape : {m : Mode} {flag : Bool} {pos : ℕ} {rest : List ℕ} (l : ℕ) → Below (length rest) → Stands m flag pos (esc ∷ rest) →
@@ -241,23 +226,18 @@ module _ (jis0208 : List ℕ) (late : ℕ → ℕ → ℕ) (third_late : (p : �
   third m flag pos a b more below stands None e =
       let state_is : escape_state a b ≡ None = rw (escape-is a b, e) refl in
       let r = bad_escape 0 below stands e in
-      let z : late pos 1 ≡ 0 = r.0 in
       rw (none-outs m flag pos (a ∷ b ∷ more) e) (out-error (a ∷ b ∷ []) r.1 (rw state_is refl) (omega arith) (omega arith) (omega arith))
-  third m flag pos a b more below stands (Some new) e = by_flag flag stands.far
-    where
-      state_is : escape_state a b ≡ Some (state_of new)
-      state_is = rw (escape-is a b, e) refl
-
-      after : Decodes new 0 true (pos + 3) more
-      after = below.decodes 0 (record { fits = fits-escape e stands.fits; far = λ h. omega arith }) (omega arith)
-
-      by_flag : (flag : Bool) → (flag ≡ true → 3 ≤ pos) →
-          Gives (behind_two m a flag) 1 (pos + 2) (b ∷ more) (again flag pos (esc ∷ a ∷ b ∷ more) ++ events m pos (esc ∷ a ∷ b ∷ more))
-      by_flag true far =
-          let enough : 3 ≤ pos = far refl in
-          let three : late (pos - 3) 3 ≡ 3 = third_late (pos - 3) in
-          rw (some-outs m new true pos a b more e) (out-error [] after (rw state_is refl) (omega arith) (omega arith) (omega arith))
-      by_flag false far = rw (some-outs m new false pos a b more e) (out-continue after (rw state_is refl) (omega arith) (omega arith))
+  third m flag pos a b more below stands (Some new) e =
+      let state_is : escape_state a b ≡ Some (state_of new) = rw (escape-is a b, e) refl in
+      let after : Decodes new 0 true (pos + 3) more = below.decodes 0 (record { fits = fits-escape e stands.fits; far = λ h. omega arith }) (omega arith) in
+      rw (some-outs m new flag pos a b more e)
+      (elim (cases_Bool flag) [
+        | inl f ↦
+            let enough : 3 ≤ pos = stands.far f in
+            let three : late (pos - 3) 3 ≡ 3 = third_late (pos - 3) in
+            rw f (out-error [] after (rw state_is refl) (omega arith) (omega arith) (omega arith))
+        | inr f ↦ rw f (out-continue after (rw state_is refl) (omega arith) (omega arith))
+      ])
 
   -- the bytes after an escape byte
   behind_escape_byte : (m : Mode) (l : ℕ) (flag : Bool) (pos : ℕ) (rest : List ℕ) → Below (length rest) → Stands m flag pos (esc ∷ rest) →
@@ -265,14 +245,12 @@ module _ (jis0208 : List ℕ) (late : ℕ → ℕ → ℕ) (third_late : (p : �
   unfolding iso_2022_jp_handler part_mode
   behind_escape_byte m l flag pos [] below stands =
       let r = bad_escape l below stands refl in
-      let z : late pos 1 ≡ 0 = r.0 in
       rw (none-outs m flag pos [] refl) (out-error_at_end r.1 refl (omega arith) (omega arith) (omega arith))
   behind_escape_byte m l flag pos (a ∷ rest) below stands = elim (cases_Bool (a == 0x24 || a == 0x28)) [
     | inl h ↦ out-continue (second rest below stands) (rw h refl) (omega arith) (omega arith)
     | inr h ↦
         let none = part_mode-none a rest h in
         let r = bad_escape l below stands none in
-        let z : late pos 1 ≡ 0 = r.0 in
         rw (none-outs m flag pos (a ∷ rest) none) (out-error (a ∷ []) r.1 (rw h refl) (omega arith) (omega arith) (omega arith))
   ]
     where
@@ -280,90 +258,65 @@ module _ (jis0208 : List ℕ) (late : ℕ → ℕ → ℕ) (third_late : (p : �
           Gives (behind_two m a flag) 1 (pos + 2) rest (again flag pos (esc ∷ a ∷ rest) ++ events m pos (esc ∷ a ∷ rest))
       second [] below stands =
           let r = bad_escape 0 below stands refl in
-          let z : late pos 1 ≡ 0 = r.0 in
           rw (none-outs m flag pos (a ∷ []) refl) (out-error_at_end r.1 refl (omega arith) (omega arith) (omega arith))
       second (b ∷ more) below stands = third m flag pos a b more below stands (escape_mode a b) refl
 
   -- ---- bodies
 
-  -- a front of one byte that gives this scalar, or is malformed
-  abbrev single : Option ℕ → Front
-  single None = malformed 1
-  single (Some c) = reads 1 (c ∷ [])
-
-  again-none : (flag : Bool) (pos b : ℕ) (more : List ℕ) → (b == esc) ≡ false → again flag pos (b ∷ more) ≡ []
-  again-none flag pos b more plain = rw (no_escape b more plain) refl
+  -- a front of n bytes that gives this scalar, or is malformed
+  abbrev front_of : ℕ → Option ℕ → Front
+  front_of n None = malformed n
+  front_of n (Some c) = reads n (c ∷ [])
 
   one-outs : (m : Mode) (flag : Bool) (pos b : ℕ) (more : List ℕ) (o : Option ℕ) → (b == esc) ≡ false →
-      iso_2022_jp_front jis0208 m b (first_part more) ≡ single o →
-      again flag pos (b ∷ more) ++ events m pos (b ∷ more) ≡ event pos 1 o ∷ events m (pos + 1) more
-  one-outs m flag pos b more o h k = grind (arith, nat_tests, step_one, again-none, shift-shift, add-zero)
-
-  abbrev double : Option ℕ → Front
-  double None = malformed 2
-  double (Some c) = reads 2 (c ∷ [])
+      iso_2022_jp_front jis0208 m b (first_part more) ≡ front_of 1 o →
+      again flag pos (b ∷ more) ++ events m pos (b ∷ more) ≡ front_events pos (front_of 1 o) ++ events m (pos + 1) more
+  one-outs m flag pos b more o h k = grind (arith, nat_tests, step_one, again-none, no_escape, shift-shift, add-zero)
 
   two-outs : (m : Mode) (flag : Bool) (pos b t : ℕ) (more : List ℕ) (o : Option ℕ) → (b == esc) ≡ false → (t == esc) ≡ false →
-      iso_2022_jp_front jis0208 m b (t ∷ first_part more) ≡ double o →
-      again flag pos (b ∷ t ∷ more) ++ events m pos (b ∷ t ∷ more) ≡ event pos 2 o ∷ events m (pos + 2) more
-  two-outs m flag pos b t more o h k e = grind (arith, nat_tests, step_two, again-none, shift-shift, add-zero)
+      iso_2022_jp_front jis0208 m b (t ∷ first_part more) ≡ front_of 2 o →
+      again flag pos (b ∷ t ∷ more) ++ events m pos (b ∷ t ∷ more) ≡ front_events pos (front_of 2 o) ++ events m (pos + 2) more
+  two-outs m flag pos b t more o h k e = grind (arith, nat_tests, step_two, again-none, no_escape, shift-shift, add-zero)
 
   -- the handler returns the scalar, or error
   returned : {d : Iso2022Jp} {few pos next b : ℕ} {more : List ℕ} (m : Mode) (l begin n : ℕ) (o : Option ℕ) →
       Gives (at_rest m l false) 0 next more (events m next more) →
       iso_2022_jp_handler jis0208 d (byte b) ≡ returns (code_point_or_error o) (at_rest m l false) → pos + 1 ≡ next → begin + n ≡ next →
-      (o ≡ None → late begin n ≡ 0) →
-      Gives d few pos (b ∷ more) (event begin n o ∷ events m next more)
-  returned m l begin n None h e is ends zero_late = let z : late begin n ≡ 0 = zero_late refl in out-error [] h e (omega arith) (omega arith) (omega arith)
-  returned m l begin n (Some c) h e is ends zero_late = out-scalar h e is
+      late begin n ≡ 0 → Gives d few pos (b ∷ more) (front_events begin (front_of n o) ++ events m next more)
+  returned m l begin n None h e is ends not_late = out-error [] h e (omega arith) (omega arith) (omega arith)
+  returned m l begin n (Some c) h e is ends not_late = out-scalar h e is
+
+  -- the byte is the first of two in the mode
+  abbrev is_lead : Mode → ℕ → Bool
+  is_lead m b = is_two_byte_mode m && is_in_range 0x21 0x7E b
+
+  -- the scalar of one byte
+  abbrev own : Front → Option ℕ
+  own (reads n (c ∷ scalars)) = Some c
+  own _ = None
+
+  own-front : (m : Mode) (b : ℕ) (rest : List ℕ) → is_lead m b ≡ false →
+      iso_2022_jp_front jis0208 m b rest ≡ front_of 1 (own (iso_2022_jp_front jis0208 m b []))
+  unfolding iso_2022_jp_front
+  own-front m b rest h = grind arith
+
+  own-handler : (m : Mode) (l : ℕ) (flag : Bool) (b : ℕ) → (b == esc) ≡ false → is_lead m b ≡ false →
+      iso_2022_jp_handler jis0208 (at_rest m l flag) (byte b) ≡ returns (code_point_or_error (own (iso_2022_jp_front jis0208 m b []))) (at_rest m l false)
+  unfolding iso_2022_jp_handler iso_2022_jp_front
+  own-handler m l flag b plain h = grind (arith, nat_tests)
+
+  own-late : (m : Mode) (b : ℕ) (rest : List ℕ) → is_lead m b ≡ false → bytes_after m (b ∷ rest) 1 ≡ 0
+  own-late m b rest h = grind arith
 
   -- a form of one byte
-  one_byte : (m : Mode) (l : ℕ) (flag : Bool) {pos b : ℕ} {more : List ℕ} (o : Option ℕ) → (b == esc) ≡ false → Fits m pos (b ∷ more) → Below (length more) →
-      iso_2022_jp_front jis0208 m b (first_part more) ≡ single o →
-      iso_2022_jp_handler jis0208 (at_rest m l flag) (byte b) ≡ returns (code_point_or_error o) (at_rest m l false) →
-      bytes_after m (b ∷ more) 1 ≡ 0 → Decodes m l flag pos (b ∷ more)
-  one_byte m l flag {pos} {b} {more} o plain fits below is does zero_late =
-      rw (one-outs m flag pos b more o plain is)
-      (returned m l pos 1 o (unset l below (fits-plain plain fits) (omega arith)) does refl refl (λ e. late_here 1 fits ∙ zero_late))
+  one_byte : (m : Mode) (l : ℕ) (flag : Bool) (pos b : ℕ) (more : List ℕ) → (b == esc) ≡ false → Fits m pos (b ∷ more) → Below (length more) →
+      is_lead m b ≡ false → Decodes m l flag pos (b ∷ more)
+  one_byte m l flag pos b more plain fits below h =
+      rw (one-outs m flag pos b more _ plain (own-front m b (first_part more) h))
+      (returned m l pos 1 (own (iso_2022_jp_front jis0208 m b [])) (unset l below (fits-plain plain fits) (omega arith)) (own-handler m l flag b plain h)
+      refl refl (late_here 1 fits ∙ own-late m b more h))
 
-  -- outside two-byte mode no error is late
-  never_late : (b : ℕ) (more : List ℕ) →
-      (bytes_after iso.ascii (b ∷ more) 1 ≡ 0) × (bytes_after iso.roman (b ∷ more) 1 ≡ 0) × (bytes_after iso.katakana (b ∷ more) 1 ≡ 0)
-  never_late b [] = (refl, refl, refl)
-  never_late b (t ∷ more) = (refl, refl, refl)
-
-  -- the decoder reads a byte that is no escape byte in a mode
-  abbrev Reads : Mode → Type 0
-  Reads m =
-      (l : ℕ) (flag : Bool) (pos b : ℕ) (more : List ℕ) → (b == esc) ≡ false → Fits m pos (b ∷ more) → Below (length more) → Decodes m l flag pos (b ∷ more)
-
-  -- a byte in ASCII mode
-  ascii_byte : Reads iso.ascii
-  unfolding iso_2022_jp_handler iso_2022_jp_front
-  ascii_byte l flag pos b more plain fits below =
-      let bad : Bool = (b == 0x0E || b == 0x0F) || not (is_ascii b) in
-      one_byte iso.ascii l flag (cond bad None (Some b)) plain fits below (grind arith) (grind (arith, nat_tests)) (never_late b more).0
-
-  -- a byte in Roman mode
-  roman_byte : Reads iso.roman
-  unfolding iso_2022_jp_handler iso_2022_jp_front
-  roman_byte l flag pos b more plain fits below =
-      let bad : Bool = (b == 0x0E || b == 0x0F) || not (is_ascii b) in
-      one_byte iso.roman l flag (cond bad None (cond (b == 0x5C) (Some 0xA5) (cond (b == 0x7E) (Some 0x203E) (Some b)))) plain fits below
-      (grind arith) (grind (arith, nat_tests)) (never_late b more).1
-
-  -- a byte in katakana mode
-  katakana_byte : Reads iso.katakana
-  unfolding iso_2022_jp_handler iso_2022_jp_front
-  katakana_byte l flag pos b more plain fits below =
-      let scalar : Option ℕ = Some (0xFF61 + (b - 0x21)) in
-      one_byte iso.katakana l flag (cond (is_in_range 0x21 0x5F b) scalar None) plain fits below (grind arith) (grind arith) (never_late b more).2
-
-  -- a lead byte and the byte after it
-  reads-double : (o : Option ℕ) → reads_or 2 (option_to_list o) (malformed 2) ≡ double o
-  reads-double None = refl
-  reads-double (Some c) = refl
-
+  -- the byte after a lead byte
   behind_lead_byte : (flag : Bool) (pos b : ℕ) (more : List ℕ) → (b == esc) ≡ false → is_in_range 0x21 0x7E b ≡ true → Fits iso.two_byte pos (b ∷ more) →
       Below (length more) → Gives (behind_lead b) 1 (pos + 1) more (again flag pos (b ∷ more) ++ events iso.two_byte pos (b ∷ more))
   unfolding iso_2022_jp_handler iso_2022_jp_front
@@ -375,52 +328,26 @@ module _ (jis0208 : List ℕ) (late : ℕ → ℕ → ℕ) (third_late : (p : �
     | inl is ↦ rw (one-outs iso.two_byte flag pos b (t ∷ rest) None plain (rw is refl), is) (escaped (rw is at fits))
     | inr other ↦
         let plain_t = ne_eqb t esc other in
-        let o : Option ℕ = idx jis0208 ((b - 0x21) * 94 + (t - 0x21)) in
-        elim (cases_Bool (is_in_range 0x21 0x7E t)) [
-          | inl h ↦ pair_is o plain_t (rw (lead, h) (reads-double o)) (rw (plain_t, h) refl)
-          | inr h ↦ pair_is None plain_t (rw (lead, h) refl) (rw (plain_t, h) refl)
-        ]
+        let o : Option ℕ = cond (is_in_range 0x21 0x7E t) (idx jis0208 ((b - 0x21) * 94 + (t - 0x21))) None in
+        rw (two-outs iso.two_byte flag pos b t rest o plain plain_t (grind arith))
+        (returned iso.two_byte b pos 2 o (unset b below (fits-two plain plain_t fits) (omega arith)) (grind arith) (omega arith) refl
+        (late_here 2 fits ∙ rw (lead, plain_t) refl))
   ]
     where
-      pair_is : (o : Option ℕ) → (t == esc) ≡ false → iso_2022_jp_front jis0208 iso.two_byte b (t ∷ first_part rest) ≡ double o →
-          iso_2022_jp_handler jis0208 (behind_lead b) (byte t) ≡ returns (code_point_or_error o) (at_rest iso.two_byte b false) →
-          Gives (behind_lead b) 1 (pos + 1) (t ∷ rest) (again flag pos (b ∷ t ∷ rest) ++ events iso.two_byte pos (b ∷ t ∷ rest))
-      pair_is o plain_t front does =
-          rw (two-outs iso.two_byte flag pos b t rest o plain plain_t front)
-          (returned iso.two_byte b pos 2 o (unset b below (fits-two plain plain_t fits) (omega arith)) does (omega arith) refl
-          (λ e. late_here 2 fits ∙ rw (lead, plain_t) refl))
-
-      behind : Fits iso.two_byte (pos + 1) (esc ∷ rest) → Gives (started iso.two_byte b false) 0 (pos + 2) rest (events iso.two_byte (pos + 1) (esc ∷ rest))
-      behind next =
-          let two : pos + 1 + 1 ≡ pos + 2 = omega arith in
-          rw (← two)
-          (subst (λ es. Gives (started iso.two_byte b false) 0 (pos + 1 + 1) rest (es ++ events iso.two_byte (pos + 1) (esc ∷ rest)))
-          (again-unset (pos + 1) (esc ∷ rest)) (behind_escape_byte iso.two_byte b false (pos + 1) rest (below-less (omega arith) below) (stands-unset next)))
-
       escaped : Fits iso.two_byte pos (b ∷ esc ∷ rest) → Gives (behind_lead b) 1 (pos + 1) (esc ∷ rest) (Bad pos 1 ∷ events iso.two_byte (pos + 1) (esc ∷ rest))
       escaped fits =
           let one_late : late pos 1 ≡ 1 = late_here 1 fits ∙ rw lead refl in
-          out-error [] (behind (fits-plain plain fits)) refl (omega arith) (omega arith) (omega arith)
+          out-error [] (behind_escape_byte iso.two_byte b false (pos + 1) rest (below-less (omega arith) below) (stands-unset (fits-plain plain fits)))
+          refl (omega arith) (omega arith) (omega arith)
 
-  two_byte_byte : Reads iso.two_byte
-  unfolding iso_2022_jp_handler iso_2022_jp_front
-  two_byte_byte l flag pos b more plain fits below = elim (cases_Bool (is_in_range 0x21 0x7E b)) [
-    | inl h ↦ out-continue (behind_lead_byte flag pos b more plain h fits below) (rw (plain, h) refl) (omega arith) refl
-    | inr h ↦ one_byte iso.two_byte l flag None plain fits below (front_is (first_part more) h) (rw (plain, h) refl) (no_lead more h)
-  ]
-    where
-      front_is : (rest : List ℕ) → is_in_range 0x21 0x7E b ≡ false → iso_2022_jp_front jis0208 iso.two_byte b rest ≡ malformed 1
-      front_is [] h = refl
-      front_is (t ∷ rest) h = rw h refl
-
-      no_lead : (rest : List ℕ) → is_in_range 0x21 0x7E b ≡ false → bytes_after iso.two_byte (b ∷ rest) 1 ≡ 0
-      no_lead [] h = refl
-      no_lead (t ∷ rest) h = rw h refl
+  lead_byte : (m : Mode) (l : ℕ) (flag : Bool) (pos b : ℕ) (more : List ℕ) → (b == esc) ≡ false → Fits m pos (b ∷ more) → Below (length more) →
+      is_lead m b ≡ true → Decodes m l flag pos (b ∷ more)
+  unfolding iso_2022_jp_handler
+  lead_byte iso.two_byte l flag pos b more plain fits below h =
+      out-continue (behind_lead_byte flag pos b more plain h fits below) (rw (plain, h) refl) (omega arith) refl
+  lead_byte _ l flag pos b more plain fits below h = absurd (false≢true h)
 
   -- ---- whole lists
-
-  any_byte : (m : Mode) → Reads m
-  any_byte m = grind (arith, nat_tests, ascii_byte, roman_byte, katakana_byte, two_byte_byte)
 
   -- the escape byte in any mode
   escape_byte : (m : Mode) (l : ℕ) (flag : Bool) → iso_2022_jp_handler jis0208 (at_rest m l flag) (byte esc) ≡ returns continue (started m l flag)
@@ -435,12 +362,17 @@ module _ (jis0208 : List ℕ) (late : ℕ → ℕ → ℕ) (third_late : (p : �
 
   nothing : (m : Mode) (l : ℕ) (flag : Bool) (pos : ℕ) → Decodes m l flag pos []
   unfolding part_mode
-  nothing m l flag pos = rw (step_end jis0208 m) (out-end (finishes m l flag))
+  nothing m l flag pos = rw (and_right flag false refl, step_end jis0208 m) (out-end (finishes m l flag))
 
   first : (m : Mode) (l : ℕ) (flag : Bool) (pos b : ℕ) (more : List ℕ) → Stands m flag pos (b ∷ more) → Below (length more) → Decodes m l flag pos (b ∷ more)
   first m l flag pos b more stands below = elim (cases_eq b esc) [
     | inl is ↦ rw is (out-continue (behind_escape_byte m l flag pos more below (rw is at stands)) (escape_byte m l flag) (omega arith) refl)
-    | inr other ↦ any_byte m l flag pos b more (ne_eqb b esc other) stands.fits below
+    | inr other ↦
+        let plain = ne_eqb b esc other in
+        elim (cases_Bool (is_lead m b)) [
+          | inl h ↦ lead_byte m l flag pos b more plain stands.fits below h
+          | inr h ↦ one_byte m l flag pos b more plain stands.fits below h
+        ]
   ]
 
   below_all : (n : ℕ) → Below n
