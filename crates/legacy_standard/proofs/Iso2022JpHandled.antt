@@ -1,9 +1,9 @@
 -- The ISO-2022-JP decoder's handler reads a list from first to last, as the laws of the grammar do. Its errors end as
 -- late as `lateness` says.
-use Rattle.std.proofs.Common.{◌≡◌, ℕ, zero, suc, ◌+◌, ◌-◌, ◌*◌, ◌≤◌, Bool, cond, List, [], ◌∷◌, ◌++◌, length, Option, Some, None, refl, ap, subst, ◌∙◌, take}
+use Rattle.std.proofs.Common.{◌≡◌, ℕ, zero, suc, ◌+◌, ◌-◌, ◌*◌, ◌≤◌, Bool, cond, List, [], ◌∷◌, ◌++◌, length, Option, Some, None, refl, ap, ◌∙◌, take}
 use Rattle.std.proofs.{Common.{drop, add-zero, zero-add, true, false, inl, inr, arith}, lemmas.Bool.{and_right, cases_Bool, cases_eq, ne_eqb}}
 use Rattle.std.proofs.{lemmas.Bool.false≢true, lemmas.Bool.Decides.nat_tests}
-use Rattle.std.specs.{Prelude.{option_map, is_some, ◌==◌, ◌||◌, ◌&&◌}, Int.is_in_range}
+use Rattle.std.specs.{Prelude.{is_some, ◌==◌, ◌||◌, ◌&&◌}, Int.is_in_range}
 use Rattle.legacy_base.specs.{declared.results.DecodeEvent.DecodeEvent, declared.results.DecodeEvent.TheVariants.{Scalar, Bad}, Events.shift, Fronts.Front}
 use Rattle.legacy_base.specs.{Fronts.{reads, malformed, front_events}, Iso2022Jp.{Mode, esc, escape_mode, part_mode, is_two_byte_mode, iso_2022_jp_front, iso_2022_jp_events}}
 use Rattle.legacy_base.specs.Grammar.{iso_2022_jp, events_of}
@@ -92,10 +92,6 @@ again flag pos bytes = cond (flag && is_some (part_mode bytes)) (Bad (pos - 3) 3
 again-none : (flag : Bool) (pos : ℕ) (bytes : List ℕ) → part_mode bytes ≡ None → again flag pos bytes ≡ []
 again-none flag pos bytes none = rw (none, and_right flag false refl) refl
 
--- the states of escapes correspond to the modes
-escape-is : (a b : ℕ) → escape_state a b ≡ option_map state_of (escape_mode a b)
-escape-is a b = grind arith
-
 -- ---- how late errors end
 
 -- the lateness of the malformed sequence that begins k bytes into these bytes, which are read in the mode
@@ -103,36 +99,25 @@ abbrev late_at : Mode → List ℕ → ℕ → ℕ → ℕ
 late_at m bytes k n = bytes_after (mode_after m (take k bytes)) (drop k bytes) n
 
 -- if bytes begin with no valid escape, neither does a shorter beginning of them
-part_mode-cut : (k : ℕ) (rest : List ℕ) → part_mode (esc ∷ rest) ≡ None → part_mode (esc ∷ take k rest) ≡ None
+part_mode-cut : (k b : ℕ) (rest : List ℕ) → part_mode (b ∷ rest) ≡ None → part_mode (b ∷ take k rest) ≡ None
 unfolding part_mode
-part_mode-cut zero rest h = refl
-part_mode-cut (suc zero) rest h = grind arith
-part_mode-cut (suc (suc k)) rest h = grind arith
+part_mode-cut zero b rest h = refl
+part_mode-cut (suc zero) b rest h = grind arith
+part_mode-cut (suc (suc k)) b rest h = grind arith
 
 -- an escape byte before a byte that no escape has there begins no valid escape
 part_mode-none : (a : ℕ) (rest : List ℕ) → (a == 0x24 || a == 0x28) ≡ false → part_mode (esc ∷ a ∷ rest) ≡ None
 unfolding part_mode
 part_mode-none a rest h = grind arith
 
-after-plain : (m : Mode) (b : ℕ) (bytes : List ℕ) → (b == esc) ≡ false → mode_after m (b ∷ bytes) ≡ mode_after m bytes
+after-none : (m : Mode) (b : ℕ) (bytes : List ℕ) → part_mode (b ∷ bytes) ≡ None → mode_after m (b ∷ bytes) ≡ mode_after m bytes
 unfolding mode_after
-after-plain m b bytes plain = rw (no_escape b bytes plain) refl
-
-after-no_escape : (m : Mode) (bytes : List ℕ) → part_mode (esc ∷ bytes) ≡ None → mode_after m (esc ∷ bytes) ≡ mode_after m bytes
-unfolding mode_after
-after-no_escape m bytes none = rw none refl
+after-none m b bytes none = rw none refl
 
 after-escape : (m new : Mode) (a b : ℕ) (bytes : List ℕ) → escape_mode a b ≡ Some new → mode_after m (esc ∷ a ∷ b ∷ bytes) ≡ mode_after new bytes
 unfolding mode_after
 after-escape m new a b bytes valid =
-    let second : (a == esc) ≡ false = grind (arith, nat_tests) in
-    let third : (b == esc) ≡ false = grind (arith, nat_tests) in
-    rw (escape_ahead a b new bytes valid) (after-plain new a (b ∷ bytes) second ∙ after-plain new b bytes third)
-
--- an error for an escape byte that begins no valid escape is not late
-escape_byte_late : (m : Mode) (rest : List ℕ) → bytes_after m (esc ∷ rest) 1 ≡ 0
-escape_byte_late m [] = refl
-escape_byte_late m (a ∷ rest) = grind arith
+    grind (arith, nat_tests, escape_ahead a b new bytes valid, no_escape)
 
 module _ (jis0208 : List ℕ) (late : ℕ → ℕ → ℕ) (third_late : (p : ℕ) → late p 3 ≡ 3) where
   -- from this position on, the lateness of a malformed sequence depends only on these bytes
@@ -145,17 +130,9 @@ module _ (jis0208 : List ℕ) (late : ℕ → ℕ → ℕ) (third_late : (p : �
   fits-behind {pos = pos} size at is fits same =
       record { late_is = λ k n. let place : pos + size + k ≡ pos + at k = omega (arith, is k) in rw place (fits.late_is (at k) n ∙ same k n) }
 
-  fits-plain : {m : Mode} {pos b : ℕ} {more : List ℕ} → (b == esc) ≡ false → Fits m pos (b ∷ more) → Fits m (pos + 1) more
-  fits-plain {m} {b = b} {more} plain fits =
-      fits-behind 1 suc (λ k. omega arith) fits (λ k n. ap (λ mode. bytes_after mode (drop k more) n) (after-plain m b (take k more) plain))
-
-  fits-two : {m : Mode} {pos b t : ℕ} {more : List ℕ} → (b == esc) ≡ false → (t == esc) ≡ false → Fits m pos (b ∷ t ∷ more) → Fits m (pos + 2) more
-  fits-two {m} {pos} {more = more} plain plain_t fits =
-      let two : pos + 1 + 1 ≡ pos + 2 = omega arith in subst (λ p. Fits m p more) two (fits-plain plain_t (fits-plain plain fits))
-
-  fits-no_escape : {m : Mode} {pos : ℕ} {rest : List ℕ} → part_mode (esc ∷ rest) ≡ None → Fits m pos (esc ∷ rest) → Fits m (pos + 1) rest
-  fits-no_escape {m} {rest = rest} none fits = fits-behind 1 suc (λ k. omega arith) fits
-      (λ k n. ap (λ mode. bytes_after mode (drop k rest) n) (after-no_escape m (take k rest) (part_mode-cut k rest none)))
+  fits-one : {m : Mode} {pos b : ℕ} {more : List ℕ} → part_mode (b ∷ more) ≡ None → Fits m pos (b ∷ more) → Fits m (pos + 1) more
+  fits-one {m} {b = b} {more} none fits = fits-behind 1 suc (λ k. omega arith) fits
+      (λ k n. ap (λ mode. bytes_after mode (drop k more) n) (after-none m b (take k more) (part_mode-cut k b more none)))
 
   fits-escape : {m new : Mode} {pos a b : ℕ} {more : List ℕ} → escape_mode a b ≡ Some new → Fits m pos (esc ∷ a ∷ b ∷ more) → Fits new (pos + 3) more
   fits-escape {m} {new} {a = a} {b} {more} valid fits = fits-behind 3 (λ k. suc (suc (suc k))) (λ k. omega arith) fits
@@ -189,14 +166,6 @@ module _ (jis0208 : List ℕ) (late : ℕ → ℕ → ℕ) (third_late : (p : �
   record Below (n : ℕ) : Type 0 where
     decodes : {m : Mode} {flag : Bool} {pos : ℕ} {bytes : List ℕ} (l : ℕ) → Stands m flag pos bytes → length bytes ≤ n → Decodes m l flag pos bytes
 
-  below-less : {n k : ℕ} → k ≤ n → Below n → Below k
-  below-less less below = record { decodes = λ l stands h. below.decodes l stands (omega arith) }
-
-  -- decoding with the output flag unset
-  unset : {m : Mode} {n pos : ℕ} {bytes : List ℕ} (l : ℕ) → Below n → Fits m pos bytes → length bytes ≤ n →
-      Gives (at_rest m l false) 0 pos bytes (events m pos bytes)
-  unset l below fits h = below.decodes l (stands-unset fits) h
-
   -- ---- escapes
 
   none-outs : (m : Mode) (flag : Bool) (pos : ℕ) (rest : List ℕ) → part_mode (esc ∷ rest) ≡ None →
@@ -216,7 +185,7 @@ module _ (jis0208 : List ℕ) (late : ℕ → ℕ → ℕ) (third_late : (p : �
       part_mode (esc ∷ rest) ≡ None →
       (late pos 1 ≡ 0) × Gives (at_rest m l false) 0 (pos + 1) rest (events m (pos + 1) rest)
   bad_escape {m} {rest = rest} l below stands none =
-      (late_here 1 stands.fits ∙ escape_byte_late m rest, unset l below (fits-no_escape none stands.fits) (omega arith))
+      (late_here 1 stands.fits ∙ grind arith, below.decodes l (stands-unset (fits-one none stands.fits)) (omega arith))
 
   -- The third byte of an escape. A valid escape switches to its mode; otherwise the two bytes are restored.
   third : (m : Mode) (flag : Bool) (pos a b : ℕ) (more : List ℕ) → Below (suc (suc (length more))) → Stands m flag pos (esc ∷ a ∷ b ∷ more) →
@@ -224,11 +193,11 @@ module _ (jis0208 : List ℕ) (late : ℕ → ℕ → ℕ) (third_late : (p : �
       Gives (behind_two m a flag) 1 (pos + 2) (b ∷ more) (again flag pos (esc ∷ a ∷ b ∷ more) ++ events m pos (esc ∷ a ∷ b ∷ more))
   unfolding iso_2022_jp_handler part_mode
   third m flag pos a b more below stands None e =
-      let state_is : escape_state a b ≡ None = rw (escape-is a b, e) refl in
+      let state_is : escape_state a b ≡ None = grind arith in
       let r = bad_escape 0 below stands e in
       rw (none-outs m flag pos (a ∷ b ∷ more) e) (out-error (a ∷ b ∷ []) r.1 (rw state_is refl) (omega arith) (omega arith) (omega arith))
   third m flag pos a b more below stands (Some new) e =
-      let state_is : escape_state a b ≡ Some (state_of new) = rw (escape-is a b, e) refl in
+      let state_is : escape_state a b ≡ Some (state_of new) = grind arith in
       let after : Decodes new 0 true (pos + 3) more = below.decodes 0 (record { fits = fits-escape e stands.fits; far = λ h. omega arith }) (omega arith) in
       rw (some-outs m new flag pos a b more e)
       (elim (cases_Bool flag) [
@@ -275,7 +244,7 @@ module _ (jis0208 : List ℕ) (late : ℕ → ℕ → ℕ) (third_late : (p : �
 
   two-outs : (m : Mode) (flag : Bool) (pos b t : ℕ) (more : List ℕ) (o : Option ℕ) → (b == esc) ≡ false → (t == esc) ≡ false →
       iso_2022_jp_front jis0208 m b (t ∷ first_part more) ≡ front_of 2 o →
-      again flag pos (b ∷ t ∷ more) ++ events m pos (b ∷ t ∷ more) ≡ front_events pos (front_of 2 o) ++ events m (pos + 2) more
+      again flag pos (b ∷ t ∷ more) ++ events m pos (b ∷ t ∷ more) ≡ front_events pos (front_of 2 o) ++ events m (pos + 1 + 1) more
   two-outs m flag pos b t more o h k e = grind (arith, nat_tests, step_two, again-none, no_escape, shift-shift, add-zero)
 
   -- the handler returns the scalar, or error
@@ -305,16 +274,13 @@ module _ (jis0208 : List ℕ) (late : ℕ → ℕ → ℕ) (third_late : (p : �
   unfolding iso_2022_jp_handler iso_2022_jp_front
   own-handler m l flag b plain h = grind (arith, nat_tests)
 
-  own-late : (m : Mode) (b : ℕ) (rest : List ℕ) → is_lead m b ≡ false → bytes_after m (b ∷ rest) 1 ≡ 0
-  own-late m b rest h = grind arith
-
   -- a form of one byte
   one_byte : (m : Mode) (l : ℕ) (flag : Bool) (pos b : ℕ) (more : List ℕ) → (b == esc) ≡ false → Fits m pos (b ∷ more) → Below (length more) →
       is_lead m b ≡ false → Decodes m l flag pos (b ∷ more)
   one_byte m l flag pos b more plain fits below h =
       rw (one-outs m flag pos b more _ plain (own-front m b (first_part more) h))
-      (returned m l pos 1 (own (iso_2022_jp_front jis0208 m b [])) (unset l below (fits-plain plain fits) (omega arith)) (own-handler m l flag b plain h)
-      refl refl (late_here 1 fits ∙ own-late m b more h))
+      (returned m l pos 1 _ (below.decodes l (stands-unset (fits-one (no_escape b more plain) fits)) (omega arith)) (own-handler m l flag b plain h)
+      refl refl (late_here 1 fits ∙ grind arith))
 
   -- the byte after a lead byte
   behind_lead_byte : (flag : Bool) (pos b : ℕ) (more : List ℕ) → (b == esc) ≡ false → is_in_range 0x21 0x7E b ≡ true → Fits iso.two_byte pos (b ∷ more) →
@@ -323,22 +289,22 @@ module _ (jis0208 : List ℕ) (late : ℕ → ℕ → ℕ) (third_late : (p : �
   behind_lead_byte flag pos b [] plain lead fits below =
       let z : late pos 1 ≡ 0 = late_here 1 fits in
       rw (one-outs iso.two_byte flag pos b [] None plain refl)
-      (out-error_at_end (unset b below (fits-plain plain fits) (omega arith)) refl (omega arith) (omega arith) (omega arith))
+      (out-error_at_end (below.decodes b (stands-unset (fits-one (no_escape b [] plain) fits)) (omega arith)) refl (omega arith) (omega arith) (omega arith))
   behind_lead_byte flag pos b (t ∷ rest) plain lead fits below = elim (cases_eq t esc) [
-    | inl is ↦ rw (one-outs iso.two_byte flag pos b (t ∷ rest) None plain (rw is refl), is) (escaped (rw is at fits))
+    | inl is ↦
+        let one_late : late pos 1 ≡ 1 = late_here 1 fits ∙ rw (is, lead) refl in
+        let next = fits-one (no_escape b (t ∷ rest) plain) fits in
+        let shorter : Below (length rest) = record { decodes = λ l stands h. below.decodes l stands (omega arith) } in
+        rw (one-outs iso.two_byte flag pos b (t ∷ rest) None plain (rw is refl), is)
+        (out-error [] (behind_escape_byte iso.two_byte b false (pos + 1) rest shorter (stands-unset (rw is at next))) refl (omega arith) (omega arith) (omega arith))
     | inr other ↦
         let plain_t = ne_eqb t esc other in
+        let next = fits-one (no_escape t rest plain_t) (fits-one (no_escape b (t ∷ rest) plain) fits) in
         let o : Option ℕ = cond (is_in_range 0x21 0x7E t) (idx jis0208 ((b - 0x21) * 94 + (t - 0x21))) None in
         rw (two-outs iso.two_byte flag pos b t rest o plain plain_t (grind arith))
-        (returned iso.two_byte b pos 2 o (unset b below (fits-two plain plain_t fits) (omega arith)) (grind arith) (omega arith) refl
+        (returned iso.two_byte b pos 2 o (below.decodes b (stands-unset next) (omega arith)) (grind arith) refl (omega arith)
         (late_here 2 fits ∙ rw (lead, plain_t) refl))
   ]
-    where
-      escaped : Fits iso.two_byte pos (b ∷ esc ∷ rest) → Gives (behind_lead b) 1 (pos + 1) (esc ∷ rest) (Bad pos 1 ∷ events iso.two_byte (pos + 1) (esc ∷ rest))
-      escaped fits =
-          let one_late : late pos 1 ≡ 1 = late_here 1 fits ∙ rw lead refl in
-          out-error [] (behind_escape_byte iso.two_byte b false (pos + 1) rest (below-less (omega arith) below) (stands-unset (fits-plain plain fits)))
-          refl (omega arith) (omega arith) (omega arith)
 
   lead_byte : (m : Mode) (l : ℕ) (flag : Bool) (pos b : ℕ) (more : List ℕ) → (b == esc) ≡ false → Fits m pos (b ∷ more) → Below (length more) →
       is_lead m b ≡ true → Decodes m l flag pos (b ∷ more)
@@ -349,24 +315,14 @@ module _ (jis0208 : List ℕ) (late : ℕ → ℕ → ℕ) (third_late : (p : �
 
   -- ---- whole lists
 
-  -- the escape byte in any mode
-  escape_byte : (m : Mode) (l : ℕ) (flag : Bool) → iso_2022_jp_handler jis0208 (at_rest m l flag) (byte esc) ≡ returns continue (started m l flag)
-  unfolding iso_2022_jp_handler
-  escape_byte iso.ascii l flag = refl
-  escape_byte _ l flag = refl
-
-  finishes : (m : Mode) (l : ℕ) (flag : Bool) → iso_2022_jp_handler jis0208 (at_rest m l flag) end_of_queue ≡ returns finished (at_rest m l flag)
-  unfolding iso_2022_jp_handler
-  finishes iso.ascii l flag = refl
-  finishes _ l flag = refl
-
   nothing : (m : Mode) (l : ℕ) (flag : Bool) (pos : ℕ) → Decodes m l flag pos []
-  unfolding part_mode
-  nothing m l flag pos = rw (and_right flag false refl, step_end jis0208 m) (out-end (finishes m l flag))
+  unfolding part_mode iso_2022_jp_handler
+  nothing m l flag pos = rw (and_right flag false refl, step_end jis0208 m) (out-end {t = at_rest m l flag} (grind arith))
 
   first : (m : Mode) (l : ℕ) (flag : Bool) (pos b : ℕ) (more : List ℕ) → Stands m flag pos (b ∷ more) → Below (length more) → Decodes m l flag pos (b ∷ more)
+  unfolding iso_2022_jp_handler
   first m l flag pos b more stands below = elim (cases_eq b esc) [
-    | inl is ↦ rw is (out-continue (behind_escape_byte m l flag pos more below (rw is at stands)) (escape_byte m l flag) (omega arith) refl)
+    | inl is ↦ rw is (out-continue (behind_escape_byte m l flag pos more below (rw is at stands)) (grind arith) (omega arith) refl)
     | inr other ↦
         let plain = ne_eqb b esc other in
         elim (cases_Bool (is_lead m b)) [
@@ -389,7 +345,7 @@ pub iso_2022_jp_handled : (jis0208 bytes : List ℕ) → AreBytes bytes →
 unfolding events_of
 iso_2022_jp_handled jis0208 bytes all =
     let fits : Fits jis0208 (lateness bytes) (λ p. refl) iso.ascii 0 bytes = record { late_is = λ k n. rw (zero-add k) refl } in
-    let out = unset jis0208 (lateness bytes) (λ p. refl) 0 (below_all jis0208 (lateness bytes) (λ p. refl) (length bytes)) fits (omega arith) in
+    let out = (below_all jis0208 (lateness bytes) (λ p. refl) (length bytes)).decodes 0 (stands-unset jis0208 (lateness bytes) (λ p. refl) fits) (omega arith) in
     let run = out.from 0 0 refl (omega arith) in
     let near : AreLate (lateness bytes) (run.0) (iso_2022_jp_events jis0208 iso.ascii bytes) =
     rw (shift-zero (iso_2022_jp_events jis0208 iso.ascii bytes)) at (run.2) in
