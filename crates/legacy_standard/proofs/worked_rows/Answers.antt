@@ -31,10 +31,7 @@ past_ranges =
 
 -- an index with one entry
 slice-entry : (n c : ℕ) → slice_index (entry_at n c) n ≡ c
-slice-entry n c = get_or-append_right (replicate n 0) (c ∷ []) n n 0 (length-replicate n 0) (omega arith) ∙ first (n - n) (omega arith)
-  where
-    first : (k : ℕ) → k ≡ 0 → slice_index (c ∷ []) k ≡ c
-    first k e = rw e refl
+slice-entry n c = grind (arith, get_or-append_right (replicate n 0) (c ∷ []) n n 0 (length-replicate n 0) (omega arith))
 
 slice-before : (n c k : ℕ) → k < n → slice_index (entry_at n c) k ≡ 0
 slice-before n c k h = get_or-append (replicate n 0) (c ∷ []) 0 k (rw (length-replicate {A = ℕ} n 0) h) ∙ get_or-replicate n k 0 0 h
