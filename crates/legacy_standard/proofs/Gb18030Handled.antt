@@ -32,17 +32,12 @@ module _ (index : List ℕ) (ranges : List (ℕ × ℕ)) where
     unfolding gb18030_handler
     behind_three {s} d m at = behind_two d (goes_on (rw (digit-some s d, m) refl) at)
 
-    fourth : (s t u : ℕ) → is_lead t ≡ true → is_ascii_digit u ≡ true →
-        handler (gb18030_state b s t) (byte u) ≡ returns (code_point_or_error (range ranges (gb18030_range_pointer b s t u))) gb18030_initial
-    unfolding gb18030_handler
-    fourth s t u m e = grind arith
-
     -- the byte after three bytes
     fourth-reads : (s t : ℕ) (rest : List ℕ) → is_ascii_digit s ≡ true → is_lead t ≡ true → Has (b ∷ s ∷ t ∷ rest) (gb18030_fourth ranges b s t rest)
     unfolding gb18030_fourth gb18030_handler
     fourth-reads s t [] d m = record { go = λ place es after. behind_three d m (error_at_end [] (rw (lead-some b l) refl) after) }
     fourth-reads s t (u ∷ rest) d m = by_test (is_ascii_digit u) _ _
-        (λ e. by_code (range ranges (gb18030_range_pointer b s t u)) (fourth s t u m e))
+        (λ e. by_code (range ranges (gb18030_range_pointer b s t u)) (grind arith))
         (λ e. record { go = λ place es after. behind_three d m (error_at (s ∷ t ∷ u ∷ []) (rw (lead-some t m, e) refl) after) })
       where
         by_code : (o : Option ℕ) → handler (gb18030_state b s t) (byte u) ≡ returns (code_point_or_error o) gb18030_initial →

@@ -1,13 +1,12 @@
 -- The handlers of the encoders without a state give the events of their definitions.
-use Rattle.std.proofs.{lemmas.Bool.Decides.nat_tests, Common.{◌≡◌, ◌≢◌, ◌∙◌, ◌≤◌, ◌<◌, length, inl, inr, sym, ℕ, List, [], ◌∷◌, Option, Some, None, refl}}
-use Rattle.std.proofs.{Common.{true, false, arith}, lemmas.List.Elements.{All-head, All-tail}, lemmas.List.get_or_past, lemmas.List.Sums.position_or_len_is}
-use Rattle.std.proofs.lemmas.Bool.{cases_eq, cases_lt, eq-eqb, ne_eqb}
+use Rattle.std.proofs.{lemmas.Bool.Decides.nat_tests, Common.{◌≡◌, ◌≢◌, ◌≤◌, length, inl, inr, ℕ, List, [], ◌∷◌, Option, Some, None, refl}}
+use Rattle.std.proofs.{Common.{true, false, arith}, lemmas.List.Elements.{All-head, All-tail}, lemmas.List.Quantifiers.position-Some, lemmas.List.Sums.fails_before_first}
+use Rattle.std.proofs.lemmas.Bool.{cases_eq, eqb-true}
 use Rattle.std.specs.{Prelude.{is_some, ◌==◌, position, slice_index}, Char.IsScalar, List.position_or_len}
 use Rattle.legacy_base.specs.{EncodeEvents.{plain_events}, SingleByte.single_byte_code, UserDefined.user_defined_code, EucKr.euc_kr_code}
 use Rattle.legacy_base.specs.{Big5.big5_code, ShiftJis.shift_jis_code, EucJp.euc_jp_code, Gb18030.{gb18030_code, gbk_code}}
 use Rattle.legacy_tables.specs.{Unicode.AreScalars, Pointers.{every_pointer, shift_jis_pointer_of}}
-use borrow.Author.Tests.{lt-ltb, le-ltb}
-use Rattle.legacy_tables.proofs.Pointers.{IsTaken, first-taken, first-least}
+use Rattle.legacy_tables.proofs.Pointers.{first-is, first-none}
 use Rattle.legacy_standard.specs.{TextQueue.{TextOutcome, by_scalar, Encodes}, IndexPointers.index_pointer}
 use Rattle.legacy_standard.specs.{SingleByteEncoder.single_byte_encodes, UserDefinedEncoder.user_defined_encodes, EucKrEncoder.euc_kr_encodes}
 use Rattle.legacy_standard.specs.{Big5Encoder.big5_encodes, ShiftJisEncoder.{minus_set, shift_jis_encodes}, EucJpEncoder.euc_jp_encodes}
@@ -33,30 +32,15 @@ plain outcome code is text all = plain_of_scalars outcome code (λ c s. is c) te
 
 -- "index pointer" is the first position of a scalar
 pointer-position : (table : List ℕ) (c : ℕ) → c ≢ 0 → index_pointer table c ≡ position (λ entry. entry == c) table
-pointer-position table c some = by_pointer (index_pointer table c) refl
+pointer-position table c some = by_place (position (λ entry. entry == c) table) refl
   where
-    taken : IsTaken every_pointer table c (index_pointer table c)
-    taken = first-taken every_pointer table c
-
-    place-is : (i : ℕ) → i ≤ length table → ((k : ℕ) → k < i → slice_index table k ≡ c → ⊥) → (i < length table → slice_index table i ≡ c) →
-        position_or_len (λ entry. entry == c) table ≡ i
-    place-is i few before here =
-        position_or_len_is (λ entry. entry == c) table i 0 few (λ k h. ne_eqb (slice_index table k) c (before k h))
-        (λ h. eq-eqb (slice_index table i) c (here h))
-
-    by_pointer : (o : Option ℕ) → index_pointer table c ≡ o → o ≡ position (λ entry. entry == c) table
-    by_pointer None e =
-        let last : position_or_len (λ entry. entry == c) table ≡ length table =
-        place-is (length table) (omega arith) (λ k h is. taken.missing e k refl is some) (λ h. absurd (omega arith)) in
-        rw (last, le-ltb (length table) (length table) (omega arith)) refl
-    by_pointer (Some s) e = elim (cases_lt s (length table)) [
-      | inl h ↦
-          let found : position_or_len (λ entry. entry == c) table ≡ s =
-          place-is s (omega arith) (λ k l is. let least = first-least every_pointer table c s k e refl is some in absurd (omega arith))
-          (λ l. (taken.chosen s e).1) in
-          rw (found, lt-ltb s (length table) h) refl
-      | inr h ↦ absurd (some (sym (taken.chosen s e).1 ∙ get_or_past table s 0 h))
-    ]
+    by_place : (o : Option ℕ) → position (λ entry. entry == c) table ≡ o → index_pointer table c ≡ o
+    by_place None e =
+        let past : length table ≤ position_or_len (λ entry. entry == c) table = grind (arith, nat_tests) in
+        first-none every_pointer table c (λ k h. fails_before_first (λ entry. entry == c) table k 0 (omega arith))
+    by_place (Some p) e =
+        let at = position-Some (λ entry. entry == c) table p 0 e in
+        first-is every_pointer table c some p at.0 refl (eqb-true (slice_index table p) c at.1) at.2
 
 single_byte-is : (table : List ℕ) (c : ℕ) → single_byte_encodes table c ≡ by_code c (single_byte_code table c)
 unfolding single_byte_encodes single_byte_code
