@@ -27,8 +27,7 @@ same-mode : (a b : EncoderMode) → same_mode a b ≡ true → a ≡ b
 same-mode a b h = grind arith
 
 other-mode : (a b : EncoderMode) → same_mode a b ≡ false → a ≡ b → ⊥
-other-mode in_ascii b e is = let f = rw (← is) at e in cc
-other-mode _ b e is = let f = rw (← is) at e in cc
+other-mode a b e is = grind arith
 
 same_self : (mode : EncoderMode) → same_mode mode mode ≡ true
 same_self mode = grind arith
@@ -86,18 +85,14 @@ module _ (index katakana_index : List ℕ) where
 
   plain-acts : (c : ℕ) → is_plain c ≡ true → (mode : EncoderMode) → handler (state_of mode) (scalar c) ≡ acts mode (home mode c) c c
   unfolding iso_2022_jp_encodes iso_2022_jp_code mode_behind settled_mode
-  plain-acts c h in_ascii = grind (arith, nat_tests)
-  plain-acts c h in_roman = grind (arith, nat_tests)
-  plain-acts c h in_two_byte = grind (arith, nat_tests)
+  plain-acts c h mode = grind (arith, nat_tests)
 
   -- ---- scalars that are looked up
 
   -- the handler replaces the scalar if needed, and looks it up
   past : (c : ℕ) → is_plain c ≡ false → (mode : EncoderMode) → handler (state_of mode) (scalar c) ≡ at_set index (state_of mode) (set_scalar katakana_index c) c
   unfolding iso_2022_jp_encodes
-  past c p in_ascii = grind (arith, nat_tests)
-  past c p in_roman = grind (arith, nat_tests)
-  past c p in_two_byte = grind (arith, nat_tests)
+  past c p mode = grind (arith, nat_tests)
 
   -- the scalar that replaces c in the handler, which is not replaced again
   record Looked (c : ℕ) : Type 0 where
@@ -134,9 +129,7 @@ module _ (index katakana_index : List ℕ) where
     module _ (c : ℕ) (p : is_plain c ≡ false) (l : Looked c) where
       by_pointer : (mode : EncoderMode) → at_pointer (state_of mode) (euc_jp_pointer_of index l.set) l.set ≡ acts mode (home mode c) c l.set
       unfolding iso_2022_jp_code mode_behind settled_mode
-      by_pointer in_ascii = grind (arith, nat_tests, l.pointer_is, l.same)
-      by_pointer in_roman = grind (arith, nat_tests, l.pointer_is, l.same)
-      by_pointer in_two_byte = grind (arith, nat_tests, l.pointer_is, l.same)
+      by_pointer mode = grind (arith, nat_tests, l.pointer_is, l.same)
 
       -- the result of the handler for c and for the scalar that replaces it
       looked-acts : (d : ℕ) → is_plain d ≡ false → set_scalar katakana_index d ≡ Some l.set → (mode : EncoderMode) →

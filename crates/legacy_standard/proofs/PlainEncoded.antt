@@ -21,12 +21,8 @@ module _ (outcome : ℕ → TextOutcome) (code : ℕ → Option (List ℕ)) (is 
   writes (c ∷ text) all =
       gives c (code c) [] (rw (is c (All-head IsScalar c text all)) refl) (writes text (All-tail IsScalar c text all))
 
-  plain_of_scalars : (text : List ℕ) → AreScalars text → Encodes (by_scalar outcome) tt text (plain_events code text)
-  plain_of_scalars text all = steady (writes text all)
-
-plain : (outcome : ℕ → TextOutcome) (code : ℕ → Option (List ℕ)) → ((c : ℕ) → outcome c ≡ by_code c (code c)) →
-    (text : List ℕ) → AreScalars text → Encodes (by_scalar outcome) tt text (plain_events code text)
-plain outcome code is text all = plain_of_scalars outcome code (λ c s. is c) text all
+  plain : (text : List ℕ) → AreScalars text → Encodes (by_scalar outcome) tt text (plain_events code text)
+  plain text all = steady (writes text all)
 
 -- ---- single-byte
 
@@ -42,44 +38,43 @@ pointer-position table c some = by_place (position (λ entry. entry == c) table)
         let at = position-Some (λ entry. entry == c) table p 0 e in
         first-is every_pointer table c some p at.0 refl (eqb-true (slice_index table p) c at.1) at.2
 
-single_byte-is : (table : List ℕ) (c : ℕ) → single_byte_encodes table c ≡ by_code c (single_byte_code table c)
-unfolding single_byte_encodes single_byte_code
-single_byte-is table c = elim (cases_eq c 0) [ inl is ↦ rw is refl | inr some ↦ rw (pointer-position table c some) (grind arith) ]
-
 pub single_byte_encoded : (table : List ℕ) → IsEncodedBy (codecs.single_byte table) (by_scalar (single_byte_encodes table)) tt
-single_byte_encoded table = plain (single_byte_encodes table) (single_byte_code table) (single_byte-is table)
+unfolding single_byte_encodes single_byte_code
+single_byte_encoded table =
+    plain (single_byte_encodes table) (single_byte_code table)
+    (λ c s. elim (cases_eq c 0) [ inl is ↦ rw is refl | inr some ↦ rw (pointer-position table c some) (grind arith) ])
 
 -- ---- x-user-defined
 
 pub user_defined_encoded : IsEncodedBy codecs.user_defined (by_scalar user_defined_encodes) tt
 unfolding user_defined_encodes user_defined_code
-user_defined_encoded = plain user_defined_encodes user_defined_code (λ c. grind arith)
+user_defined_encoded = plain user_defined_encodes user_defined_code (λ c s. grind arith)
 
 -- ---- EUC-KR
 
 pub euc_kr_encoded : (index : List ℕ) → IsEncodedBy (codecs.euc_kr index) (by_scalar (euc_kr_encodes index)) tt
 unfolding euc_kr_encodes euc_kr_code
-euc_kr_encoded index = plain (euc_kr_encodes index) (euc_kr_code index) (λ c. grind arith)
+euc_kr_encoded index = plain (euc_kr_encodes index) (euc_kr_code index) (λ c s. grind arith)
 
 -- ---- Big5
 
 pub big5_encoded : (index : List ℕ) → IsEncodedBy (codecs.big5 index) (by_scalar (big5_encodes index)) tt
 unfolding big5_encodes big5_code
-big5_encoded index = plain (big5_encodes index) (big5_code index) (λ c. grind arith)
+big5_encoded index = plain (big5_encodes index) (big5_code index) (λ c s. grind arith)
 
 -- ---- Shift_JIS
 
 pub shift_jis_encoded : (jis0208 : List ℕ) → is_some (shift_jis_pointer_of jis0208 0xFF0D) ≡ true →
     IsEncodedBy (codecs.shift_jis jis0208) (by_scalar (shift_jis_encodes jis0208)) tt
 unfolding shift_jis_encodes shift_jis_code
-shift_jis_encoded jis0208 hyphen = plain (shift_jis_encodes jis0208) (shift_jis_code jis0208) (λ c. grind arith)
+shift_jis_encoded jis0208 hyphen = plain (shift_jis_encodes jis0208) (shift_jis_code jis0208) (λ c s. grind arith)
 
 -- ---- EUC-JP
 
 pub euc_jp_encoded : (jis0208 jis0212 : List ℕ) → HasRows jis0208 → IsEncodedBy (codecs.euc_jp jis0208 jis0212) (by_scalar (euc_jp_encodes jis0208)) tt
 unfolding euc_jp_encodes euc_jp_code
 euc_jp_encoded jis0208 jis0212 rows =
-    plain (euc_jp_encodes jis0208) (euc_jp_code jis0208) (λ c. rw (rows.first (minus_set c)) (grind (arith, rows.hyphen)))
+    plain (euc_jp_encodes jis0208) (euc_jp_code jis0208) (λ c s. rw (rows.first (minus_set c)) (grind (arith, rows.hyphen)))
 
 -- ---- gb18030 and GBK
 
@@ -88,8 +83,8 @@ module _ (index : List ℕ) (ranges : List (ℕ × ℕ)) (pua : List (ℕ × ℕ
       IsEncodedBy (codecs.gb18030 index ranges pua) (by_scalar (gb18030_encodes false index ranges pua)) tt
   unfolding gb18030_encodes gb18030_code
   gb18030_encoded accepted ranged =
-      plain_of_scalars (gb18030_encodes false index ranges pua) (gb18030_code index ranges pua) (λ c s. grind (arith, nat_tests, ranged_pointer))
+      plain (gb18030_encodes false index ranges pua) (gb18030_code index ranges pua) (λ c s. grind (arith, nat_tests, ranged_pointer))
 
   pub gbk_encoded : IsEncodedBy (codecs.gbk index ranges pua) (by_scalar (gb18030_encodes true index ranges pua)) tt
   unfolding gb18030_encodes gbk_code
-  gbk_encoded = plain (gb18030_encodes true index ranges pua) (gbk_code index pua) (λ c. grind arith)
+  gbk_encoded = plain (gb18030_encodes true index ranges pua) (gbk_code index pua) (λ c s. grind arith)
