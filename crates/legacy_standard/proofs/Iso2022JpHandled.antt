@@ -170,8 +170,7 @@ module _ (jis0208 : List ℕ) (late : ℕ → ℕ → ℕ) (third_late : (p : �
 
   none-outs : (m : Mode) (flag : Bool) (pos : ℕ) (rest : List ℕ) → part_mode (esc ∷ rest) ≡ None →
       again flag pos (esc ∷ rest) ++ events m pos (esc ∷ rest) ≡ Bad pos 1 ∷ events m (pos + 1) rest
-  none-outs m flag pos rest none =
-      rw (again-none flag pos (esc ∷ rest) none, step_no_escape jis0208 m rest none, shift-shift pos 1 (iso_2022_jp_events jis0208 m rest), add-zero pos) refl
+  none-outs m flag pos rest none = grind (arith, again-none, step_no_escape, shift-shift, add-zero)
 
   some-outs : (m new : Mode) (flag : Bool) (pos a b : ℕ) (more : List ℕ) → escape_mode a b ≡ Some new →
       again flag pos (esc ∷ a ∷ b ∷ more) ++ events m pos (esc ∷ a ∷ b ∷ more)

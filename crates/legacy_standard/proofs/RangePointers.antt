@@ -29,16 +29,12 @@ chosen (r ∷ ranges) c = by_last (offset_pointer ranges c) (nat_le r.1 c) refl 
     ahead n later zero m h = absurd (omega arith)
     ahead n later (suc k) m h = later k (omega arith) (omega arith)
 
-    none : nat_le r.1 c ≡ false → Chosen ranges c None → Chosen (r ∷ ranges) c None
-    none s later zero h = leb-false r.1 c s
-    none s later (suc k) h = later k (omega arith)
-
     by_last : (o : Option ℕ) (t : Bool) → nat_le r.1 c ≡ t → Chosen ranges c o → Chosen (r ∷ ranges) c (option_or o (cond t (Some (r.0 + (c - r.1))) None))
     by_last (Some p) t s (place, l) =
         let within = l.within in
         (suc place, record { within = omega arith; reached = l.reached; ahead = ahead (suc place) (λ k m. l.ahead k (omega arith)); gives = l.gives })
     by_last None true s later = (0, record { within = omega arith; reached = leb-true r.1 c s; ahead = ahead 0 (λ k m. later k); gives = refl })
-    by_last None false s later = none s later
+    by_last None false s later = elim [ zero ↦ λ h. leb-false r.1 c s | suc k ↦ λ h. later k (omega arith) ]
 
 module _ (ranges : List (ℕ × ℕ)) (accepted : AreAcceptedRanges ranges) (c : ℕ) where
   no_pointer : is_some (range_pointer_of ranges c) ≡ true → None ≡ range_pointer_of ranges c → ⊥

@@ -10,8 +10,7 @@ use Rattle.legacy_standard.proofs.Turns.{Runs, steady, IsDecodedBy, at_end, goes
 
 -- the bytes of a code unit are those that it was made from
 bytes-back : (is_utf16be : Bool) (a b : ℕ) → IsByte a → IsByte b → unit_bytes is_utf16be (unit_of is_utf16be a b) ≡ a ∷ b ∷ []
-bytes-back true a b p q = grind arith
-bytes-back false a b p q = grind arith
+bytes-back is_utf16be a b p q = grind arith
 
 module _ (is_utf16be : Bool) where
   abbrev handler : Utf16 → Item → Handled Utf16
