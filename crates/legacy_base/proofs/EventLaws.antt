@@ -1,7 +1,7 @@
 -- Each malformed sequence in the events of a list lies inside the list and has one to four bytes. Each scalar is a
 -- Unicode scalar value.
 use Rattle.std.proofs.Common.{◌≡◌, ℕ, zero, suc, ◌+◌, ◌≤◌, List, [], ◌∷◌, ◌++◌, length, drop, map, false, cond, Option, Some, None, inl, inr, refl, arith}
-use Rattle.std.proofs.{Common.{length-drop, All}, lemmas.Bool.{eqb-true, cond_both, cases_Bool}, lemmas.List.Elements.{All-nil, All-cons, All-append, All-head}}
+use Rattle.std.proofs.{Common.{length-drop, All}, lemmas.Bool.{eqb-true, cond_both, cases_Bool, cases_lt}, lemmas.List.Elements.{All-nil, All-cons, All-append, All-head}}
 use Rattle.std.proofs.lemmas.List.Elements.{All-tail, All-drop}
 use Rattle.std.specs.{Prelude.{◌==◌, is_some}, Char.IsScalar}
 use Rattle.legacy_tables.specs.Unicode.{IsByte, AreBytes, AreScalars}
@@ -77,8 +77,7 @@ module _ (Q : Type 0) where
 
     first_shorter : (bytes : List ℕ) → length (first_part bytes) ≤ length bytes
     first_shorter [] = omega arith
-    first_shorter (b ∷ bytes) =
-        cond_both (b == esc) [] (b ∷ first_part bytes) (λ l. length l ≤ length (b ∷ bytes)) (λ _. omega arith) (λ _. let h = first_shorter bytes in omega arith)
+    first_shorter (b ∷ bytes) = let h = first_shorter bytes in grind arith
 
     module _ (n : ℕ) (below : (mode : Mode) (bytes : List ℕ) → length bytes ≤ n → AreOf (length bytes) (iso_2022_jp_events jis0208 mode bytes)) where
       -- an escape byte that begins no valid escape
@@ -134,19 +133,15 @@ module _ (Q : Type 0) where
         ]
 
         body_of : (rest : List ℕ) → length rest ≤ n → AreOf (length (b ∷ rest)) (iso_2022_jp_events jis0208 mode (b ∷ rest))
-        body_of rest h = by_length (front_length f) refl
-          where
-            f : Front
-            f = iso_2022_jp_front jis0208 mode b (first_part rest)
-
-            i : IsFrontOf (suc (length (first_part rest))) Q f
-            i = iso_2022_jp_front-of {P = Q} jis0208 checked mode b (first_part rest)
-
-            by_length : (k : ℕ) → front_length f ≡ k → AreOf (length (b ∷ rest)) (iso_2022_jp_events jis0208 mode (b ∷ rest))
-            by_length zero e = let some = i.some in absurd (omega (arith, some, e))
-            by_length (suc zero) e = one_of rest f h refl i e
-            by_length (suc (suc zero)) e = two_of rest f h refl i e
-            by_length (suc (suc (suc k))) e = let short = iso_2022_jp_front-short jis0208 mode b (first_part rest) in absurd (omega (arith, short, e))
+        body_of rest h =
+            let f = iso_2022_jp_front jis0208 mode b (first_part rest) in
+            let i = iso_2022_jp_front-of {P = Q} jis0208 checked mode b (first_part rest) in
+            let short = iso_2022_jp_front-short jis0208 mode b (first_part rest) in
+            let some = i.some in
+            elim (cases_lt (front_length f) 2) [
+              | inl l ↦ one_of rest f h refl i (omega arith)
+              | inr l ↦ two_of rest f h refl i (omega arith)
+            ]
 
     iso_within : (n : ℕ) (mode : Mode) (bytes : List ℕ) → length bytes ≤ n → AreOf (length bytes) (iso_2022_jp_events jis0208 mode bytes)
     iso_within n mode [] h = rw (step_end jis0208 mode) (none_of 0)

@@ -1,6 +1,6 @@
 -- Each front of each codec has one to four bytes of its list, so every list has events. A front gives one or two
 -- scalars, or is malformed.
-use Rattle.std.proofs.Common.{◌≡◌, ℕ, suc, ◌+◌, ◌-◌, ◌≤◌, ◌<◌, List, [], ◌∷◌, Bool, true, false, not, cond, length, ◌||◌, ◌==◌, Option, Some, None}
+use Rattle.std.proofs.Common.{◌≡◌, ℕ, suc, ◌+◌, ◌-◌, ◌*◌, ◌≤◌, ◌<◌, List, [], ◌∷◌, Bool, true, cond, length, ◌||◌, ◌==◌, Option, Some, None}
 use Rattle.std.proofs.{Common.{option_to_list, refl, arith}, lemmas.Bool.cond_both, lemmas.Bool.Decides.nat_tests, lemmas.List.Elements.{All-nil, All-cons}}
 use Rattle.std.specs.{Option.option_map_or, Int.is_in_range, Char.{IsScalar, is_ascii, is_ascii_digit}}
 use Rattle.legacy_tables.specs.{Indexes.{idx, range}, Unicode.{IsByte, AreScalars, is_katakana_byte}}
@@ -132,10 +132,9 @@ module _ {P : Type 0} (jis0208 jis0212 : List ℕ) (checked : P → AreScalars j
   pub euc_jp_front-of : (b : ℕ) (rest : List ℕ) → IsFrontOf (suc (length rest)) P (euc_jp_front jis0208 jis0212 b rest)
   unfolding euc_jp_front euc_jp_pair
   euc_jp_front-of b rest =
-      ascii_or b rest _
-      (front_of-cond _ (b == 0x8E) _ _ (λ _. euc_jp_katakana-of rest)
-      (front_of-cond _ (b == 0x8F) _ _ (λ _. euc_jp_second-of jis0212 checked_too rest)
-      (front_of-cond _ (is_euc_jp_lead b) _ _ (λ _. pair _ rest (euc_jp-gives jis0208 checked b)) (bad rest))))
+      let second = euc_jp_second-of jis0212 checked_too rest in
+      let two = pair _ rest (euc_jp-gives jis0208 checked b) in
+      grind (arith, nat_tests, euc_jp_katakana-of rest, second, two)
 
 module _ {P : Type 0} (index : List ℕ) (ranges : List (ℕ × ℕ)) (checked : P → AreScalars index)
     (ranged : (p c : ℕ) → range ranges p ≡ Some c → P → IsScalar c) where
@@ -156,32 +155,18 @@ module _ {P : Type 0} (index : List ℕ) (ranges : List (ℕ × ℕ)) (checked :
 
   pub gb18030_front-of : (b : ℕ) (rest : List ℕ) → IsFrontOf (suc (length rest)) P (gb18030_front index ranges b rest)
   unfolding gb18030_front
-  gb18030_front-of b rest =
-      ascii_or b rest _
-      (front_of-cond _ (b == 0x80) _ _ (λ _. byte rest 0x20AC (λ _. refl))
-      (front_of-cond _ (is_lead b) _ _ (λ _. gb18030_second-of b rest) (bad rest)))
+  gb18030_front-of b rest = grind (arith, nat_tests, gb18030_second-of b rest)
 
 -- ---- ISO-2022-JP
 
 module _ {P : Type 0} (jis0208 : List ℕ) (checked : P → AreScalars jis0208) where
-  -- the second front is used only if the test fails
-  unless : (size : ℕ) (t : Bool) (f g : Front) → IsFrontOf size P f → (t ≡ false → IsFrontOf size P g) → IsFrontOf size P (cond t f g)
-  unless size t f g h k = cond_both t f g (IsFrontOf size P) (λ _. h) k
-
   pub iso_2022_jp_front-of : (mode : Mode) (b : ℕ) (rest : List ℕ) → IsFrontOf (suc (length rest)) P (iso_2022_jp_front jis0208 mode b rest)
   unfolding iso_2022_jp_front
-  iso_2022_jp_front-of ascii b rest = unless _ _ _ _ (bad rest) (λ e. byte rest b (λ _. grind (arith, nat_tests)))
-  iso_2022_jp_front-of roman b rest =
-      unless _ _ _ _ (bad rest) (λ e.
-      front_of-cond _ (b == 0x5C) _ _ (λ _. byte rest 0xA5 (λ _. refl))
-      (front_of-cond _ (b == 0x7E) _ _ (λ _. byte rest 0x203E (λ _. refl)) (byte rest b (λ _. grind (arith, nat_tests)))))
-  iso_2022_jp_front-of katakana b rest = front_of-cond _ (is_in_range 0x21 0x5F b) _ _ (λ e. byte rest _ (λ _. grind (arith, nat_tests))) (bad rest)
+  iso_2022_jp_front-of ascii b rest = grind (arith, nat_tests, byte, bad)
+  iso_2022_jp_front-of roman b rest = grind (arith, nat_tests, byte, bad)
+  iso_2022_jp_front-of katakana b rest = grind (arith, nat_tests, byte, bad)
   iso_2022_jp_front-of two_byte b [] = bad []
-  iso_2022_jp_front-of two_byte b (t ∷ rest) =
-      let two : IsFrontOf (suc (suc (length rest))) P (malformed 2) = front_of-malformed _ 2 (omega arith) (omega arith) (omega arith) in
-      front_of-cond _ (not (is_in_range 0x21 0x7E b)) _ _ (λ _. bad (t ∷ rest))
-      (front_of-cond _ (is_in_range 0x21 0x7E t) _ _ (λ _. front_of-reads_or _ 2 _ _ (omega arith) (omega arith) (omega arith)
-      (give-idx jis0208 checked _) two) two)
+  iso_2022_jp_front-of two_byte b (t ∷ rest) = grind (arith, nat_tests, give-idx jis0208 checked ((b - 0x21) * 94 + (t - 0x21)))
 
 pub iso_2022_jp_front-short : (jis0208 : List ℕ) (mode : Mode) (b : ℕ) (rest : List ℕ) → front_length (iso_2022_jp_front jis0208 mode b rest) ≤ 2
 unfolding iso_2022_jp_front

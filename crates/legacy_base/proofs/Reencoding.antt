@@ -1,10 +1,10 @@
 -- The text that encoded bytes decode to is encoded as the same bytes.
-use Rattle.std.proofs.Common.{◌≡◌, ◌∙◌, ℕ, List, [], ◌∷◌, ◌++◌, map, refl, sym, ap, arith, All, Bool, true, false, cond, Option, Some, None, is_some}
+use Rattle.std.proofs.Common.{◌≡◌, ◌∙◌, ℕ, List, [], ◌∷◌, ◌++◌, map, refl, sym, ap, arith, All, true, false, cond, Option, Some, None, is_some}
 use Rattle.std.proofs.{lemmas.Bool.true≢false, lemmas.Bool.Decides.nat_tests, lemmas.List.map-append, lemmas.List.Elements.{All-head, All-tail}}
 use Rattle.legacy_base.specs.{declared.results.EncodeEvent.EncodeEvent, declared.results.EncodeEvent.TheVariants.Byte, EncodeEvents.{plain_events}}
 use Rattle.legacy_base.specs.{EncoderProfile.{EncoderMode, in_ascii, in_roman, in_two_byte}}
 use Rattle.legacy_base.specs.{ShiftJis.shift_jis_code, EucJp.euc_jp_code}
-use Rattle.legacy_base.specs.Iso2022Jp.{is_pair, keeps_mode, is_roman_scalar, is_two_byte_scalar, iso_2022_jp_code, is_whole_escape, roman_or_ascii, escape_to}
+use Rattle.legacy_base.specs.Iso2022Jp.{is_pair, iso_2022_jp_code, is_whole_escape, roman_or_ascii, escape_to}
 use Rattle.legacy_base.specs.{Iso2022Jp.escape_between, Encoders.{Codec, single_byte, user_defined, big5, euc_kr, shift_jis, euc_jp, gb18030, gbk, iso_2022_jp}}
 use Rattle.legacy_base.specs.{Encoders.{new_encoder, encoded}, RoundTrips.{japanese_scalar, read_back, bytes_of, written}}
 use Rattle.legacy_base.specs.RoundTrips.{holds_adjacent_escapes, IsSound, KeepsCodes, HasSameCode, ReencodesAnyText}
@@ -39,10 +39,6 @@ unfolding euc_jp_code
 euc_jp-same jis0208 = folded-same (euc_jp_code jis0208) refl refl refl
 
 -- ---- ISO-2022-JP
-
--- a scalar that is written in ASCII mode after ASCII mode is also written in ASCII mode after two-byte mode
-back_to_ascii : (pair keeps romans : Bool) → mode_by pair keeps romans in_ascii ≡ in_ascii → mode_by pair keeps romans in_two_byte ≡ in_ascii
-back_to_ascii pair keeps romans h = grind arith
 
 module _ (jis0208 katakana_index : List ℕ) where
   abbrev code : ℕ → Option (List ℕ)
@@ -109,10 +105,7 @@ module _ (jis0208 katakana_index : List ℕ) where
       by_code (Some own) e in_ascii n here later h =
           let s = own_of c in
           let stays : mode_of in_ascii s ≡ in_ascii = same_mode in_ascii c own e (here own e) ∙ n in
-          let goes : mode_of in_two_byte s ≡ in_ascii =
-          mode_for-by jis0208 katakana_index in_two_byte s
-          ∙ back_to_ascii (is_two_byte_scalar jis0208 katakana_index s) (keeps_mode jis0208 katakana_index s) (is_roman_scalar s)
-          (sym (mode_for-by jis0208 katakana_index in_ascii s) ∙ stays) in
+          let goes : mode_of in_two_byte s ≡ in_ascii = grind (arith, nat_tests, mode_for-by, mode_by) in
           text_events-escape jis0208 katakana_index in_two_byte in_ascii s goes (λ z. cc) (back text) true
 
   iso_2022_jp-again : (mode : EncoderMode) (text : List ℕ) → All SameHere text → holds_adjacent_escapes (bytes_from mode text) ≡ false
