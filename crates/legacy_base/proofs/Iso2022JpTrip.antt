@@ -53,15 +53,6 @@ module _ (jis0208 : List ℕ) where
 
   -- ---- the codes
 
-  front-ascii : (c : ℕ) (rest : List ℕ) → is_ascii c ≡ true → (c == 0x0E || c == 0x0F) ≡ false → iso_2022_jp_front jis0208 ascii c rest ≡ reads 1 (c ∷ [])
-  unfolding iso_2022_jp_front
-  front-ascii c rest a m = rw (a, m) refl
-
-  front-roman : (c : ℕ) (rest : List ℕ) → is_ascii c ≡ true → (c == 0x0E || c == 0x0F) ≡ false → (c == 0x5C) ≡ false → (c == 0x7E) ≡ false
-      → iso_2022_jp_front jis0208 roman c rest ≡ reads 1 (c ∷ [])
-  unfolding iso_2022_jp_front
-  front-roman c rest a m e f = rw (a, m, e, f) refl
-
   -- the facts about the two bytes of pointer p, which decode to c
   record IsPair (p c : ℕ) : Type 0 where
     first_plain : ((p / 94 + 0x21) == esc) ≡ false
@@ -116,7 +107,8 @@ module _ (jis0208 katakana_index : List ℕ) where
 
   own_neutral : (mode : EncoderMode) (c : ℕ) → is_ascii c ≡ true → is_mode_control c ≡ false → (c == 0x5C || c == 0x7E) ≡ false →
       OwnRead (roman_or_ascii mode) c (c ∷ [])
-  own_neutral mode c a m o = grind (arith, nat_tests, or_parts, own_byte, front-ascii, front-roman)
+  unfolding iso_2022_jp_front
+  own_neutral mode c a m o = grind (arith, nat_tests, or_parts, own_byte)
 
   -- the scalar that is looked up for c, and its pointer
   record IsLookedUp (c p : ℕ) : Type 0 where
@@ -149,7 +141,7 @@ module _ (jis0208 katakana_index : List ℕ) where
   own_read : (mode : EncoderMode) (c : ℕ) (bytes : List ℕ) → code c ≡ Some bytes → OwnRead (mode_of mode c) (own_scalar c) bytes
   unfolding iso_2022_jp_code iso_2022_jp_front
   own_read mode c bytes is =
-      rw (mode_for-by jis0208 katakana_index mode c) (grind (arith, nat_tests, own_byte, own_neutral, own_looked_up, ascii_stands, front-ascii))
+      rw (mode_for-by jis0208 katakana_index mode c) (grind (arith, nat_tests, own_byte, own_neutral, own_looked_up, ascii_stands))
 
   -- the mode for a scalar without a code
   pub none_keeps : (mode : EncoderMode) (c : ℕ) → code c ≡ None → mode_of mode c ≡ roman_or_ascii mode
@@ -290,8 +282,7 @@ module _ (jis0208 katakana_index : List ℕ) where
 
   apart-end : (mode : EncoderMode) → holds_adjacent_escapes (escape_between mode in_ascii) ≡ false
   unfolding holds_adjacent_escapes
-  apart-end in_ascii = refl
-  apart-end _ = refl
+  apart-end mode = grind arith
 
   pub text_apart : (mode : EncoderMode) (text bytes : List ℕ) → sent mode text ≡ map Byte bytes → IsApart text bytes
   text_apart mode [] bytes e =
