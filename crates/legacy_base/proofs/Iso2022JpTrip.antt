@@ -180,14 +180,10 @@ module _ (jis0208 katakana_index : List ℕ) where
       → is_whole_escape (escape_between old new ++ bytes) ≡ false → is_whole_escape ((escape_between old new ++ bytes) ++ more) ≡ false
   begins_with_none old new bytes more h k = grind arith
 
-  end_begins : (mode : EncoderMode) (more : List ℕ) → is_whole_escape more ≡ false
-      → is_whole_escape (escape_between mode in_ascii) ≡ false → is_whole_escape (escape_between mode in_ascii ++ more) ≡ false
-  end_begins mode more h k = grind arith
-
   text_begins : (mode : EncoderMode) (text more : List ℕ) → is_whole_escape more ≡ false
       → is_whole_escape (text_bytes mode text) ≡ false → is_whole_escape (text_bytes mode text ++ more) ≡ false
   text_begins mode [] more plain h =
-      rw (text_bytes-end mode) (end_begins mode more plain (rw (text_bytes-end mode) at h))
+      let alone = rw (text_bytes-end mode) at h in rw (text_bytes-end mode) (grind arith)
   text_begins mode (c ∷ text) more plain h =
       let new = mode_of mode c in
       rw (text_bytes-scalar mode c text) (by_code (code c) refl (text_begins new text more plain) (rw (text_bytes-scalar mode c text) at h))
@@ -242,12 +238,6 @@ module _ (jis0208 katakana_index : List ℕ) where
       rw (append_assoc, length-append) (o.gives all ∙ rw read (scalar_then (length own) (length behind) c back (iso_2022_jp_events jis0208 ascii more))) in
       escape_then mode new (c ∷ back) (own ++ behind) more (rw (append_assoc own behind more) (o.plain all)) joined
 
-  -- a scalar without a code
-  text_read-none : (mode : EncoderMode) (back behind more : List ℕ) → (is_whole_escape behind ≡ false → is_whole_escape (behind ++ more) ≡ false)
-      → holds_adjacent_escapes (escape_between mode (roman_or_ascii mode) ++ behind) ≡ false
-      → IsTextRead (roman_or_ascii mode) back behind more → IsTextRead mode back (escape_between mode (roman_or_ascii mode) ++ behind) more
-  text_read-none mode back behind more h k m = grind (arith, nat_tests, escape_then, escape_apart)
-
   pub text_read : (mode : EncoderMode) (text more : List ℕ) → is_whole_escape more ≡ false
       → holds_adjacent_escapes (text_bytes mode text) ≡ false → IsTextRead mode (text_back text) (text_bytes mode text) more
   text_read mode [] more plain h = rw (text_bytes-end mode) (escape_read jis0208 mode in_ascii more plain)
@@ -266,7 +256,7 @@ module _ (jis0208 katakana_index : List ℕ) where
           let behind = text_bytes (mode_of mode c) text in
           let read = later (apart_behind (escape_between mode (mode_of mode c)) behind h) in
           let begins = text_begins (mode_of mode c) text more plain in
-          rw new_is (text_read-none mode (text_back text) _ more (rw new_is at begins) (rw new_is at h) (rw new_is at read))
+          grind (arith, nat_tests, escape_then, escape_apart, new_is, begins, read)
       by_code (Some own) e later h =
           let new = mode_of mode c in
           let behind = text_bytes new text in
