@@ -186,16 +186,10 @@ module _ (jis0208 katakana_index : List ℕ) where
       let alone = rw (text_bytes-end mode) at h in rw (text_bytes-end mode) (grind arith)
   text_begins mode (c ∷ text) more plain h =
       let new = mode_of mode c in
-      rw (text_bytes-scalar mode c text) (by_code (code c) refl (text_begins new text more plain) (rw (text_bytes-scalar mode c text) at h))
-    where
-      by_code : (o : Option (List ℕ)) → code c ≡ o
-          → (is_whole_escape (text_bytes (mode_of mode c) text) ≡ false → is_whole_escape (text_bytes (mode_of mode c) text ++ more) ≡ false)
-          → is_whole_escape (scalar_bytes mode (mode_of mode c) o (text_bytes (mode_of mode c) text)) ≡ false
-          → is_whole_escape (scalar_bytes mode (mode_of mode c) o (text_bytes (mode_of mode c) text) ++ more) ≡ false
-      by_code None e later h = begins_with_none mode _ _ more later h
-      by_code (Some own) e later h =
-          let behind = text_bytes (mode_of mode c) text in
-          begins_with_none mode _ (own ++ behind) more (λ _. rw (append_assoc own behind more) ((own_read mode c own e).plain (behind ++ more))) h
+      let later = text_begins new text more plain in
+      let first = λ (own : List ℕ) (e : code c ≡ Some own). (own_read mode c own e).plain (text_bytes new text ++ more) in
+      let alone = rw (text_bytes-scalar mode c text) at h in
+      rw (text_bytes-scalar mode c text) (grind (arith, begins_with_none, later, first, append_assoc))
 
   -- ---- no two adjacent escapes
 
