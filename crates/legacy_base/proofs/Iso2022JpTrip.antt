@@ -175,11 +175,6 @@ module _ (jis0208 katakana_index : List ℕ) where
 
   -- ---- lists that begin with a valid escape, and lists that do not
 
-  -- if appending `more` makes no valid escape at the beginning of `bytes`, nor does it after an escape before them
-  begins_with_none : (old new : EncoderMode) (bytes more : List ℕ) → (is_whole_escape bytes ≡ false → is_whole_escape (bytes ++ more) ≡ false)
-      → is_whole_escape (escape_between old new ++ bytes) ≡ false → is_whole_escape ((escape_between old new ++ bytes) ++ more) ≡ false
-  begins_with_none old new bytes more h k = grind arith
-
   text_begins : (mode : EncoderMode) (text more : List ℕ) → is_whole_escape more ≡ false
       → is_whole_escape (text_bytes mode text) ≡ false → is_whole_escape (text_bytes mode text ++ more) ≡ false
   text_begins mode [] more plain h =
@@ -189,7 +184,7 @@ module _ (jis0208 katakana_index : List ℕ) where
       let later = text_begins new text more plain in
       let first = λ (own : List ℕ) (e : code c ≡ Some own). (own_read mode c own e).plain (text_bytes new text ++ more) in
       let alone = rw (text_bytes-scalar mode c text) at h in
-      rw (text_bytes-scalar mode c text) (grind (arith, begins_with_none, later, first, append_assoc))
+      rw (text_bytes-scalar mode c text) (grind (arith, later, first, append_assoc))
 
   -- ---- no two adjacent escapes
 
@@ -237,25 +232,15 @@ module _ (jis0208 katakana_index : List ℕ) where
   text_read mode [] more plain h = rw (text_bytes-end mode) (escape_read jis0208 mode in_ascii more plain)
   text_read mode (c ∷ text) more plain h =
       let new = mode_of mode c in
-      rw (text_bytes-scalar mode c text)
-      (by_code (code c) refl (text_read new text more plain) (rw (text_bytes-scalar mode c text) at h))
-    where
-      by_code : (o : Option (List ℕ)) → code c ≡ o → (holds_adjacent_escapes (text_bytes (mode_of mode c) text) ≡ false
-          → IsTextRead (mode_of mode c) (text_back text) (text_bytes (mode_of mode c) text) more)
-          → holds_adjacent_escapes (scalar_bytes mode (mode_of mode c) o (text_bytes (mode_of mode c) text)) ≡ false
-          → IsTextRead mode (map own_scalar (cond (is_some o) (c ∷ coded_here text) (coded_here text)))
-          (scalar_bytes mode (mode_of mode c) o (text_bytes (mode_of mode c) text)) more
-      by_code None e later h =
-          let new_is = none_keeps mode c e in
-          let behind = text_bytes (mode_of mode c) text in
-          let read = later (apart_behind (escape_between mode (mode_of mode c)) behind h) in
-          let begins = text_begins (mode_of mode c) text more plain in
-          grind (arith, nat_tests, escape_then, escape_apart, new_is, begins, read)
-      by_code (Some own) e later h =
-          let new = mode_of mode c in
-          let behind = text_bytes new text in
-          let read = later (apart_behind own behind (apart_behind (escape_between mode new) (own ++ behind) h)) in
-          text_read-scalar mode new (own_scalar c) own (text_back text) behind more (own_read mode c own e) read
+      let behind = text_bytes new text in
+      let later = text_read new text more plain in
+      let begins = text_begins new text more plain in
+      let none = apart_behind (escape_between mode new) behind in
+      let some = λ (own : List ℕ) (e : code c ≡ Some own) (k : holds_adjacent_escapes (escape_between mode new ++ (own ++ behind)) ≡ false).
+      text_read-scalar mode new (own_scalar c) own (text_back text) behind more (own_read mode c own e)
+      (later (apart_behind own behind (apart_behind (escape_between mode new) (own ++ behind) k))) in
+      let apart = rw (text_bytes-scalar mode c text) at h in
+      rw (text_bytes-scalar mode c text) (grind (arith, nat_tests, some, none, none_keeps mode c, later, begins, escape_then, escape_apart))
 
   -- ---- texts without unmappable scalars
 
