@@ -79,6 +79,12 @@ module _ (jis0208 katakana_index : List ℕ) where
   same_mode : (mode : EncoderMode) (c : ℕ) (own : List ℕ) → code c ≡ Some own → code (own_of c) ≡ Some own → mode_of mode (own_of c) ≡ mode_of mode c
   same_mode mode c own e again = grind (arith, nat_tests, mode_for-by, mode_by, single_stands)
 
+  -- a scalar that is written in ASCII mode after ASCII mode is also written in ASCII mode after two-byte mode
+  back_to_ascii : (c : ℕ) (own : List ℕ) → code c ≡ Some own → code (own_of c) ≡ Some own → mode_of in_ascii c ≡ in_ascii →
+      mode_of in_two_byte (own_of c) ≡ in_ascii
+  back_to_ascii c own e again n =
+      let stays : mode_of in_ascii (own_of c) ≡ in_ascii = same_mode in_ascii c own e again ∙ n in grind (arith, nat_tests, mode_for-by, mode_by)
+
   -- The bytes of a text from two-byte mode are the escape to ASCII mode and its bytes from that mode. This holds if the
   -- latter do not begin with an escape.
   late_escape : (text : List ℕ) → All SameHere text → is_whole_escape (bytes_from in_ascii text) ≡ false → sent in_two_byte (back text)
@@ -86,27 +92,12 @@ module _ (jis0208 katakana_index : List ℕ) where
   late_escape [] same h =
       rw (text_events-end jis0208 katakana_index in_two_byte, text_events-end jis0208 katakana_index in_ascii) refl
   late_escape (c ∷ text) same h =
-      by_code (code c) refl (mode_of in_ascii c) refl (All-head SameHere c text same)
-      (late_escape text (All-tail SameHere c text same))
-      (rw (text_bytes-scalar jis0208 katakana_index in_ascii c text) at h)
-    where
-      by_code : (o : Option (List ℕ)) → code c ≡ o → (new : EncoderMode) → mode_of in_ascii c ≡ new → SameHere c
-          → (is_whole_escape (bytes_from in_ascii text) ≡ false → sent in_two_byte (back text)
-          ≡ map Byte (escape_to in_ascii) ++ sent in_ascii (back text))
-          → is_whole_escape (bytes_at in_ascii new o (bytes_from new text)) ≡ false
-          → sent in_two_byte (map (own_of) (cond (is_some o) (c ∷ coded_of text) (coded_of text)))
-          ≡ map Byte (escape_to in_ascii)
-          ++ sent in_ascii (map (own_of) (cond (is_some o) (c ∷ coded_of text) (coded_of text)))
-      by_code None e new n here later h =
-          let new_is : new ≡ in_ascii = sym n ∙ none_keeps jis0208 katakana_index in_ascii c e in
-          later (rw new_is at h)
-      by_code (Some own) e in_roman n here later h = absurd (true≢false h)
-      by_code (Some own) e in_two_byte n here later h = absurd (true≢false h)
-      by_code (Some own) e in_ascii n here later h =
-          let s = own_of c in
-          let stays : mode_of in_ascii s ≡ in_ascii = same_mode in_ascii c own e (here own e) ∙ n in
-          let goes : mode_of in_two_byte s ≡ in_ascii = grind (arith, nat_tests, mode_for-by, mode_by) in
-          text_events-escape jis0208 katakana_index in_two_byte in_ascii s goes (λ z. cc) (back text) true
+      let here = All-head SameHere c text same in
+      let later = late_escape text (All-tail SameHere c text same) in
+      let alone = rw (text_bytes-scalar jis0208 katakana_index in_ascii c text) at h in
+      let some = λ (own : List ℕ) (e : code c ≡ Some own) (n : mode_of in_ascii c ≡ in_ascii).
+      text_events-escape jis0208 katakana_index in_two_byte in_ascii (own_of c) (back_to_ascii c own e (here own e) n) (λ z. cc) (back text) true in
+      grind (arith, some, later, none_keeps jis0208 katakana_index in_ascii c)
 
   iso_2022_jp-again : (mode : EncoderMode) (text : List ℕ) → All SameHere text → holds_adjacent_escapes (bytes_from mode text) ≡ false
       → sent mode (back text) ≡ map Byte (bytes_from mode text)
