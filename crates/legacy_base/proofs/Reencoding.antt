@@ -1,6 +1,6 @@
 -- The text that encoded bytes decode to is encoded as the same bytes.
-use Rattle.std.proofs.Common.{◌≡◌, ◌∙◌, ℕ, List, [], ◌∷◌, ◌++◌, map, refl, sym, ap, arith, All, true, false, cond, Option, Some, None, is_some}
-use Rattle.std.proofs.{lemmas.Bool.true≢false, lemmas.Bool.Decides.nat_tests, lemmas.List.map-append, lemmas.List.Elements.{All-head, All-tail}}
+use Rattle.std.proofs.Common.{◌≡◌, ◌∙◌, ℕ, List, [], ◌∷◌, ◌++◌, map, refl, sym, ap, arith, All, true, false, Option, Some}
+use Rattle.std.proofs.{lemmas.Bool.Decides.nat_tests, lemmas.List.map-append, lemmas.List.Elements.{All-head, All-tail}}
 use Rattle.legacy_base.specs.{declared.results.EncodeEvent.EncodeEvent, declared.results.EncodeEvent.TheVariants.Byte, EncodeEvents.{plain_events}}
 use Rattle.legacy_base.specs.{EncoderProfile.{EncoderMode, in_ascii, in_roman, in_two_byte}}
 use Rattle.legacy_base.specs.{ShiftJis.shift_jis_code, EucJp.euc_jp_code}
@@ -99,43 +99,37 @@ module _ (jis0208 katakana_index : List ℕ) where
       text_events-escape jis0208 katakana_index in_two_byte in_ascii (own_of c) (back_to_ascii c own e (here own e) n) (λ z. cc) (back text) true in
       grind (arith, some, later, none_keeps jis0208 katakana_index in_ascii c)
 
+  -- a scalar without a code
+  none-again : (mode : EncoderMode) (text : List ℕ) → All SameHere text
+      → holds_adjacent_escapes (escape_between mode (roman_or_ascii mode) ++ bytes_from (roman_or_ascii mode) text) ≡ false
+      → sent (roman_or_ascii mode) (back text) ≡ map Byte (bytes_from (roman_or_ascii mode) text)
+      → sent mode (back text) ≡ map Byte (escape_between mode (roman_or_ascii mode) ++ bytes_from (roman_or_ascii mode) text)
+  none-again in_ascii text others h read = read
+  none-again in_roman text others h read = read
+  none-again in_two_byte text others h read =
+      late_escape text others (escape_apart jis0208 katakana_index in_two_byte in_ascii (bytes_from in_ascii text) (λ z. cc) h)
+      ∙ ap (λ l. map Byte (escape_to in_ascii) ++ l) read
+      ∙ sym (map-append Byte (escape_to in_ascii) (bytes_from in_ascii text))
+
   iso_2022_jp-again : (mode : EncoderMode) (text : List ℕ) → All SameHere text → holds_adjacent_escapes (bytes_from mode text) ≡ false
       → sent mode (back text) ≡ map Byte (bytes_from mode text)
   iso_2022_jp-again mode [] same h = rw (text_bytes-end jis0208 katakana_index mode) (text_events-end jis0208 katakana_index mode)
   iso_2022_jp-again mode (c ∷ text) same h =
+      let new = mode_of mode c in
+      let behind = bytes_from new text in
+      let here = All-head SameHere c text same in
       let others = All-tail SameHere c text same in
+      let later = iso_2022_jp-again new text others in
+      let some : (own : List ℕ) → code c ≡ Some own → holds_adjacent_escapes (escape_between mode new ++ (own ++ behind)) ≡ false →
+      sent mode (own_of c ∷ back text) ≡ map Byte (escape_between mode new ++ (own ++ behind)) =
+      λ own e k.
+      let read = later (apart_behind jis0208 katakana_index own behind (apart_behind jis0208 katakana_index (escape_between mode new) (own ++ behind) k)) in
+      text_events-scalar jis0208 katakana_index mode (own_of c) (back text) true
+      ∙ rw (same_mode mode c own e (here own e), here own e, read, map-append Byte (escape_between mode new) (own ++ behind), map-append Byte own behind) refl in
+      let none = apart_behind jis0208 katakana_index (escape_between mode new) behind in
+      let apart = rw (text_bytes-scalar jis0208 katakana_index mode c text) at h in
       rw (text_bytes-scalar jis0208 katakana_index mode c text)
-      (by_code (code c) refl (mode_of mode c) refl (All-head SameHere c text same) others
-      (iso_2022_jp-again (mode_of mode c) text others)
-      (rw (text_bytes-scalar jis0208 katakana_index mode c text) at h))
-    where
-      by_code : (o : Option (List ℕ)) → code c ≡ o → (new : EncoderMode) → mode_of mode c ≡ new → SameHere c → All SameHere text
-          → (holds_adjacent_escapes (bytes_from new text) ≡ false → sent new (back text) ≡ map Byte (bytes_from new text))
-          → holds_adjacent_escapes (bytes_at mode new o (bytes_from new text)) ≡ false
-          → sent mode (map (own_of) (cond (is_some o) (c ∷ coded_of text) (coded_of text)))
-          ≡ map Byte (bytes_at mode new o (bytes_from new text))
-      by_code None e new n here others later h =
-          let new_is = sym n ∙ none_keeps jis0208 katakana_index mode c e in
-          let read = later (apart_behind jis0208 katakana_index (escape_between mode new) (bytes_from new text) h) in
-          rw new_is (by_mode mode (rw new_is at h) (rw new_is at read))
-        where
-          by_mode : (mode : EncoderMode) → holds_adjacent_escapes (escape_between mode (roman_or_ascii mode) ++ bytes_from (roman_or_ascii mode) text) ≡ false
-              → sent (roman_or_ascii mode) (back text) ≡ map Byte (bytes_from (roman_or_ascii mode) text)
-              → sent mode (back text) ≡ map Byte (escape_between mode (roman_or_ascii mode) ++ bytes_from (roman_or_ascii mode) text)
-          by_mode in_ascii h read = read
-          by_mode in_roman h read = read
-          by_mode in_two_byte h read =
-              late_escape text others (escape_apart jis0208 katakana_index in_two_byte in_ascii (bytes_from in_ascii text) (λ z. cc) h)
-              ∙ ap (λ l. map Byte (escape_to in_ascii) ++ l) read
-              ∙ sym (map-append Byte (escape_to in_ascii) (bytes_from in_ascii text))
-      by_code (Some own) e new n here others later h =
-          let s = own_of c in
-          let behind = bytes_from new text in
-          let again = here own e in
-          let mode_is = same_mode mode c own e again ∙ n in
-          let read = later (apart_behind jis0208 katakana_index own behind (apart_behind jis0208 katakana_index (escape_between mode new) (own ++ behind) h)) in
-          text_events-scalar jis0208 katakana_index mode s (back text) true
-          ∙ rw (mode_is, again, read, map-append Byte (escape_between mode new) (own ++ behind), map-append Byte own behind) refl
+      (grind (arith, some, none, later, none-again mode text others, none_keeps jis0208 katakana_index mode c))
 
 -- ---- all codecs
 
