@@ -37,21 +37,16 @@ chosen (r ∷ ranges) c = by_last (offset_pointer ranges c) (nat_le r.1 c) refl 
     by_last None false s later = elim [ zero ↦ λ h. leb-false r.1 c s | suc k ↦ λ h. later k (omega arith) ]
 
 module _ (ranges : List (ℕ × ℕ)) (accepted : AreAcceptedRanges ranges) (c : ℕ) where
-  no_pointer : is_some (range_pointer_of ranges c) ≡ true → None ≡ range_pointer_of ranges c → ⊥
-  no_pointer some e = false≢true (ap is_some e ∙ some)
-
   narrow : c < 0x1_0000 → c ≢ 0xE7C7 → is_some (range_pointer_of ranges c) ≡ true → offset_pointer ranges c ≡ range_pointer_of ranges c
   narrow low free some = by_offset (offset_pointer ranges c) (chosen ranges c)
     where
       by_offset : (o : Option ℕ) → Chosen ranges c o → o ≡ range_pointer_of ranges c
-      by_offset None before = absurd (no_pointer some (pointer-before ranges accepted.ordered c low free before))
-      by_offset (Some p) (place, t) = elim (cases_lt p (next_pointer (drop (place + 1) ranges))) [
-        | inl l ↦ elim (cases_eq p 7457) [
-          | inl is ↦ absurd (no_pointer some (pointer-fixed ranges accepted.ordered c low free place t.within t.reached t.ahead p t.gives is))
-          | inr other ↦ pointer-found ranges accepted.ordered c low free place t.within t.reached t.ahead p t.gives l other
-        ]
-        | inr past ↦ absurd (no_pointer some (pointer-past ranges accepted.ordered c low free place t.within t.reached t.ahead p t.gives past))
-      ]
+      by_offset None before = let none = pointer-before ranges accepted.ordered c low free before in grind (arith, none)
+      by_offset (Some p) (place, t) =
+          let past = pointer-past ranges accepted.ordered c low free place t.within t.reached t.ahead p t.gives in
+          let fixed = pointer-fixed ranges accepted.ordered c low free place t.within t.reached t.ahead p t.gives in
+          let found = pointer-found ranges accepted.ordered c low free place t.within t.reached t.ahead p t.gives in
+          grind (arith, past, fixed, found)
 
   pub ranged_pointer : IsScalar c → is_some (range_pointer_of ranges c) ≡ true → ranges_pointer ranges c ≡ range_pointer_of ranges c
   unfolding ranges_pointer
