@@ -1,8 +1,8 @@
 -- Each malformed sequence in the events of a list lies inside the list and has one to four bytes. Each scalar is a
 -- Unicode scalar value.
 use Rattle.std.proofs.Common.{◌≡◌, ℕ, zero, suc, ◌+◌, ◌≤◌, List, [], ◌∷◌, ◌++◌, length, drop, map, false, cond, Option, Some, None, inl, inr, refl, arith}
-use Rattle.std.proofs.{Common.{length-drop, All}, lemmas.Bool.{eqb-true, cond_both, cases_Bool, cases_lt}, lemmas.List.Elements.{All-nil, All-cons, All-append, All-head}}
-use Rattle.std.proofs.lemmas.List.Elements.{All-tail, All-drop}
+use Rattle.std.proofs.{Common.{length-drop, All}, lemmas.Bool.{eqb-true, cond_both, cases_Bool, cases_lt}, lemmas.List.Elements.{All-nil, All-cons, All-append}}
+use Rattle.std.proofs.lemmas.List.Elements.{All-head, All-tail, All-drop}
 use Rattle.std.specs.{Prelude.{◌==◌, is_some}, Char.IsScalar}
 use Rattle.legacy_tables.specs.Unicode.{IsByte, AreBytes, AreScalars}
 use Rattle.legacy_base.specs.{declared.results.DecodeEvent.DecodeEvent, declared.results.DecodeEvent.TheVariants.{Scalar, Bad}, Events.{shift_event, shift}}

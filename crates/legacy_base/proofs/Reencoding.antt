@@ -125,7 +125,8 @@ module _ (jis0208 katakana_index : List ℕ) where
       λ own e k.
       let read = later (apart_behind jis0208 katakana_index own behind (apart_behind jis0208 katakana_index (escape_between mode new) (own ++ behind) k)) in
       text_events-scalar jis0208 katakana_index mode (own_of c) (back text) true
-      ∙ rw (same_mode mode c own e (here own e), here own e, read, map-append Byte (escape_between mode new) (own ++ behind), map-append Byte own behind) refl in
+      ∙ rw (same_mode mode c own e (here own e), here own e, read, map-append Byte (escape_between mode new) (own ++ behind), map-append Byte own behind)
+      refl in
       let none = apart_behind jis0208 katakana_index (escape_between mode new) behind in
       let apart = rw (text_bytes-scalar jis0208 katakana_index mode c text) at h in
       rw (text_bytes-scalar jis0208 katakana_index mode c text)

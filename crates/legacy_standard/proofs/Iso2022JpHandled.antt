@@ -5,7 +5,8 @@ use Rattle.std.proofs.{Common.{drop, add-zero, zero-add, true, false, inl, inr, 
 use Rattle.std.proofs.{lemmas.Bool.false≢true, lemmas.Bool.Decides.nat_tests}
 use Rattle.std.specs.{Prelude.{is_some, ◌==◌, ◌||◌, ◌&&◌}, Int.is_in_range}
 use Rattle.legacy_base.specs.{declared.results.DecodeEvent.DecodeEvent, declared.results.DecodeEvent.TheVariants.{Scalar, Bad}, Events.shift, Fronts.Front}
-use Rattle.legacy_base.specs.{Fronts.{reads, malformed, front_events}, Iso2022Jp.{Mode, esc, escape_mode, part_mode, is_two_byte_mode, iso_2022_jp_front, iso_2022_jp_events}}
+use Rattle.legacy_base.specs.{Fronts.{reads, malformed, front_events}, Iso2022Jp.{Mode, esc, escape_mode, part_mode, is_two_byte_mode}}
+use Rattle.legacy_base.specs.Iso2022Jp.{iso_2022_jp_front, iso_2022_jp_events}
 use Rattle.legacy_base.specs.Grammar.{iso_2022_jp, events_of}
 use Rattle.legacy_base.proofs.{Shifts.{shift-append, shift-shift, shift-zero}, Iso2022JpParts.{first_part, no_escape}, Iso2022JpFronts.{step_end, step_one}}
 use Rattle.legacy_base.proofs.Iso2022JpFronts.{step_two, step_no_escape, step_escape, escape_ahead}
@@ -116,8 +117,7 @@ after-none m b bytes none = rw none refl
 
 after-escape : (m new : Mode) (a b : ℕ) (bytes : List ℕ) → escape_mode a b ≡ Some new → mode_after m (esc ∷ a ∷ b ∷ bytes) ≡ mode_after new bytes
 unfolding mode_after
-after-escape m new a b bytes valid =
-    grind (arith, nat_tests, escape_ahead a b new bytes valid, no_escape)
+after-escape m new a b bytes valid = grind (arith, nat_tests, escape_ahead a b new bytes valid, no_escape)
 
 module _ (jis0208 : List ℕ) (late : ℕ → ℕ → ℕ) (third_late : (p : ℕ) → late p 3 ≡ 3) where
   -- from this position on, the lateness of a malformed sequence depends only on these bytes
@@ -295,7 +295,8 @@ module _ (jis0208 : List ℕ) (late : ℕ → ℕ → ℕ) (third_late : (p : �
         let next = fits-one (no_escape b (t ∷ rest) plain) fits in
         let shorter : Below (length rest) = record { decodes = λ l stands h. below.decodes l stands (omega arith) } in
         rw (one-outs iso.two_byte flag pos b (t ∷ rest) None plain (rw is refl), is)
-        (out-error [] (behind_escape_byte iso.two_byte b false (pos + 1) rest shorter (stands-unset (rw is at next))) refl (omega arith) (omega arith) (omega arith))
+        (out-error [] (behind_escape_byte iso.two_byte b false (pos + 1) rest shorter (stands-unset (rw is at next)))
+        refl (omega arith) (omega arith) (omega arith))
     | inr other ↦
         let plain_t = ne_eqb t esc other in
         let next = fits-one (no_escape t rest plain_t) (fits-one (no_escape b (t ∷ rest) plain) fits) in
@@ -344,7 +345,8 @@ pub iso_2022_jp_handled : (jis0208 bytes : List ℕ) → AreBytes bytes →
 unfolding events_of
 iso_2022_jp_handled jis0208 bytes all =
     let fits : Fits jis0208 (lateness bytes) (λ p. refl) iso.ascii 0 bytes = record { late_is = λ k n. rw (zero-add k) refl } in
-    let out = (below_all jis0208 (lateness bytes) (λ p. refl) (length bytes)).decodes 0 (stands-unset jis0208 (lateness bytes) (λ p. refl) fits) (omega arith) in
+    let stands = stands-unset jis0208 (lateness bytes) (λ p. refl) fits in
+    let out = (below_all jis0208 (lateness bytes) (λ p. refl) (length bytes)).decodes 0 stands (omega arith) in
     let run = out.from 0 0 refl (omega arith) in
     let near : AreLate (lateness bytes) (run.0) (iso_2022_jp_events jis0208 iso.ascii bytes) =
     rw (shift-zero (iso_2022_jp_events jis0208 iso.ascii bytes)) at (run.2) in

@@ -1,7 +1,7 @@
 -- The handlers of the encoders without a state give the events of their definitions.
 use Rattle.std.proofs.{lemmas.Bool.Decides.nat_tests, Common.{◌≡◌, ◌≢◌, ◌≤◌, length, inl, inr, ℕ, List, [], ◌∷◌, Option, Some, None, refl}}
-use Rattle.std.proofs.{Common.{true, false, arith}, lemmas.List.Elements.{All-head, All-tail}, lemmas.List.Quantifiers.position-Some, lemmas.List.Sums.fails_before_first}
-use Rattle.std.proofs.lemmas.Bool.{cases_eq, eqb-true}
+use Rattle.std.proofs.{Common.{true, false, arith}, lemmas.List.Elements.{All-head, All-tail}, lemmas.List.Quantifiers.position-Some}
+use Rattle.std.proofs.{lemmas.List.Sums.fails_before_first, lemmas.Bool.{cases_eq, eqb-true}}
 use Rattle.std.specs.{Prelude.{is_some, ◌==◌, position, slice_index}, Char.IsScalar, List.position_or_len}
 use Rattle.legacy_base.specs.{EncodeEvents.{plain_events}, SingleByte.single_byte_code, UserDefined.user_defined_code, EucKr.euc_kr_code}
 use Rattle.legacy_base.specs.{Big5.big5_code, ShiftJis.shift_jis_code, EucJp.euc_jp_code, Gb18030.{gb18030_code, gbk_code}}

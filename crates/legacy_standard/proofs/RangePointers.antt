@@ -1,10 +1,9 @@
 -- In accepted ranges the last range at or before a scalar gives the pointer that the encoder takes.
-use Rattle.std.proofs.{lemmas.Bool.Decides.nat_tests, Common.{◌≡◌, ◌≢◌, ◌∙◌, ℕ, zero, suc, ◌+◌, ◌-◌, ◌≤◌, ◌<◌, Bool, true, false, cond, List, [], ◌∷◌, length}}
-use Rattle.std.proofs.{Common.{get_or, drop, Option, Some, None, nat_le, inl, inr, refl, ap, arith}, lemmas.Bool.{cases_eq, cases_lt, eq-eqb, ne_eqb}}
-use Rattle.std.proofs.lemmas.Bool.{false≢true}
+use Rattle.std.proofs.{lemmas.Bool.Decides.nat_tests, Common.{◌≡◌, ◌≢◌, ℕ, zero, suc, ◌+◌, ◌-◌, ◌≤◌, ◌<◌, Bool, true, false, cond, List, [], ◌∷◌, length}}
+use Rattle.std.proofs.{Common.{get_or, Option, Some, None, nat_le, refl, arith}, lemmas.Bool.{eq-eqb, ne_eqb}}
 use Rattle.std.specs.{Prelude.is_some, Option.option_or, Char.IsScalar}
 use borrow.Author.Tests.{leb-true, leb-false}
-use Rattle.legacy_tables.specs.{Pointers.range_pointer_of, TableChecks.next_pointer}
+use Rattle.legacy_tables.specs.{Pointers.range_pointer_of}
 use Rattle.legacy_tables.proofs.{Pointers.range-fixed, RangePointers.{wide-pointer, pointer-before, pointer-past, pointer-fixed, pointer-found}}
 use Rattle.legacy_standard.specs.{IndexPointers.{offset_pointer, ranges_pointer}, EncoderLaw.AreAcceptedRanges}
 

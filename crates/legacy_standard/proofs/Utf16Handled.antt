@@ -61,7 +61,8 @@ module _ (is_utf16be : Bool) where
   high_more i a b c d rest p q h after other =
       let next : 2 * i + 2 ≡ 2 * (i + 1) = omega arith in
       let over_next : 2 * i + 4 ≡ 2 * (i + 2) = omega arith in
-      rw (high-events i (unit a b) (unit c d) (units_of is_utf16be rest) (has_odd_byte rest) h) (over_high h (goes_on refl (elim (cases_Bool (is_low_surrogate (unit c d))) [
+      rw (high-events i (unit a b) (unit c d) (units_of is_utf16be rest) (has_odd_byte rest) h)
+      (over_high h (goes_on refl (elim (cases_Bool (is_low_surrogate (unit c d))) [
         | inl l ↦ rw l (gives {t = utf16_initial} (surrogate_pair_char (unit a b) (unit c d) ∷ []) (rw l refl) (rw over_next after))
         | inr l ↦ rw l (error_at {t = utf16_initial} (c ∷ d ∷ []) (rw (l, bytes-back is_utf16be c d p q) refl) (rw next other))
       ])))
@@ -82,7 +83,8 @@ module _ (is_utf16be : Bool) where
       let behind_b : AreBytes (c ∷ d ∷ rest) = All-tail IsByte b (c ∷ d ∷ rest) (All-tail IsByte a (b ∷ c ∷ d ∷ rest) all) in
       let behind_d : AreBytes rest = All-tail IsByte d rest (All-tail IsByte c (d ∷ rest) behind_b) in
       let other = all_bytes (i + 1) (c ∷ d ∷ rest) behind_b in
-      by_high i a b (c ∷ d ∷ rest) (λ t. high_more i a b c d rest (all 2 0 (omega arith)) (all 3 0 (omega arith)) t (all_bytes (i + 2) rest behind_d) other) other
+      let after = all_bytes (i + 2) rest behind_d in
+      by_high i a b (c ∷ d ∷ rest) (λ t. high_more i a b c d rest (all 2 0 (omega arith)) (all 3 0 (omega arith)) t after other) other
 
   pub utf16_handled : IsDecodedBy (utf16 is_utf16be) (utf16_handler is_utf16be) utf16_initial
   unfolding events_of utf16_events
