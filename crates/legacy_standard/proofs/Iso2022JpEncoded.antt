@@ -1,5 +1,5 @@
 -- The ISO-2022-JP encoder's handler gives the events of its definition.
-use Rattle.std.proofs.Common.{◌≡◌, ◌∙◌, ℕ, Bool, cond, List, [], ◌∷◌, Option, Some, None, inl, inr, refl, sym, true, false, arith}
+use Rattle.std.proofs.Common.{◌≡◌, ◌∙◌, ℕ, Bool, cond, List, [], ◌∷◌, Option, Some, None, inl, inr, refl, true, false, arith}
 use Rattle.std.proofs.{lemmas.Bool.{cases_Bool, false≢true}, lemmas.Bool.Decides.nat_tests}
 use Rattle.std.specs.{Prelude.{◌==◌, ◌||◌}, Int.is_in_range, Char.is_ascii}
 use Rattle.legacy_base.specs.{declared.results.EncodeEvent.EncodeEvent, EncoderProfile.{EncoderMode, in_ascii, in_roman, in_two_byte}}
@@ -22,12 +22,6 @@ same_mode in_ascii in_ascii = true
 same_mode in_roman in_roman = true
 same_mode in_two_byte in_two_byte = true
 same_mode _ _ = false
-
-same-mode : (a b : EncoderMode) → same_mode a b ≡ true → a ≡ b
-same-mode a b h = grind arith
-
-other-mode : (a b : EncoderMode) → same_mode a b ≡ false → a ≡ b → ⊥
-other-mode a b e is = grind arith
 
 same_self : (mode : EncoderMode) → same_mode mode mode ≡ true
 same_self mode = grind arith
@@ -72,9 +66,9 @@ module _ (index katakana_index : List ℕ) where
       let new = home mode c in
       let twice : home new c ≡ new = mode_for-twice index katakana_index mode c in
       elim (cases_Bool (same_mode mode new)) [
-        | inl e ↦ at_home mode c c more (sym (same-mode mode new e)) (does mode ∙ rw e refl) (goes mode)
+        | inl e ↦ at_home mode c c more (grind arith) (does mode ∙ rw e refl) (goes mode)
         | inr e ↦
-            rw (text_events-escape index katakana_index mode new c refl (other-mode mode new e) more true)
+            rw (text_events-escape index katakana_index mode new c refl (λ is. grind arith) more true)
             (gives 0 (Some (escape_to new)) (d ∷ []) (does mode ∙ rw e refl)
             (at_home new c d more twice (again new ∙ rw (twice, same_self) refl) (goes new)))
       ]

@@ -192,9 +192,8 @@ module _ (jis0208 : List ℕ) (late : ℕ → ℕ → ℕ) (third_late : (p : �
       Gives (behind_two m a flag) 1 (pos + 2) (b ∷ more) (again flag pos (esc ∷ a ∷ b ∷ more) ++ events m pos (esc ∷ a ∷ b ∷ more))
   unfolding iso_2022_jp_handler part_mode
   third m flag pos a b more below stands None e =
-      let state_is : escape_state a b ≡ None = grind arith in
       let r = bad_escape 0 below stands e in
-      rw (none-outs m flag pos (a ∷ b ∷ more) e) (out-error (a ∷ b ∷ []) r.1 (rw state_is refl) (omega arith) (omega arith) (omega arith))
+      rw (none-outs m flag pos (a ∷ b ∷ more) e) (out-error (a ∷ b ∷ []) r.1 (grind arith) (omega arith) (omega arith) (omega arith))
   third m flag pos a b more below stands (Some new) e =
       let state_is : escape_state a b ≡ Some (state_of new) = grind arith in
       let after : Decodes new 0 true (pos + 3) more = below.decodes 0 (record { fits = fits-escape e stands.fits; far = λ h. omega arith }) (omega arith) in
