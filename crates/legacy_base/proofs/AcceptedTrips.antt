@@ -1,7 +1,7 @@
 -- Facts about accepted indexes for round trips. The jis0208 entries that Shift_JIS decodes to private use are empty.
 -- Each private-use row has a private-use scalar, a lead and a trail.
-use Rattle.std.proofs.Common.{◌≡◌, ℕ, zero, suc, ◌+◌, List, [], ◌∷◌, Bool, true, false, cond, ◌==◌, Option, Some, None, slice_index, refl, ap, arith, find}
-use Rattle.std.proofs.Common.{option_map, eqb-true}
+use Rattle.std.proofs.Common.{◌≡◌, ℕ, zero, suc, ◌+◌, List, [], ◌∷◌, true, ◌==◌, Option, Some, None, slice_index, refl, arith}
+use Rattle.std.proofs.Common.{eqb-true}
 use Rattle.legacy_tables.specs.{declared.tables.IndexName.IndexName, Indexes.{FlatIndexes, gb18030_pua_of}, TableChecks.{AreAccepted, must_be_empty}}
 use Rattle.legacy_tables.specs.TableChecks.{entry_fault, entries_fault, is_row_scalar, are_row_bytes, row_fault, rows_fault}
 use Rattle.legacy_tables.proofs.Accepted.{or_none, parts}
@@ -15,14 +15,8 @@ each_entry : (name : IndexName) (p : ℕ) (entries : List ℕ) → entries_fault
     → (j : ℕ) → entry_fault name (p + j) (slice_index entries j) ≡ None
 unfolding entries_fault
 each_entry name p [] h j = refl
-each_entry name p (e ∷ entries) h zero =
-    let both = or_none (entry_fault name p e) (entries_fault name (p + 1) entries) h in
-    let here : p + 0 ≡ p = omega arith in
-    rw here both.0
-each_entry name p (e ∷ entries) h (suc j) =
-    let both = or_none (entry_fault name p e) (entries_fault name (p + 1) entries) h in
-    let there : p + suc j ≡ p + 1 + j = omega arith in
-    rw there (each_entry name (p + 1) entries both.1 j)
+each_entry name p (e ∷ entries) h zero = grind (arith, or_none)
+each_entry name p (e ∷ entries) h (suc j) = grind (arith, or_none, each_entry name (p + 1) entries)
 
 -- if an entry must be empty and has no fault, it is empty
 empty_entry : (name : IndexName) (p entry : ℕ) → must_be_empty name p ≡ true → entry_fault name p entry ≡ None → (entry == 0) ≡ true
@@ -41,9 +35,6 @@ private_use-empty flat accepted = record {
 good_row : (place : ℕ) (before : Option ℕ) (r : ℕ × ℕ × ℕ) → row_fault place before r ≡ None → (is_row_scalar r.0 ≡ true) × (are_row_bytes r.1 r.2 ≡ true)
 good_row place before r h = grind arith
 
-same_pair : (a b x y : ℕ) → ◌≡◌ {A = Option (ℕ × ℕ)} (Some (a, x)) (Some (b, y)) → (a ≡ b) × (x ≡ y)
-same_pair a b x y h = let same : ◌≡◌ {A = ℕ × ℕ} (a, x) (b, y) = cc in (ap (λ (p : ℕ × ℕ). p.0) same, ap (λ (p : ℕ × ℕ). p.1) same)
-
 -- the facts about the row found for c
 abbrev IsGoodRow : ℕ → ℕ → ℕ → Type 0
 IsGoodRow c lead trail = (is_row_scalar c ≡ true) × (are_row_bytes lead trail ≡ true)
@@ -54,13 +45,9 @@ unfolding rows_fault
 found_row place before [] faultless c lead trail h = cc
 found_row place before (r ∷ rows) faultless c lead trail h =
     let both = or_none (row_fault place before r) (rows_fault (place + 1) (Some r.0) rows) faultless in
-    by_test (r.0 == c) refl h (good_row place before r both.0) (found_row (place + 1) (Some r.0) rows both.1 c lead trail)
-  where
-    by_test : (t : Bool) → (r.0 == c) ≡ t
-        → option_map {U = ℕ × ℕ} (λ (row : ℕ × ℕ × ℕ). (row.1, row.2)) (cond t (Some r) (find (λ (row : ℕ × ℕ × ℕ). row.0 == c) rows)) ≡ Some (lead, trail)
-        → IsGoodRow r.0 r.1 r.2 → (gb18030_pua_of rows c ≡ Some (lead, trail) → IsGoodRow c lead trail) → IsGoodRow c lead trail
-    by_test true e h here later = let same = same_pair r.1 lead r.2 trail h in rw (eqb-true r.0 c e, same.0, same.1) at here
-    by_test false e h here later = later h
+    let here = good_row place before r both.0 in
+    let later = found_row (place + 1) (Some r.0) rows both.1 c lead trail in
+    grind (arith, eqb-true)
 
 pub are_good_rows : (flat : FlatIndexes) → AreAccepted flat → AreGoodRows flat.gb18030_pua
 are_good_rows flat accepted = record { each = λ c lead trail h. found_row 0 None flat.gb18030_pua (parts flat accepted).private_use c lead trail h }

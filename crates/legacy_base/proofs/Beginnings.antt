@@ -19,13 +19,9 @@ pub begins_back : (k : ℕ) (front items : List DecodeEvent) → BeginsWith (shi
 begins_back k [] items b = (items, refl)
 begins_back k (x ∷ front) [] b = let e = b.1 in cc
 begins_back k (x ∷ front) (y ∷ items) b =
-    let e : shift_event k y ∷ shift k items ≡ shift_event k x ∷ (shift k front ++ b.0) = b.1 in
-    let first : shift_event k y ≡ shift_event k x = cc in
-    let others : shift k items ≡ shift k front ++ b.0 = cc in
+    let others : shift k items ≡ shift k front ++ b.0 = let e = b.1 in cc in
     let rest = begins_back k front items (b.0, others) in
-    let same : y ≡ x = event_back k y x first in
-    let all : items ≡ front ++ rest.0 = rest.1 in
-    (rest.0, cc)
+    (rest.0, grind (arith, event_back k y x, rest.1, b.1))
 
 -- in a list shifted by k, no malformed sequence begins before place k
 pub no_sooner : (k p n : ℕ) (items rest : List DecodeEvent) → p < k → shift k items ≡ Bad p n ∷ rest → ⊥

@@ -1,8 +1,8 @@
 -- Each malformed sequence in the events of a list lies inside the list and has one to four bytes. Each scalar is a
 -- Unicode scalar value.
-use Rattle.std.proofs.Common.{◌≡◌, ℕ, zero, suc, ◌+◌, ◌≤◌, List, [], ◌∷◌, ◌++◌, length, drop, map, Bool, true, false, cond, Option, Some, None, refl, arith}
-use Rattle.std.proofs.{Common.{length-drop, All}, lemmas.Bool.{eqb-true, cond_both}, lemmas.List.Elements.{All-nil, All-cons, All-append, All-head, All-tail}}
-use Rattle.std.proofs.lemmas.List.Elements.{All-drop}
+use Rattle.std.proofs.Common.{◌≡◌, ℕ, zero, suc, ◌+◌, ◌≤◌, List, [], ◌∷◌, ◌++◌, length, drop, map, false, cond, Option, Some, None, inl, inr, refl, arith}
+use Rattle.std.proofs.{Common.{length-drop, All}, lemmas.Bool.{eqb-true, cond_both, cases_Bool, cases_lt}, lemmas.List.Elements.{All-nil, All-cons, All-append}}
+use Rattle.std.proofs.lemmas.List.Elements.{All-head, All-tail, All-drop}
 use Rattle.std.specs.{Prelude.{◌==◌, is_some}, Char.IsScalar}
 use Rattle.legacy_tables.specs.Unicode.{IsByte, AreBytes, AreScalars}
 use Rattle.legacy_base.specs.{declared.results.DecodeEvent.DecodeEvent, declared.results.DecodeEvent.TheVariants.{Scalar, Bad}, Events.{shift_event, shift}}
@@ -77,8 +77,7 @@ module _ (Q : Type 0) where
 
     first_shorter : (bytes : List ℕ) → length (first_part bytes) ≤ length bytes
     first_shorter [] = omega arith
-    first_shorter (b ∷ bytes) =
-        cond_both (b == esc) [] (b ∷ first_part bytes) (λ l. length l ≤ length (b ∷ bytes)) (λ _. omega arith) (λ _. let h = first_shorter bytes in omega arith)
+    first_shorter (b ∷ bytes) = let h = first_shorter bytes in grind arith
 
     module _ (n : ℕ) (below : (mode : Mode) (bytes : List ℕ) → length bytes ≤ n → AreOf (length bytes) (iso_2022_jp_events jis0208 mode bytes)) where
       -- an escape byte that begins no valid escape
@@ -122,43 +121,35 @@ module _ (Q : Type 0) where
         two_of : (rest : List ℕ) (f : Front) → length rest ≤ n → iso_2022_jp_front jis0208 mode b (first_part rest) ≡ f →
             IsFrontOf (suc (length (first_part rest))) Q f → front_length f ≡ 2 → AreOf (length (b ∷ rest)) (iso_2022_jp_events jis0208 mode (b ∷ rest))
         two_of [] f h is i two = let within = i.within in absurd (omega (arith, within, two))
-        two_of (t ∷ rest) f h is i two = by_test (t == esc) refl
-          where
-            by_test : (e : Bool) → (t == esc) ≡ e → AreOf (length (b ∷ t ∷ rest)) (iso_2022_jp_events jis0208 mode (b ∷ t ∷ rest))
-            by_test true e = let i' = rw e at i in let within = i'.within in absurd (omega (arith, within, two))
-            by_test false e =
-                let is' = rw e at is in
-                let i' = rw e at i in
-                let shorter = first_shorter rest in
-                let all = front_and (length (b ∷ t ∷ rest)) f (length rest) (iso_2022_jp_events jis0208 mode rest)
-                (wider (suc (suc (length (first_part rest)))) (length (b ∷ t ∷ rest)) f (omega arith) i') (omega (arith, two))
-                (below mode rest (omega arith)) in
-                rw (step_two jis0208 mode b t rest f plain e is' two) (rw two at all)
+        two_of (t ∷ rest) f h is i two = elim (cases_Bool (t == esc)) [
+          | inl e ↦ let i' = rw e at i in let within = i'.within in absurd (omega (arith, within, two))
+          | inr e ↦
+              let i' = rw e at i in
+              let shorter = first_shorter rest in
+              let all = front_and (length (b ∷ t ∷ rest)) f (length rest) (iso_2022_jp_events jis0208 mode rest)
+              (wider (suc (suc (length (first_part rest)))) (length (b ∷ t ∷ rest)) f (omega arith) i') (omega (arith, two))
+              (below mode rest (omega arith)) in
+              rw (step_two jis0208 mode b t rest f plain e (rw e at is) two) (rw two at all)
+        ]
 
         body_of : (rest : List ℕ) → length rest ≤ n → AreOf (length (b ∷ rest)) (iso_2022_jp_events jis0208 mode (b ∷ rest))
-        body_of rest h = by_length (front_length f) refl
-          where
-            f : Front
-            f = iso_2022_jp_front jis0208 mode b (first_part rest)
-
-            i : IsFrontOf (suc (length (first_part rest))) Q f
-            i = iso_2022_jp_front-of {P = Q} jis0208 checked mode b (first_part rest)
-
-            by_length : (k : ℕ) → front_length f ≡ k → AreOf (length (b ∷ rest)) (iso_2022_jp_events jis0208 mode (b ∷ rest))
-            by_length zero e = let some = i.some in absurd (omega (arith, some, e))
-            by_length (suc zero) e = one_of rest f h refl i e
-            by_length (suc (suc zero)) e = two_of rest f h refl i e
-            by_length (suc (suc (suc k))) e = let short = iso_2022_jp_front-short jis0208 mode b (first_part rest) in absurd (omega (arith, short, e))
+        body_of rest h =
+            let f = iso_2022_jp_front jis0208 mode b (first_part rest) in
+            let i = iso_2022_jp_front-of {P = Q} jis0208 checked mode b (first_part rest) in
+            let short = iso_2022_jp_front-short jis0208 mode b (first_part rest) in
+            let some = i.some in
+            elim (cases_lt (front_length f) 2) [
+              | inl l ↦ one_of rest f h refl i (omega arith)
+              | inr l ↦ two_of rest f h refl i (omega arith)
+            ]
 
     iso_within : (n : ℕ) (mode : Mode) (bytes : List ℕ) → length bytes ≤ n → AreOf (length bytes) (iso_2022_jp_events jis0208 mode bytes)
     iso_within n mode [] h = rw (step_end jis0208 mode) (none_of 0)
     iso_within zero mode (b ∷ bytes) h = absurd (omega arith)
-    iso_within (suc n) mode (b ∷ bytes) h = by_test (iso_within n) (b == esc) refl
-      where
-        by_test : ((mode : Mode) (bytes : List ℕ) → length bytes ≤ n → AreOf (length bytes) (iso_2022_jp_events jis0208 mode bytes)) → (e : Bool) →
-            (b == esc) ≡ e → AreOf (length (b ∷ bytes)) (iso_2022_jp_events jis0208 mode (b ∷ bytes))
-        by_test below true e = rw (eqb-true b esc e) (escape_of n below mode bytes (omega arith))
-        by_test below false e = body_of n below mode b e bytes (omega arith)
+    iso_within (suc n) mode (b ∷ bytes) h = elim (cases_Bool (b == esc)) [
+      | inl e ↦ rw (eqb-true b esc e) (escape_of n (iso_within n) mode bytes (omega arith))
+      | inr e ↦ body_of n (iso_within n) mode b e bytes (omega arith)
+    ]
 
     pub iso_2022_jp_sound : (mode : Mode) (bytes : List ℕ) → AreOf (length bytes) (iso_2022_jp_events jis0208 mode bytes)
     iso_2022_jp_sound mode bytes = iso_within (length bytes) mode bytes (omega arith)

@@ -1,9 +1,9 @@
 -- Each front of each codec has one to four bytes of its list, so every list has events. A front gives one or two
 -- scalars, or is malformed.
-use Rattle.std.proofs.Common.{◌≡◌, ℕ, suc, ◌+◌, ◌-◌, ◌≤◌, ◌<◌, List, [], ◌∷◌, Bool, true, false, not, cond, length, ◌||◌, ◌==◌, Option, Some, None}
+use Rattle.std.proofs.Common.{◌≡◌, ℕ, suc, ◌+◌, ◌-◌, ◌*◌, ◌≤◌, ◌<◌, List, [], ◌∷◌, Bool, true, cond, length, ◌||◌, ◌==◌, Option, Some, None}
 use Rattle.std.proofs.{Common.{option_to_list, refl, arith}, lemmas.Bool.cond_both, lemmas.Bool.Decides.nat_tests, lemmas.List.Elements.{All-nil, All-cons}}
 use Rattle.std.specs.{Option.option_map_or, Int.is_in_range, Char.{IsScalar, is_ascii, is_ascii_digit}}
-use Rattle.legacy_tables.specs.{Indexes.{idx, range}, Unicode.{IsByte, AreScalars, is_katakana_byte, katakana_of}}
+use Rattle.legacy_tables.specs.{Indexes.{idx, range}, Unicode.{IsByte, AreScalars, is_katakana_byte}}
 use Rattle.legacy_base.specs.{Fronts.{Front, reads, malformed, front_length, reads_or, trail_rule, trail_front}, Laws.IsFrontOf, Profile.is_lead}
 use Rattle.legacy_base.specs.{SingleByte.single_byte_front, UserDefined.user_defined_front, Big5.{big5_pointer, big5_scalars, big5_pair, big5_front}}
 use Rattle.legacy_base.specs.{LeadForms.{lead_pair, lead_front}, ShiftJis.{is_shift_jis_lead, shift_jis_pointer, shift_jis_scalars, shift_jis_pair}}
@@ -11,23 +11,6 @@ use Rattle.legacy_base.specs.{ShiftJis.shift_jis_front, EucJp.{is_euc_jp_lead, e
 use Rattle.legacy_base.specs.{EucJp.euc_jp_front, Gb18030.{gb18030_scalars, gb18030_fourth, gb18030_third, gb18030_second, gb18030_front}, Iso2022Jp.Mode}
 use Rattle.legacy_base.specs.Iso2022Jp.{ascii, roman, katakana, two_byte, iso_2022_jp_front}
 use Rattle.legacy_tables.proofs.Accepted.{idx-all}
-
--- ---- scalars that depend on a test
-
-is_ascii-scalar : (b : ℕ) → is_ascii b ≡ true → IsScalar b
-is_ascii-scalar b h = grind (arith, nat_tests)
-
-katakana-scalar : (t : ℕ) → is_katakana_byte t ≡ true → IsScalar (katakana_of t)
-katakana-scalar t h = grind (arith, nat_tests)
-
-user_defined-scalar : (b : ℕ) → IsByte b → IsScalar (0xF780 + (b - 0x80))
-user_defined-scalar b h = grind (arith, nat_tests)
-
-shift_jis-private : (p : ℕ) → is_in_range 8836 10715 p ≡ true → IsScalar (0xE000 + (p - 8836))
-shift_jis-private p h = grind (arith, nat_tests)
-
-shift_jis-single : (b : ℕ) → (is_ascii b || b == 0x80) ≡ true → IsScalar b
-shift_jis-single b h = grind (arith, nat_tests)
 
 -- ---- the scalars of a front
 
@@ -88,7 +71,7 @@ module _ {P : Type 0} where
   -- an ASCII byte is its own scalar
   ascii_or : (b : ℕ) (rest : List ℕ) (other : Front) → IsFrontOf (suc (length rest)) P other →
       IsFrontOf (suc (length rest)) P (cond (is_ascii b) (reads 1 (b ∷ [])) other)
-  ascii_or b rest other h = front_of-cond _ (is_ascii b) _ _ (λ e. byte rest b (λ _. is_ascii-scalar b e)) h
+  ascii_or b rest other h = front_of-cond _ (is_ascii b) _ _ (λ e. byte rest b (λ _. grind (arith, nat_tests))) h
 
   -- a lead, with or without a trail
   pair : (scalars : ℕ → List ℕ) (rest : List ℕ) → ((t : ℕ) → MayGive P (scalars t)) → IsFrontOf (suc (length rest)) P (trail_front 1 scalars rest)
@@ -98,7 +81,7 @@ module _ {P : Type 0} where
 
   pub user_defined_front-of : (b : ℕ) → (P → IsByte b) → (rest : List ℕ) → IsFrontOf (suc (length rest)) P (user_defined_front b rest)
   unfolding user_defined_front
-  user_defined_front-of b is rest = ascii_or b rest _ (byte rest _ (λ p. user_defined-scalar b (is p)))
+  user_defined_front-of b is rest = ascii_or b rest _ (byte rest _ (λ p. let at = is p in grind (arith, nat_tests)))
 
 module _ {P : Type 0} (index : List ℕ) (checked : P → AreScalars index) where
   pub single_byte_front-of : (b : ℕ) (rest : List ℕ) → IsFrontOf (suc (length rest)) P (single_byte_front index b rest)
@@ -124,13 +107,13 @@ module _ {P : Type 0} (index : List ℕ) (checked : P → AreScalars index) wher
       ascii_or b rest _ (front_of-cond _ (is_lead_byte b) _ _ (λ _. pair _ rest (λ t. give-pointer _ (pointers b t) (give-idx index checked))) (bad rest))
 
   shift_jis-gives : (p : ℕ) → MayGive P (shift_jis_scalars index p)
-  shift_jis-gives p = give-cond (is_in_range 8836 10715 p) _ _ (λ e. give-one _ (λ _. shift_jis-private p e)) (give-idx index checked p)
+  shift_jis-gives p = give-cond (is_in_range 8836 10715 p) _ _ (λ e. give-one _ (λ _. grind (arith, nat_tests))) (give-idx index checked p)
 
   pub shift_jis_front-of : (b : ℕ) (rest : List ℕ) → IsFrontOf (suc (length rest)) P (shift_jis_front index b rest)
   unfolding shift_jis_front shift_jis_pair
   shift_jis_front-of b rest =
-      front_of-cond _ (is_ascii b || b == 0x80) _ _ (λ e. byte rest b (λ _. shift_jis-single b e))
-      (front_of-cond _ (is_katakana_byte b) _ _ (λ e. byte rest _ (λ _. katakana-scalar b e))
+      front_of-cond _ (is_ascii b || b == 0x80) _ _ (λ e. byte rest b (λ _. grind (arith, nat_tests)))
+      (front_of-cond _ (is_katakana_byte b) _ _ (λ e. byte rest _ (λ _. grind (arith, nat_tests)))
       (front_of-cond _ (is_shift_jis_lead b) _ _ (λ _. pair _ rest (λ t. give-pointer (shift_jis_scalars index) (shift_jis_pointer b t) shift_jis-gives))
       (bad rest)))
 
@@ -149,10 +132,9 @@ module _ {P : Type 0} (jis0208 jis0212 : List ℕ) (checked : P → AreScalars j
   pub euc_jp_front-of : (b : ℕ) (rest : List ℕ) → IsFrontOf (suc (length rest)) P (euc_jp_front jis0208 jis0212 b rest)
   unfolding euc_jp_front euc_jp_pair
   euc_jp_front-of b rest =
-      ascii_or b rest _
-      (front_of-cond _ (b == 0x8E) _ _ (λ _. euc_jp_katakana-of rest)
-      (front_of-cond _ (b == 0x8F) _ _ (λ _. euc_jp_second-of jis0212 checked_too rest)
-      (front_of-cond _ (is_euc_jp_lead b) _ _ (λ _. pair _ rest (euc_jp-gives jis0208 checked b)) (bad rest))))
+      let second = euc_jp_second-of jis0212 checked_too rest in
+      let two = pair _ rest (euc_jp-gives jis0208 checked b) in
+      grind (arith, nat_tests, euc_jp_katakana-of rest, second, two)
 
 module _ {P : Type 0} (index : List ℕ) (ranges : List (ℕ × ℕ)) (checked : P → AreScalars index)
     (ranged : (p c : ℕ) → range ranges p ≡ Some c → P → IsScalar c) where
@@ -173,39 +155,18 @@ module _ {P : Type 0} (index : List ℕ) (ranges : List (ℕ × ℕ)) (checked :
 
   pub gb18030_front-of : (b : ℕ) (rest : List ℕ) → IsFrontOf (suc (length rest)) P (gb18030_front index ranges b rest)
   unfolding gb18030_front
-  gb18030_front-of b rest =
-      ascii_or b rest _
-      (front_of-cond _ (b == 0x80) _ _ (λ _. byte rest 0x20AC (λ _. refl))
-      (front_of-cond _ (is_lead b) _ _ (λ _. gb18030_second-of b rest) (bad rest)))
+  gb18030_front-of b rest = grind (arith, nat_tests, gb18030_second-of b rest)
 
 -- ---- ISO-2022-JP
 
--- a byte that passes the tests of a single-byte mode is ASCII
-ascii_part : (b : ℕ) → ((b == 0x0E || b == 0x0F) || not (is_ascii b)) ≡ false → is_ascii b ≡ true
-ascii_part b h = grind (arith, nat_tests)
-
-katakana_part : (b : ℕ) → is_in_range 0x21 0x5F b ≡ true → IsScalar (0xFF61 + (b - 0x21))
-katakana_part b h = grind (arith, nat_tests)
-
 module _ {P : Type 0} (jis0208 : List ℕ) (checked : P → AreScalars jis0208) where
-  -- the second front is used only if the test fails
-  unless : (size : ℕ) (t : Bool) (f g : Front) → IsFrontOf size P f → (t ≡ false → IsFrontOf size P g) → IsFrontOf size P (cond t f g)
-  unless size t f g h k = cond_both t f g (IsFrontOf size P) (λ _. h) k
-
   pub iso_2022_jp_front-of : (mode : Mode) (b : ℕ) (rest : List ℕ) → IsFrontOf (suc (length rest)) P (iso_2022_jp_front jis0208 mode b rest)
   unfolding iso_2022_jp_front
-  iso_2022_jp_front-of ascii b rest = unless _ _ _ _ (bad rest) (λ e. byte rest b (λ _. is_ascii-scalar b (ascii_part b e)))
-  iso_2022_jp_front-of roman b rest =
-      unless _ _ _ _ (bad rest) (λ e.
-      front_of-cond _ (b == 0x5C) _ _ (λ _. byte rest 0xA5 (λ _. refl))
-      (front_of-cond _ (b == 0x7E) _ _ (λ _. byte rest 0x203E (λ _. refl)) (byte rest b (λ _. is_ascii-scalar b (ascii_part b e)))))
-  iso_2022_jp_front-of katakana b rest = front_of-cond _ (is_in_range 0x21 0x5F b) _ _ (λ e. byte rest _ (λ _. katakana_part b e)) (bad rest)
+  iso_2022_jp_front-of ascii b rest = grind (arith, nat_tests, byte, bad)
+  iso_2022_jp_front-of roman b rest = grind (arith, nat_tests, byte, bad)
+  iso_2022_jp_front-of katakana b rest = grind (arith, nat_tests, byte, bad)
   iso_2022_jp_front-of two_byte b [] = bad []
-  iso_2022_jp_front-of two_byte b (t ∷ rest) =
-      let two : IsFrontOf (suc (suc (length rest))) P (malformed 2) = front_of-malformed _ 2 (omega arith) (omega arith) (omega arith) in
-      front_of-cond _ (not (is_in_range 0x21 0x7E b)) _ _ (λ _. bad (t ∷ rest))
-      (front_of-cond _ (is_in_range 0x21 0x7E t) _ _ (λ _. front_of-reads_or _ 2 _ _ (omega arith) (omega arith) (omega arith)
-      (give-idx jis0208 checked _) two) two)
+  iso_2022_jp_front-of two_byte b (t ∷ rest) = grind (arith, nat_tests, give-idx jis0208 checked ((b - 0x21) * 94 + (t - 0x21)))
 
 pub iso_2022_jp_front-short : (jis0208 : List ℕ) (mode : Mode) (b : ℕ) (rest : List ℕ) → front_length (iso_2022_jp_front jis0208 mode b rest) ≤ 2
 unfolding iso_2022_jp_front

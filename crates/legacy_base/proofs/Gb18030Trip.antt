@@ -1,7 +1,7 @@
 -- The codes of GB18030 and GBK decode to their scalars. The codes of private-use rows decode to the scalars of the
 -- rows' bytes.
-use Rattle.std.proofs.Common.{◌≡◌, ℕ, ◌+◌, ◌*◌, ◌/◌, ◌%◌, ◌<◌, ◌≤◌, List, [], ◌∷◌, length, get_or, Bool, true, false, cond, ◌==◌, nat_lt, Option, Some, None}
-use Rattle.std.proofs.{Common.{option_map, refl, sym, ◌∙◌, arith, if◌then◌else◌, eqb-true}, lemmas.Bool.false≢true, lemmas.Bool.Decides.nat_tests}
+use Rattle.std.proofs.Common.{◌≡◌, ℕ, ◌+◌, ◌*◌, ◌/◌, ◌%◌, ◌<◌, ◌≤◌, List, [], ◌∷◌, length, get_or, Bool, true, false, cond, nat_lt, Option, Some, None}
+use Rattle.std.proofs.{Common.{option_map, refl, sym, ◌∙◌, arith, if◌then◌else◌}, lemmas.Bool.{false≢true}, lemmas.Bool.Decides.nat_tests}
 use Rattle.std.specs.{Option.{option_or, option_map_or}, Char.{is_ascii, is_ascii_digit}}
 use Rattle.legacy_base.specs.{Fronts.reads, Profile.is_empty, Gb18030.{gb18030_scalars, gb18030_fourth, gb18030_third, gb18030_second, gb18030_front}}
 use Rattle.legacy_base.specs.{Gb18030.{gb18030_pair_bytes, gb18030_range_bytes, gb18030_pair_code, gb18030_code, gbk_code}, RoundTrips.is_private_use_fold}
@@ -93,48 +93,20 @@ module _ (index : List ℕ) (ranges : List (ℕ × ℕ)) (pua : List (ℕ × ℕ
   pair_or : (c : ℕ) (bytes : List ℕ) (other : Option (List ℕ)) → has_lost_row index pua c ≡ false
       → (other ≡ Some bytes → Decodes (gb18030_front index ranges) bytes c)
       → option_or (gb18030_pair_code pua index c) other ≡ Some bytes → Decodes (gb18030_front index ranges) bytes (private_use_scalar index pua c)
-  pair_or c bytes other kept else_by h = by_row (gb18030_pua_of pua c) refl kept h
-    where
-      by_index : (o : Option (List ℕ)) → option_map gb18030_pair_bytes (gb18030_pointer_of index c) ≡ o
-          → option_or o other ≡ Some bytes → Decodes (gb18030_front index ranges) bytes c
-      by_index None is h = else_by h
-      by_index (Some pair) is h = pair_decodes index ranges c bytes short (is ∙ h)
-
-      by_row : (o : Option (ℕ × ℕ)) → gb18030_pua_of pua c ≡ o → option_map_or (λ row. is_empty (gb18030_scalars index row.0 row.1)) o false ≡ false
-          → option_or (option_or (option_map (λ row. row.0 ∷ row.1 ∷ []) o) (option_map gb18030_pair_bytes (gb18030_pointer_of index c))) other ≡ Some bytes
-          → Decodes (gb18030_front index ranges) bytes (option_map_or (λ row. get_or (gb18030_scalars index row.0 row.1) 0 c) o c)
-      by_row None is kept h = by_index (option_map gb18030_pair_bytes (gb18030_pointer_of index c)) refl h
-      by_row (Some row) is kept h = row_decodes c row.0 row.1 bytes is kept h
+  pair_or c bytes other kept else_by h = grind (arith, nat_tests, pair_decodes index ranges c bytes short, row_decodes c, else_by)
 
   pub gb18030-decodes : (c : ℕ) (bytes : List ℕ) → has_lost_row index pua c ≡ false
       → gb18030_code index ranges pua c ≡ Some bytes → Decodes (gb18030_front index ranges) bytes (private_use_scalar index pua c)
   unfolding gb18030_code
-  gb18030-decodes c bytes kept h = by_tests (is_ascii c) (c == 0xE5E5) refl h
-    where
-      by_tests : (t u : Bool) → is_ascii c ≡ t
-          → cond t (Some (c ∷ [])) (cond u None (option_or (gb18030_pair_code pua index c) (option_map gb18030_range_bytes (range_pointer_of ranges c))))
-          ≡ Some bytes
-          → Decodes (gb18030_front index ranges) bytes (private_use_scalar index pua c)
-      by_tests true u e h = ascii_decodes c bytes e h
-      by_tests false true e h = cc
-      by_tests false false e h = pair_or c bytes (option_map gb18030_range_bytes (range_pointer_of ranges c)) kept (four_decodes index ranges c bytes) h
-
-  or_nothing : (o : Option (List ℕ)) → option_or o None ≡ o
-  or_nothing None = refl
-  or_nothing (Some pair) = refl
+  gb18030-decodes c bytes kept h =
+      let own = ascii_decodes c bytes in
+      let others = pair_or c bytes (option_map gb18030_range_bytes (range_pointer_of ranges c)) kept (four_decodes index ranges c bytes) in
+      grind (arith, nat_tests, own, others)
 
   pub gbk-decodes : (c : ℕ) (bytes : List ℕ) → has_lost_row index pua c ≡ false
       → gbk_code index pua c ≡ Some bytes → Decodes (gb18030_front index ranges) bytes (private_use_scalar index pua c)
   unfolding gbk_code gb18030_front
-  gbk-decodes c bytes kept h = by_tests (is_ascii c) (c == 0xE5E5) (c == 0x20AC) refl refl h
-    where
-      by_tests : (t u v : Bool) → is_ascii c ≡ t → (c == 0x20AC) ≡ v
-          → cond t (Some (c ∷ [])) (cond u None (cond v (Some (0x80 ∷ [])) (gb18030_pair_code pua index c))) ≡ Some bytes
-          → Decodes (gb18030_front index ranges) bytes (private_use_scalar index pua c)
-      by_tests true u v e f h = ascii_decodes c bytes e h
-      by_tests false true v e f h = cc
-      by_tests false false true e f h =
-          let c_is = eqb-true c 0x20AC f in
-          let plain : is_row_scalar c ≡ false = rw c_is refl in
-          rw (no_row c plain) (one_byte (gb18030_front index ranges) 0x80 c bytes (cc) (λ more. rw c_is refl))
-      by_tests false false false e f h = pair_or c bytes None kept (λ n. cc) (or_nothing (gb18030_pair_code pua index c) ∙ h)
+  gbk-decodes c bytes kept h =
+      let own = ascii_decodes c bytes in
+      let others = pair_or c bytes None kept (λ n. cc) in
+      grind (arith, nat_tests, own, others, no_row, one_byte)

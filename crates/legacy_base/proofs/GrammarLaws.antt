@@ -37,9 +37,7 @@ none_of_nothing _ = refl
 
 -- an empty list may always be held back, and rests
 pub may_none : (g : Grammar) → may_hold g [] ≡ true
-may_none user_defined = refl
-may_none _ = refl
+may_none g = grind arith
 
 pub rests-none : (g : Grammar) → rests g [] ≡ true
-rests-none user_defined = refl
-rests-none _ = refl
+rests-none g = grind arith

@@ -12,12 +12,10 @@ use Rattle.legacy_base.specs.Iso2022Jp.{roman_or_ascii, settled_mode, mode_behin
 -- ---- modes
 
 roman_or_ascii-twice : (mode : EncoderMode) → roman_or_ascii (roman_or_ascii mode) ≡ roman_or_ascii mode
-roman_or_ascii-twice in_ascii = refl
-roman_or_ascii-twice _ = refl
+roman_or_ascii-twice mode = grind arith
 
 pub escape_between-same : (mode : EncoderMode) → escape_between mode mode ≡ []
-escape_between-same in_ascii = refl
-escape_between-same _ = refl
+escape_between-same mode = grind arith
 
 pub escape_between-other : (mode new : EncoderMode) → (mode ≡ new → ⊥) → escape_between mode new ≡ escape_to new
 escape_between-other mode new h = grind arith

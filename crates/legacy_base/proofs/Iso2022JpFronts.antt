@@ -1,6 +1,6 @@
 -- One equation for each kind of front: the events of a list are those of its first front, and then those of the rest.
 -- With these a list is read from first to last, although the definition cuts it at escapes before any mode is known.
-use Rattle.std.proofs.Common.{◌≡◌, ℕ, suc, ◌+◌, false, cond, Option, Some, None, List, [], ◌∷◌, ◌++◌, length, refl, ap, zero-add, one-add, append_assoc, arith}
+use Rattle.std.proofs.Common.{◌≡◌, ℕ, suc, ◌+◌, false, cond, Some, None, List, [], ◌∷◌, ◌++◌, length, refl, zero-add, one-add, append_assoc, arith}
 use Rattle.std.proofs.{lemmas.Bool.{eqb-true, ne_eqb}, lemmas.Bool.Decides.nat_tests}
 use Rattle.std.specs.Prelude.{◌==◌, ◌&&◌, is_some}
 use Rattle.legacy_base.specs.{declared.results.DecodeEvent.TheVariants.Bad, Events.shift, Fronts.{Front, front_length, front_events, cut}, Iso2022Jp.Mode}
@@ -31,13 +31,6 @@ step_two jis0208 mode b t more f plain plain_t is two =
     grind (arith, nat_tests, first_part, events-by_parts, cut_from_zero, shift-append, shift-shift, append_assoc)
 
 -- ---- escapes
-
-no_third : (a : ℕ) → escape_mode a esc ≡ None
-no_third a = grind (arith, nat_tests)
-
--- the second and third bytes of a valid escape are not escape bytes
-other_byte : (mode_by : ℕ → Option Mode) (b : ℕ) (mode : Mode) → mode_by esc ≡ None → mode_by b ≡ Some mode → (b == esc) ≡ false
-other_byte mode_by b mode none some = ne_eqb b esc (λ e. let same = ap mode_by e in cc)
 
 -- a list and its first part begin with the same valid escape, if any
 part_mode-first : (rest : List ℕ) → part_mode (esc ∷ first_part rest) ≡ part_mode (esc ∷ rest)
@@ -77,8 +70,10 @@ unfolding parts_events part_events escape_events escape_length cut
 step_escape jis0208 mode new_mode a b more valid =
     let n = length (first_part more) in
     let more_by_three : 3 + n ≡ suc (suc (suc n)) = omega arith in
+    let second : (a == esc) ≡ false = grind (arith, nat_tests) in
+    let third : (b == esc) ≡ false = grind (arith, nat_tests) in
     rw (events-by_parts jis0208 mode (esc ∷ a ∷ b ∷ more), events-by_parts jis0208 new_mode more, shift-zero)
-    (rw (other_byte (λ x. escape_mode x b) a new_mode refl valid, other_byte (escape_mode a) b new_mode (no_third a) valid)
+    (rw (second, third)
     (rw (escape_ahead a b new_mode (first_part more) valid, bare-first a b more, zero-add (suc (suc (suc n))))
     (rw (parts_events-at jis0208 new_mode (suc (suc (suc n))) (later_parts more), cut_from_zero (iso_2022_jp_front jis0208 new_mode) 0 3 (first_part more))
     (rw (shift-append, shift-shift, more_by_three, append_assoc)))))

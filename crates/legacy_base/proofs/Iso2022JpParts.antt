@@ -1,7 +1,7 @@
 -- The parts of a list that is cut before its escape bytes: the bytes up to the first escape byte, and the parts after
 -- them. The events of a list are given by these two.
-use Rattle.std.proofs.{lemmas.Bool.Decides.nat_tests, Common.{arith, ◌≡◌, ℕ, ◌+◌, true, false, cond, None, List, [], ◌∷◌, ◌++◌, drop, length, refl, add_assoc}}
-use Rattle.std.proofs.{Common.{zero-add, add-zero}, lemmas.Bool.cond_both}
+use Rattle.std.proofs.{lemmas.Bool.Decides.nat_tests, Common.{arith, ◌≡◌, ℕ, ◌+◌, false, cond, None, List, [], ◌∷◌, ◌++◌, drop, length, refl, add_assoc}}
+use Rattle.std.proofs.{Common.{zero-add, add-zero}}
 use Rattle.std.specs.Prelude.{◌==◌, unwrap_or}
 use Rattle.legacy_base.specs.{Events.shift, Fronts.cut, Iso2022Jp.{Mode, esc, parts_of, part_mode, escape_length, iso_2022_jp_front, escape_events}}
 use Rattle.legacy_base.specs.Iso2022Jp.{part_events, parts_events, iso_2022_jp_events}
@@ -21,10 +21,7 @@ later_parts (b ∷ bytes) = cond (b == esc) ((b ∷ first_part bytes) ∷ later_
 pub parts_of-is : (bytes : List ℕ) → parts_of bytes ≡ first_part bytes ∷ later_parts bytes
 unfolding parts_of
 parts_of-is [] = refl
-parts_of-is (b ∷ bytes) = rw (parts_of-is bytes)
-    (elim (b == esc) as (λ t. cond t ([] ∷ (b ∷ first_part bytes) ∷ later_parts bytes) ((b ∷ first_part bytes) ∷ later_parts bytes)
-    ≡ cond t [] (b ∷ first_part bytes) ∷ cond t ((b ∷ first_part bytes) ∷ later_parts bytes) (later_parts bytes))
-    [ true ↦ refl | false ↦ refl ])
+parts_of-is (b ∷ bytes) = rw (parts_of-is bytes) (grind arith)
 
 -- a part that begins with another byte has no escape
 pub no_escape : (b : ℕ) (part : List ℕ) → (b == esc) ≡ false → part_mode (b ∷ part) ≡ None
@@ -36,10 +33,7 @@ first_plain : (place : ℕ) (bytes : List ℕ) (next : List (List ℕ)) →
     (part_mode (first_part bytes) ≡ None) × (escape_length (first_part bytes) ≡ 0) × (escape_events place (first_part bytes) next ≡ [])
 unfolding part_mode escape_length escape_events
 first_plain place [] next = (refl, refl, refl)
-first_plain place (b ∷ bytes) next =
-    cond_both (b == esc) [] (b ∷ first_part bytes) (λ l. (part_mode l ≡ None) × (escape_length l ≡ 0) × (escape_events place l next ≡ []))
-    (λ _. (refl, refl, refl))
-    (λ h. let none = no_escape b (first_part bytes) h in (none, rw (none, h), rw (none, h)))
+first_plain place (b ∷ bytes) next = let plain = no_escape b (first_part bytes) in grind (arith, plain)
 
 -- the first part is all body, in the mode in which the list begins
 first_events : (jis0208 : List ℕ) (mode : Mode) (place : ℕ) (bytes : List ℕ) (next : List (List ℕ)) → parts_events jis0208 mode place (first_part bytes ∷ next)
@@ -52,8 +46,7 @@ first_events jis0208 mode place bytes next =
 -- the events of parts that begin k places later are shifted by k
 escape_events-shift : (k place : ℕ) (part : List ℕ) (next : List (List ℕ)) → escape_events (k + place) part next ≡ shift k (escape_events place part next)
 unfolding escape_events
-escape_events-shift k place [] next = refl
-escape_events-shift k place (b ∷ part) next = grind arith
+escape_events-shift k place part next = grind arith
 
 part_events-shift : (jis0208 : List ℕ) (mode : Mode) (k place : ℕ) (part : List ℕ) (next : List (List ℕ))
     → part_events jis0208 mode (k + place) part next ≡ shift k (part_events jis0208 mode place part next)

@@ -1,7 +1,7 @@
 -- The output of an ISO-2022-JP encoder decodes to its text. The escapes give no events, and each code is read in the
 -- mode in which it was written.
-use Rattle.std.proofs.Common.{◌≡◌, ℕ, ◌+◌, ◌/◌, ◌%◌, List, [], ◌∷◌, ◌++◌, map, length, Bool, true, false, cond, ◌||◌, ◌==◌, Option, Some, None, is_some, inl}
-use Rattle.std.proofs.{Common.{inr, refl, sym, ap, ◌∙◌, append_assoc, length-append, arith}, lemmas.Bool.{and_right, or_parts, cases_eq}}
+use Rattle.std.proofs.Common.{◌≡◌, ℕ, ◌+◌, ◌/◌, ◌%◌, List, [], ◌∷◌, ◌++◌, map, length, true, false, cond, ◌||◌, ◌==◌, Option, Some, None, is_some}
+use Rattle.std.proofs.{Common.{refl, sym, ap, ◌∙◌, append_assoc, length-append, arith}, lemmas.Bool.{and_right, or_parts}}
 use Rattle.std.proofs.lemmas.Bool.Decides.{nat_tests}
 use Rattle.std.specs.Char.{is_ascii}
 use Rattle.legacy_base.specs.{declared.results.DecodeEvent.DecodeEvent, declared.results.DecodeEvent.TheVariants.{Scalar, Bad}}
@@ -14,8 +14,7 @@ use Rattle.legacy_tables.specs.Pointers.{is_jis0208_pointer, euc_jp_pointer_of}
 use Rattle.legacy_base.proofs.{Shifts.{shift-zero, shift-append, shift-shift, shift-scalars}, PointersBack.{LeadsBack, leads_back}, Trips.same_byte_lists}
 use Rattle.legacy_base.proofs.{Trips.{begins_with, has_code, coded, bytes_of-behind, bytes_of-bytes, bytes_of-unmappable}, Iso2022JpParts.first_part}
 use Rattle.legacy_base.proofs.{Iso2022JpFronts.{step_one, step_two, step_escape}, Iso2022JpEncoding.{mode_for, mode_for-by, own_events, text_events}}
-use Rattle.legacy_base.proofs.Iso2022JpEncoding.{text_events-scalar, text_events-end, IsWritten, at_control, at_special, at_neutral, at_yen, at_overline}
-use Rattle.legacy_base.proofs.Iso2022JpEncoding.{at_pair, at_none}
+use Rattle.legacy_base.proofs.Iso2022JpEncoding.{text_events-scalar, text_events-end}
 use Rattle.legacy_tables.proofs.Pointers.{first-taken}
 
 -- the decoder's mode for an encoder's mode
@@ -53,15 +52,6 @@ module _ (jis0208 : List ℕ) where
   escape_read old new rest h = grind (arith, nat_tests, between, shift-zero, escape_alone)
 
   -- ---- the codes
-
-  front-ascii : (c : ℕ) (rest : List ℕ) → is_ascii c ≡ true → (c == 0x0E || c == 0x0F) ≡ false → iso_2022_jp_front jis0208 ascii c rest ≡ reads 1 (c ∷ [])
-  unfolding iso_2022_jp_front
-  front-ascii c rest a m = rw (a, m) refl
-
-  front-roman : (c : ℕ) (rest : List ℕ) → is_ascii c ≡ true → (c == 0x0E || c == 0x0F) ≡ false → (c == 0x5C) ≡ false → (c == 0x7E) ≡ false
-      → iso_2022_jp_front jis0208 roman c rest ≡ reads 1 (c ∷ [])
-  unfolding iso_2022_jp_front
-  front-roman c rest a m e f = rw (a, m, e, f) refl
 
   -- the facts about the two bytes of pointer p, which decode to c
   record IsPair (p c : ℕ) : Type 0 where
@@ -117,16 +107,8 @@ module _ (jis0208 katakana_index : List ℕ) where
 
   own_neutral : (mode : EncoderMode) (c : ℕ) → is_ascii c ≡ true → is_mode_control c ≡ false → (c == 0x5C || c == 0x7E) ≡ false →
       OwnRead (roman_or_ascii mode) c (c ∷ [])
-  own_neutral mode c a m o = grind (arith, nat_tests, or_parts, own_byte, front-ascii, front-roman)
-
-  -- a scalar with a known mode and code
-  own_written : (mode new : EncoderMode) (c scalar : ℕ) (own bytes : List ℕ) → IsWritten jis0208 katakana_index mode c new (Some own)
-      → code c ≡ Some bytes → OwnRead new scalar own → OwnRead (mode_of mode c) scalar bytes
-  own_written mode new c scalar own bytes w is o = let code_is = sym w.code_is ∙ is in let same : own ≡ bytes = cc in rw (w.mode_is, ← same) o
-
-  -- a scalar known to have no code
-  no_code : (mode new : EncoderMode) (c : ℕ) (bytes : List ℕ) → IsWritten jis0208 katakana_index mode c new None → code c ≡ Some bytes → ⊥
-  no_code mode new c bytes w is = let none = sym w.code_is ∙ is in cc
+  unfolding iso_2022_jp_front
+  own_neutral mode c a m o = grind (arith, nat_tests, or_parts, own_byte)
 
   -- the scalar that is looked up for c, and its pointer
   record IsLookedUp (c p : ℕ) : Type 0 where
@@ -148,42 +130,18 @@ module _ (jis0208 katakana_index : List ℕ) where
   pub ascii_stands : (c : ℕ) → is_ascii c ≡ true → own_scalar c ≡ c
   ascii_stands c h = let plain : is_fold (iso_2022_jp jis0208 katakana_index) c ≡ false = grind (arith, nat_tests) in no_fold c plain
 
+  -- the pair of the pointer that is looked up for c
+  own_looked_up : (c p : ℕ) → iso_2022_jp_pointer_of jis0208 katakana_index c ≡ Some p → OwnRead in_two_byte (own_scalar c) (iso_2022_jp_pair p)
+  own_looked_up c p e =
+      let found = looked_up c p e in
+      let back = leads_back is_jis0208_pointer jis0208 found.scalar _ (first-taken is_jis0208_pointer jis0208 found.scalar) p found.pointer in
+      rw found.fold (own_pair p found.scalar back)
+
   -- the code of a scalar decodes to `own_scalar`, in the scalar's mode
   own_read : (mode : EncoderMode) (c : ℕ) (bytes : List ℕ) → code c ≡ Some bytes → OwnRead (mode_of mode c) (own_scalar c) bytes
-  unfolding iso_2022_jp_front
-  own_read mode c bytes is = by_tests (is_mode_control c) (is_ascii c) (c == 0x5C || c == 0x7E) refl refl refl
-    where
-      by_pointer : (o : Option ℕ) → is_mode_control c ≡ false → is_ascii c ≡ false → (c ≡ 0xA5 → ⊥) → (c ≡ 0x203E → ⊥)
-          → iso_2022_jp_pointer_of jis0208 katakana_index c ≡ o → OwnRead (mode_of mode c) (own_scalar c) bytes
-      by_pointer None m a y v e = absurd (no_code mode _ c bytes (at_none jis0208 katakana_index mode c m a y v e) is)
-      by_pointer (Some p) m a y v e =
-          let found = looked_up c p e in
-          let back = leads_back is_jis0208_pointer jis0208 found.scalar _ (first-taken is_jis0208_pointer jis0208 found.scalar) p found.pointer in
-          own_written mode in_two_byte c (own_scalar c) _ bytes (at_pair jis0208 katakana_index mode c p m a y v e) is
-          (rw found.fold (own_pair p found.scalar back))
-
-      past_ascii : is_mode_control c ≡ false → is_ascii c ≡ false → OwnRead (mode_of mode c) (own_scalar c) bytes
-      past_ascii m a = elim (cases_eq c 0xA5) [
-        | inl e ↦ own_written mode in_roman c (own_scalar c) _ bytes (at_yen jis0208 katakana_index mode c e) is
-            (rw e (own_byte in_roman 0xA5 0x5C refl (λ rest. refl)))
-        | inr y ↦ elim (cases_eq c 0x203E) [
-          | inl e ↦ own_written mode in_roman c (own_scalar c) _ bytes (at_overline jis0208 katakana_index mode c e) is
-              (rw e (own_byte in_roman 0x203E 0x7E refl (λ rest. refl)))
-          | inr v ↦ by_pointer (iso_2022_jp_pointer_of jis0208 katakana_index c) m a y v refl
-        ]
-      ]
-
-      by_tests : (control ascii_byte special : Bool) → is_mode_control c ≡ control → is_ascii c ≡ ascii_byte → (c == 0x5C || c == 0x7E) ≡ special
-          → OwnRead (mode_of mode c) (own_scalar c) bytes
-      by_tests true ascii_byte special m a s = absurd (no_code mode _ c bytes (at_control jis0208 katakana_index mode c m) is)
-      by_tests false true true m a s =
-          let p = or_parts (c == 0x0E || c == 0x0F) (c == esc) m in
-          own_written mode in_ascii c (own_scalar c) _ bytes (at_special jis0208 katakana_index mode c m a s) is
-          (rw (ascii_stands c a) (own_byte in_ascii c c p.1 (λ rest. front-ascii jis0208 c rest a p.0)))
-      by_tests false true false m a s =
-          own_written mode (roman_or_ascii mode) c (own_scalar c) _ bytes (at_neutral jis0208 katakana_index mode c m a s) is
-          (rw (ascii_stands c a) (own_neutral mode c a m s))
-      by_tests false false special m a s = past_ascii m a
+  unfolding iso_2022_jp_code iso_2022_jp_front
+  own_read mode c bytes is =
+      rw (mode_for-by jis0208 katakana_index mode c) (grind (arith, nat_tests, own_byte, own_neutral, own_looked_up, ascii_stands))
 
   -- the mode for a scalar without a code
   pub none_keeps : (mode : EncoderMode) (c : ℕ) → code c ≡ None → mode_of mode c ≡ roman_or_ascii mode
@@ -217,31 +175,16 @@ module _ (jis0208 katakana_index : List ℕ) where
 
   -- ---- lists that begin with a valid escape, and lists that do not
 
-  -- if appending `more` makes no valid escape at the beginning of `bytes`, nor does it after an escape before them
-  begins_with_none : (old new : EncoderMode) (bytes more : List ℕ) → (is_whole_escape bytes ≡ false → is_whole_escape (bytes ++ more) ≡ false)
-      → is_whole_escape (escape_between old new ++ bytes) ≡ false → is_whole_escape ((escape_between old new ++ bytes) ++ more) ≡ false
-  begins_with_none old new bytes more h k = grind arith
-
-  end_begins : (mode : EncoderMode) (more : List ℕ) → is_whole_escape more ≡ false
-      → is_whole_escape (escape_between mode in_ascii) ≡ false → is_whole_escape (escape_between mode in_ascii ++ more) ≡ false
-  end_begins mode more h k = grind arith
-
   text_begins : (mode : EncoderMode) (text more : List ℕ) → is_whole_escape more ≡ false
       → is_whole_escape (text_bytes mode text) ≡ false → is_whole_escape (text_bytes mode text ++ more) ≡ false
   text_begins mode [] more plain h =
-      rw (text_bytes-end mode) (end_begins mode more plain (rw (text_bytes-end mode) at h))
+      let alone = rw (text_bytes-end mode) at h in rw (text_bytes-end mode) (grind arith)
   text_begins mode (c ∷ text) more plain h =
       let new = mode_of mode c in
-      rw (text_bytes-scalar mode c text) (by_code (code c) refl (text_begins new text more plain) (rw (text_bytes-scalar mode c text) at h))
-    where
-      by_code : (o : Option (List ℕ)) → code c ≡ o
-          → (is_whole_escape (text_bytes (mode_of mode c) text) ≡ false → is_whole_escape (text_bytes (mode_of mode c) text ++ more) ≡ false)
-          → is_whole_escape (scalar_bytes mode (mode_of mode c) o (text_bytes (mode_of mode c) text)) ≡ false
-          → is_whole_escape (scalar_bytes mode (mode_of mode c) o (text_bytes (mode_of mode c) text) ++ more) ≡ false
-      by_code None e later h = begins_with_none mode _ _ more later h
-      by_code (Some own) e later h =
-          let behind = text_bytes (mode_of mode c) text in
-          begins_with_none mode _ (own ++ behind) more (λ _. rw (append_assoc own behind more) ((own_read mode c own e).plain (behind ++ more))) h
+      let later = text_begins new text more plain in
+      let first = λ (own : List ℕ) (e : code c ≡ Some own). (own_read mode c own e).plain (text_bytes new text ++ more) in
+      let alone = rw (text_bytes-scalar mode c text) at h in
+      rw (text_bytes-scalar mode c text) (grind (arith, later, first, append_assoc))
 
   -- ---- no two adjacent escapes
 
@@ -284,36 +227,20 @@ module _ (jis0208 katakana_index : List ℕ) where
       rw (append_assoc, length-append) (o.gives all ∙ rw read (scalar_then (length own) (length behind) c back (iso_2022_jp_events jis0208 ascii more))) in
       escape_then mode new (c ∷ back) (own ++ behind) more (rw (append_assoc own behind more) (o.plain all)) joined
 
-  -- a scalar without a code
-  text_read-none : (mode : EncoderMode) (back behind more : List ℕ) → (is_whole_escape behind ≡ false → is_whole_escape (behind ++ more) ≡ false)
-      → holds_adjacent_escapes (escape_between mode (roman_or_ascii mode) ++ behind) ≡ false
-      → IsTextRead (roman_or_ascii mode) back behind more → IsTextRead mode back (escape_between mode (roman_or_ascii mode) ++ behind) more
-  text_read-none mode back behind more h k m = grind (arith, nat_tests, escape_then, escape_apart)
-
   pub text_read : (mode : EncoderMode) (text more : List ℕ) → is_whole_escape more ≡ false
       → holds_adjacent_escapes (text_bytes mode text) ≡ false → IsTextRead mode (text_back text) (text_bytes mode text) more
   text_read mode [] more plain h = rw (text_bytes-end mode) (escape_read jis0208 mode in_ascii more plain)
   text_read mode (c ∷ text) more plain h =
       let new = mode_of mode c in
-      rw (text_bytes-scalar mode c text)
-      (by_code (code c) refl (text_read new text more plain) (rw (text_bytes-scalar mode c text) at h))
-    where
-      by_code : (o : Option (List ℕ)) → code c ≡ o → (holds_adjacent_escapes (text_bytes (mode_of mode c) text) ≡ false
-          → IsTextRead (mode_of mode c) (text_back text) (text_bytes (mode_of mode c) text) more)
-          → holds_adjacent_escapes (scalar_bytes mode (mode_of mode c) o (text_bytes (mode_of mode c) text)) ≡ false
-          → IsTextRead mode (map own_scalar (cond (is_some o) (c ∷ coded_here text) (coded_here text)))
-          (scalar_bytes mode (mode_of mode c) o (text_bytes (mode_of mode c) text)) more
-      by_code None e later h =
-          let new_is = none_keeps mode c e in
-          let behind = text_bytes (mode_of mode c) text in
-          let read = later (apart_behind (escape_between mode (mode_of mode c)) behind h) in
-          let begins = text_begins (mode_of mode c) text more plain in
-          rw new_is (text_read-none mode (text_back text) _ more (rw new_is at begins) (rw new_is at h) (rw new_is at read))
-      by_code (Some own) e later h =
-          let new = mode_of mode c in
-          let behind = text_bytes new text in
-          let read = later (apart_behind own behind (apart_behind (escape_between mode new) (own ++ behind) h)) in
-          text_read-scalar mode new (own_scalar c) own (text_back text) behind more (own_read mode c own e) read
+      let behind = text_bytes new text in
+      let later = text_read new text more plain in
+      let begins = text_begins new text more plain in
+      let none = apart_behind (escape_between mode new) behind in
+      let some = λ (own : List ℕ) (e : code c ≡ Some own) (k : holds_adjacent_escapes (escape_between mode new ++ (own ++ behind)) ≡ false).
+      text_read-scalar mode new (own_scalar c) own (text_back text) behind more (own_read mode c own e)
+      (later (apart_behind own behind (apart_behind (escape_between mode new) (own ++ behind) k))) in
+      let apart = rw (text_bytes-scalar mode c text) at h in
+      rw (text_bytes-scalar mode c text) (grind (arith, nat_tests, some, none, none_keeps mode c, later, begins, escape_then, escape_apart))
 
   -- ---- texts without unmappable scalars
 
@@ -324,8 +251,7 @@ module _ (jis0208 katakana_index : List ℕ) where
 
   apart-end : (mode : EncoderMode) → holds_adjacent_escapes (escape_between mode in_ascii) ≡ false
   unfolding holds_adjacent_escapes
-  apart-end in_ascii = refl
-  apart-end _ = refl
+  apart-end mode = grind arith
 
   pub text_apart : (mode : EncoderMode) (text bytes : List ℕ) → sent mode text ≡ map Byte bytes → IsApart text bytes
   text_apart mode [] bytes e =

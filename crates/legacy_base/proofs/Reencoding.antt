@@ -1,12 +1,12 @@
 -- The text that encoded bytes decode to is encoded as the same bytes.
-use Rattle.std.proofs.Common.{◌≡◌, ◌∙◌, ℕ, List, [], ◌∷◌, ◌++◌, map, refl, sym, ap, arith, All, Bool, true, false, cond, Option, Some, None, is_some}
-use Rattle.std.proofs.{lemmas.Bool.true≢false, lemmas.Bool.Decides.nat_tests, lemmas.List.map-append, lemmas.List.Elements.{All-head, All-tail}}
-use Rattle.legacy_base.specs.{declared.results.EncodeEvent.EncodeEvent, declared.results.EncodeEvent.TheVariants.Byte, EncodeEvents.{code_events, plain_events}}
-use Rattle.legacy_base.specs.{EncoderProfile.{EncoderMode, in_ascii, in_roman, in_two_byte}, SingleByte.single_byte_code, UserDefined.user_defined_code}
-use Rattle.legacy_base.specs.{Big5.big5_code, EucKr.euc_kr_code, ShiftJis.shift_jis_code, EucJp.euc_jp_code, Gb18030.{gb18030_code, gbk_code}}
-use Rattle.legacy_base.specs.Iso2022Jp.{is_pair, keeps_mode, is_roman_scalar, is_two_byte_scalar, iso_2022_jp_code, is_whole_escape, roman_or_ascii, escape_to}
+use Rattle.std.proofs.Common.{◌≡◌, ◌∙◌, ℕ, List, [], ◌∷◌, ◌++◌, map, refl, sym, ap, arith, All, true, false, Option, Some}
+use Rattle.std.proofs.{lemmas.Bool.Decides.nat_tests, lemmas.List.map-append, lemmas.List.Elements.{All-head, All-tail}}
+use Rattle.legacy_base.specs.{declared.results.EncodeEvent.EncodeEvent, declared.results.EncodeEvent.TheVariants.Byte, EncodeEvents.{plain_events}}
+use Rattle.legacy_base.specs.{EncoderProfile.{EncoderMode, in_ascii, in_roman, in_two_byte}}
+use Rattle.legacy_base.specs.{ShiftJis.shift_jis_code, EucJp.euc_jp_code}
+use Rattle.legacy_base.specs.Iso2022Jp.{is_pair, iso_2022_jp_code, is_whole_escape, roman_or_ascii, escape_to}
 use Rattle.legacy_base.specs.{Iso2022Jp.escape_between, Encoders.{Codec, single_byte, user_defined, big5, euc_kr, shift_jis, euc_jp, gb18030, gbk, iso_2022_jp}}
-use Rattle.legacy_base.specs.{Encoders.{new_encoder, encoded}, RoundTrips.{japanese_scalar, private_use_scalar, read_as, read_back, bytes_of, written}}
+use Rattle.legacy_base.specs.{Encoders.{new_encoder, encoded}, RoundTrips.{japanese_scalar, read_back, bytes_of, written}}
 use Rattle.legacy_base.specs.RoundTrips.{holds_adjacent_escapes, IsSound, KeepsCodes, HasSameCode, ReencodesAnyText}
 use Rattle.legacy_base.proofs.{Trips.{coded, bytes_of-nothing, bytes_of-behind, bytes_of-unmappable}, Iso2022JpEncoding.{mode_by, mode_for, mode_for-by}}
 use Rattle.legacy_base.proofs.{Iso2022JpEncoding.{text_events, text_events-scalar, text_events-escape, text_events-end}, Iso2022JpTrip.{own_scalar, none_keeps}}
@@ -21,16 +21,9 @@ unfolding plain_events
 plain-again code read [] same = rw bytes_of-nothing refl
 plain-again code read (c ∷ text) same =
     let P : ℕ → Type 0 = λ c. (bytes : List ℕ) → code c ≡ Some bytes → code (read c) ≡ Some bytes in
-    by_code (code c) refl (All-head P c text same) (plain-again code read text (All-tail P c text same))
-  where
-    by_code : (o : Option (List ℕ)) → code c ≡ o → ((bytes : List ℕ) → code c ≡ Some bytes → code (read c) ≡ Some bytes)
-        → plain_events code (map read (coded code text)) ≡ map Byte (bytes_of (plain_events code text))
-        → plain_events code (map read (cond (is_some o) (c ∷ coded code text) (coded code text)))
-        ≡ map Byte (bytes_of (code_events c o ++ plain_events code text))
-    by_code None e here later = rw (bytes_of-unmappable c (plain_events code text)) later
-    by_code (Some own) e here later =
-        rw (here own e, bytes_of-behind own (plain_events code text), map-append Byte own (bytes_of (plain_events code text)))
-        (ap (λ l. map Byte own ++ l) later)
+    let here = All-head P c text same in
+    let later = plain-again code read text (All-tail P c text same) in
+    grind (arith, nat_tests, bytes_of-unmappable, bytes_of-behind, map-append)
 
 -- the scalar that a fold decodes to has the code of the fold
 folded-same : (code : ℕ → Option (List ℕ)) → code 0x5C ≡ code 0xA5 → code 0x7E ≡ code 0x203E → code 0xFF0D ≡ code 0x2212 → (c : ℕ) →
@@ -46,10 +39,6 @@ unfolding euc_jp_code
 euc_jp-same jis0208 = folded-same (euc_jp_code jis0208) refl refl refl
 
 -- ---- ISO-2022-JP
-
--- a scalar that is written in ASCII mode after ASCII mode is also written in ASCII mode after two-byte mode
-back_to_ascii : (pair keeps romans : Bool) → mode_by pair keeps romans in_ascii ≡ in_ascii → mode_by pair keeps romans in_two_byte ≡ in_ascii
-back_to_ascii pair keeps romans h = grind arith
 
 module _ (jis0208 katakana_index : List ℕ) where
   abbrev code : ℕ → Option (List ℕ)
@@ -90,6 +79,12 @@ module _ (jis0208 katakana_index : List ℕ) where
   same_mode : (mode : EncoderMode) (c : ℕ) (own : List ℕ) → code c ≡ Some own → code (own_of c) ≡ Some own → mode_of mode (own_of c) ≡ mode_of mode c
   same_mode mode c own e again = grind (arith, nat_tests, mode_for-by, mode_by, single_stands)
 
+  -- a scalar that is written in ASCII mode after ASCII mode is also written in ASCII mode after two-byte mode
+  back_to_ascii : (c : ℕ) (own : List ℕ) → code c ≡ Some own → code (own_of c) ≡ Some own → mode_of in_ascii c ≡ in_ascii →
+      mode_of in_two_byte (own_of c) ≡ in_ascii
+  back_to_ascii c own e again n =
+      let stays : mode_of in_ascii (own_of c) ≡ in_ascii = same_mode in_ascii c own e again ∙ n in grind (arith, nat_tests, mode_for-by, mode_by)
+
   -- The bytes of a text from two-byte mode are the escape to ASCII mode and its bytes from that mode. This holds if the
   -- latter do not begin with an escape.
   late_escape : (text : List ℕ) → All SameHere text → is_whole_escape (bytes_from in_ascii text) ≡ false → sent in_two_byte (back text)
@@ -97,88 +92,59 @@ module _ (jis0208 katakana_index : List ℕ) where
   late_escape [] same h =
       rw (text_events-end jis0208 katakana_index in_two_byte, text_events-end jis0208 katakana_index in_ascii) refl
   late_escape (c ∷ text) same h =
-      by_code (code c) refl (mode_of in_ascii c) refl (All-head SameHere c text same)
-      (late_escape text (All-tail SameHere c text same))
-      (rw (text_bytes-scalar jis0208 katakana_index in_ascii c text) at h)
-    where
-      by_code : (o : Option (List ℕ)) → code c ≡ o → (new : EncoderMode) → mode_of in_ascii c ≡ new → SameHere c
-          → (is_whole_escape (bytes_from in_ascii text) ≡ false → sent in_two_byte (back text)
-          ≡ map Byte (escape_to in_ascii) ++ sent in_ascii (back text))
-          → is_whole_escape (bytes_at in_ascii new o (bytes_from new text)) ≡ false
-          → sent in_two_byte (map (own_of) (cond (is_some o) (c ∷ coded_of text) (coded_of text)))
-          ≡ map Byte (escape_to in_ascii)
-          ++ sent in_ascii (map (own_of) (cond (is_some o) (c ∷ coded_of text) (coded_of text)))
-      by_code None e new n here later h =
-          let new_is : new ≡ in_ascii = sym n ∙ none_keeps jis0208 katakana_index in_ascii c e in
-          later (rw new_is at h)
-      by_code (Some own) e in_roman n here later h = absurd (true≢false h)
-      by_code (Some own) e in_two_byte n here later h = absurd (true≢false h)
-      by_code (Some own) e in_ascii n here later h =
-          let s = own_of c in
-          let stays : mode_of in_ascii s ≡ in_ascii = same_mode in_ascii c own e (here own e) ∙ n in
-          let goes : mode_of in_two_byte s ≡ in_ascii =
-          mode_for-by jis0208 katakana_index in_two_byte s
-          ∙ back_to_ascii (is_two_byte_scalar jis0208 katakana_index s) (keeps_mode jis0208 katakana_index s) (is_roman_scalar s)
-          (sym (mode_for-by jis0208 katakana_index in_ascii s) ∙ stays) in
-          text_events-escape jis0208 katakana_index in_two_byte in_ascii s goes (λ z. cc) (back text) true
+      let here = All-head SameHere c text same in
+      let later = late_escape text (All-tail SameHere c text same) in
+      let alone = rw (text_bytes-scalar jis0208 katakana_index in_ascii c text) at h in
+      let some = λ (own : List ℕ) (e : code c ≡ Some own) (n : mode_of in_ascii c ≡ in_ascii).
+      text_events-escape jis0208 katakana_index in_two_byte in_ascii (own_of c) (back_to_ascii c own e (here own e) n) (λ z. cc) (back text) true in
+      grind (arith, some, later, none_keeps jis0208 katakana_index in_ascii c)
+
+  -- a scalar without a code
+  none-again : (mode : EncoderMode) (text : List ℕ) → All SameHere text
+      → holds_adjacent_escapes (escape_between mode (roman_or_ascii mode) ++ bytes_from (roman_or_ascii mode) text) ≡ false
+      → sent (roman_or_ascii mode) (back text) ≡ map Byte (bytes_from (roman_or_ascii mode) text)
+      → sent mode (back text) ≡ map Byte (escape_between mode (roman_or_ascii mode) ++ bytes_from (roman_or_ascii mode) text)
+  none-again in_ascii text others h read = read
+  none-again in_roman text others h read = read
+  none-again in_two_byte text others h read =
+      late_escape text others (escape_apart jis0208 katakana_index in_two_byte in_ascii (bytes_from in_ascii text) (λ z. cc) h)
+      ∙ ap (λ l. map Byte (escape_to in_ascii) ++ l) read
+      ∙ sym (map-append Byte (escape_to in_ascii) (bytes_from in_ascii text))
 
   iso_2022_jp-again : (mode : EncoderMode) (text : List ℕ) → All SameHere text → holds_adjacent_escapes (bytes_from mode text) ≡ false
       → sent mode (back text) ≡ map Byte (bytes_from mode text)
   iso_2022_jp-again mode [] same h = rw (text_bytes-end jis0208 katakana_index mode) (text_events-end jis0208 katakana_index mode)
   iso_2022_jp-again mode (c ∷ text) same h =
+      let new = mode_of mode c in
+      let behind = bytes_from new text in
+      let here = All-head SameHere c text same in
       let others = All-tail SameHere c text same in
+      let later = iso_2022_jp-again new text others in
+      let some : (own : List ℕ) → code c ≡ Some own → holds_adjacent_escapes (escape_between mode new ++ (own ++ behind)) ≡ false →
+      sent mode (own_of c ∷ back text) ≡ map Byte (escape_between mode new ++ (own ++ behind)) =
+      λ own e k.
+      let read = later (apart_behind jis0208 katakana_index own behind (apart_behind jis0208 katakana_index (escape_between mode new) (own ++ behind) k)) in
+      text_events-scalar jis0208 katakana_index mode (own_of c) (back text) true
+      ∙ rw (same_mode mode c own e (here own e), here own e, read, map-append Byte (escape_between mode new) (own ++ behind), map-append Byte own behind)
+      refl in
+      let none = apart_behind jis0208 katakana_index (escape_between mode new) behind in
+      let apart = rw (text_bytes-scalar jis0208 katakana_index mode c text) at h in
       rw (text_bytes-scalar jis0208 katakana_index mode c text)
-      (by_code (code c) refl (mode_of mode c) refl (All-head SameHere c text same) others
-      (iso_2022_jp-again (mode_of mode c) text others)
-      (rw (text_bytes-scalar jis0208 katakana_index mode c text) at h))
-    where
-      by_code : (o : Option (List ℕ)) → code c ≡ o → (new : EncoderMode) → mode_of mode c ≡ new → SameHere c → All SameHere text
-          → (holds_adjacent_escapes (bytes_from new text) ≡ false → sent new (back text) ≡ map Byte (bytes_from new text))
-          → holds_adjacent_escapes (bytes_at mode new o (bytes_from new text)) ≡ false
-          → sent mode (map (own_of) (cond (is_some o) (c ∷ coded_of text) (coded_of text)))
-          ≡ map Byte (bytes_at mode new o (bytes_from new text))
-      by_code None e new n here others later h =
-          let new_is = sym n ∙ none_keeps jis0208 katakana_index mode c e in
-          let read = later (apart_behind jis0208 katakana_index (escape_between mode new) (bytes_from new text) h) in
-          rw new_is (by_mode mode (rw new_is at h) (rw new_is at read))
-        where
-          by_mode : (mode : EncoderMode) → holds_adjacent_escapes (escape_between mode (roman_or_ascii mode) ++ bytes_from (roman_or_ascii mode) text) ≡ false
-              → sent (roman_or_ascii mode) (back text) ≡ map Byte (bytes_from (roman_or_ascii mode) text)
-              → sent mode (back text) ≡ map Byte (escape_between mode (roman_or_ascii mode) ++ bytes_from (roman_or_ascii mode) text)
-          by_mode in_ascii h read = read
-          by_mode in_roman h read = read
-          by_mode in_two_byte h read =
-              late_escape text others (escape_apart jis0208 katakana_index in_two_byte in_ascii (bytes_from in_ascii text) (λ z. cc) h)
-              ∙ ap (λ l. map Byte (escape_to in_ascii) ++ l) read
-              ∙ sym (map-append Byte (escape_to in_ascii) (bytes_from in_ascii text))
-      by_code (Some own) e new n here others later h =
-          let s = own_of c in
-          let behind = bytes_from new text in
-          let again = here own e in
-          let mode_is = same_mode mode c own e again ∙ n in
-          let read = later (apart_behind jis0208 katakana_index own behind (apart_behind jis0208 katakana_index (escape_between mode new) (own ++ behind) h)) in
-          text_events-scalar jis0208 katakana_index mode s (back text) true
-          ∙ rw (mode_is, again, read, map-append Byte (escape_between mode new) (own ++ behind), map-append Byte own behind) refl
+      (grind (arith, some, none, later, none-again mode text others, none_keeps jis0208 katakana_index mode c))
 
 -- ---- all codecs
-
-same_of : (codec : Codec) (text : List ℕ) → ((c : ℕ) → HasSameCode codec c) → All (HasSameCode codec) text
-same_of codec text each k d h = each _
 
 -- the text that the bytes decode to is encoded as the same bytes
 again : (codec : Codec) (text : List ℕ) → IsSound codec text → KeepsCodes codec text →
     encoded (new_encoder codec) (read_back codec text) true ≡ map Byte (written codec text)
-again (single_byte table) text sound keeps =
-    plain-again (single_byte_code table) (read_as (single_byte table)) text (same_of (single_byte table) text (λ c bytes e. e))
-again user_defined text sound keeps = plain-again user_defined_code (read_as user_defined) text (same_of user_defined text (λ c bytes e. e))
-again (big5 index) text sound keeps = plain-again (big5_code index) (read_as (big5 index)) text (same_of (big5 index) text (λ c bytes e. e))
-again (euc_kr index) text sound keeps = plain-again (euc_kr_code index) (read_as (euc_kr index)) text (same_of (euc_kr index) text (λ c bytes e. e))
-again (shift_jis jis0208) text sound keeps =
-    plain-again (shift_jis_code jis0208) japanese_scalar text (same_of (shift_jis jis0208) text (λ c bytes e. shift_jis-same jis0208 c ∙ e))
-again (euc_jp jis0208 jis0212) text sound keeps =
-    plain-again (euc_jp_code jis0208) japanese_scalar text (same_of (euc_jp jis0208 jis0212) text (λ c bytes e. euc_jp-same jis0208 c ∙ e))
-again (gb18030 index ranges pua) text sound keeps = plain-again (gb18030_code index ranges pua) (private_use_scalar index pua) text keeps
-again (gbk index ranges pua) text sound keeps = plain-again (gbk_code index pua) (private_use_scalar index pua) text keeps
+again (single_byte table) text sound keeps = plain-again _ _ text (λ k d h bytes e. e)
+again user_defined text sound keeps = plain-again _ _ text (λ k d h bytes e. e)
+again (big5 index) text sound keeps = plain-again _ _ text (λ k d h bytes e. e)
+again (euc_kr index) text sound keeps = plain-again _ _ text (λ k d h bytes e. e)
+again (shift_jis jis0208) text sound keeps = plain-again _ _ text (λ k d h bytes e. shift_jis-same jis0208 _ ∙ e)
+again (euc_jp jis0208 jis0212) text sound keeps = plain-again _ _ text (λ k d h bytes e. euc_jp-same jis0208 _ ∙ e)
+again (gb18030 index ranges pua) text sound keeps = plain-again _ _ text keeps
+again (gbk index ranges pua) text sound keeps = plain-again _ _ text keeps
 again (iso_2022_jp jis0208 katakana_index) text sound keeps = iso_2022_jp-again jis0208 katakana_index in_ascii text keeps sound
 
 pub reencodes_any_text : ReencodesAnyText

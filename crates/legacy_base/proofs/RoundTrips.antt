@@ -2,13 +2,13 @@
 use Rattle.std.proofs.{lemmas.Bool.Decides.nat_tests, Common.{arith, ◌≡◌, ℕ, List, [], ◌∷◌, map, filter, append-nil, true, false, is_some, refl, sym, ap, ap₂}}
 use Rattle.std.proofs.{Common.◌∙◌, lemmas.Bool.or_parts}
 use Rattle.std.specs.List.{list_any}
-use Rattle.legacy_base.specs.{declared.results.DecodeEvent.TheVariants.Scalar, declared.results.EncodeEvent.TheVariants.Byte, Profile.is_lead}
-use Rattle.legacy_base.specs.{SingleByte.{single_byte_front, single_byte_code}, UserDefined.{user_defined_front, user_defined_code}, Big5.big5_front}
-use Rattle.legacy_base.specs.{Big5.big5_code, LeadForms.lead_front, EucKr.{euc_kr_pointer, euc_kr_code}, ShiftJis.{shift_jis_front, shift_jis_code}}
-use Rattle.legacy_base.specs.{EucJp.{euc_jp_front, euc_jp_code}, Gb18030.{gb18030_front, gb18030_code, gbk_code}, EncoderProfile.in_ascii, Iso2022Jp.ascii}
+use Rattle.legacy_base.specs.{declared.results.DecodeEvent.TheVariants.Scalar, declared.results.EncodeEvent.TheVariants.Byte}
+use Rattle.legacy_base.specs.{SingleByte.{single_byte_code}, UserDefined.{user_defined_code}}
+use Rattle.legacy_base.specs.{Big5.big5_code, EucKr.{euc_kr_code}, ShiftJis.{shift_jis_code}}
+use Rattle.legacy_base.specs.{EucJp.{euc_jp_code}, Gb18030.{gb18030_code, gbk_code}, EncoderProfile.in_ascii, Iso2022Jp.ascii}
 use Rattle.legacy_base.specs.{Grammar.events_of, Encoders.{Codec, single_byte, user_defined, big5, euc_kr, shift_jis, euc_jp, gb18030, gbk, iso_2022_jp}}
 use Rattle.legacy_base.specs.{Encoders.{new_encoder, code, encoded}, RoundTrips.{grammar_of, is_fold, is_private_use_fold, IsEncodedAs, RoundTrips}}
-use Rattle.legacy_base.specs.RoundTrips.{ReencodesToTheSame, EscapesAreInPlace, japanese_scalar, private_use_scalar, read_as, read_back, bytes_of, written}
+use Rattle.legacy_base.specs.RoundTrips.{ReencodesToTheSame, EscapesAreInPlace, read_as, read_back, bytes_of, written}
 use Rattle.legacy_base.specs.RoundTrips.{has_lost_row, IsSound, EncodesWellFormed, EscapesStayApart}
 use Rattle.legacy_tables.specs.{Indexes.FlatIndexes, TableChecks.AreAccepted}
 use Rattle.legacy_tables.proofs.Accepted.{parts, length-euc_kr, length-jis0208, length-gb18030}
@@ -23,54 +23,40 @@ IsWellFormed codec = (text : List ℕ) → IsSound codec text → events_of (gra
 
 single_byte-read : (table : List ℕ) → IsWellFormed (single_byte table)
 unfolding events_of
-single_byte-read table text _ =
-    plain-read (single_byte_front table) (single_byte_code table) (read_as (single_byte table)) (λ c. false) (λ c b _ h. single_byte-decodes table c b h) text
-    (none_lost text)
+single_byte-read table text _ = plain-read _ _ _ (λ c. false) (λ c b _ h. single_byte-decodes table c b h) text (none_lost text)
 
 user_defined-read : IsWellFormed user_defined
 unfolding events_of
-user_defined-read text _ =
-    plain-read user_defined_front user_defined_code (read_as user_defined) (λ c. false) (λ c b _ h. user_defined-decodes c b h) text (none_lost text)
+user_defined-read text _ = plain-read _ _ _ (λ c. false) (λ c b _ h. user_defined-decodes c b h) text (none_lost text)
 
 module _ (flat : FlatIndexes) (accepted : AreAccepted flat) where
   big5-read : IsWellFormed (big5 flat.big5)
   unfolding events_of
-  big5-read text _ =
-      plain-read (big5_front flat.big5) (big5_code flat.big5) (read_as (big5 flat.big5)) (λ c. false)
-      (λ c b _ h. big5-decodes flat.big5 c b (parts flat accepted).big5.0 h) text (none_lost text)
+  big5-read text _ = plain-read _ _ _ (λ c. false) (λ c b _ h. big5-decodes flat.big5 c b (parts flat accepted).big5.0 h) text (none_lost text)
 
   euc_kr-read : IsWellFormed (euc_kr flat.euc_kr)
   unfolding events_of
-  euc_kr-read text _ =
-      plain-read (lead_front is_lead euc_kr_pointer flat.euc_kr) (euc_kr_code flat.euc_kr) (read_as (euc_kr flat.euc_kr)) (λ c. false)
-      (λ c b _ h. euc_kr-decodes flat.euc_kr c b (length-euc_kr flat accepted) h) text (none_lost text)
+  euc_kr-read text _ = plain-read _ _ _ (λ c. false) (λ c b _ h. euc_kr-decodes flat.euc_kr c b (length-euc_kr flat accepted) h) text (none_lost text)
 
   shift_jis-read : IsWellFormed (shift_jis flat.jis0208)
   unfolding events_of
   shift_jis-read text _ =
-      plain-read (shift_jis_front flat.jis0208) (shift_jis_code flat.jis0208) japanese_scalar (λ c. false)
-      (λ c b _ h. shift_jis-decodes flat.jis0208 c b (length-jis0208 flat accepted) (private_use-empty flat accepted) h) text (none_lost text)
+      plain-read _ _ _ (λ c. false) (λ c b _ h. shift_jis-decodes flat.jis0208 c b (length-jis0208 flat accepted) (private_use-empty flat accepted) h) text
+      (none_lost text)
 
   euc_jp-read : (jis0212 : List ℕ) → IsWellFormed (euc_jp flat.jis0208 jis0212)
   unfolding events_of
-  euc_jp-read jis0212 text _ =
-      plain-read (euc_jp_front flat.jis0208 jis0212) (euc_jp_code flat.jis0208) japanese_scalar (λ c. false)
-      (λ c b _ h. euc_jp-decodes flat.jis0208 jis0212 c b h) text (none_lost text)
+  euc_jp-read jis0212 text _ = plain-read _ _ _ (λ c. false) (λ c b _ h. euc_jp-decodes flat.jis0208 jis0212 c b h) text (none_lost text)
 
   gb18030-read : IsWellFormed (gb18030 flat.gb18030 flat.ranges flat.gb18030_pua)
   unfolding events_of
   gb18030-read text sound =
-      plain-read (gb18030_front flat.gb18030 flat.ranges) (gb18030_code flat.gb18030 flat.ranges flat.gb18030_pua)
-      (private_use_scalar flat.gb18030 flat.gb18030_pua) (has_lost_row flat.gb18030 flat.gb18030_pua)
-      (λ c b kept h. gb18030-decodes flat.gb18030 flat.ranges flat.gb18030_pua (length-gb18030 flat accepted)
-      (are_good_rows flat accepted) c b kept h) text sound
+      plain-read _ _ _ _ (gb18030-decodes flat.gb18030 flat.ranges flat.gb18030_pua (length-gb18030 flat accepted) (are_good_rows flat accepted)) text sound
 
   gbk-read : IsWellFormed (gbk flat.gb18030 flat.ranges flat.gb18030_pua)
   unfolding events_of
   gbk-read text sound =
-      plain-read (gb18030_front flat.gb18030 flat.ranges) (gbk_code flat.gb18030 flat.gb18030_pua)
-      (private_use_scalar flat.gb18030 flat.gb18030_pua) (has_lost_row flat.gb18030 flat.gb18030_pua)
-      (λ c b kept h. gbk-decodes flat.gb18030 flat.ranges flat.gb18030_pua (length-gb18030 flat accepted) (are_good_rows flat accepted) c b kept h) text sound
+      plain-read _ _ _ _ (gbk-decodes flat.gb18030 flat.ranges flat.gb18030_pua (length-gb18030 flat accepted) (are_good_rows flat accepted)) text sound
 
 iso_2022_jp-read : (jis0208 katakana_index : List ℕ) → IsWellFormed (iso_2022_jp jis0208 katakana_index)
 unfolding events_of
@@ -143,12 +129,8 @@ round_trips codec accepted text bytes t =
 
 pub same_scalars : (xs ys : List ℕ) → map Scalar xs ≡ map Scalar ys → xs ≡ ys
 same_scalars [] [] e = refl
-same_scalars [] (y ∷ ys) e = cc
-same_scalars (x ∷ xs) [] e = cc
-same_scalars (x ∷ xs) (y ∷ ys) e =
-    let first : x ≡ y = cc in
-    let rest : map Scalar xs ≡ map Scalar ys = cc in
-    ap₂ ◌∷◌ first (same_scalars xs ys rest)
+same_scalars (x ∷ xs) (y ∷ ys) e = grind (arith, same_scalars xs ys)
+same_scalars _ _ e = cc
 
 pub reencodes_to_the_same : ReencodesToTheSame
 reencodes_to_the_same = grind (arith, nat_tests, same_scalars, round_trips)

@@ -3,7 +3,7 @@ use Rattle.std.proofs.{Common.{◌≡◌, ◌∙◌, ℕ, suc, ◌≤◌, List, 
 use Rattle.std.proofs.lemmas.Str.{encode_same}
 use lib.Utf8.{encode}
 use Rattle.std.specs.{Char.IsScalar, Char.Escape.encode_utf16}
-use Rattle.legacy_text.specs.EncodingForm.{EncodingForm, Utf8, Utf16, code_units, all_code_units}
+use Rattle.legacy_text.specs.EncodingForm.{EncodingForm, code_units, all_code_units}
 
 utf16_scalar : (c d : ℕ) (r t : List ℕ) → IsScalar c → IsScalar d → encode_utf16 c ++ r ≡ encode_utf16 d ++ t → c ≡ d
 utf16_scalar c d r t p q e = grind (arith, nat_tests)
@@ -17,8 +17,7 @@ units_same form c d r t h k m = grind (arith, nat_tests, encode_same, utf16_scal
 -- each scalar has at least one code unit
 pub some_unit : (form : EncodingForm) (c : ℕ) → 1 ≤ length (code_units form c)
 unfolding encode
-some_unit Utf16 c = grind (arith, nat_tests)
-some_unit Utf8 c = grind (arith, nat_tests)
+some_unit form c = grind (arith, nat_tests)
 
 none_same : (form : EncodingForm) (c : ℕ) (r : List ℕ) → [] ≡ code_units form c ++ r → ⊥
 none_same form c r e =

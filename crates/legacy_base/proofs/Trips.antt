@@ -1,8 +1,8 @@
 -- Codes that decode to one scalar whatever bytes follow, and texts of such codes.
 use Rattle.std.proofs.{lemmas.Bool.Decides.nat_tests, Common.{◌≡◌, ℕ, ◌<◌, List, [], ◌∷◌, ◌++◌, drop, length, map, filter, Option, Some, None, is_some, Bool}}
-use Rattle.std.proofs.{Common.{false, cond, refl, sym, ◌∙◌, ap, ap₂, arith}, lemmas.Bool.or_parts}
+use Rattle.std.proofs.{Common.{false, refl, ap, ap₂, arith}, lemmas.Bool.or_parts}
 use Rattle.std.specs.List.{list_any}
-use Rattle.legacy_base.specs.{declared.results.DecodeEvent.DecodeEvent, declared.results.DecodeEvent.TheVariants.Scalar}
+use Rattle.legacy_base.specs.{declared.results.DecodeEvent.TheVariants.Scalar}
 use Rattle.legacy_base.specs.{declared.results.EncodeEvent.EncodeEvent, declared.results.EncodeEvent.TheVariants.Byte, Events.shift, Fronts.{Front, reads, cut}}
 use Rattle.legacy_base.specs.{EncodeEvents.{code_events, plain_events}, RoundTrips.bytes_of}
 use Rattle.legacy_base.proofs.{Shifts.shift-scalars, Cuts.{cut-nil, cut-front}}
@@ -34,24 +34,17 @@ pub record BeginsWith (own bytes : List ℕ) (events : List EncodeEvent) : Type 
   pub split : bytes ≡ own ++ rest
   pub behind : events ≡ map Byte rest
 
-same_bytes : (a b : ℕ) (xs ys : List EncodeEvent) → Byte a ∷ xs ≡ Byte b ∷ ys → (a ≡ b) × (xs ≡ ys)
-same_bytes a b xs ys e = (cc, cc)
-
 pub same_byte_lists : (xs ys : List ℕ) → map Byte xs ≡ map Byte ys → xs ≡ ys
 same_byte_lists [] [] e = refl
-same_byte_lists [] (y ∷ ys) e = cc
-same_byte_lists (x ∷ xs) [] e = cc
-same_byte_lists (x ∷ xs) (y ∷ ys) e =
-    let same = same_bytes x y (map Byte xs) (map Byte ys) e in
-    ap₂ ◌∷◌ same.0 (same_byte_lists xs ys same.1)
+same_byte_lists (x ∷ xs) (y ∷ ys) e = grind (arith, same_byte_lists xs ys)
+same_byte_lists _ _ e = cc
 
 pub begins_with : (own bytes : List ℕ) (events : List EncodeEvent) → map Byte own ++ events ≡ map Byte bytes → BeginsWith own bytes events
 begins_with [] bytes events e = record { rest = bytes; split = refl; behind = e }
 begins_with (b ∷ own) [] events e = cc
 begins_with (b ∷ own) (a ∷ bytes) events e =
-    let same = same_bytes b a (map Byte own ++ events) (map Byte bytes) e in
-    let t = begins_with own bytes events same.1 in
-    record { rest = t.rest; split = ap₂ ◌∷◌ (sym same.0) t.split; behind = t.behind }
+    let t = begins_with own bytes events (cc) in
+    record { rest = t.rest; split = (let first : a ≡ b = cc in ap₂ ◌∷◌ first t.split); behind = t.behind }
 
 -- a scalar whose events are all bytes has a code
 pub record HasCode (c : ℕ) (code : Option (List ℕ)) (bytes : List ℕ) (events : List EncodeEvent) : Type 0 where
@@ -100,16 +93,9 @@ unfolding plain_events
 plain-read front code read lost each [] none = rw bytes_of-nothing (cut-nil front)
 plain-read front code read lost each (c ∷ text) none =
     let kept = or_parts (lost c) (list_any lost text) none in
-    by_code (code c) refl kept.0 (plain-read front code read lost each text kept.1)
-  where
-    by_code : (o : Option (List ℕ)) → code c ≡ o → lost c ≡ false → cut front 0 0 (bytes_of (plain_events code text)) ≡ map Scalar (map read (coded code text))
-        → cut front 0 0 (bytes_of (code_events c o ++ plain_events code text))
-        ≡ map Scalar (map read (cond (is_some o) (c ∷ coded code text) (coded code text)))
-    by_code None e kept later = rw (bytes_of-unmappable c (plain_events code text)) later
-    by_code (Some own) e kept later =
-        rw (bytes_of-behind own (plain_events code text))
-        (cut-code front own (bytes_of (plain_events code text)) (read c) (each c own kept e)
-        ∙ ap (λ (es : List DecodeEvent). Scalar (read c) ∷ es) (ap (shift (length own)) later ∙ shift-scalars (length own) (map read (coded code text))))
+    let later = plain-read front code read lost each text kept.1 in
+    let first = λ (own : List ℕ) (e : code c ≡ Some own). cut-code front own (bytes_of (plain_events code text)) (read c) (each c own kept.0 e) in
+    grind (arith, nat_tests, bytes_of-unmappable, bytes_of-behind, first, shift-scalars)
 
 -- no scalar of a text is lost if none can be
 pub none_lost : (text : List ℕ) → list_any (λ (c : ℕ). false) text ≡ false

@@ -1,6 +1,6 @@
 -- The codes of Big5, EUC-KR, Shift_JIS, EUC-JP, the single-byte codecs and x-user-defined decode to their scalars. The
 -- codes of folds decode to other scalars (`read_as`).
-use Rattle.std.proofs.Common.{◌≡◌, ◌≢◌, ℕ, ◌+◌, ◌-◌, ◌*◌, ◌/◌, ◌%◌, ◌<◌, ◌≤◌, List, [], ◌∷◌, length, Bool, true, false, cond, ◌||◌, ◌==◌, nat_lt, Option, Some}
+use Rattle.std.proofs.Common.{◌≡◌, ◌≢◌, ℕ, ◌+◌, ◌*◌, ◌/◌, ◌%◌, ◌<◌, ◌≤◌, List, [], ◌∷◌, length, Bool, true, false, cond, ◌||◌, ◌==◌, nat_lt, Option, Some}
 use Rattle.std.proofs.{Common.{None, option_map, option_to_list, position, refl, sym, arith, if◌then◌else◌}, lemmas.Bool.{cond_both, ne_eqb, eqb-true}}
 use Rattle.std.proofs.{lemmas.Bool.true≢false, lemmas.Bool.Decides.nat_tests, lemmas.List.Quantifiers.position-Some, Math.Nat.div-add-mod, lemmas.Nat.mod_below}
 use Rattle.std.specs.{Int.is_in_range, Char.is_ascii}
@@ -10,7 +10,7 @@ use Rattle.legacy_base.specs.{EucKr.{euc_kr_pointer, euc_kr_bytes, euc_kr_code},
 use Rattle.legacy_base.specs.{ShiftJis.{shift_jis_scalars, shift_jis_pair, shift_jis_front, shift_jis_bytes, shift_jis_code}, EucJp.euc_jp_katakana}
 use Rattle.legacy_base.specs.{EucJp.{euc_jp_pair, euc_jp_front, euc_jp_bytes, euc_jp_code}, RoundTrips.{is_japanese_fold, japanese_scalar}}
 use Rattle.legacy_tables.specs.{Indexes.idx, Pointers.{every_pointer, is_big5_pointer, big5_pointer_of, euc_kr_pointer_of, minus_as_hyphen}}
-use Rattle.legacy_tables.specs.Pointers.{is_shift_jis_pointer, shift_jis_pointer_of, is_jis0208_pointer, euc_jp_pointer_of}
+use Rattle.legacy_tables.specs.Pointers.{is_shift_jis_pointer, is_jis0208_pointer}
 use Rattle.legacy_tables.proofs.Pointers.{first-taken, big5-taken}
 use Rattle.legacy_base.proofs.{PointersBack.{LeadsBack, leads_back}, Trips.Decodes}
 
@@ -28,9 +28,6 @@ one_byte front b c bytes is h = rw is (record { some = omega arith; gives = h })
 pub two_bytes : (front : ℕ → List ℕ → Front) (a b c : ℕ) (bytes : List ℕ) → bytes ≡ a ∷ b ∷ [] → ((more : List ℕ) → front a (b ∷ more) ≡ reads 2 (c ∷ [])) →
     Decodes front bytes c
 two_bytes front a b c bytes is h = rw is (record { some = omega arith; gives = h })
-
-same_bytes : (b : ℕ) (bytes : List ℕ) → Some (b ∷ []) ≡ Some bytes → bytes ≡ b ∷ []
-same_bytes b bytes h = cc
 
 -- a code that is the byte of an ASCII scalar, or is made of a pointer
 ascii_or_mapped : (front : ℕ → List ℕ → Front) (c : ℕ) (bytes : List ℕ) (made : ℕ → List ℕ) (pointer : Option ℕ)
@@ -75,13 +72,11 @@ shift_jis_lead_back : (q : ℕ) → q < 60 → (t : Bool) → nat_lt q 0x1F ≡ 
     × (is_in_range 0xA1 0xDF (q + cond t 0x81 0xC1) ≡ false)
     × (is_shift_jis_lead (q + cond t 0x81 0xC1) ≡ true)
     × (shift_jis_lead_part (q + cond t 0x81 0xC1) ≡ q)
-shift_jis_lead_back q h true e = grind (arith, nat_tests)
-shift_jis_lead_back q h false e = grind (arith, nat_tests)
+shift_jis_lead_back q h t e = grind (arith, nat_tests)
 
 shift_jis_back : (lead q r : ℕ) → r < 188 → shift_jis_lead_part lead ≡ q → (t : Bool) → nat_lt r 0x3F ≡ t
     → shift_jis_pointer lead (r + cond t 0x40 0x41) ≡ Some (188 * q + r)
-shift_jis_back lead q r h part true e = rw part (grind (arith, nat_tests))
-shift_jis_back lead q r h part false e = rw part (grind (arith, nat_tests))
+shift_jis_back lead q r h part t e = rw part (grind (arith, nat_tests))
 
 -- the pointers that decode to private use have empty entries
 pub record PrivateUseIsEmpty (jis0208 : List ℕ) : Type 0 where
@@ -99,36 +94,27 @@ unfolding shift_jis_front shift_jis_pair
 shift_jis_pair_back jis0208 p c more short empty back =
     grind (arith, nat_tests, div-add-mod, mod_below, shift_jis_lead_back, nat_lt, shift_jis_back, shift_jis_scalar)
 
--- a scalar that is no fold decodes to itself
-pub no_japanese_fold : (c : ℕ) → is_japanese_fold c ≡ false → japanese_scalar c ≡ c
-no_japanese_fold c h = grind arith
+-- a code of a Japanese codec: of a scalar that is its own byte, of the yen sign, the overline or half-width katakana, or
+-- made of a pointer
+japanese-decodes : (front : ℕ → List ℕ → Front) (c : ℕ) (bytes katakana : List ℕ) (t : Bool) (made : ℕ → List ℕ) (pointer : Option ℕ)
+    → ((more : List ℕ) → front 0x5C more ≡ reads 1 (0x5C ∷ [])) → ((more : List ℕ) → front 0x7E more ≡ reads 1 (0x7E ∷ []))
+    → (t ≡ true → (is_japanese_fold c ≡ false) × ((more : List ℕ) → front c more ≡ reads 1 (c ∷ [])))
+    → (is_in_range 0xFF61 0xFF9F c ≡ true → Decodes front katakana c)
+    → ((p : ℕ) → pointer ≡ Some p → Decodes front (made p) (minus_as_hyphen c))
+    → cond t (Some (c ∷ [])) (cond (c == 0xA5) (Some (0x5C ∷ [])) (cond (c == 0x203E) (Some (0x7E ∷ []))
+    (cond (is_in_range 0xFF61 0xFF9F c) (Some katakana) (option_map made pointer)))) ≡ Some bytes
+    → Decodes front bytes (japanese_scalar c)
+japanese-decodes front c bytes katakana t made pointer yen overline own half mapping h = grind (arith, nat_tests, one_byte)
 
 pub shift_jis-decodes : (jis0208 : List ℕ) (c : ℕ) (bytes : List ℕ) → length jis0208 ≤ 11280 → PrivateUseIsEmpty jis0208
     → shift_jis_code jis0208 c ≡ Some bytes → Decodes (shift_jis_front jis0208) bytes (japanese_scalar c)
 unfolding shift_jis_code shift_jis_front
-shift_jis-decodes jis0208 c bytes short empty h =
-    by_tests (is_ascii c || c == 0x80) (c == 0xA5) (c == 0x203E) (is_in_range 0xFF61 0xFF9F c) refl refl refl refl h
-  where
-    by_tests : (t y o u : Bool) → (is_ascii c || c == 0x80) ≡ t → (c == 0xA5) ≡ y → (c == 0x203E) ≡ o → is_in_range 0xFF61 0xFF9F c ≡ u
-        → cond t (Some (c ∷ [])) (cond y (Some (0x5C ∷ [])) (cond o (Some (0x7E ∷ [])) (cond u (Some ((0xA1 + (c - 0xFF61)) ∷ []))
-        (option_map shift_jis_bytes (shift_jis_pointer_of jis0208 (minus_as_hyphen c)))))) ≡ Some bytes
-        → Decodes (shift_jis_front jis0208) bytes (japanese_scalar c)
-    by_tests true y o u e f g k h =
-        let plain : is_japanese_fold c ≡ false = grind (arith, nat_tests) in
-        rw (no_japanese_fold c plain) (one_byte (shift_jis_front jis0208) c c bytes (same_bytes c bytes h) (λ more. rw e refl))
-    by_tests false true o u e f g k h = rw f (one_byte (shift_jis_front jis0208) 0x5C 0x5C bytes (same_bytes 0x5C bytes h) (λ more. refl))
-    by_tests false false true u e f g k h = rw (f, g) (one_byte (shift_jis_front jis0208) 0x7E 0x7E bytes (same_bytes 0x7E bytes h) (λ more. refl))
-    by_tests false false false true e f g k h =
-        let plain : is_japanese_fold c ≡ false = grind (arith, nat_tests) in
-        let a : (is_ascii (0xA1 + (c - 0xFF61)) || (0xA1 + (c - 0xFF61)) == 0x80) ≡ false = grind (arith, nat_tests) in
-        let b : is_in_range 0xA1 0xDF (0xA1 + (c - 0xFF61)) ≡ true = grind (arith, nat_tests) in
-        let c_is : 0xFF61 + (0xA1 + (c - 0xFF61) - 0xA1) ≡ c = grind (arith, nat_tests) in
-        rw (no_japanese_fold c plain) (one_byte (shift_jis_front jis0208) (0xA1 + (c - 0xFF61)) c bytes (same_bytes _ bytes h) (λ more. rw (a, b, c_is) refl))
-    by_tests false false false false e f g k h =
-        let looked_up = minus_as_hyphen c in
-        let m = mapped shift_jis_bytes (shift_jis_pointer_of jis0208 looked_up) bytes h in
-        let back = leads_back is_shift_jis_pointer jis0208 looked_up _ (first-taken is_shift_jis_pointer jis0208 looked_up) m.0 m.1 in
-        rw (f, g) (two_bytes (shift_jis_front jis0208) _ _ looked_up bytes m.2 (λ more. shift_jis_pair_back jis0208 m.0 looked_up more short empty back))
+shift_jis-decodes jis0208 c bytes short empty =
+    japanese-decodes (shift_jis_front jis0208) c bytes _ _ shift_jis_bytes _ (λ more. refl) (λ more. refl)
+    (λ t. (grind (arith, nat_tests), λ more. rw t refl))
+    (λ k. one_byte (shift_jis_front jis0208) _ c _ refl (λ more. grind (arith, nat_tests)))
+    (λ p has. two_bytes (shift_jis_front jis0208) _ _ _ _ refl (λ more. shift_jis_pair_back jis0208 p _ more short empty
+    (leads_back is_shift_jis_pointer jis0208 _ _ (first-taken is_shift_jis_pointer jis0208 _) p has)))
 
 -- ---- EUC-JP
 
@@ -140,29 +126,12 @@ euc_jp_pair_back jis0208 jis0212 p c more back = grind arith
 pub euc_jp-decodes : (jis0208 jis0212 : List ℕ) (c : ℕ) (bytes : List ℕ)
     → euc_jp_code jis0208 c ≡ Some bytes → Decodes (euc_jp_front jis0208 jis0212) bytes (japanese_scalar c)
 unfolding euc_jp_code euc_jp_front euc_jp_katakana
-euc_jp-decodes jis0208 jis0212 c bytes h =
-    by_tests (is_ascii c) (c == 0xA5) (c == 0x203E) (is_in_range 0xFF61 0xFF9F c) refl refl refl refl h
-  where
-    by_tests : (t y o u : Bool) → is_ascii c ≡ t → (c == 0xA5) ≡ y → (c == 0x203E) ≡ o → is_in_range 0xFF61 0xFF9F c ≡ u
-        → cond t (Some (c ∷ [])) (cond y (Some (0x5C ∷ [])) (cond o (Some (0x7E ∷ [])) (cond u (Some (0x8E ∷ (0xA1 + (c - 0xFF61)) ∷ []))
-        (option_map euc_jp_bytes (euc_jp_pointer_of jis0208 (minus_as_hyphen c)))))) ≡ Some bytes
-        → Decodes (euc_jp_front jis0208 jis0212) bytes (japanese_scalar c)
-    by_tests true y o u e f g k h =
-        let plain : is_japanese_fold c ≡ false = grind (arith, nat_tests) in
-        rw (no_japanese_fold c plain) (one_byte (euc_jp_front jis0208 jis0212) c c bytes (same_bytes c bytes h) (λ more. rw e refl))
-    by_tests false true o u e f g k h = rw f (one_byte (euc_jp_front jis0208 jis0212) 0x5C 0x5C bytes (same_bytes 0x5C bytes h) (λ more. refl))
-    by_tests false false true u e f g k h = rw (f, g) (one_byte (euc_jp_front jis0208 jis0212) 0x7E 0x7E bytes (same_bytes 0x7E bytes h) (λ more. refl))
-    by_tests false false false true e f g k h =
-        let plain : is_japanese_fold c ≡ false = grind (arith, nat_tests) in
-        let b : is_in_range 0xA1 0xDF (0xA1 + (c - 0xFF61)) ≡ true = grind (arith, nat_tests) in
-        let c_is : 0xFF61 + (0xA1 + (c - 0xFF61) - 0xA1) ≡ c = grind (arith, nat_tests) in
-        let bytes_are : bytes ≡ 0x8E ∷ (0xA1 + (c - 0xFF61)) ∷ [] = cc in
-        rw (no_japanese_fold c plain) (two_bytes (euc_jp_front jis0208 jis0212) 0x8E (0xA1 + (c - 0xFF61)) c bytes bytes_are (λ more. rw (b, c_is) refl))
-    by_tests false false false false e f g k h =
-        let looked_up = minus_as_hyphen c in
-        let m = mapped euc_jp_bytes (euc_jp_pointer_of jis0208 looked_up) bytes h in
-        let back = leads_back is_jis0208_pointer jis0208 looked_up _ (first-taken is_jis0208_pointer jis0208 looked_up) m.0 m.1 in
-        rw (f, g) (two_bytes (euc_jp_front jis0208 jis0212) _ _ looked_up bytes m.2 (λ more. euc_jp_pair_back jis0208 jis0212 m.0 looked_up more back))
+euc_jp-decodes jis0208 jis0212 c bytes =
+    japanese-decodes (euc_jp_front jis0208 jis0212) c bytes _ _ euc_jp_bytes _ (λ more. refl) (λ more. refl)
+    (λ t. (grind (arith, nat_tests), λ more. rw t refl))
+    (λ k. two_bytes (euc_jp_front jis0208 jis0212) _ _ c _ refl (λ more. grind (arith, nat_tests)))
+    (λ p has. two_bytes (euc_jp_front jis0208 jis0212) _ _ _ _ refl (λ more. euc_jp_pair_back jis0208 jis0212 p _ more
+    (leads_back is_jis0208_pointer jis0208 _ _ (first-taken is_jis0208_pointer jis0208 _) p has)))
 
 -- ---- single-byte codecs and x-user-defined
 

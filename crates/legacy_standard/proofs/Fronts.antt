@@ -7,7 +7,7 @@ use Rattle.legacy_base.specs.{Fronts.{trail_front, cut}, Laws.IsFrontOf}
 use Rattle.legacy_base.proofs.Cuts.{cut_at}
 use Rattle.legacy_standard.specs.Queue.{Item, byte, end_of_queue, Handled, continue, finished, error, code_points, code_point, returns, return_or_error}
 use Rattle.legacy_standard.specs.Processing.{Processes}
-use Rattle.legacy_standard.proofs.{Turns.{at_end, error_at_end, goes_on, error_at, gives}, OneResult.{Runs, steady}}
+use Rattle.legacy_standard.proofs.Turns.{Runs, steady, at_end, error_at_end, goes_on, error_at, gives}
 
 -- the handler's result for a leading byte and a trailing byte, by their scalars
 abbrev pub returns_scalars : {S : Type 0} → S → List ℕ → ℕ → Handled S
@@ -63,7 +63,7 @@ module _ {S : Type 0} {handler : S → Item → Handled S} {initial : S} where
 
     -- the queue ends after the leading byte
     pub lead_alone : handler s end_of_queue ≡ returns error initial → Reads handler initial (b ∷ []) (malformed 1)
-    lead_alone ends = record { go = λ place es h. goes_on leads (error_at_end ends h) }
+    lead_alone ends = record { go = λ place es h. goes_on leads (error_at_end [] ends h) }
 
     -- a leading byte and the bytes after it
     pub pair : (scalars : ℕ → List ℕ) → handler s end_of_queue ≡ returns error initial →

@@ -1,17 +1,16 @@
 -- The handlers of EUC-KR, Big5 and Shift_JIS, with a leading byte and a trailing byte, give the events of their
 -- grammars.
-use Rattle.std.proofs.{Common.{◌≡◌, ℕ, ◌+◌, ◌-◌, ◌*◌, cond, List, [], ◌∷◌, Option, Some, None, refl, true, false, arith}, lemmas.Bool.Decides.nat_tests}
-use Rattle.std.specs.{Prelude.{◌==◌, ◌||◌, nat_lt}, Int.is_in_range, Char.is_ascii, Option.{option_map_or, option_and_then}}
+use Rattle.std.proofs.{Common.{◌≡◌, ℕ, cond, List, [], ◌∷◌, refl, true, false, arith}, lemmas.Bool.Decides.nat_tests}
+use Rattle.std.specs.{Prelude.{◌==◌, ◌||◌}, Char.is_ascii, Option.{option_map_or}}
 use Rattle.legacy_base.specs.Fronts.{reads, malformed, trail_front}
-use Rattle.legacy_base.specs.{LeadForms.{lead_front, lead_pair, pair_scalars, pointer_scalars}, EucKr.{euc_kr, euc_kr_pointer}, Profile.is_lead}
+use Rattle.legacy_base.specs.{LeadForms.{lead_front, lead_pair, pair_scalars}, EucKr.{euc_kr, euc_kr_pointer}, Profile.is_lead}
 use Rattle.legacy_base.specs.{Big5.{big5_front, big5_pair, big5_pointer, big5_scalars}, ShiftJis.{shift_jis_front, shift_jis_pair, shift_jis_pointer}}
 use Rattle.legacy_base.specs.{ShiftJis.{shift_jis_scalars, is_shift_jis_lead}, Grammar.{big5, shift_jis, events_of}}
 use Rattle.legacy_base.proofs.FrontLaws.{lead_front-of, big5_front-of, shift_jis_front-of}
-use Rattle.legacy_tables.specs.{Indexes.idx, Unicode.is_katakana_byte}
-use Rattle.legacy_standard.specs.{Queue.{Handled, lead_handler, return_or_error}, EucKr.{euc_kr_handler, euc_kr_trailing}}
-use Rattle.legacy_standard.specs.{Big5.{big5_handler, big5_pointer_returns, big5_trailing}, ShiftJis.shift_jis_handler}
-use Rattle.legacy_standard.specs.ShiftJis.{shift_jis_pointer_returns}
-use Rattle.legacy_standard.proofs.{Fronts.{Reads, whole, by_test, one, malformed_one, returns_scalars, pair}, OneResult.IsDecodedBy}
+use Rattle.legacy_tables.specs.{Unicode.is_katakana_byte}
+use Rattle.legacy_standard.specs.{Queue.{Handled, lead_handler}, EucKr.{euc_kr_handler, euc_kr_trailing}}
+use Rattle.legacy_standard.specs.{Big5.{big5_handler, big5_trailing}, ShiftJis.shift_jis_handler}
+use Rattle.legacy_standard.proofs.{Fronts.{Reads, whole, by_test, one, malformed_one, returns_scalars, pair}, Turns.IsDecodedBy}
 
 pub lead-some : (b : ℕ) → is_lead b ≡ true → (b == 0) ≡ false
 lead-some b h = grind (arith, nat_tests)
@@ -29,13 +28,9 @@ lead-reads trailing scalars returns b rest =
 -- ---- EUC-KR
 
 module _ (index : List ℕ) where
-  euc_kr-returns : (pointer : Option ℕ) (t : ℕ) →
-      return_or_error {State = ℕ} (option_and_then (idx index) pointer) t 0 ≡ returns_scalars 0 (pointer_scalars index pointer) t
-  euc_kr-returns pointer t = grind arith
-
   euc_kr-reads : (b : ℕ) (rest : List ℕ) → Reads (euc_kr_handler index) 0 (b ∷ rest) (lead_front is_lead euc_kr_pointer index b rest)
   unfolding lead_front lead_pair euc_kr_handler
-  euc_kr-reads = lead-reads (euc_kr_trailing index) (pair_scalars euc_kr_pointer index) (λ b t. euc_kr-returns (euc_kr_pointer b t) t)
+  euc_kr-reads = lead-reads (euc_kr_trailing index) (pair_scalars euc_kr_pointer index) (λ b t. grind arith)
 
   pub euc_kr_handled : IsDecodedBy (euc_kr index) (euc_kr_handler index) 0
   unfolding events_of euc_kr_handler
@@ -44,22 +39,10 @@ module _ (index : List ℕ) where
 
 -- ---- Big5
 
--- the grammar's pointer is the Standard's pointer
-big5-pointer : (n t : ℕ) →
-    cond (is_in_range 0x40 0x7E t || is_in_range 0xA1 0xFE t) (Some (n + (t - cond (nat_lt t 0x7F) 0x40 0x62))) None
-    ≡ cond (is_in_range 0x40 0x7E t) (Some (n + (t - 0x40))) (cond (is_in_range 0xA1 0xFE t) (Some (n + (t - 0x62))) None)
-big5-pointer n t = grind (arith, nat_tests)
-
 module _ (index : List ℕ) where
-  big5-returns : (pointer : Option ℕ) (t : ℕ) →
-      big5_pointer_returns index pointer t ≡ returns_scalars 0 (option_map_or (big5_scalars index) pointer []) t
-  big5-returns pointer t = grind arith
-
   big5-reads : (b : ℕ) (rest : List ℕ) → Reads (big5_handler index) 0 (b ∷ rest) (big5_front index b rest)
   unfolding big5_front big5_pair big5_handler
-  big5-reads =
-      lead-reads (big5_trailing index) (λ b t. option_map_or (big5_scalars index) (big5_pointer b t) [])
-      (λ b t. rw (big5-pointer ((b - 0x81) * 157) t) (big5-returns (big5_pointer b t) t))
+  big5-reads = lead-reads (big5_trailing index) (λ b t. option_map_or (big5_scalars index) (big5_pointer b t) []) (λ b t. grind (arith, nat_tests))
 
   pub big5_handled : IsDecodedBy (big5 index) (big5_handler index) 0
   unfolding events_of big5_handler
@@ -67,29 +50,16 @@ module _ (index : List ℕ) where
 
 -- ---- Shift_JIS
 
--- the grammar's pointer is the Standard's pointer
-shift_jis-pointer : (b t : ℕ) → is_shift_jis_lead b ≡ true →
-    cond (is_in_range 0x40 0x7E t || is_in_range 0x80 0xFC t) (Some ((b - cond (nat_lt b 0xA0) 0x81 0xC1) * 188 + (t - cond (nat_lt t 0x7F) 0x40 0x41))) None
-    ≡ shift_jis_pointer b t
-shift_jis-pointer b t h = grind (arith, nat_tests)
-
-shift_jis-some : (b : ℕ) → is_shift_jis_lead b ≡ true → (b == 0) ≡ false
-shift_jis-some b h = grind (arith, nat_tests)
-
 module _ (jis0208 : List ℕ) where
-  shift_jis-returns : (pointer : Option ℕ) (t : ℕ) →
-      shift_jis_pointer_returns jis0208 pointer t ≡ returns_scalars 0 (option_map_or (shift_jis_scalars jis0208) pointer []) t
-  shift_jis-returns pointer t = grind arith
-
   shift_jis-reads : (b : ℕ) (rest : List ℕ) → Reads (shift_jis_handler jis0208) 0 (b ∷ rest) (shift_jis_front jis0208 b rest)
   unfolding shift_jis_front shift_jis_pair shift_jis_handler
   shift_jis-reads b rest =
       by_test (is_ascii b || b == 0x80) _ _ (λ h. one (rw h refl))
       (λ h. by_test (is_katakana_byte b) _ _ (λ k. one (rw (h, k) refl))
       (λ k. by_test (is_shift_jis_lead b) _ _
-      (λ l. let some = shift_jis-some b l in
+      (λ l. let some : (b == 0) ≡ false = grind (arith, nat_tests) in
       pair {s = b} (rw (h, k, l) refl) (λ t. option_map_or (shift_jis_scalars jis0208) (shift_jis_pointer b t) []) (rw some refl)
-      (λ t. rw (some, shift_jis-pointer b t l) (shift_jis-returns (shift_jis_pointer b t) t)) rest)
+      (λ t. rw some (grind (arith, nat_tests))) rest)
       (λ l. malformed_one (rw (h, k, l) refl))))
 
   pub shift_jis_handled : IsDecodedBy (shift_jis jis0208) (shift_jis_handler jis0208) 0

@@ -1,5 +1,4 @@
 -- Proofs that the handlers give the events of the grammars and encoders.
-pub mod OneResult
 pub mod Turns
 pub mod Fronts
 pub mod SingleByteHandled

@@ -1,141 +1,90 @@
 -- The handlers of the encoders without a state give the events of their definitions.
-use Rattle.std.proofs.{lemmas.Bool.Decides.nat_tests, Common.{◌≡◌, ◌≢◌, ◌∙◌, ◌≤◌, ◌<◌, length, inl, inr, sym, ℕ, List, [], ◌∷◌, ◌++◌, Option, Some, None, refl}}
-use Rattle.std.proofs.{Common.{true, false, arith}, lemmas.List.Elements.{All-head, All-tail}, lemmas.List.get_or_past, lemmas.List.Sums.position_or_len_is}
-use Rattle.std.proofs.lemmas.Bool.{cases_eq, cases_lt, eq-eqb, ne_eqb}
+use Rattle.std.proofs.{lemmas.Bool.Decides.nat_tests, Common.{◌≡◌, ◌≢◌, ◌≤◌, length, inl, inr, ℕ, List, [], ◌∷◌, Option, Some, None, refl}}
+use Rattle.std.proofs.{Common.{true, false, arith}, lemmas.List.Elements.{All-head, All-tail}, lemmas.List.Quantifiers.position-Some}
+use Rattle.std.proofs.{lemmas.List.Sums.fails_before_first, lemmas.Bool.{cases_eq, eqb-true}}
 use Rattle.std.specs.{Prelude.{is_some, ◌==◌, position, slice_index}, Char.IsScalar, List.position_or_len}
-use Rattle.legacy_base.specs.{EncodeEvents.{code_events, plain_events}, SingleByte.single_byte_code, UserDefined.user_defined_code, EucKr.euc_kr_code}
+use Rattle.legacy_base.specs.{EncodeEvents.{plain_events}, SingleByte.single_byte_code, UserDefined.user_defined_code, EucKr.euc_kr_code}
 use Rattle.legacy_base.specs.{Big5.big5_code, ShiftJis.shift_jis_code, EucJp.euc_jp_code, Gb18030.{gb18030_code, gbk_code}}
 use Rattle.legacy_tables.specs.{Unicode.AreScalars, Pointers.{every_pointer, shift_jis_pointer_of}}
-use borrow.Author.Tests.{lt-ltb, le-ltb}
-use Rattle.legacy_tables.proofs.Pointers.{IsTaken, first-taken, first-least}
-use Rattle.legacy_standard.specs.{TextQueue.{TextOutcome, bytes, error_with, by_scalar, Encodes}, IndexPointers.index_pointer}
+use Rattle.legacy_tables.proofs.Pointers.{first-is, first-none}
+use Rattle.legacy_standard.specs.{TextQueue.{TextOutcome, by_scalar, Encodes}, IndexPointers.index_pointer}
 use Rattle.legacy_standard.specs.{SingleByteEncoder.single_byte_encodes, UserDefinedEncoder.user_defined_encodes, EucKrEncoder.euc_kr_encodes}
 use Rattle.legacy_standard.specs.{Big5Encoder.big5_encodes, ShiftJisEncoder.{minus_set, shift_jis_encodes}, EucJpEncoder.euc_jp_encodes}
 use Rattle.legacy_standard.specs.{Gb18030Encoder.gb18030_encodes, EncoderLaw.{HasRows, AreAcceptedRanges, HasRangePointers}}
-use Rattle.legacy_standard.proofs.{RangePointers.ranged_pointer, TextTurns.{IsEncodedBy, Writes, steady, ends, gives_bytes, gives_error}}
+use Rattle.legacy_standard.proofs.{RangePointers.ranged_pointer, TextTurns.{IsEncodedBy, Writes, by_code, steady, ends, gives}}
 use Rattle.legacy_base.specs.Encoders as codecs
-
--- the result of a handler, by the code of the scalar
-abbrev by_code : ℕ → Option (List ℕ) → TextOutcome
-by_code c None = error_with c
-by_code c (Some bs) = bytes bs
 
 module _ (outcome : ℕ → TextOutcome) (code : ℕ → Option (List ℕ)) (is : (c : ℕ) → IsScalar c → outcome c ≡ by_code c (code c)) where
   writes : (text : List ℕ) → AreScalars text → Writes (by_scalar outcome) tt text (plain_events code text)
   unfolding plain_events
   writes [] all = ends refl
-  writes (c ∷ text) all = by_case (code c) (is c (All-head IsScalar c text all)) (writes text (All-tail IsScalar c text all))
-    where
-      by_case : (o : Option (List ℕ)) → outcome c ≡ by_code c o → Writes (by_scalar outcome) tt text (plain_events code text) →
-          Writes (by_scalar outcome) tt (c ∷ text) (code_events c o ++ plain_events code text)
-      by_case None e h = gives_error {t = tt} (rw e refl) h
-      by_case (Some bs) e h = gives_bytes {t = tt} bs (rw e refl) h
+  writes (c ∷ text) all =
+      gives c (code c) [] (rw (is c (All-head IsScalar c text all)) refl) (writes text (All-tail IsScalar c text all))
 
-  plain_of_scalars : (text : List ℕ) → AreScalars text → Encodes (by_scalar outcome) tt text (plain_events code text)
-  plain_of_scalars text all = steady (writes text all)
-
-plain : (outcome : ℕ → TextOutcome) (code : ℕ → Option (List ℕ)) → ((c : ℕ) → outcome c ≡ by_code c (code c)) →
-    (text : List ℕ) → AreScalars text → Encodes (by_scalar outcome) tt text (plain_events code text)
-plain outcome code is text all = plain_of_scalars outcome code (λ c s. is c) text all
+  plain : (text : List ℕ) → AreScalars text → Encodes (by_scalar outcome) tt text (plain_events code text)
+  plain text all = steady (writes text all)
 
 -- ---- single-byte
 
 -- "index pointer" is the first position of a scalar
 pointer-position : (table : List ℕ) (c : ℕ) → c ≢ 0 → index_pointer table c ≡ position (λ entry. entry == c) table
-pointer-position table c some = by_pointer (index_pointer table c) refl
+pointer-position table c some = by_place (position (λ entry. entry == c) table) refl
   where
-    taken : IsTaken every_pointer table c (index_pointer table c)
-    taken = first-taken every_pointer table c
-
-    place-is : (i : ℕ) → i ≤ length table → ((k : ℕ) → k < i → slice_index table k ≡ c → ⊥) → (i < length table → slice_index table i ≡ c) →
-        position_or_len (λ entry. entry == c) table ≡ i
-    place-is i few before here =
-        position_or_len_is (λ entry. entry == c) table i 0 few (λ k h. ne_eqb (slice_index table k) c (before k h))
-        (λ h. eq-eqb (slice_index table i) c (here h))
-
-    by_pointer : (o : Option ℕ) → index_pointer table c ≡ o → o ≡ position (λ entry. entry == c) table
-    by_pointer None e =
-        let last : position_or_len (λ entry. entry == c) table ≡ length table =
-        place-is (length table) (omega arith) (λ k h is. taken.missing e k refl is some) (λ h. absurd (omega arith)) in
-        rw (last, le-ltb (length table) (length table) (omega arith)) refl
-    by_pointer (Some s) e = elim (cases_lt s (length table)) [
-      | inl h ↦
-          let found : position_or_len (λ entry. entry == c) table ≡ s =
-          place-is s (omega arith) (λ k l is. let least = first-least every_pointer table c s k e refl is some in absurd (omega arith))
-          (λ l. (taken.chosen s e).1) in
-          rw (found, lt-ltb s (length table) h) refl
-      | inr h ↦ absurd (some (sym (taken.chosen s e).1 ∙ get_or_past table s 0 h))
-    ]
-
-single_byte-is : (table : List ℕ) (c : ℕ) → single_byte_encodes table c ≡ by_code c (single_byte_code table c)
-unfolding single_byte_encodes single_byte_code
-single_byte-is table c = elim (cases_eq c 0) [ inl is ↦ rw is refl | inr some ↦ rw (pointer-position table c some) (grind arith) ]
+    by_place : (o : Option ℕ) → position (λ entry. entry == c) table ≡ o → index_pointer table c ≡ o
+    by_place None e =
+        let past : length table ≤ position_or_len (λ entry. entry == c) table = grind (arith, nat_tests) in
+        first-none every_pointer table c (λ k h. fails_before_first (λ entry. entry == c) table k 0 (omega arith))
+    by_place (Some p) e =
+        let at = position-Some (λ entry. entry == c) table p 0 e in
+        first-is every_pointer table c some p at.0 refl (eqb-true (slice_index table p) c at.1) at.2
 
 pub single_byte_encoded : (table : List ℕ) → IsEncodedBy (codecs.single_byte table) (by_scalar (single_byte_encodes table)) tt
-single_byte_encoded table = plain (single_byte_encodes table) (single_byte_code table) (single_byte-is table)
+unfolding single_byte_encodes single_byte_code
+single_byte_encoded table =
+    plain (single_byte_encodes table) (single_byte_code table)
+    (λ c s. elim (cases_eq c 0) [ inl is ↦ rw is refl | inr some ↦ rw (pointer-position table c some) (grind arith) ])
 
 -- ---- x-user-defined
 
-user_defined-is : (c : ℕ) → user_defined_encodes c ≡ by_code c (user_defined_code c)
-unfolding user_defined_encodes user_defined_code
-user_defined-is c = grind arith
-
 pub user_defined_encoded : IsEncodedBy codecs.user_defined (by_scalar user_defined_encodes) tt
-user_defined_encoded = plain user_defined_encodes user_defined_code user_defined-is
+unfolding user_defined_encodes user_defined_code
+user_defined_encoded = plain user_defined_encodes user_defined_code (λ c s. grind arith)
 
 -- ---- EUC-KR
 
-euc_kr-is : (index : List ℕ) (c : ℕ) → euc_kr_encodes index c ≡ by_code c (euc_kr_code index c)
-unfolding euc_kr_encodes euc_kr_code
-euc_kr-is index c = grind arith
-
 pub euc_kr_encoded : (index : List ℕ) → IsEncodedBy (codecs.euc_kr index) (by_scalar (euc_kr_encodes index)) tt
-euc_kr_encoded index = plain (euc_kr_encodes index) (euc_kr_code index) (euc_kr-is index)
+unfolding euc_kr_encodes euc_kr_code
+euc_kr_encoded index = plain (euc_kr_encodes index) (euc_kr_code index) (λ c s. grind arith)
 
 -- ---- Big5
 
-big5-is : (index : List ℕ) (c : ℕ) → big5_encodes index c ≡ by_code c (big5_code index c)
-unfolding big5_encodes big5_code
-big5-is index c = grind arith
-
 pub big5_encoded : (index : List ℕ) → IsEncodedBy (codecs.big5 index) (by_scalar (big5_encodes index)) tt
-big5_encoded index = plain (big5_encodes index) (big5_code index) (big5-is index)
+unfolding big5_encodes big5_code
+big5_encoded index = plain (big5_encodes index) (big5_code index) (λ c s. grind arith)
 
 -- ---- Shift_JIS
 
-shift_jis-is : (jis0208 : List ℕ) → is_some (shift_jis_pointer_of jis0208 0xFF0D) ≡ true → (c : ℕ) →
-    shift_jis_encodes jis0208 c ≡ by_code c (shift_jis_code jis0208 c)
-unfolding shift_jis_encodes shift_jis_code
-shift_jis-is jis0208 hyphen c = grind arith
-
 pub shift_jis_encoded : (jis0208 : List ℕ) → is_some (shift_jis_pointer_of jis0208 0xFF0D) ≡ true →
     IsEncodedBy (codecs.shift_jis jis0208) (by_scalar (shift_jis_encodes jis0208)) tt
-shift_jis_encoded jis0208 hyphen = plain (shift_jis_encodes jis0208) (shift_jis_code jis0208) (shift_jis-is jis0208 hyphen)
+unfolding shift_jis_encodes shift_jis_code
+shift_jis_encoded jis0208 hyphen = plain (shift_jis_encodes jis0208) (shift_jis_code jis0208) (λ c s. grind arith)
 
 -- ---- EUC-JP
 
-euc_jp-is : (jis0208 : List ℕ) → HasRows jis0208 → (c : ℕ) → euc_jp_encodes jis0208 c ≡ by_code c (euc_jp_code jis0208 c)
-unfolding euc_jp_encodes euc_jp_code
-euc_jp-is jis0208 rows c = rw (rows.first (minus_set c)) (grind (arith, rows.hyphen))
-
 pub euc_jp_encoded : (jis0208 jis0212 : List ℕ) → HasRows jis0208 → IsEncodedBy (codecs.euc_jp jis0208 jis0212) (by_scalar (euc_jp_encodes jis0208)) tt
-euc_jp_encoded jis0208 jis0212 rows = plain (euc_jp_encodes jis0208) (euc_jp_code jis0208) (euc_jp-is jis0208 rows)
+unfolding euc_jp_encodes euc_jp_code
+euc_jp_encoded jis0208 jis0212 rows =
+    plain (euc_jp_encodes jis0208) (euc_jp_code jis0208) (λ c s. rw (rows.first (minus_set c)) (grind (arith, rows.hyphen)))
 
 -- ---- gb18030 and GBK
 
 module _ (index : List ℕ) (ranges : List (ℕ × ℕ)) (pua : List (ℕ × ℕ × ℕ)) where
-  gb18030-is : AreAcceptedRanges ranges → HasRangePointers index ranges pua → (c : ℕ) → IsScalar c →
-      gb18030_encodes false index ranges pua c ≡ by_code c (gb18030_code index ranges pua c)
-  unfolding gb18030_encodes gb18030_code
-  gb18030-is accepted ranged c s = grind (arith, nat_tests, ranged_pointer)
-
-  gbk-is : (c : ℕ) → gb18030_encodes true index ranges pua c ≡ by_code c (gbk_code index pua c)
-  unfolding gb18030_encodes gbk_code
-  gbk-is c = grind arith
-
   pub gb18030_encoded : AreAcceptedRanges ranges → HasRangePointers index ranges pua →
       IsEncodedBy (codecs.gb18030 index ranges pua) (by_scalar (gb18030_encodes false index ranges pua)) tt
-  gb18030_encoded accepted ranged = plain_of_scalars (gb18030_encodes false index ranges pua) (gb18030_code index ranges pua) (gb18030-is accepted ranged)
+  unfolding gb18030_encodes gb18030_code
+  gb18030_encoded accepted ranged =
+      plain (gb18030_encodes false index ranges pua) (gb18030_code index ranges pua) (λ c s. grind (arith, nat_tests, ranged_pointer))
 
   pub gbk_encoded : IsEncodedBy (codecs.gbk index ranges pua) (by_scalar (gb18030_encodes true index ranges pua)) tt
-  gbk_encoded = plain (gb18030_encodes true index ranges pua) (gbk_code index pua) gbk-is
+  unfolding gb18030_encodes gbk_code
+  gbk_encoded = plain (gb18030_encodes true index ranges pua) (gbk_code index pua) (λ c s. grind arith)

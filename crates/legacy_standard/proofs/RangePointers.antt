@@ -1,10 +1,9 @@
 -- In accepted ranges the last range at or before a scalar gives the pointer that the encoder takes.
-use Rattle.std.proofs.{lemmas.Bool.Decides.nat_tests, Common.{◌≡◌, ◌≢◌, ◌∙◌, ℕ, zero, suc, ◌+◌, ◌-◌, ◌≤◌, ◌<◌, Bool, true, false, cond, List, [], ◌∷◌, length}}
-use Rattle.std.proofs.{Common.{get_or, drop, Option, Some, None, nat_le, inl, inr, refl, ap, arith}, lemmas.Bool.{cases_eq, cases_lt, eq-eqb, ne_eqb}}
-use Rattle.std.proofs.lemmas.Bool.{false≢true}
+use Rattle.std.proofs.{lemmas.Bool.Decides.nat_tests, Common.{◌≡◌, ◌≢◌, ℕ, zero, suc, ◌+◌, ◌-◌, ◌≤◌, ◌<◌, Bool, true, false, cond, List, [], ◌∷◌, length}}
+use Rattle.std.proofs.{Common.{get_or, Option, Some, None, nat_le, refl, arith}, lemmas.Bool.{eq-eqb, ne_eqb}}
 use Rattle.std.specs.{Prelude.is_some, Option.option_or, Char.IsScalar}
 use borrow.Author.Tests.{leb-true, leb-false}
-use Rattle.legacy_tables.specs.{Pointers.range_pointer_of, TableChecks.next_pointer}
+use Rattle.legacy_tables.specs.{Pointers.range_pointer_of}
 use Rattle.legacy_tables.proofs.{Pointers.range-fixed, RangePointers.{wide-pointer, pointer-before, pointer-past, pointer-fixed, pointer-found}}
 use Rattle.legacy_standard.specs.{IndexPointers.{offset_pointer, ranges_pointer}, EncoderLaw.AreAcceptedRanges}
 
@@ -29,33 +28,24 @@ chosen (r ∷ ranges) c = by_last (offset_pointer ranges c) (nat_le r.1 c) refl 
     ahead n later zero m h = absurd (omega arith)
     ahead n later (suc k) m h = later k (omega arith) (omega arith)
 
-    none : nat_le r.1 c ≡ false → Chosen ranges c None → Chosen (r ∷ ranges) c None
-    none s later zero h = leb-false r.1 c s
-    none s later (suc k) h = later k (omega arith)
-
     by_last : (o : Option ℕ) (t : Bool) → nat_le r.1 c ≡ t → Chosen ranges c o → Chosen (r ∷ ranges) c (option_or o (cond t (Some (r.0 + (c - r.1))) None))
     by_last (Some p) t s (place, l) =
         let within = l.within in
         (suc place, record { within = omega arith; reached = l.reached; ahead = ahead (suc place) (λ k m. l.ahead k (omega arith)); gives = l.gives })
     by_last None true s later = (0, record { within = omega arith; reached = leb-true r.1 c s; ahead = ahead 0 (λ k m. later k); gives = refl })
-    by_last None false s later = none s later
+    by_last None false s later = elim [ zero ↦ λ h. leb-false r.1 c s | suc k ↦ λ h. later k (omega arith) ]
 
 module _ (ranges : List (ℕ × ℕ)) (accepted : AreAcceptedRanges ranges) (c : ℕ) where
-  no_pointer : is_some (range_pointer_of ranges c) ≡ true → None ≡ range_pointer_of ranges c → ⊥
-  no_pointer some e = false≢true (ap is_some e ∙ some)
-
   narrow : c < 0x1_0000 → c ≢ 0xE7C7 → is_some (range_pointer_of ranges c) ≡ true → offset_pointer ranges c ≡ range_pointer_of ranges c
   narrow low free some = by_offset (offset_pointer ranges c) (chosen ranges c)
     where
       by_offset : (o : Option ℕ) → Chosen ranges c o → o ≡ range_pointer_of ranges c
-      by_offset None before = absurd (no_pointer some (pointer-before ranges accepted.ordered c low free before))
-      by_offset (Some p) (place, t) = elim (cases_lt p (next_pointer (drop (place + 1) ranges))) [
-        | inl l ↦ elim (cases_eq p 7457) [
-          | inl is ↦ absurd (no_pointer some (pointer-fixed ranges accepted.ordered c low free place t.within t.reached t.ahead p t.gives is))
-          | inr other ↦ pointer-found ranges accepted.ordered c low free place t.within t.reached t.ahead p t.gives l other
-        ]
-        | inr past ↦ absurd (no_pointer some (pointer-past ranges accepted.ordered c low free place t.within t.reached t.ahead p t.gives past))
-      ]
+      by_offset None before = let none = pointer-before ranges accepted.ordered c low free before in grind (arith, none)
+      by_offset (Some p) (place, t) =
+          let past = pointer-past ranges accepted.ordered c low free place t.within t.reached t.ahead p t.gives in
+          let fixed = pointer-fixed ranges accepted.ordered c low free place t.within t.reached t.ahead p t.gives in
+          let found = pointer-found ranges accepted.ordered c low free place t.within t.reached t.ahead p t.gives in
+          grind (arith, past, fixed, found)
 
   pub ranged_pointer : IsScalar c → is_some (range_pointer_of ranges c) ≡ true → ranges_pointer ranges c ≡ range_pointer_of ranges c
   unfolding ranges_pointer

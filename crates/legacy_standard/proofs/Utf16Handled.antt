@@ -1,17 +1,16 @@
 -- The UTF-16 decoders' handlers give the events of their grammars.
-use Rattle.std.proofs.Common.{◌≡◌, ℕ, zero, suc, ◌+◌, ◌*◌, ◌≤◌, Bool, List, [], ◌∷◌, ◌++◌, length, Some, None, inl, inr, refl, true, false, arith}
-use Rattle.std.proofs.{lemmas.Bool.{cases_Bool, cond_both, and_left, and_right}, lemmas.List.Elements.{All-head, All-tail}}
-use Rattle.std.specs.{Prelude.◌&&◌, Char.Utf16.{is_high_surrogate, is_low_surrogate, surrogate_pair_char}}
+use Rattle.std.proofs.Common.{◌≡◌, ℕ, ◌+◌, ◌*◌, Bool, List, [], ◌∷◌, ◌++◌, cond, Some, None, inl, inr, refl, true, false, arith}
+use Rattle.std.proofs.{lemmas.Bool.{cases_Bool, cond_both, and_left}, lemmas.List.Elements.{All-tail}}
+use Rattle.std.specs.{Char.Utf16.{is_high_surrogate, is_low_surrogate, surrogate_pair_char}}
 use Rattle.legacy_base.specs.{declared.results.DecodeEvent.DecodeEvent, declared.results.DecodeEvent.TheVariants.{Scalar, Bad}, Utf16.{unit_of, units_of}}
 use Rattle.legacy_base.specs.{Utf16.{has_odd_byte, single_unit_events, units_events, utf16_events}, Grammar.{utf16, events_of}}
 use Rattle.legacy_tables.specs.Unicode.{IsByte, AreBytes}
 use Rattle.legacy_standard.specs.{Queue.{Item, Handled}, Utf16.{Utf16, utf16_state, utf16_initial, unit_bytes, utf16_handler}}
-use Rattle.legacy_standard.proofs.{Turns.{at_end, goes_on, gives, error_at, error_at_end}, OneResult.{Runs, steady, IsDecodedBy}}
+use Rattle.legacy_standard.proofs.Turns.{Runs, steady, IsDecodedBy, at_end, goes_on, gives, error_at, error_at_end}
 
 -- the bytes of a code unit are those that it was made from
 bytes-back : (is_utf16be : Bool) (a b : ℕ) → IsByte a → IsByte b → unit_bytes is_utf16be (unit_of is_utf16be a b) ≡ a ∷ b ∷ []
-bytes-back true a b p q = grind arith
-bytes-back false a b p q = grind arith
+bytes-back is_utf16be a b p q = grind arith
 
 module _ (is_utf16be : Bool) where
   abbrev handler : Utf16 → Item → Handled Utf16
@@ -27,43 +26,28 @@ module _ (is_utf16be : Bool) where
   abbrev Gives : ℕ → List ℕ → Type 0
   Gives i bytes = Runs handler utf16_initial (2 * i) 0 bytes (events i bytes)
 
-  next : (i : ℕ) → 2 * i + 2 ≡ 2 * (i + 1)
-  next i = omega arith
-
-  over_next : (i : ℕ) → 2 * i + 4 ≡ 2 * (i + 2)
-  over_next i = omega arith
-
-  pair-events : (i u v : ℕ) (units : List ℕ) (odd : Bool) → is_high_surrogate u ≡ true → is_low_surrogate v ≡ true →
-      units_events i (u ∷ v ∷ units) odd ≡ Scalar (surrogate_pair_char u v) ∷ units_events (i + 2) units odd
-  unfolding units_events
-  pair-events i u v units odd h l = grind arith
-
-  -- two code units that are no surrogate pair
-  unpaired-events : (i u v : ℕ) (units : List ℕ) (odd : Bool) → (is_high_surrogate u && is_low_surrogate v) ≡ false →
-      units_events i (u ∷ v ∷ units) odd ≡ single_unit_events i u ++ units_events (i + 1) (v ∷ units) odd
-  unfolding units_events
-  unpaired-events i u v units odd e = rw (e, units_events)
-
   -- a code unit that is no high surrogate is not paired with the next one
   single-events : (i u : ℕ) (units : List ℕ) (odd : Bool) → is_high_surrogate u ≡ false →
       units_events i (u ∷ units) odd ≡ single_unit_events i u ++ units_events (i + 1) units odd
   unfolding units_events
   single-events i u [] odd h = rw h refl
-  single-events i u (v ∷ units) odd h = unpaired-events i u v units odd (and_left (is_high_surrogate u) (is_low_surrogate v) h)
+  single-events i u (v ∷ units) odd h = rw (and_left (is_high_surrogate u) (is_low_surrogate v) h, units_events)
 
-  -- a high surrogate before a code unit that is no low surrogate
-  high-events : (i u v : ℕ) (units : List ℕ) (odd : Bool) → is_high_surrogate u ≡ true → is_low_surrogate v ≡ false →
-      units_events i (u ∷ v ∷ units) odd ≡ Bad (2 * i) 2 ∷ units_events (i + 1) (v ∷ units) odd
-  high-events i u v units odd h l = rw (unpaired-events i u v units odd (and_right (is_high_surrogate u) (is_low_surrogate v) l), h) refl
+  -- a high surrogate is paired with the next code unit if that is a low one
+  high-events : (i u v : ℕ) (units : List ℕ) (odd : Bool) → is_high_surrogate u ≡ true → units_events i (u ∷ v ∷ units) odd
+      ≡ cond (is_low_surrogate v) (Scalar (surrogate_pair_char u v) ∷ units_events (i + 2) units odd) (Bad (2 * i) 2 ∷ units_events (i + 1) (v ∷ units) odd)
+  unfolding units_events
+  high-events i u v units odd h = grind arith
 
   single : (i a b : ℕ) (rest : List ℕ) → is_high_surrogate (unit a b) ≡ false → Gives (i + 1) rest → Gives i (a ∷ b ∷ rest)
   unfolding units_of has_odd_byte utf16_handler
   single i a b rest h after =
+      let next : 2 * i + 2 ≡ 2 * (i + 1) = omega arith in
       rw (single-events i (unit a b) (units_of is_utf16be rest) (has_odd_byte rest) h, h)
-      (cond_both (is_low_surrogate (unit a b)) (Bad (2 * i) 2 ∷ []) (Scalar (unit a b) ∷ [])
-      (λ es. Runs handler utf16_initial (2 * i) 0 (a ∷ b ∷ rest) (es ++ events (i + 1) rest))
-      (λ l. goes_on refl (error_at {t = utf16_initial} [] (rw (h, l) refl) (rw (next i) after)))
-      (λ l. goes_on refl (gives {t = utf16_initial} (unit a b ∷ []) (rw (h, l) refl) (rw (next i) after))))
+      (elim (cases_Bool (is_low_surrogate (unit a b))) [
+        | inl l ↦ rw l (goes_on refl (error_at {t = utf16_initial} [] (rw (h, l) refl) (rw next after)))
+        | inr l ↦ rw l (goes_on refl (gives {t = utf16_initial} (unit a b ∷ []) (rw (h, l) refl) (rw next after)))
+      ])
 
   -- the handler's steps for a high surrogate
   over_high : {place a b : ℕ} {rest : List ℕ} {es : List DecodeEvent} → is_high_surrogate (unit a b) ≡ true →
@@ -71,52 +55,37 @@ module _ (is_utf16be : Bool) where
   unfolding utf16_handler
   over_high h after = goes_on refl (goes_on (rw h refl) after)
 
-  nothing : (i : ℕ) → Gives i []
-  unfolding units_of has_odd_byte units_events utf16_handler
-  nothing i = at_end refl
-
-  odd_byte : (i a : ℕ) → Gives i (a ∷ [])
-  unfolding units_of has_odd_byte units_events utf16_handler
-  odd_byte i a = goes_on refl (error_at_end refl (at_end refl))
-
-  high_alone : (i a b : ℕ) → is_high_surrogate (unit a b) ≡ true → Gives i (a ∷ b ∷ [])
-  unfolding units_of has_odd_byte units_events utf16_handler
-  high_alone i a b h = rw h (over_high h (error_at_end refl (at_end refl)))
-
-  high_odd : (i a b c : ℕ) → is_high_surrogate (unit a b) ≡ true → Gives i (a ∷ b ∷ c ∷ [])
-  unfolding units_of has_odd_byte units_events utf16_handler
-  high_odd i a b c h = rw h (over_high h (goes_on refl (error_at_end refl (at_end refl))))
-
   high_more : (i a b c d : ℕ) (rest : List ℕ) → IsByte c → IsByte d → is_high_surrogate (unit a b) ≡ true → Gives (i + 2) rest →
       Gives (i + 1) (c ∷ d ∷ rest) → Gives i (a ∷ b ∷ c ∷ d ∷ rest)
   unfolding units_of has_odd_byte utf16_handler
-  high_more i a b c d rest p q h after other = over_high h (goes_on refl (elim (cases_Bool (is_low_surrogate (unit c d))) [
-    | inl l ↦
-        rw (pair-events i (unit a b) (unit c d) (units_of is_utf16be rest) (has_odd_byte rest) h l)
-        (gives {t = utf16_initial} (surrogate_pair_char (unit a b) (unit c d) ∷ []) (rw l refl) (rw (over_next i) after))
-    | inr l ↦
-        rw (high-events i (unit a b) (unit c d) (units_of is_utf16be rest) (has_odd_byte rest) h l)
-        (error_at {t = utf16_initial} (c ∷ d ∷ []) (rw (l, bytes-back is_utf16be c d p q) refl) (rw (next i) other))
-  ]))
+  high_more i a b c d rest p q h after other =
+      let next : 2 * i + 2 ≡ 2 * (i + 1) = omega arith in
+      let over_next : 2 * i + 4 ≡ 2 * (i + 2) = omega arith in
+      rw (high-events i (unit a b) (unit c d) (units_of is_utf16be rest) (has_odd_byte rest) h)
+      (over_high h (goes_on refl (elim (cases_Bool (is_low_surrogate (unit c d))) [
+        | inl l ↦ rw l (gives {t = utf16_initial} (surrogate_pair_char (unit a b) (unit c d) ∷ []) (rw l refl) (rw over_next after))
+        | inr l ↦ rw l (error_at {t = utf16_initial} (c ∷ d ∷ []) (rw (l, bytes-back is_utf16be c d p q) refl) (rw next other))
+      ])))
 
   -- by the first code unit's kind
   by_high : (i a b : ℕ) (rest : List ℕ) → (is_high_surrogate (unit a b) ≡ true → Gives i (a ∷ b ∷ rest)) → Gives (i + 1) rest → Gives i (a ∷ b ∷ rest)
   by_high i a b rest high after =
       cond_both (is_high_surrogate (unit a b)) true false (λ s. Gives i (a ∷ b ∷ rest)) high (λ f. single i a b rest f after)
 
-  below : (n i : ℕ) (bytes : List ℕ) → AreBytes bytes → length bytes ≤ n → Gives i bytes
-  below n i [] all h = nothing i
-  below n i (a ∷ []) all h = odd_byte i a
-  below zero i (a ∷ b ∷ rest) all h = absurd (omega arith)
-  below (suc n) i (a ∷ b ∷ []) all h = by_high i a b [] (high_alone i a b) (nothing (i + 1))
-  below (suc n) i (a ∷ b ∷ c ∷ []) all h = by_high i a b (c ∷ []) (high_odd i a b c) (odd_byte (i + 1) c)
-  below (suc n) i (a ∷ b ∷ c ∷ d ∷ rest) all h =
+  all_bytes : (i : ℕ) (bytes : List ℕ) → AreBytes bytes → Gives i bytes
+  unfolding units_of has_odd_byte units_events utf16_handler
+  all_bytes i [] all = at_end refl
+  all_bytes i (a ∷ []) all = goes_on refl (error_at_end [] refl (at_end refl))
+  all_bytes i (a ∷ b ∷ []) all = by_high i a b [] (λ h. rw h (over_high h (error_at_end [] refl (at_end refl)))) (at_end refl)
+  all_bytes i (a ∷ b ∷ c ∷ []) all =
+      by_high i a b (c ∷ []) (λ h. rw h (over_high h (goes_on refl (error_at_end [] refl (at_end refl))))) (goes_on refl (error_at_end [] refl (at_end refl)))
+  all_bytes i (a ∷ b ∷ c ∷ d ∷ rest) all =
       let behind_b : AreBytes (c ∷ d ∷ rest) = All-tail IsByte b (c ∷ d ∷ rest) (All-tail IsByte a (b ∷ c ∷ d ∷ rest) all) in
-      let behind_c : AreBytes (d ∷ rest) = All-tail IsByte c (d ∷ rest) behind_b in
-      let after : Gives (i + 2) rest = below n (i + 2) rest (All-tail IsByte d rest behind_c) (omega arith) in
-      let other : Gives (i + 1) (c ∷ d ∷ rest) = below n (i + 1) (c ∷ d ∷ rest) behind_b (omega arith) in
-      by_high i a b (c ∷ d ∷ rest) (λ t. high_more i a b c d rest (All-head IsByte c (d ∷ rest) behind_b) (All-head IsByte d rest behind_c) t after other) other
+      let behind_d : AreBytes rest = All-tail IsByte d rest (All-tail IsByte c (d ∷ rest) behind_b) in
+      let other = all_bytes (i + 1) (c ∷ d ∷ rest) behind_b in
+      let after = all_bytes (i + 2) rest behind_d in
+      by_high i a b (c ∷ d ∷ rest) (λ t. high_more i a b c d rest (all 2 0 (omega arith)) (all 3 0 (omega arith)) t after other) other
 
   pub utf16_handled : IsDecodedBy (utf16 is_utf16be) (utf16_handler is_utf16be) utf16_initial
   unfolding events_of utf16_events
-  utf16_handled bytes all = steady (below (length bytes) 0 bytes all (omega arith))
+  utf16_handled bytes all = steady (all_bytes 0 bytes all)

@@ -16,6 +16,7 @@ ghost use Rattle.legacy_standard.specs.WorkedTexts.{ComputeWorkedTexts, PartWith
 /// since it last returned anything but continue, without those that it restored. In ISO-2022-JP two
 /// errors end later than the grammar's malformed sequence (`lateness`): by 3 bytes after an escape
 /// directly before another one, and by 1 byte after a lead directly before an escape byte.
+#[tactic(auto, using(crate::proofs::AllCodecs::all_decoders))]
 pub fn decoders_are_the_standards()
     ensures { AreDecodedByHandlers }
 {}
@@ -26,6 +27,7 @@ pub fn decoders_are_the_standards()
 /// the events of a new encoder that writes the text to its end. In Shift_JIS, EUC-JP, ISO-2022-JP
 /// and gb18030 the indexes must have the pointers that the Standard's own have (`HasPointers`). The
 /// ranges of gb18030 must be accepted by the checks of tables.
+#[tactic(auto, using(crate::proofs::AllCodecs::all_encoders))]
 pub fn encoders_are_the_standards()
     ensures { AreEncodedByHandlers }
 {}

@@ -31,21 +31,15 @@ past_ranges =
 
 -- an index with one entry
 slice-entry : (n c : ℕ) → slice_index (entry_at n c) n ≡ c
-slice-entry n c = get_or-append_right (replicate n 0) (c ∷ []) n n 0 (length-replicate n 0) (omega arith) ∙ first (n - n) (omega arith)
-  where
-    first : (k : ℕ) → k ≡ 0 → slice_index (c ∷ []) k ≡ c
-    first k e = rw e refl
+slice-entry n c = grind (arith, get_or-append_right (replicate n 0) (c ∷ []) n n 0 (length-replicate n 0) (omega arith))
 
 slice-before : (n c k : ℕ) → k < n → slice_index (entry_at n c) k ≡ 0
 slice-before n c k h = get_or-append (replicate n 0) (c ∷ []) 0 k (rw (length-replicate {A = ℕ} n 0) h) ∙ get_or-replicate n k 0 0 h
 
-entries : (n c : ℕ) → length (entry_at n c) ≡ n + 1
-entries n c = rw (length-append (replicate {A = ℕ} n 0) (c ∷ []), length-replicate {A = ℕ} n 0) refl
-
 entry_pointer : (n : ℕ) → index_pointer (entry_at n 0x4E00) 0x4E00 ≡ Some n
 entry_pointer n =
-    let many = entries n 0x4E00 in
-    first-is every_pointer (entry_at n 0x4E00) 0x4E00 (λ e. absurd (omega arith)) n (omega arith) refl (slice-entry n 0x4E00)
+    first-is every_pointer (entry_at n 0x4E00) 0x4E00 (λ e. absurd (omega arith)) n (omega (arith, length-append {A = ℕ}, length-replicate {A = ℕ})) refl
+    (slice-entry n 0x4E00)
     (λ k h. let empty = slice-before n 0x4E00 k h in rw empty refl)
 
 entry_past : (n : ℕ) → 8836 ≤ n → euc_jp_pointer_of (entry_at n 0x4E00) 0x4E00 ≡ None
