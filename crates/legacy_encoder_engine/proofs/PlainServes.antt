@@ -44,7 +44,8 @@ module _ (code : ℕ → Option (List ℕ)) (past most : ℕ) (from_utf8 from_ut
   enough mode c Utf16 t =
       let l = f.enough16 (unit_count Utf16 c) t (some_unit Utf16 c) in let s = f.fits in grind arith
   enough mode c Utf8 t =
-      let l = f.ascii8 (unit_count Utf8 c) t 1 (some_unit Utf8 c) (omega arith) in let m = f.enough8 (unit_count Utf8 c) t in grind (arith, nat_tests, two_units)
+      let l = f.ascii8 (unit_count Utf8 c) t 1 (some_unit Utf8 c) (omega arith) in
+      let m = f.enough8 (unit_count Utf8 c) t in grind (arith, nat_tests, two_units)
 
   rises : (form : EncodingForm) (m k : ℕ) → m ≤ k → value (P.formula form (number m)) ≤ value (P.formula form (number k))
   rises form m k h = elim (cases_lt m k) [

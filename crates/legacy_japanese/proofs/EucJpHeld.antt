@@ -20,11 +20,8 @@ of_lead lead = grind (arith, nat_tests)
 may : (held : Held) → euc_jp_may_hold (held_bytes held) ≡ true
 may held = grind (arith, nat_tests)
 
-first_byte : (b : ℕ) → b < 2 ^ 8 → AreBytes (b ∷ [])
-first_byte b byte = All-cons IsByte b [] byte (All-nil IsByte)
-
 are_bytes : (held : Held) → AreBytes (held_bytes held)
-are_bytes held = grind (arith, All-nil, first_byte, of_lead, All-cons)
+are_bytes held = grind (arith, All-nil, of_lead, All-cons)
 
 -- ---- pairs
 

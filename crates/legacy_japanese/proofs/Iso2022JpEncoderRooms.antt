@@ -23,12 +23,6 @@ module _ (jis0208 katakana_index : List ℕ) where
 
   -- ---- on numbers: a scalar of u code units, t more after it, and `own` bytes for the scalar
 
-  own_low : (mode : EncoderMode) (form : EncodingForm) (t u own : ℕ) → own ≤ 2 → 1 ≤ u → room form mode t + own ≤ room form mode (u + t)
-  own_low mode form t u own p q = grind arith
-
-  own_enough : (mode : EncoderMode) (form : EncodingForm) (t u : ℕ) → 1 ≤ u → 3 ≤ room form mode (u + t)
-  own_enough mode form t u q = grind arith
-
   pub end_enough : (mode : EncoderMode) (form : EncodingForm) → length (escape_between mode in_ascii) ≤ room form mode 0
   end_enough mode form = grind arith
 
@@ -57,10 +51,10 @@ module _ (jis0208 katakana_index : List ℕ) where
 
   pub scalar_low : (mode : EncoderMode) (c : ℕ) (form : EncodingForm) (t : ℕ)
       → room form mode t + code_length (encoder.code c) ≤ room form mode (unit_count form c + t)
-  scalar_low mode c form t = own_low mode form t (unit_count form c) (code_length (encoder.code c)) (code-short jis0208 katakana_index c) (some_unit form c)
+  scalar_low mode c form t = grind (arith, code-short, some_unit)
 
   pub scalar_enough : (mode : EncoderMode) (c : ℕ) (form : EncodingForm) (t : ℕ) → encoder.scalar_room c ≤ room form mode (unit_count form c + t)
-  scalar_enough mode c form t = own_enough mode form t (unit_count form c) (some_unit form c)
+  scalar_enough mode c form t = grind (arith, some_unit)
 
   pub escape_low : (mode : EncoderMode) (c : ℕ) → differs mode (encoder.mode_for mode c) ≡ true → (form : EncodingForm) (t : ℕ)
       → room form (encoder.mode_for mode c) t + (3 + code_length (encoder.code c)) ≤ room form mode (unit_count form c + t)

@@ -3,7 +3,7 @@ use Rattle.std.specs.{Prelude.{◌==◌, is_some}, Int.is_in_range}
 use Rattle.std.proofs.Common.{◌≡◌, ◌≢◌, ◌∙◌, ℕ, ◌++◌, ◌⊎◌, cond, Bool, true, false, Option, Some, None, List, [], ◌∷◌, inl, inr, length, refl, sym, ap, arith}
 use Rattle.std.proofs.{Common.append-nil, lemmas.Bool.cond_both, lemmas.Bool.Decides.nat_tests}
 use Rattle.legacy_base.specs.{declared.results.DecodeEvent.DecodeEvent, declared.results.DecodeEvent.TheVariants.{Scalar, Bad}, Fronts.{Front, reads}}
-use Rattle.legacy_base.specs.{Fronts.{malformed, front_length, front_events}, Iso2022Jp.{esc, escape_mode, part_mode, iso_2022_jp_events}}
+use Rattle.legacy_base.specs.{Fronts.{front_length, front_events}, Iso2022Jp.{esc, escape_mode, part_mode, iso_2022_jp_events}}
 use Rattle.legacy_base.specs.{Beginnings.BeginsWith, Events.shift, Grammar.{iso_2022_jp, events_of}, Lengths.replacement_units}
 use Rattle.legacy_base.specs.States.{is_two_byte_mode, rests}
 use Rattle.legacy_text.proofs.CodeUnits.{length-code_units-bmp}
@@ -34,11 +34,9 @@ module _ (jis0208 : List ℕ) where
 
   -- so the byte has an event
   write_some : (mode : Mode) (b : ℕ) → is_held mode (Byte b) ≡ true → is_resting mode (Byte b) ≡ false → events_in jis0208 mode (b ∷ []) ≢ []
-  write_some mode b held two = by_option (single mode b) refl (grind (arith, nat_tests))
-    where
-      by_option : (o : Option ℕ) → single mode b ≡ o → is_some o ≡ true → events_in jis0208 mode (b ∷ []) ≢ []
-      by_option None e s n = cc
-      by_option (Some c) e s n = let l = write_law mode b c [] held e in cc
+  write_some mode b held two =
+      let some : is_some (single mode b) ≡ true = grind (arith, nat_tests) in
+      grind (arith, write_law)
 
   -- the law of writing the byte's scalar
   pub released : (mode : Mode) (held : Held) (c : ℕ) → is_held mode held ≡ true → Some c ≡ pending mode held → IsNarrowScalar c
@@ -87,8 +85,7 @@ module _ (jis0208 : List ℕ) where
   -- a lead and a trail do not give a malformed byte alone
   no_malformed_pair : (f : Front) (items rest : List DecodeEvent) → front_length f ≡ 2 → front_events 0 f ++ shift 2 items ≡ Bad 0 1 ∷ rest → ⊥
   no_malformed_pair (reads n []) items rest two e = no_sooner 2 0 1 items rest (omega arith) e
-  no_malformed_pair (reads n (c ∷ scalars)) items rest two e = cc
-  no_malformed_pair (malformed n) items rest two e = cc
+  no_malformed_pair _ items rest two e = cc
 
   pair_two : (l t : ℕ) (rest : List ℕ) → is_in_range 0x21 0x7E l ≡ true → front_length (front_in jis0208 TwoByte l (t ∷ rest)) ≡ 2
   pair_two l t rest lead = rw (front-trail jis0208 l t rest lead) (grind arith)

@@ -1,7 +1,7 @@
 -- The room that an ISO-2022-JP decoder needs, and how it decreases.
 use Rattle.std.proofs.Common.{◌≡◌, ℕ, ◌+◌, ◌*◌, ◌<◌, ◌≤◌, Bool, true, false, cond, Some, List, [], ◌∷◌, length, refl, arith, length-append, ◌&&◌}
 use Rattle.std.specs.Char.{is_ascii}
-use Rattle.legacy_base.specs.{declared.results.DecodeEvent.DecodeEvent, DecoderActs.{writes, act_at_end, act_at_rest, room_of_act}, Lengths.LengthQuery}
+use Rattle.legacy_base.specs.{DecoderActs.{writes, act_at_rest, room_of_act}, Lengths.LengthQuery}
 use Rattle.legacy_base.specs.{Lengths.{to_utf16, query_form, replacement_units, room}, Grammar.{iso_2022_jp, events_of}, States.{rests, is_empty}}
 use Rattle.legacy_text.specs.EncodingForm.{EncodingForm, bmp_room, wide_room, code_units, total_unit_count}
 use Rattle.legacy_text.proofs.CodeUnits.{length-code_units-bmp}
@@ -66,15 +66,10 @@ module _ (query : LengthQuery) (jis0208 : List ℕ) (mode : Mode) where
       room_of_act (bmp_room (query_form query)) (wide_room (query_form query)) (state_in jis0208 mode held)
       (cond resting (act_at_rest (state_in jis0208 mode held) unread last) (Some writes))
 
-  end_most : (held : Held) (events : List DecodeEvent) (last : Bool)
-      → room_of_act (bmp_room (query_form query)) (wide_room (query_form query)) (state_in jis0208 mode held) (act_at_end events last) ≤ bmp_room
-      (query_form query)
-  end_most held events last = grind arith
-
   most : (held : Held) (unread : List ℕ) (last resting : Bool) → needed held unread last resting ≤ bmp_room (query_form query)
   unfolding needed
   most held unread last false = omega arith
-  most held [] last true = end_most held (events_of (iso_2022_jp jis0208 (mode_meaning mode)) (bytes_of held)) last
+  most held [] last true = grind arith
   most held (b ∷ unread) last true = let e = read_room-is (query_form query) jis0208 mode held b in omega arith
 
   none : (last : Bool) → needed (Begun Nothing) [] last true ≡ 0

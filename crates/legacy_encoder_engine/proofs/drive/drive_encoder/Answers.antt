@@ -35,8 +35,9 @@ loop-c-preserved g c =
     let under = (rw c.loop-c.auto.dst at a.ensures.keeps).keeps _ _ _ c.loop-c.invariant.0 in
     let cons = first_cons _ _ c.in-Some.ensures in (
       rw (c.advance-in-loop-c.ensures.left, c.put_move-written.ensures.bytes)
-          (underway_read _ _ _ _ _ _ _ under c.room.ensures.serves c.in-Some.c _ cons _ c.next-step.result c.next-step.ensures (omega (arith, length-take {A = ℕ}))
-          (no_escape c.next-step.result c.in_default-step-2.not-Escape) (no_report c.next-step.result c.in_default-step.not-Unmappable)),
+          (underway_read _ _ _ _ _ _ _ under c.room.ensures.serves c.in-Some.c _ cons _ c.next-step.result c.next-step.ensures
+          (omega (arith, length-take {A = ℕ})) (no_escape c.next-step.result c.in_default-step-2.not-Escape)
+          (no_report c.next-step.result c.in_default-step.not-Unmappable)),
       omega arith,
       rw c.advance-in-loop-c.ensures.left (omega (
         arith,
@@ -60,8 +61,8 @@ loop-c-preserved-in-Escape g c =
     let under = (rw c.loop-c.auto.dst at a.ensures.keeps).keeps _ _ _ c.loop-c.invariant.0 in
     let cons = first_cons _ _ c.in-Some.ensures in (
       rw c.put_move-written.ensures.bytes
-          (underway_escape _ _ _ _ _ _ _ under c.room.ensures.serves c.in-Some.c _ cons _ c.next-step.result c.next-step.ensures (omega (arith, length-take {A = ℕ}))
-          (ap is_escape c.in-Escape.is)),
+          (underway_escape _ _ _ _ _ _ _ under c.room.ensures.serves c.in-Some.c _ cons _ c.next-step.result c.next-step.ensures
+          (omega (arith, length-take {A = ℕ})) (ap is_escape c.in-Escape.is)),
       omega arith,
       omega (arith, a.ensures.units, c.loop-c.invariant.2),
     )
@@ -71,7 +72,8 @@ returns-then-dst-written-lt3-clause-call g c =
     let a = c.read_ahead-written in
     let under = (rw c.loop-c.auto.dst at a.ensures.keeps).keeps _ _ _ c.loop-c.invariant.0 in
     let pending = sym c.is_pending.ensures.is ∙ c.if-is_pending.true in
-    call_full_end _ _ _ _ _ _ _ under c.is_pending.ensures.serves (none_left _ (sym c.in_default.is ∙ c.peek.ensures)) c.if-last.true pending (omega (arith, length-take {A = ℕ}))
+    call_full_end _ _ _ _ _ _ _ under c.is_pending.ensures.serves (none_left _ (sym c.in_default.is ∙ c.peek.ensures)) c.if-last.true pending
+    (omega (arith, length-take {A = ℕ}))
 
 pub returns-else-dst-written-lt3-clause-call : goal.returns-else-dst-written-lt3-clause-call
 returns-else-dst-written-lt3-clause-call g c =
