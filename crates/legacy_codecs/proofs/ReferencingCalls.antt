@@ -49,16 +49,9 @@ found-call out bytes answer = grind (arith, has_unmappable-append, has_unmappabl
 -- a call with no text reports no unmappable scalar
 pub nothing_reported : {before : EncoderState} {last : Bool} {free : ℕ} {after : EncoderState} {c : ℕ} {left bytes : List ℕ} →
     EncoderCall before [] last free after (Unmappable c) left bytes → ⊥
-nothing_reported {before} {after = after} {c} {left} {bytes} call =
-    let byte : ℕ → EncodeEvent = λ b. Byte b in
-    let rest = encoded after (left ++ []) true in
-    let e : map byte (end_bytes before) ≡ map byte bytes ++ (event.Unmappable c ∷ rest) =
-    sym (end-encoded before) ∙ call.events [] true (λ _. inl (refl, refl)) in
-    let none : has_unmappable (map byte bytes ++ (event.Unmappable c ∷ rest)) ≡ false =
-    ap has_unmappable (sym e) ∙ has_unmappable-of_bytes (end_bytes before) in
-    let some : has_unmappable (map byte bytes ++ (event.Unmappable c ∷ rest)) ≡ true =
-    has_unmappable-append (map byte bytes) (event.Unmappable c ∷ rest) ∙ or-true (has_unmappable (map byte bytes)) in
-    true≢false (sym some ∙ none)
+nothing_reported {before} call =
+    let e = sym (end-encoded before) ∙ call.events [] true (λ _. inl (refl, refl)) in
+    true≢false (rw (has_unmappable-append, or-true) at (ap has_unmappable (sym e) ∙ has_unmappable-of_bytes (end_bytes before)))
 
 -- ---- the result of all calls
 
@@ -80,8 +73,7 @@ same_end : (last : Bool) (result : CoderResult) → tells_end last (last_answer 
 same_end last result = grind arith
 
 is_full : (result : CoderResult) → last_answer result ≡ OutputFull → result ≡ coder.OutputFull
-is_full coder.InputEmpty e = cc
-is_full coder.OutputFull e = refl
+is_full result e = grind arith
 
 -- ---- the room of a reference
 
@@ -165,15 +157,13 @@ module _ {before : EncoderState} {source : List ℕ} {last : Bool} {free : ℕ} 
     gives_after : (answer : EncoderResult) → EncoderCall now left last room after answer rest written →
         Gives (tells_end last answer) before source after rest (out_after written answer)
     gives_after answer c more ended h =
-        let behind = encoded after (rest ++ more) ended in
-        let first : encoded before (source ++ more) ended ≡ u.out ++ encoded now (left ++ more) ended =
-        u.gives more ended (λ l. let no : false ≡ true = l in cc) in
+        let first = u.gives more ended (λ l. let no : false ≡ true = l in cc) in
         first
         ∙ ap (λ l. u.out ++ l) (c.events more ended (λ l. elim (h l) [
           | inl e ↦ inl e
           | inr g ↦ inr (begins_later u.out (out_events written answer) (encoded now (left ++ more) ended) (rw first at g))
         ]))
-        ∙ ap (λ l. u.out ++ l) (sym (append_assoc (map Byte written) (reported answer) behind)) ∙ sym (append_assoc u.out (out_events written answer) behind)
+        ∙ simp append_assoc
 
     -- if the room was lacking as the call began, this call returns OutputFull and nothing is done
     full_so : (answer : EncoderResult) → EncoderCall now left last room after answer rest written →
@@ -211,12 +201,8 @@ module _ {before : EncoderState} {source : List ℕ} {last : Bool} {free : ℕ} 
     pub referencing_less : (c : ℕ) → EncoderCall now left last room after (Unmappable c) rest written →
         length (encoded after rest true) < length (encoded now left true)
     referencing_less c call =
-        let byte : ℕ → EncodeEvent = λ b. Byte b in
-        let f : encoded now left true ≡ map byte written ++ (event.Unmappable c ∷ encoded after rest true) =
-        ap (λ l. encoded now l true) (sym (append-nil left)) ∙ call.events [] true (λ _. inl (refl, refl))
-        ∙ ap (λ l. map byte written ++ (event.Unmappable c ∷ encoded after l true)) (append-nil rest) in
-        let n = ap length f ∙ length-append (map byte written) (event.Unmappable c ∷ encoded after rest true) in
-        omega (arith, n)
+        let f = rw (append-nil left, append-nil rest) at (call.events [] true (λ _. inl (refl, refl))) in
+        omega (arith, simp length-append at (ap length f))
 
     -- ---- the end
 

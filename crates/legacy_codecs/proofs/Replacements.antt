@@ -59,12 +59,10 @@ same_found : (found : Bool) (result : CoderResult) → found ≡ found_after fou
 same_found found result = grind arith
 
 is_full : (result : CoderResult) → last_answer result ≡ OutputFull → result ≡ coder.OutputFull
-is_full coder.InputEmpty e = cc
-is_full coder.OutputFull e = refl
+is_full result e = grind arith
 
 is_empty : (result : CoderResult) → (last_answer result ≡ OutputFull → ⊥) → result ≡ coder.InputEmpty
-is_empty coder.InputEmpty h = refl
-is_empty coder.OutputFull h = absurd (h refl)
+is_empty result h = grind arith
 
 -- ---- the room for U+FFFD
 
@@ -144,9 +142,7 @@ module _ {form : EncodingForm} {before : DecoderState} {source : List ℕ} {last
 
   replaced_after : (count : ℕ) (scalars : List ℕ) (answer : DecoderResult) →
       replaced_scalars (out_after count scalars answer) ≡ replaced_scalars r.out ++ (scalars ++ reported_scalars answer)
-  replaced_after count scalars answer =
-      let out = out_events (length now.held + count) scalars answer in
-      replaced-append r.out (shift r.passed out) ∙ ap (λ l. replaced_scalars r.out ++ l) (replaced-call r.passed (length now.held + count) scalars answer)
+  replaced_after count scalars answer = rw (replaced-append, replaced-call r.passed (length now.held + count) scalars answer) refl
 
   text_after : (count : ℕ) (scalars : List ℕ) (answer : DecoderResult) →
       r.written ++ all_code_units form (scalars ++ reported_scalars answer) ≡ all_code_units form (replaced_scalars (out_after count scalars answer))
@@ -173,12 +169,9 @@ module _ {form : EncodingForm} {before : DecoderState} {source : List ℕ} {last
 
     scalar_after : All IsScalar (replaced_scalars (out_after count scalars answer))
     scalar_after =
-        let added = All-append IsScalar scalars (reported_scalars answer) c.scalar (reported answer) in
-        rw (replaced_after count scalars answer) (All-append IsScalar (replaced_scalars r.out) (scalars ++ reported_scalars answer) r.scalar added) where
-          reported : (answer : DecoderResult) → All IsScalar (reported_scalars answer)
-          reported InputEmpty = All-nil IsScalar
-          reported OutputFull = All-nil IsScalar
-          reported (Malformed a b) = All-cons IsScalar 0xFFFD [] refl (All-nil IsScalar)
+        let reported : All IsScalar (reported_scalars answer) = grind (arith, All-nil, All-cons) in
+        let added = All-append IsScalar scalars (reported_scalars answer) c.scalar reported in
+        rw (replaced_after count scalars answer) (All-append IsScalar (replaced_scalars r.out) (scalars ++ reported_scalars answer) r.scalar added)
 
     within_after : read + count ≤ length source
     within_after = let w = c.within in let v = r.within in omega (arith, length-drop read source)
@@ -217,22 +210,18 @@ module _ {form : EncodingForm} {before : DecoderState} {source : List ℕ} {last
           let x = Malformed a b in
           let units = all_code_units form scalars in
           let fffd = code_units form 0xFFFD in
-          let one : all_code_units form (0xFFFD ∷ []) ≡ fffd = append-nil fffd in
-          let same : r.written ++ (units ++ fffd) ≡ r.written ++ all_code_units form (scalars ++ reported_scalars x) =
-          rw (all_code_units-append form scalars (0xFFFD ∷ []), one) refl in
           let all = length-append r.written (units ++ fffd) ∙ ap (λ n. length r.written + n) (length-append units fffd) in
           record {
             written = r.written ++ (units ++ fffd);
             contents =
-                rw (put_is, contents_now scalars stepped_is)
-                (append_assoc old (r.written ++ units) fffd ∙ ap (λ l. old ++ l) (append_assoc r.written units fffd));
+                rw (put_is, contents_now scalars stepped_is) (simp append_assoc);
             fits = omega (arith, room_now scalars stepped_is left_now e, r.fits, all);
             within = within_after c;
             passed = r.passed + c.passed;
             out = out_after count scalars x;
             progress = progress_after c;
             scalar = scalar_after c;
-            text = same ∙ text_after count scalars x;
+            text = rw (all_code_units-append form scalars (0xFFFD ∷ []), append-nil fffd) at (text_after count scalars x);
             found_is = found_is_after count scalars x;
             untouched = λ h. let never : x ≡ OutputFull = (full_so c h).0 in cc;
             lowers = λ more h. omega (arith, lowers_after c more h, all, counted_units form, replacement_count form);

@@ -55,11 +55,7 @@ module _ {form : EncodingForm} {from : RunPlace DecoderState} {lengths : List �
       let two : events_of after.grammar (after.held ++ (drop read p.piece ++ joined p.later)) ≡ events_ahead next =
       ap (λ l. events_of after.grammar l) (place_behind-ahead p after answer read (λ q. (c.input_empty q).0))
       ∙ ap (λ (s : DecoderState). events_of s.grammar (ahead next)) (sym (place_behind-state p after (is_input_empty answer) (drop read p.piece))) in
-      Reaches-events r
-      ∙ ap (λ l. events ++ shift passed l) (one ∙ ap (λ l. out ++ shift c.passed l) two)
-      ∙ ap (λ l. events ++ l) (shift-append passed out (shift c.passed (events_ahead next)))
-      ∙ ap (λ l. events ++ (shift passed out ++ l)) (shift-shift passed c.passed (events_ahead next))
-      ∙ sym (append_assoc events (shift passed out) (shift (passed + c.passed) (events_ahead next)))
+      Reaches-events r ∙ rw (one, two, shift-append, shift-shift, append_assoc) refl
 
   -- a finished run is past all pieces, and nothing is left
   pub Reaches-finished : {calls : ℕ} {events : List DecodeEvent} {passed : ℕ} {finished : Bool} {p : RunPlace DecoderState} →
@@ -82,8 +78,7 @@ is_beginning {before = before} {pieces = pieces} {items = items} r =
           ∙ ap (λ l. l ++ placed h left) (sym given_is);
       all = λ e.
           let done = Reaches-finished r.reaches e in
-          let none : events_ahead r.place ≡ [] = ap events_ahead done.0 ∙ ap (events_of r.place.state.grammar) (append-nil r.place.state.held) ∙ done.1 in
-          ap (λ l. placed h (shift r.passed l)) none;
+          rw (done.0, append-nil r.place.state.held, done.1) refl;
     }
 
 -- a finished run leaves nothing
