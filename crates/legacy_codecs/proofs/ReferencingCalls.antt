@@ -28,23 +28,17 @@ found_after found InputEmpty = found
 found_after found OutputFull = found
 found_after found (Unmappable c) = true
 
-referenced-reported : (answer : EncoderResult) → referenced_bytes (reported answer) ≡ reported_bytes answer
-referenced-reported answer = grind (arith, append-nil)
-
-found-reported : (found : Bool) (answer : EncoderResult) → (found || has_unmappable (reported answer)) ≡ found_after found answer
-found-reported found answer = grind (arith, or-false, or-true)
-
 -- the events of a call
 abbrev pub out_events : List ℕ → EncoderResult → List EncodeEvent
 out_events bytes answer = map Byte bytes ++ reported answer
 
 referenced-call : (out : List EncodeEvent) (bytes : List ℕ) (answer : EncoderResult) →
     referenced_bytes (out ++ out_events bytes answer) ≡ referenced_bytes out ++ (bytes ++ reported_bytes answer)
-referenced-call out bytes answer = grind (arith, referenced-append, referenced-of_bytes, referenced-reported)
+referenced-call out bytes answer = grind (arith, referenced-append, referenced-of_bytes, append-nil)
 
 found-call : (out : List EncodeEvent) (bytes : List ℕ) (answer : EncoderResult) →
     found_after (has_unmappable out) answer ≡ has_unmappable (out ++ out_events bytes answer)
-found-call out bytes answer = grind (arith, has_unmappable-append, has_unmappable-of_bytes, found-reported)
+found-call out bytes answer = grind (arith, has_unmappable-append, has_unmappable-of_bytes, or-false, or-true)
 
 -- a call with no text reports no unmappable scalar
 pub nothing_reported : {before : EncoderState} {last : Bool} {free : ℕ} {after : EncoderState} {c : ℕ} {left bytes : List ℕ} →
@@ -237,14 +231,11 @@ module _ {before : EncoderState} {source : List ℕ} {last : Bool} {free : ℕ} 
 
   -- ---- no room for a reference
 
-  same_bytes : (written : List ℕ) → length written ≤ 0 → bytes ++ written ≡ bytes
-  same_bytes written h = rw (nil_from_length written (omega arith)) (append-nil bytes)
-
   -- no scalar is left, and a call without room shows whether the end has something to write
   pub referencing_done : free < length bytes + reference_room → {after : EncoderState} {rest written : List ℕ} (result : CoderResult) →
       EncoderCall now left last 0 after (last_answer result) rest written → ReplacingEncoderCall before source last free after result rest bytes found
   referencing_done none {after} {rest} {written} result c =
-      subst (λ l. ReplacingEncoderCall before source last free after result rest l found) (same_bytes written c.fits) (referencing_end (omega arith) result c)
+      rw (nil_from_length written (omega (arith, c.fits)), append-nil bytes) at (referencing_end (omega arith) result c)
 
 -- the list of scalars is at its end
 pub nothing_left : (xs : List ℕ) → is_some (slice_get xs 0) ≡ false → xs ≡ []

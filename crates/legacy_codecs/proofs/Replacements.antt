@@ -31,19 +31,13 @@ found_after found InputEmpty = found
 found_after found OutputFull = found
 found_after found (Malformed a b) = true
 
-replaced-reported : (seen : ℕ) (answer : DecoderResult) → replaced_scalars (reported_events seen answer) ≡ reported_scalars answer
-replaced-reported seen answer = grind arith
-
 -- what is written for the events of a call
 replaced-call : (k seen : ℕ) (cs : List ℕ) (answer : DecoderResult) → replaced_scalars (shift k (out_events seen cs answer)) ≡ cs ++ reported_scalars answer
-replaced-call k seen cs answer = grind (arith, replaced-shift, replaced-append, replaced-of_scalars, replaced-reported)
-
-found-reported : (found : Bool) (seen : ℕ) (answer : DecoderResult) → (found || has_malformed (reported_events seen answer)) ≡ found_after found answer
-found-reported found seen answer = grind (arith, or-false, or-true)
+replaced-call k seen cs answer = grind (arith, replaced-shift, replaced-append, replaced-of_scalars)
 
 found-call : (events : List DecodeEvent) (k seen : ℕ) (cs : List ℕ) (answer : DecoderResult) →
     found_after (has_malformed events) answer ≡ has_malformed (events ++ shift k (out_events seen cs answer))
-found-call events k seen cs answer = grind (arith, has_malformed-shift, has_malformed-append, has_malformed-of_scalars, found-reported)
+found-call events k seen cs answer = grind (arith, has_malformed-shift, has_malformed-append, has_malformed-of_scalars, or-false, or-true)
 
 -- ---- the result of all calls
 

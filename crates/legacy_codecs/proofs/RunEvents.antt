@@ -31,16 +31,13 @@ events_ahead p = events_of p.state.grammar (ahead p)
 abbrev pub behind : RunPlace DecoderState → DecoderState → DecoderResult → ℕ → RunPlace DecoderState
 behind p after answer read = place_behind p after (is_input_empty answer) (drop read p.piece)
 
-next-ahead : (s : DecoderState) (later : List (List ℕ)) → s.held ++ ([] ++ joined later) ≡ ahead (place_before s later)
-next-ahead s later = grind arith
-
 pub place_before-ahead : (s : DecoderState) (pieces : List (List ℕ)) → events_ahead (place_before s pieces) ≡ events_of s.grammar (s.held ++ joined pieces)
 place_before-ahead s pieces = grind arith
 
 -- after a call the same bytes are ahead, without those that it is done with
 place_behind-ahead : (p : RunPlace DecoderState) (after : DecoderState) (answer : DecoderResult) (read : ℕ) → (answer ≡ InputEmpty → read ≡ length p.piece) →
     after.held ++ (drop read p.piece ++ joined p.later) ≡ ahead (behind p after answer read)
-place_behind-ahead p after answer read h = grind (arith, drop_of_length-le, next-ahead)
+place_behind-ahead p after answer read h = grind (arith, drop_of_length-le)
 
 module _ {form : EncodingForm} {from : RunPlace DecoderState} {lengths : List ℕ} where
   -- the events up to a place, and then those of what is ahead, are all events

@@ -38,8 +38,7 @@ first_rest left more = grind (arith, common_steps, take-append-drop 1 left)
 no_more : (next : EncoderState) → Serves (encoder_profile next.codec) → (move : EncoderMove) (c : ℕ) → is_escape move ≡ false
     → byte_count (move_report move ++ encoded next (unread_scalar move c ++ []) false) ≡ 0
 unfolding byte_count
-no_more next serves (moves.Escape a b) c e = cc
-no_more next serves _ c e = ap byte_count (serves.nothing next.mode)
+no_more next serves move c e = grind (arith, serves.nothing)
 
 -- ---- a call under way
 

@@ -48,14 +48,11 @@ module _ (code : ℕ → Option (List ℕ)) (past most : ℕ) (from_utf8 from_ut
       let m = f.enough8 (unit_count Utf8 c) t in grind (arith, nat_tests, two_units)
 
   rises : (form : EncodingForm) (m k : ℕ) → m ≤ k → value (P.formula form (number m)) ≤ value (P.formula form (number k))
-  rises form m k h = elim (cases_lt m k) [
-    | inl l ↦
-        let e : k - m + m ≡ k = omega arith in
-        let r16 = f.low16 (k - m) m 0 (omega arith) (omega arith) in
-        let r8 = f.ascii8 (k - m) m 0 (omega arith) (omega arith) in
-        rw (← e) (grind arith)
-    | inr l ↦ let e : m ≡ k = omega arith in rw e (omega arith)
-  ]
+  rises form m k h =
+      let e : k - m + m ≡ k = omega arith in
+      let r16 = f.low16 (k - m) m 0 in
+      let r8 = f.ascii8 (k - m) m 0 in
+      grind (arith, cases_lt m k)
 
   profile_serves : Serves (plain_encoder code past from_utf8 from_utf16)
   unfolding plain_events

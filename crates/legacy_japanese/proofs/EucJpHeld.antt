@@ -28,12 +28,6 @@ are_bytes held = grind (arith, All-nil, of_lead, All-cons)
 lead_other : (b : ℕ) → is_euc_jp_lead b ≡ true → (is_ascii b ≡ false) × ((b == 0x8E) ≡ false) × ((b == 0x8F) ≡ false)
 lead_other b is = grind (arith, nat_tests)
 
-pair_below : (index : List ℕ) (lead trail c : ℕ) → IsNarrowIndex index → euc_jp_scalars index lead trail ≡ c ∷ [] → c < 0x1_0000
-pair_below index lead trail c narrow e = grind (arith, cond_both, idx_below)
-
-bytes-some : (held : Held) → (held ≡ Nothing → ⊥) → held_bytes held ≢ []
-bytes-some held h = grind arith
-
 module _ (tables : AcceptedIndexes) where
   abbrev g : Grammar
   g = euc_jp tables.flat.jis0208 tables.flat.jis0212
@@ -60,7 +54,7 @@ module _ (tables : AcceptedIndexes) where
   ends_none held none = moves.ends_none shown (held_bytes held) (may held) (are_bytes held) refl (nil_from_length (held_bytes held) none)
 
   pub ends_some : (held : Held) → (held ≡ Nothing → ⊥) → events_of (euc_jp tables.flat.jis0208 tables.flat.jis0212) (held_bytes held) ≢ []
-  ends_some held n = moves.ends_some shown (held_bytes held) (may held) (are_bytes held) refl (bytes-some held n)
+  ends_some held n = moves.ends_some shown (held_bytes held) (may held) (are_bytes held) refl (grind arith)
 
   -- ---- runs
 
@@ -73,7 +67,7 @@ module _ (tables : AcceptedIndexes) where
       (c < 0x1_0000) × Runs g (lead ∷ trail ∷ []) (c ∷ [])
   pair lead trail c byte byte' scalar is e =
       let other = lead_other lead is in (
-        pair_below tables.flat.jis0208 lead trail c (jis0208-below tables.flat tables.accepted) e,
+        (let narrow = jis0208-below tables.flat tables.accepted in grind (arith, cond_both, idx_below)),
         pair_runs shown lead trail c byte byte' scalar (rw (other.1, other.2, is) refl) refl refl refl
             (rw (other.0, other.1, other.2, is) refl) (rw (other.1, other.2, e) refl),
       )

@@ -147,9 +147,6 @@ module _ (jis0208 jis0212 : List ℕ) where
       act_room narrow wide (state_of (euc_jp jis0208 jis0212) held) (takes b) ≡ most held b narrow
   room_is len narrow wide held b = grind (arith, first_room, held_room_is)
 
-  sloped : IsSloped (euc_jp jis0208 jis0212) (euc_jp_machine jis0208 jis0212) euc_jp_weight 3
-  sloped = grind arith
-
   pub euc_jp_shown : IsNarrowIndex jis0208 → IsNarrowIndex jis0212 → IsShown (euc_jp jis0208 jis0212) (euc_jp_machine jis0208 jis0212)
   euc_jp_shown n m =
       let meets : Meets (euc_jp jis0208 jis0212) (euc_jp_machine jis0208 jis0212) = record {
@@ -167,7 +164,7 @@ module _ (jis0208 jis0212 : List ℕ) where
         cost = λ len narrow wide w held b h r bytes byte. rw (room_is len narrow wide held b) (let s = step_shows n m held b h in s.costs len narrow wide w);
       } in record {
         meets = meets;
-        rooms = λ query. sloped_rooms (euc_jp jis0208 jis0212) (euc_jp_machine jis0208 jis0212) euc_jp_weight 3 meets costs sloped query;
+        rooms = λ query. sloped_rooms (euc_jp jis0208 jis0212) (euc_jp_machine jis0208 jis0212) euc_jp_weight 3 meets costs (grind arith) query;
         settles = λ held b h r. let s = step_shows n m held b h in s.settles;
         write_settles = λ held h. tt;
         same_rooms = λ held b. same_rooms (euc_jp jis0208 jis0212);

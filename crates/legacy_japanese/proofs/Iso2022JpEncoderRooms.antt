@@ -7,12 +7,6 @@ use Rattle.legacy_base.proofs.{SameUnits.some_unit, Iso2022JpEncoding.{mode_by, 
 use Rattle.legacy_encoder_engine.specs.Moves.{differs}
 use Rattle.legacy_encoder_engine.proofs.PlainServes.{two_units}
 
-two_bytes_in : (form : EncodingForm) (c : ℕ) → 128 ≤ c → form ≡ Utf8 → 2 ≤ unit_count form c
-two_bytes_in form c h e = rw e (two_units c h)
-
-short_by : (own : Option (List ℕ)) → is_pair own ≡ false → code_length own ≤ 2 → code_length own ≤ 1
-short_by own h h1 = grind arith
-
 module _ (jis0208 katakana_index : List ℕ) where
   abbrev encoder : EncoderProfile
   encoder = iso_2022_jp_encoder jis0208 katakana_index
@@ -58,8 +52,8 @@ module _ (jis0208 katakana_index : List ℕ) where
 
   pub escape_low : (mode : EncoderMode) (c : ℕ) → differs mode (encoder.mode_for mode c) ≡ true → (form : EncodingForm) (t : ℕ)
       → room form (encoder.mode_for mode c) t + (3 + code_length (encoder.code c)) ≤ room form mode (unit_count form c + t)
-  escape_low mode c n form t = grind (arith, mode_for-by, code-short, low_by, short_by, some_unit, two_bytes_in, pair_past, roman_past)
+  escape_low mode c n form t = grind (arith, mode_for-by, code-short, low_by, some_unit, two_units, pair_past, roman_past)
 
   pub escape_enough : (mode : EncoderMode) (c : ℕ) → differs mode (encoder.mode_for mode c) ≡ true → (form : EncodingForm) (t : ℕ)
       → 3 + encoder.scalar_room c ≤ room form mode (unit_count form c + t)
-  escape_enough mode c n form t = grind (arith, enough_by, mode_for-by, some_unit, two_bytes_in, pair_past, roman_past)
+  escape_enough mode c n form t = grind (arith, enough_by, mode_for-by, some_unit, two_units, pair_past, roman_past)

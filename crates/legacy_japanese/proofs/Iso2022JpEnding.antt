@@ -87,9 +87,6 @@ module _ (jis0208 : List ℕ) where
   no_malformed_pair (reads n []) items rest two e = no_sooner 2 0 1 items rest (omega arith) e
   no_malformed_pair _ items rest two e = cc
 
-  pair_two : (l t : ℕ) (rest : List ℕ) → is_in_range 0x21 0x7E l ≡ true → front_length (front_in jis0208 TwoByte l (t ∷ rest)) ≡ 2
-  pair_two l t rest lead = rw (front-trail jis0208 l t rest lead) (grind arith)
-
   -- a lead at the end, or a lead that is reported alone, has no trail
   malformed_lead : (l : ℕ) (more : List ℕ) → is_in_range 0x21 0x7E l ≡ true → (more ≡ []) ⊎ BeginsWith (events_in jis0208 TwoByte (l ∷ more)) (Bad 0 1 ∷ [])
       → first_part more ≡ []
@@ -98,7 +95,7 @@ module _ (jis0208 : List ℕ) where
     | inl z ↦ absurd (let n : t ∷ more ≡ [] = z in cc)
     | inr g ↦ cond_both (t == esc) [] (t ∷ first_part more) (λ bytes. bytes ≡ []) (λ e. refl) (λ e.
         let f = front_in jis0208 TwoByte l (t ∷ first_part more) in
-        let two = pair_two l t (first_part more) lead in
+        let two : front_length f ≡ 2 = rw (front-trail jis0208 l t (first_part more) lead) (grind arith) in
         absurd (no_malformed_pair f (events_in jis0208 TwoByte more) g.0 two
         (sym (step_two jis0208 (mode_meaning TwoByte) l t more f (in_range_plain l lead) e refl two) ∙ g.1)))
   ]
@@ -187,9 +184,6 @@ module _ (jis0208 : List ℕ) where
   resting_rest : (mode : Mode) (held : Held) → is_held mode held ≡ true → is_resting mode held ≡ true → HasRest mode held (is_some (finish mode held))
   resting_rest mode held sound resting = grind (arith, from_facts, ends, held_rests)
 
-  rest_is : (mode : Mode) (held : Held) → is_held mode held ≡ true → HasRest mode held (is_some (finish mode held))
-  unfolding events_of
-  rest_is mode held h = grind (arith, resting_rest, write_some)
-
   pub rest_known : (mode : Mode) (held : Held) (t : Bool) → is_held mode held ≡ true → t ≡ is_some (finish mode held) → HasRest mode held t
-  rest_known mode held t sound is = rw is (rest_is mode held sound)
+  unfolding events_of
+  rest_known mode held t sound is = rw is (grind (arith, resting_rest, write_some))

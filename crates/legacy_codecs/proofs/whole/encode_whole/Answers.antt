@@ -5,7 +5,8 @@ use Rattle.legacy_codecs.proofs.whole.encode_whole.Goals as goal
 pub returns-in-InputEmpty : goal.returns-in-InputEmpty
 returns-in-InputEmpty g c =
     let call = c.encode_replacing_utf8-answer.ensures.call in
-    rw (bytes_end call c.in-InputEmpty.is, append-nil c.extend_from_slice.new.self.items) at (bytes_after call _ c.calls.invariant.1 c.in_ok-extend_from_slice.ensures.items)
+    rw (bytes_end call c.in-InputEmpty.is, append-nil c.extend_from_slice.new.self.items)
+    at (bytes_after call _ c.calls.invariant.1 c.in_ok-extend_from_slice.ensures.items)
 
 pub calls-smaller : goal.calls-smaller
 calls-smaller g c =
