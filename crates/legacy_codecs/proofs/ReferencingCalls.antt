@@ -1,6 +1,6 @@
 -- A call that writes references, in progress.
-use Rattle.std.proofs.Common.{◌≡◌, ◌∙◌, ℕ, ◌+◌, ◌-◌, ◌≤◌, ◌<◌, List, [], ◌∷◌, ◌++◌, length, map, slice_get, refl, sym, ap, subst, arith, append_assoc}
-use Rattle.std.proofs.{Common.{append-nil, length-append, Bool, true, false, ◌||◌, IsTrue, Some, inl, inr}, lemmas.Bool.true≢false, lemmas.List.nil_from_length}
+use Rattle.std.proofs.Common.{◌≡◌, ◌∙◌, ℕ, ◌+◌, ◌-◌, ◌≤◌, ◌<◌, List, [], ◌∷◌, ◌++◌, length, map, slice_get, refl, sym, ap, arith, append_assoc}
+use Rattle.std.proofs.{Common.{append-nil, length-append, Bool, true, false, IsTrue, Some, inl, inr}, lemmas.Bool.true≢false, lemmas.List.nil_from_length}
 use Rattle.std.proofs.{Math.Bool.{or-false, or-true}, Math.Nat.sub-zero}
 use Rattle.std.specs.Prelude.{is_some}
 use Rattle.legacy_base.specs.{declared.results.EncodeEvent.EncodeEvent, declared.results.EncodeEvent.TheVariants.Byte}

@@ -1,13 +1,13 @@
 -- A call with replacement, in progress.
 use Rattle.std.proofs.Common.{◌≡◌, ◌∙◌, ℕ, ◌+◌, ◌-◌, ◌≤◌, ◌<◌, List, [], ◌∷◌, ◌++◌, length, drop, refl, sym, ap, arith, append_assoc, append-nil}
-use Rattle.std.proofs.{Common.{length-append, length-drop, add-zero, Bool, true, false, ◌||◌, IsTrue, All, cond, nat_eq}, Math.Bool.{or-false, or-true}}
+use Rattle.std.proofs.{Common.{length-append, length-drop, add-zero, Bool, true, false, IsTrue, All, cond, nat_eq}, Math.Bool.{or-false, or-true}}
 use Rattle.std.proofs.{lemmas.List.drop-drop, Math.Seq.drop-nil, lemmas.List.Elements.{All-append, All-nil, All-cons}}
 use Rattle.std.specs.Char.{IsScalar}
 use Rattle.legacy_base.specs.declared.results.DecodeEvent.{DecodeEvent}
 use Rattle.legacy_base.specs.{declared.results.DecoderResult.DecoderResult, declared.results.DecoderResult.TheVariants.{InputEmpty, OutputFull, Malformed}}
 use Rattle.legacy_base.specs.{Events.shift, Grammar.{Grammar, events_of}, States.DecoderState, DecoderActs.LacksRoom}
 use Rattle.legacy_base.specs.{DecoderActs.{full_room_in, release_room_in}, Lengths.{query_form, replacement_units, answer_units, room}}
-use Rattle.legacy_base.specs.Calls.{Progress, DecoderCall, may_report_end, reported_events, out_events}
+use Rattle.legacy_base.specs.Calls.{Progress, DecoderCall, may_report_end, out_events}
 use Rattle.legacy_text.specs.EncodingForm.{EncodingForm, code_units, all_code_units, total_unit_count, bmp_room}
 use Rattle.legacy_text.proofs.CodeUnits.{encode_3, all_code_units-append}
 use Rattle.legacy_base.proofs.{Enough.room-answer, Progress.{stay, at_less, after_that}}

@@ -1,5 +1,5 @@
 -- A list of codes after one of its ranges was looked up.
-use Rattle.std.proofs.{Common.{◌≡◌, ℕ, ◌+◌, ◌<◌, ◌≤◌, List, length, slice_index, false, ◌==◌, arith, inl, inr}, lemmas.Bool.cases_lt}
+use Rattle.std.proofs.{Common.{◌≡◌, ℕ, ◌+◌, ◌<◌, ◌≤◌, List, length, slice_index, false, ◌==◌, arith}, lemmas.Bool.cases_lt}
 use Rattle.std.proofs.lemmas.Bool.Decides.{nat_tests}
 use Rattle.legacy_base.specs.Encoders.{Codec}
 use Rattle.legacy_encoder_engine.specs.CachedPairs.{AreAllPairsOf, IsOutside, IsRightEntry}

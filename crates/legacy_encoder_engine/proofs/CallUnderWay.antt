@@ -31,9 +31,6 @@ no_bytes bytes e = grind (arith, common_steps)
 no_need : (state : EncoderState) (last : Bool) → (IsTrue last → end_bytes state ≡ []) → encoder_need state [] last ≡ 0
 no_need state last p = grind arith
 
-first_rest : (left more : List ℕ) → left ++ more ≡ take 1 left ++ (drop 1 left ++ more)
-first_rest left more = grind (arith, common_steps, take-append-drop 1 left)
-
 -- after a move that reads a scalar, an empty text that continues gives no bytes
 no_more : (next : EncoderState) → Serves (encoder_profile next.codec) → (move : EncoderMove) (c : ℕ) → is_escape move ≡ false
     → byte_count (move_report move ++ encoded next (unread_scalar move c ++ []) false) ≡ 0
@@ -58,7 +55,7 @@ module _ (before : EncoderState) (source : List ℕ) (last : Bool) (free : ℕ) 
   module _ (now : EncoderState) (left bytes : List ℕ) (under : Underway before source last free now left bytes)
       (serves : Serves (encoder_profile now.codec)) where
     whole : (more : List ℕ) (ended : Bool) → encoded before (source ++ more) ended ≡ map Byte bytes ++ encoded now (left ++ more) ended
-    whole more ended = rw (under.cut, append_assoc, first_rest left more) (under.events (drop 1 left ++ more) ended)
+    whole more ended = rw (under.cut, append_assoc, ← take-append-drop 1 left, append_assoc) (under.events (drop 1 left ++ more) ended)
 
     pub call_full : EncoderLacksRoom now left last (free - length bytes)
         → ((form : EncodingForm) → encoder_room form before (total_unit_count form source) ≤ free → ⊥)
@@ -108,9 +105,6 @@ module _ (before : EncoderState) (source : List ℕ) (last : Bool) (free : ℕ) 
       not_once h l = let s = rw at at (still l) in omega arith
 
       module _ (next : EncoderState) (move : EncoderMove) (f : Moves now c next move) (room : scalar_room now c ≤ free - length bytes) where
-        next_same : next.codec ≡ now.codec
-        next_same = ap (λ (s : EncoderState). s.codec) f.goes
-
         -- a move that reads the scalar leaves the state unchanged
         stays : is_escape move ≡ false → next ≡ now
         stays e = f.goes ∙ state_stays now c (sym f.asks ∙ e)
@@ -193,7 +187,7 @@ module _ (before : EncoderState) (source : List ℕ) (last : Bool) (free : ℕ) 
           events = λ more ended.
               let read : unread_scalar move c ≡ [] = grind arith in
               rw append_assoc (rw (r, read) at (moved (take 1 rest ++ more) ended));
-          same = next_same ∙ under.same;
+          same = rw f.goes under.same;
           had_room = read_room e;
           fits = let n = f.fits in let g = under.fits in omega (arith, length-append bytes (move_bytes move));
           once = λ l. absurd (not_once room l);
@@ -207,7 +201,7 @@ module _ (before : EncoderState) (source : List ℕ) (last : Bool) (free : ℕ) 
           events = λ more ended.
               let follows : move_report move ++ encoded next (unread_scalar move c ++ more) ended ≡ encoded next (c ∷ more) ended = grind arith in
               rw at (rw follows at (moved more ended));
-          same = next_same ∙ under.same;
+          same = rw f.goes under.same;
           had_room = under.had_room;
           fits = let n = f.fits in let g = under.fits in omega (arith, length-append bytes (move_bytes move));
           once = λ l. absurd (not_once room l);
@@ -295,12 +289,6 @@ module _ (before : EncoderState) (source : List ℕ) (last : Bool) (free : ℕ) 
             escape = 0x1B ∷ 0x28 ∷ 0x42 ∷ []
 
 -- ---- lemmas for the loop
-
-pub no_report : (m : EncoderMove) → ((r : ℕ) → m ≡ moves.Unmappable r → ⊥) → move_report m ≡ []
-no_report m h = grind arith
-
-pub no_escape : (m : EncoderMove) → ((a b : ℕ) → m ≡ moves.Escape a b → ⊥) → is_escape m ≡ false
-no_escape m h = grind arith
 
 -- the code units of a text are those of its first scalar and of the others
 pub first_units : (form : EncodingForm) (left : List ℕ) (c : ℕ) → left ≡ c ∷ drop 1 left

@@ -1,6 +1,6 @@
 -- The codecs without modes: their rooms are enough for their scalars, and each move writes the code of its scalar.
 use Rattle.std.proofs.Common.{◌/◌, ◌%◌, ◌≡◌, ◌∙◌, ℕ, ◌+◌, ◌-◌, ◌≤◌, ◌<◌, List, [], ◌∷◌, ◌++◌, length, refl, sym, ap, subst, arith, Bool, false, Some}
-use Rattle.std.proofs.{Common.{Option, cond, option_map, ltb, inl, inr}, lemmas.Bool.{cases_lt, lt-ltb, le-ltb}, lemmas.Bool.Decides.nat_tests}
+use Rattle.std.proofs.{Common.{Option, cond, option_map, ltb}, lemmas.Bool.{cases_lt, lt-ltb, le-ltb}, lemmas.Bool.Decides.nat_tests}
 use Rattle.std.specs.Option.{option_or}
 use Rattle.legacy_text.specs.{EncodingForm.{EncodingForm, Utf8, Utf16, unit_count}, UnitCodes.IsNoSurrogate}
 use Rattle.legacy_base.specs.{Encoders.{Codec, encoder_profile, EncoderState, new_encoder, code, encoded, scalar_room}, EncoderProfile.{EncoderMode, in_ascii}}

@@ -1,7 +1,7 @@
 -- The list of codes after a walk over an index.
 use Rattle.std.proofs.Common.{◌≡◌, ◌≢◌, ◌∙◌, ℕ, ◌+◌, ◌*◌, ◌<◌, ◌≤◌, List, [], ◌∷◌, length, slice_index, Option, Some, None, option_map, ap, sym, refl, subst}
 use Rattle.std.proofs.{Common.arith, lemmas.Bool.Decides.nat_tests}
-use Rattle.std.specs.{Char.IsScalar, Option.IfSome}
+use Rattle.std.specs.{Option.IfSome}
 use Rattle.legacy_tables.specs.{declared.tables.packed.PackedPart.PackedPart, Packed.pointer_of, Unicode.AreScalars, Walks.{marked, IsFilled}}
 use Rattle.legacy_tables.proofs.{PackedAccepted.entry-scalar, PackedPointers.pointer-taken}
 use Rattle.legacy_text.specs.UnitCodes.{IsNoSurrogate}

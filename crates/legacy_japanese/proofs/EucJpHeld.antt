@@ -5,7 +5,7 @@ use Rattle.std.specs.{Int.is_in_range, Char.{IsScalar, is_ascii}}
 use Rattle.legacy_base.specs.{EucJp.euc_jp_scalars, Fronts.malformed, Calls.IsMalformedByte, Grammar.{Grammar, euc_jp, events_of}, States.is_euc_jp_lead}
 use Rattle.legacy_base.specs.States.{euc_jp_may_hold, state_of}
 use Rattle.legacy_tables.specs.{AcceptedTables.AcceptedIndexes, Unicode.{IsByte, AreBytes}}
-use Rattle.legacy_decoder_engine.specs.{Steps.finish, Moves.{IsCovered, Feeds, Reports}, StepUnits.IsNarrowIndex, Feeding.Took, Shown.IsShown, ReadAhead.Runs}
+use Rattle.legacy_decoder_engine.specs.{Steps.finish, Moves.{IsCovered, Feeds, Reports}, Feeding.Took, Shown.IsShown, ReadAhead.Runs}
 use Rattle.legacy_decoder_engine.specs.{ReadAhead.{HasAscii, IsPair}, LaneRows.row_place, declared.moves.Fed.Fed}
 use Rattle.legacy_tables.proofs.Accepted.{jis0208-below, jis0212-below, jis0208-scalars, length-jis0208}
 use Rattle.legacy_decoder_engine.proofs.{RunForms.{pair_runs, has_ascii, ascii_is}, Widths.idx_below, LanePlaces.entry_is}

@@ -10,7 +10,7 @@ use Rattle.legacy_base.proofs.{Cuts.cut-nil, FrontLaws.euc_jp_front-of}
 use Rattle.legacy_decoder_engine.specs.{Steps.{Step, end_events, trail_step, Meets}, StepUnits.{units, IsWidth, IsNarrowIndex, Cost}}
 use Rattle.legacy_decoder_engine.specs.{StatesAfterSteps.{IsOneOrMarked, Settles}, Shown.IsShown}
 use Rattle.legacy_decoder_engine.proofs.{FrontMoves.{Fits, fits_trail, fits_meets, end_meets, report_meets}, RoomMoves.{first_room, held_room_is, HasCosts}}
-use Rattle.legacy_decoder_engine.proofs.{RoomMoves.{IsSloped, sloped_rooms}, CallUnderWay.same_rooms, Widths.narrow_idx_units, TwoByteCosts.katakana_below}
+use Rattle.legacy_decoder_engine.proofs.{RoomMoves.{sloped_rooms}, CallUnderWay.same_rooms, Widths.narrow_idx_units, TwoByteCosts.katakana_below}
 use Rattle.legacy_decoder_engine.proofs.SettledSteps.{one_option, trail_settles}
 use Rattle.legacy_japanese.specs.EucJpMachine.{euc_jp_first, euc_jp_second_step, euc_jp_step, euc_jp_machine}
 

@@ -105,10 +105,6 @@ module _ (jis0208 : List ℕ) where
   lead_end mode l h h1 = grind (arith, step_one, in_range_plain, front_in, malformed_lead, front-malformed_byte)
 
   -- if an escape byte after a whole escape is reported alone, the whole escape is not malformed
-  whole_alone : (mode : Mode) (e : Escape) (items rest : List DecodeEvent) (o : Option iso.Mode) →
-      cond (is_some o) (Bad 0 3 ∷ []) [] ++ items ≡ Bad 3 1 ∷ rest → o ≡ None
-  whole_alone mode e items rest o h = grind arith
-
   whole_end : (mode : Mode) (e : Escape) (rest more : List ℕ) → part_mode (esc ∷ rest) ≡ None
       → (more ≡ []) ⊎ BeginsWith (events_in jis0208 mode (esc ∷ second_of e ∷ third_of e ∷ esc ∷ rest ++ more)) (Bad 3 1 ∷ [])
       → events_in jis0208 mode (esc ∷ second_of e ∷ third_of e ∷ esc ∷ rest ++ more) ≡ Bad 3 1 ∷ shift 4 (events_in jis0208 (mode_of e) (rest ++ more))
@@ -116,8 +112,9 @@ module _ (jis0208 : List ℕ) where
       let behind = esc ∷ rest ++ more in
       let alone : part_mode behind ≡ None = elim h [
         | inl z ↦ ap (λ l. part_mode (esc ∷ l)) (ap (λ l. rest ++ l) z ∙ append-nil rest) ∙ none
-        | inr g ↦ whole_alone mode e (shift 3 (events_in jis0208 (mode_of e) behind)) g.0 (part_mode behind)
-            (sym (step_escape jis0208 (mode_meaning mode) (mode_meaning (mode_of e)) (second_of e) (third_of e) behind (valid e)) ∙ g.1)
+        | inr g ↦
+            let first = sym (step_escape jis0208 (mode_meaning mode) (mode_meaning (mode_of e)) (second_of e) (third_of e) behind (valid e)) ∙ g.1 in
+            grind (arith, first)
       ] in
       rw (escape_alone jis0208 mode e behind alone, step_no_escape jis0208 (mode_meaning (mode_of e)) (rest ++ more) alone, shift-shift 3 1) refl
 

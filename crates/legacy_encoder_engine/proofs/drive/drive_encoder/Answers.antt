@@ -3,7 +3,7 @@ use Rattle.legacy_base.specs.Encoders.{is_pending}
 use Rattle.legacy_text.proofs.Texts.{first_cons, none_left}
 use Rattle.legacy_encoder_engine.specs.Moves.{is_escape}
 use Rattle.legacy_encoder_engine.proofs.CallUnderWay.{underway_start, underway_read, underway_escape, call_full_scalar, call_full_end, call_unmappable}
-use Rattle.legacy_encoder_engine.proofs.CallUnderWay.{call_done, call_finish, no_report, no_escape, first_units}
+use Rattle.legacy_encoder_engine.proofs.CallUnderWay.{call_done, call_finish, first_units}
 use Rattle.legacy_encoder_engine.proofs.drive.drive_encoder.Goals.{else-is_pending-via-then-is_pending+else-last, else-is_pending-via-else-is_pending}
 use Rattle.legacy_encoder_engine.proofs.drive.drive_encoder.Goals as goal
 
@@ -36,8 +36,8 @@ loop-c-preserved g c =
     let cons = first_cons _ _ c.in-Some.ensures in (
       rw (c.advance-in-loop-c.ensures.left, c.put_move-written.ensures.bytes)
           (underway_read _ _ _ _ _ _ _ under c.room.ensures.serves c.in-Some.c _ cons _ c.next-step.result c.next-step.ensures
-          (omega (arith, length-take {A = ℕ})) (no_escape c.next-step.result c.in_default-step-2.not-Escape)
-          (no_report c.next-step.result c.in_default-step.not-Unmappable)),
+          (omega (arith, length-take {A = ℕ})) (grind (arith, c.in_default-step-2.not-Escape))
+          (grind (arith, c.in_default-step.not-Unmappable))),
       omega arith,
       rw c.advance-in-loop-c.ensures.left (omega (
         arith,
