@@ -28,10 +28,8 @@ calls-few {lengths = lengths} (called calls events p r free e after answer left 
     let before = calls-few r w refl in
     let at = All-get_or (λ n. 4 ≤ n) lengths calls 0 (slice_get_within lengths calls free e) w in
     let is = get_or_from_slice_get lengths calls free 0 e in
-    let wide : 4 ≤ free = omega arith in
-    let one = progresses p free after answer left bytes wide c h in
-    let both = length-append events (map Byte bytes ++ reported answer) in
-    omega arith
+    let one = progresses p free after answer left bytes (omega arith) c h in
+    omega (arith, length-append events (map Byte bytes ++ reported answer))
 
 pub encode_is_finished : (before : EncoderState) (pieces : List (List ℕ)) {lengths : List ℕ} {calls : ℕ} {finished : Bool} {items : List EncodeEvent}
     {after : EncoderState} →

@@ -19,12 +19,9 @@ module _ {form : EncodingForm} {before : EncoderState} {units free : ℕ} {after
   -- after the next call the rest of the text has room
   next-lowers : (answer ≡ InputEmpty → n.last ≡ false) → encoder_room form after (units - read) ≤ free - length bytes
   next-lowers e =
-      let some = n.some in
-      let reads = n.reads in
-      let rest : total_unit_count form n.left + (units - total_unit_count form n.source) ≡ units - read = omega arith in
-      let all : total_unit_count form n.source + (units - total_unit_count form n.source) ≡ units = omega arith in
-      let low = n.call.lowers form (units - total_unit_count form n.source) (goes_on n.last answer next-suffices e) in
-      let low' = rw (rest, all) at low in
+      let rest : total_unit_count form n.left + (units - total_unit_count form n.source) ≡ units - read = omega (arith, n.some, n.reads) in
+      let all : total_unit_count form n.source + (units - total_unit_count form n.source) ≡ units = omega (arith, n.some) in
+      let low = rw (rest, all) at (n.call.lowers form (units - total_unit_count form n.source) (goes_on n.last answer next-suffices e)) in
       omega arith
 
 fills-room : {form : EncodingForm} {from : EncoderState} {units free : ℕ} {s : EncoderState} {to_come room : ℕ} →

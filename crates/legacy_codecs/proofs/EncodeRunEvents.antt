@@ -47,10 +47,7 @@ module _ {from : RunPlace EncoderState} {lengths : List ℕ} where
   reaches-encoded (called calls events p r free e after answer left bytes c) =
       let one = c.events (joined p.later) true (λ l. inl (ap joined (last_empty p.later (told_end-last (is_none p.later) answer l)), refl)) in
       let two = place_behind-encoded p after answer left (λ q. (c.input_empty q).0) in
-      let next = encoded_ahead (place_behind p after (is_input_empty answer) left) in
-      reaches-encoded r
-      ∙ ap (λ l. events ++ l) (one ∙ ap (λ l. map Byte bytes ++ (reported answer ++ l)) two ∙ sym (append_assoc (map Byte bytes) (reported answer) next))
-      ∙ sym (append_assoc events (map Byte bytes ++ reported answer) next)
+      reaches-encoded r ∙ rw (one, two) (simp append_assoc)
 
   -- a finished run is past all pieces, and the end has nothing left to write
   pub reaches-finished : {calls : ℕ} {events : List EncodeEvent} {finished : Bool} {p : RunPlace EncoderState} →

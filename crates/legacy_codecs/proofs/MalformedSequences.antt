@@ -1,5 +1,5 @@
 -- The search for malformed sequences under way.
-use Rattle.std.proofs.Common.{◌≡◌, ◌∙◌, ℕ, ◌+◌, ◌-◌, ◌≤◌, List, [], ◌∷◌, ◌++◌, length, drop, map, refl, sym, ap, ap₂, arith, append-nil, add-zero, length-drop}
+use Rattle.std.proofs.Common.{◌≡◌, ℕ, ◌+◌, ◌-◌, ◌≤◌, List, [], ◌∷◌, ◌++◌, length, drop, map, refl, ap, ap₂, arith, append-nil, add-zero, length-drop}
 use Rattle.std.proofs.{Common.true, lemmas.List.drop_all}
 use Rattle.legacy_base.specs.{declared.results.DecodeEvent.DecodeEvent, declared.results.DecodeEvent.TheVariants.{Scalar, Bad}}
 use Rattle.legacy_base.specs.{declared.results.DecoderResult.DecoderResult, declared.results.DecoderResult.TheVariants.{InputEmpty, OutputFull, Malformed}}
@@ -75,10 +75,7 @@ module _ {before : DecoderState} {input : List ℕ} {free : ℕ} {now : DecoderS
         out = f.out ++ shift f.passed (out_events (length now.held + count) scalars (Malformed a b));
         progress = progress_after c;
         counts = omega (arith, length-drop count rest);
-        found_is =
-            ap (λ (l : List MalformedSequence). l ++ record { place = read + count - (a + b); length = a } ∷ []) f.found_is
-            ∙ ap (λ l. malformed_of (length before.held) f.out ++ l) (sym (added c))
-            ∙ sym (malformed-append (length before.held) f.out (shift f.passed (out_events (length now.held + count) scalars (Malformed a b))));
+        found_is = rw (f.found_is, malformed-append, added c) refl;
         fits = omega (arith, lowered, had);
       }
 

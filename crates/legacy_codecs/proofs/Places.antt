@@ -53,21 +53,16 @@ module _ {State : Type 0} where
 
 -- the test for the last piece, by the number of pieces
 pub last_is : (pieces : List (List ℕ)) (n index : ℕ) → n ≡ length pieces → leb (n - index) 1 ≡ is_none (drop (index + 1) pieces)
-last_is pieces n index e = elim (cases_lt (index + 1) n) [
-  | inl a ↦
-      let a' : index + 1 < length pieces = omega arith in
-      lt-leb (n - index) 1 (omega arith) ∙ rw (drop-cons pieces (index + 1) [] a') refl
-  | inr a ↦
-      let none : drop (index + 1) pieces ≡ [] = drop_of_length-le pieces (omega arith) in
-      le-leb (n - index) 1 (omega arith) ∙ rw none refl
+last_is pieces n index e = elim (cases_lt (index + 1) (length pieces)) [
+  | inl a ↦ lt-leb (n - index) 1 (omega arith) ∙ rw (drop-cons pieces (index + 1) [] a) refl
+  | inr a ↦ le-leb (n - index) 1 (omega arith) ∙ rw (drop_of_length-le pieces a) refl
 ]
 
 -- which piece is the last does not depend on how its reader sees it
 pub same_end : {A : Type 0} (f g : A → List ℕ) (pieces : List A) (index : ℕ) → is_none (drop index (map f pieces)) ≡ is_none (drop index (map g pieces))
-same_end f g [] zero = refl
-same_end f g [] (suc index) = refl
-same_end f g (p ∷ ps) zero = refl
 same_end f g (p ∷ ps) (suc index) = same_end f g ps index
+same_end f g [] zero = refl
+same_end f g _ _ = refl
 
 -- if the piece at an index is not the last, the next index is one of a piece
 pub not_last : (pieces : List (List ℕ)) (index : ℕ) → is_none (drop (index + 1) pieces) ≡ false → index + 1 < length pieces

@@ -1,5 +1,5 @@
 -- Calls that fill one output leave the room that the rest of the bytes needs.
-use Rattle.std.proofs.Common.{◌≡◌, ◌≢◌, ℕ, ◌+◌, ◌-◌, ◌≤◌, List, length, drop, length-drop, refl, arith, IsTrue}
+use Rattle.std.proofs.Common.{◌≡◌, ◌≢◌, ℕ, ◌+◌, ◌-◌, ◌≤◌, List, length, drop, length-drop, refl, arith}
 use Rattle.legacy_base.specs.{declared.results.DecoderResult.DecoderResult, declared.results.DecoderResult.TheVariants.OutputFull, States.DecoderState}
 use Rattle.legacy_base.specs.Lengths.{LengthQuery, query_form, answer_units, room}
 use Rattle.legacy_text.specs.EncodingForm.{total_unit_count}
@@ -15,9 +15,7 @@ module _ (query : LengthQuery) (before : DecoderState) (bytes free : ℕ) (after
       let behind = length-drop read n.source in
       let rest : length (drop read n.source) + (bytes - length n.source) ≡ bytes - read = omega arith in
       let all : length n.source + (bytes - length n.source) ≡ bytes = omega arith in
-      let last : IsTrue n.last → bytes - length n.source ≡ 0 = λ l. let e = n.all l in omega arith in
-      let low = n.call.lowers query refl (bytes - length n.source) last in
-      rw (rest, all) at low
+      rw (rest, all) at (n.call.lowers query refl (bytes - length n.source) (λ l. let e = n.all l in omega arith))
 
   next-suffices : room query before bytes ≤ free → answer ≢ OutputFull
   next-suffices h = grind (arith, room-rises)

@@ -1,5 +1,5 @@
 -- Laws of the text that is written for the events of an encoder, and of how a reference is made.
-use Rattle.std.proofs.Common.{◌≡◌, ◌∙◌, ℕ, ◌+◌, ◌-◌, ◌/◌, ◌%◌, ◌^◌, ◌≤◌, ◌<◌, List, [], ◌∷◌, ◌++◌, length, drop, take, set, map, decimal, refl, sym, ap, subst}
+use Rattle.std.proofs.Common.{◌≡◌, ◌∙◌, ℕ, ◌+◌, ◌-◌, ◌/◌, ◌%◌, ◌^◌, ◌≤◌, ◌<◌, List, [], ◌∷◌, ◌++◌, length, drop, take, set, map, decimal, refl, sym, ap}
 use Rattle.std.proofs.{Common.{arith, append_assoc, length-append, length-set, false, ◌||◌}, Math.ListN.drop_of_length-le, Math.Seq.take-append-add}
 use Rattle.std.proofs.{lemmas.Slice.take-put_mid, lemmas.Fmt.{decimal_step, decimal_digit, length-decimal-le}, lemmas.List.{drop-set, take-take}}
 use Rattle.std.proofs.{lemmas.List.length-take-le, lemmas.List.Concat.flat_map-append, lemmas.List.Folds.list_any-append}
@@ -56,11 +56,7 @@ pub marks_before : (text : List ℕ) (place : ℕ) → 2 ≤ place → place ≤
     drop (place - 2) (set (set text (place - 1) 35) (place - 2) 38) ≡ 38 ∷ 35 ∷ drop place text
 marks_before text place two within =
     let long = length-set text (place - 1) 35 in
-    let one : place - 2 + 1 ≡ place - 1 = omega arith in
-    let none : place - 1 + 1 ≡ place = omega arith in
-    drop-set (set text (place - 1) 35) (place - 2) 38 (omega arith)
-    ∙ ap (λ n. 38 ∷ drop n (set text (place - 1) 35)) one
-    ∙ ap (λ l. 38 ∷ l) (drop-set text (place - 1) 35 (omega arith) ∙ ap (λ n. 35 ∷ drop n text) none)
+    grind (arith, drop-set (set text (place - 1) 35) (place - 2) 38, drop-set text (place - 1) 35)
 
 -- the byte after the digits
 pub mark_behind : (text : List ℕ) → length text ≡ 10 → drop 9 (set text 9 59) ≡ 59 ∷ []
@@ -74,6 +70,5 @@ mark_behind text long =
 pub front_of_part : (a k r : ℕ) (xs ys : List ℕ) → a ≤ length xs → r ≤ length ys → take (a + r) (put_mid a k xs ys) ≡ take a xs ++ take r ys
 front_of_part a k r xs ys within le =
     let all : take (a + length ys) (put_mid a k xs ys) ≡ take a xs ++ ys = take-put_mid a k xs ys (a + length ys) refl within in
-    let long : length (take a xs) ≡ a = length-take-le a xs within in
     sym (take-take (a + r) (a + length ys) (put_mid a k xs ys) (omega arith)) ∙ ap (take (a + r)) all
-    ∙ subst (λ n. take (n + r) (take a xs ++ ys) ≡ take a xs ++ take r ys) long (take-append-add (take a xs) ys r)
+    ∙ rw (length-take-le a xs within) at (take-append-add (take a xs) ys r)

@@ -1,6 +1,6 @@
 -- A call that writes references, in progress.
-use Rattle.std.proofs.Common.{◌≡◌, ◌∙◌, ℕ, ◌+◌, ◌-◌, ◌≤◌, ◌<◌, List, [], ◌∷◌, ◌++◌, length, map, slice_get, refl, sym, ap, subst, arith, append_assoc}
-use Rattle.std.proofs.{Common.{append-nil, length-append, Bool, true, false, ◌||◌, IsTrue, Some, inl, inr}, lemmas.Bool.true≢false, lemmas.List.nil_from_length}
+use Rattle.std.proofs.Common.{◌≡◌, ◌∙◌, ℕ, ◌+◌, ◌-◌, ◌≤◌, ◌<◌, List, [], ◌∷◌, ◌++◌, length, map, slice_get, refl, sym, ap, arith, append_assoc}
+use Rattle.std.proofs.{Common.{append-nil, length-append, Bool, true, false, IsTrue, Some, inl, inr}, lemmas.Bool.true≢false, lemmas.List.nil_from_length}
 use Rattle.std.proofs.{Math.Bool.{or-false, or-true}, Math.Nat.sub-zero}
 use Rattle.std.specs.Prelude.{is_some}
 use Rattle.legacy_base.specs.{declared.results.EncodeEvent.EncodeEvent, declared.results.EncodeEvent.TheVariants.Byte}
@@ -28,37 +28,24 @@ found_after found InputEmpty = found
 found_after found OutputFull = found
 found_after found (Unmappable c) = true
 
-referenced-reported : (answer : EncoderResult) → referenced_bytes (reported answer) ≡ reported_bytes answer
-referenced-reported answer = grind (arith, append-nil)
-
-found-reported : (found : Bool) (answer : EncoderResult) → (found || has_unmappable (reported answer)) ≡ found_after found answer
-found-reported found answer = grind (arith, or-false, or-true)
-
 -- the events of a call
 abbrev pub out_events : List ℕ → EncoderResult → List EncodeEvent
 out_events bytes answer = map Byte bytes ++ reported answer
 
 referenced-call : (out : List EncodeEvent) (bytes : List ℕ) (answer : EncoderResult) →
     referenced_bytes (out ++ out_events bytes answer) ≡ referenced_bytes out ++ (bytes ++ reported_bytes answer)
-referenced-call out bytes answer = grind (arith, referenced-append, referenced-of_bytes, referenced-reported)
+referenced-call out bytes answer = grind (arith, referenced-append, referenced-of_bytes, append-nil)
 
 found-call : (out : List EncodeEvent) (bytes : List ℕ) (answer : EncoderResult) →
     found_after (has_unmappable out) answer ≡ has_unmappable (out ++ out_events bytes answer)
-found-call out bytes answer = grind (arith, has_unmappable-append, has_unmappable-of_bytes, found-reported)
+found-call out bytes answer = grind (arith, has_unmappable-append, has_unmappable-of_bytes, or-false, or-true)
 
 -- a call with no text reports no unmappable scalar
 pub nothing_reported : {before : EncoderState} {last : Bool} {free : ℕ} {after : EncoderState} {c : ℕ} {left bytes : List ℕ} →
     EncoderCall before [] last free after (Unmappable c) left bytes → ⊥
-nothing_reported {before} {after = after} {c} {left} {bytes} call =
-    let byte : ℕ → EncodeEvent = λ b. Byte b in
-    let rest = encoded after (left ++ []) true in
-    let e : map byte (end_bytes before) ≡ map byte bytes ++ (event.Unmappable c ∷ rest) =
-    sym (end-encoded before) ∙ call.events [] true (λ _. inl (refl, refl)) in
-    let none : has_unmappable (map byte bytes ++ (event.Unmappable c ∷ rest)) ≡ false =
-    ap has_unmappable (sym e) ∙ has_unmappable-of_bytes (end_bytes before) in
-    let some : has_unmappable (map byte bytes ++ (event.Unmappable c ∷ rest)) ≡ true =
-    has_unmappable-append (map byte bytes) (event.Unmappable c ∷ rest) ∙ or-true (has_unmappable (map byte bytes)) in
-    true≢false (sym some ∙ none)
+nothing_reported {before} call =
+    let e = sym (end-encoded before) ∙ call.events [] true (λ _. inl (refl, refl)) in
+    true≢false (rw (has_unmappable-append, or-true) at (ap has_unmappable (sym e) ∙ has_unmappable-of_bytes (end_bytes before)))
 
 -- ---- the result of all calls
 
@@ -80,8 +67,7 @@ same_end : (last : Bool) (result : CoderResult) → tells_end last (last_answer 
 same_end last result = grind arith
 
 is_full : (result : CoderResult) → last_answer result ≡ OutputFull → result ≡ coder.OutputFull
-is_full coder.InputEmpty e = cc
-is_full coder.OutputFull e = refl
+is_full result e = grind arith
 
 -- ---- the room of a reference
 
@@ -165,15 +151,13 @@ module _ {before : EncoderState} {source : List ℕ} {last : Bool} {free : ℕ} 
     gives_after : (answer : EncoderResult) → EncoderCall now left last room after answer rest written →
         Gives (tells_end last answer) before source after rest (out_after written answer)
     gives_after answer c more ended h =
-        let behind = encoded after (rest ++ more) ended in
-        let first : encoded before (source ++ more) ended ≡ u.out ++ encoded now (left ++ more) ended =
-        u.gives more ended (λ l. let no : false ≡ true = l in cc) in
+        let first = u.gives more ended (λ l. let no : false ≡ true = l in cc) in
         first
         ∙ ap (λ l. u.out ++ l) (c.events more ended (λ l. elim (h l) [
           | inl e ↦ inl e
           | inr g ↦ inr (begins_later u.out (out_events written answer) (encoded now (left ++ more) ended) (rw first at g))
         ]))
-        ∙ ap (λ l. u.out ++ l) (sym (append_assoc (map Byte written) (reported answer) behind)) ∙ sym (append_assoc u.out (out_events written answer) behind)
+        ∙ simp append_assoc
 
     -- if the room was lacking as the call began, this call returns OutputFull and nothing is done
     full_so : (answer : EncoderResult) → EncoderCall now left last room after answer rest written →
@@ -211,12 +195,8 @@ module _ {before : EncoderState} {source : List ℕ} {last : Bool} {free : ℕ} 
     pub referencing_less : (c : ℕ) → EncoderCall now left last room after (Unmappable c) rest written →
         length (encoded after rest true) < length (encoded now left true)
     referencing_less c call =
-        let byte : ℕ → EncodeEvent = λ b. Byte b in
-        let f : encoded now left true ≡ map byte written ++ (event.Unmappable c ∷ encoded after rest true) =
-        ap (λ l. encoded now l true) (sym (append-nil left)) ∙ call.events [] true (λ _. inl (refl, refl))
-        ∙ ap (λ l. map byte written ++ (event.Unmappable c ∷ encoded after l true)) (append-nil rest) in
-        let n = ap length f ∙ length-append (map byte written) (event.Unmappable c ∷ encoded after rest true) in
-        omega (arith, n)
+        let f = rw (append-nil left, append-nil rest) at (call.events [] true (λ _. inl (refl, refl))) in
+        omega (arith, simp length-append at (ap length f))
 
     -- ---- the end
 
@@ -251,14 +231,11 @@ module _ {before : EncoderState} {source : List ℕ} {last : Bool} {free : ℕ} 
 
   -- ---- no room for a reference
 
-  same_bytes : (written : List ℕ) → length written ≤ 0 → bytes ++ written ≡ bytes
-  same_bytes written h = rw (nil_from_length written (omega arith)) (append-nil bytes)
-
   -- no scalar is left, and a call without room shows whether the end has something to write
   pub referencing_done : free < length bytes + reference_room → {after : EncoderState} {rest written : List ℕ} (result : CoderResult) →
       EncoderCall now left last 0 after (last_answer result) rest written → ReplacingEncoderCall before source last free after result rest bytes found
   referencing_done none {after} {rest} {written} result c =
-      subst (λ l. ReplacingEncoderCall before source last free after result rest l found) (same_bytes written c.fits) (referencing_end (omega arith) result c)
+      rw (nil_from_length written (omega (arith, c.fits)), append-nil bytes) at (referencing_end (omega arith) result c)
 
 -- the list of scalars is at its end
 pub nothing_left : (xs : List ℕ) → is_some (slice_get xs 0) ≡ false → xs ≡ []

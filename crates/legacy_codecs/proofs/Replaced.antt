@@ -1,7 +1,7 @@
 -- Laws of the text of events, and of places.
-use Rattle.std.proofs.Common.{◌≡◌, ◌∙◌, ℕ, suc, ◌+◌, ◌-◌, ◌<◌, List, [], ◌∷◌, ◌++◌, length, drop, map, refl, ap, arith, append-nil, length-append, Bool, false}
+use Rattle.std.proofs.Common.{◌≡◌, ℕ, suc, ◌<◌, List, [], ◌∷◌, ◌++◌, length, drop, map, refl, ap, arith, append-nil, length-append, Bool, false}
 use Rattle.std.proofs.{Common.{◌||◌, inl}, lemmas.List.map-append, lemmas.List.Folds.list_any-append}
-use Rattle.legacy_base.specs.{declared.results.DecodeEvent.DecodeEvent, declared.results.DecodeEvent.TheVariants.{Scalar, Bad}}
+use Rattle.legacy_base.specs.{declared.results.DecodeEvent.DecodeEvent, declared.results.DecodeEvent.TheVariants.{Scalar}}
 use Rattle.legacy_base.specs.{declared.results.DecoderResult.TheVariants.Malformed, Events.shift, Grammar.events_of, States.DecoderState, Calls.DecoderCall}
 use Rattle.legacy_text.specs.EncodingForm.{EncodingForm}
 use Rattle.legacy_codecs.specs.Replacing.{replaced_scalar, replaced_scalars, is_malformed, has_malformed}
@@ -12,8 +12,7 @@ replaced-append xs ys = map-append replaced_scalar xs ys
 -- places do not change what is written
 pub replaced-shift : (k : ℕ) (events : List DecodeEvent) → replaced_scalars (shift k events) ≡ replaced_scalars events
 replaced-shift k [] = refl
-replaced-shift k (Scalar c ∷ events) = ap (λ (l : List ℕ). c ∷ l) (replaced-shift k events)
-replaced-shift k (Bad place n ∷ events) = ap (λ (l : List ℕ). 0xFFFD ∷ l) (replaced-shift k events)
+replaced-shift k (event ∷ events) = grind (arith, replaced-shift k events)
 
 -- scalars are written unchanged
 pub replaced-of_scalars : (cs : List ℕ) → replaced_scalars (map Scalar cs) ≡ cs
@@ -25,8 +24,7 @@ has_malformed-append xs ys = list_any-append is_malformed xs ys
 
 pub has_malformed-shift : (k : ℕ) (events : List DecodeEvent) → has_malformed (shift k events) ≡ has_malformed events
 has_malformed-shift k [] = refl
-has_malformed-shift k (Scalar c ∷ events) = has_malformed-shift k events
-has_malformed-shift k (Bad place n ∷ events) = refl
+has_malformed-shift k (event ∷ events) = grind (arith, has_malformed-shift k events)
 
 -- a list of scalars has no malformed sequence
 pub has_malformed-of_scalars : (cs : List ℕ) → has_malformed (map Scalar cs) ≡ false
@@ -42,11 +40,6 @@ length-shift k (e ∷ es) = ap suc (length-shift k es)
 pub fault_less : {form : EncodingForm} {now : DecoderState} {rest : List ℕ} {last : Bool} {free : ℕ} {after : DecoderState} {a b count : ℕ} {scalars : List ℕ} →
     DecoderCall form now rest last free after (Malformed a b) count scalars →
     length (events_of after.grammar (after.held ++ drop count rest)) < length (events_of now.grammar (now.held ++ rest))
-fault_less {now = now} {rest} {after = after} {a} {b} {count} {scalars} c =
-    let event : ℕ → DecodeEvent = λ x. Scalar x in
-    let bad : List DecodeEvent = Bad (length now.held + count - b - a) a ∷ [] in
-    let x : length (events_of now.grammar (now.held ++ (rest ++ [])))
-    ≡ length (map event scalars ++ bad) + length (events_of after.grammar (after.held ++ (drop count rest ++ []))) =
-    ap length (c.progress.events [] (λ _. inl refl)) ∙ length-append (map event scalars ++ bad) _
-    ∙ ap (λ n. length (map event scalars ++ bad) + n) (length-shift c.passed _) in
-    omega (arith, rw (append-nil, append-nil) at x, length-append (map event scalars) bad)
+fault_less c =
+    let x = simp (append-nil, length-append, length-shift) at (ap length (c.progress.events [] (λ _. inl refl))) in
+    omega (arith, x)

@@ -1,13 +1,13 @@
 -- A call with replacement, in progress.
 use Rattle.std.proofs.Common.{◌≡◌, ◌∙◌, ℕ, ◌+◌, ◌-◌, ◌≤◌, ◌<◌, List, [], ◌∷◌, ◌++◌, length, drop, refl, sym, ap, arith, append_assoc, append-nil}
-use Rattle.std.proofs.{Common.{length-append, length-drop, add-zero, Bool, true, false, ◌||◌, IsTrue, All, cond, nat_eq}, Math.Bool.{or-false, or-true}}
+use Rattle.std.proofs.{Common.{length-append, length-drop, add-zero, Bool, true, false, IsTrue, All, cond, nat_eq}, Math.Bool.{or-false, or-true}}
 use Rattle.std.proofs.{lemmas.List.drop-drop, Math.Seq.drop-nil, lemmas.List.Elements.{All-append, All-nil, All-cons}}
 use Rattle.std.specs.Char.{IsScalar}
 use Rattle.legacy_base.specs.declared.results.DecodeEvent.{DecodeEvent}
 use Rattle.legacy_base.specs.{declared.results.DecoderResult.DecoderResult, declared.results.DecoderResult.TheVariants.{InputEmpty, OutputFull, Malformed}}
 use Rattle.legacy_base.specs.{Events.shift, Grammar.{Grammar, events_of}, States.DecoderState, DecoderActs.LacksRoom}
 use Rattle.legacy_base.specs.{DecoderActs.{full_room_in, release_room_in}, Lengths.{query_form, replacement_units, answer_units, room}}
-use Rattle.legacy_base.specs.Calls.{Progress, DecoderCall, may_report_end, reported_events, out_events}
+use Rattle.legacy_base.specs.Calls.{Progress, DecoderCall, may_report_end, out_events}
 use Rattle.legacy_text.specs.EncodingForm.{EncodingForm, code_units, all_code_units, total_unit_count, bmp_room}
 use Rattle.legacy_text.proofs.CodeUnits.{encode_3, all_code_units-append}
 use Rattle.legacy_base.proofs.{Enough.room-answer, Progress.{stay, at_less, after_that}}
@@ -31,19 +31,13 @@ found_after found InputEmpty = found
 found_after found OutputFull = found
 found_after found (Malformed a b) = true
 
-replaced-reported : (seen : ℕ) (answer : DecoderResult) → replaced_scalars (reported_events seen answer) ≡ reported_scalars answer
-replaced-reported seen answer = grind arith
-
 -- what is written for the events of a call
 replaced-call : (k seen : ℕ) (cs : List ℕ) (answer : DecoderResult) → replaced_scalars (shift k (out_events seen cs answer)) ≡ cs ++ reported_scalars answer
-replaced-call k seen cs answer = grind (arith, replaced-shift, replaced-append, replaced-of_scalars, replaced-reported)
-
-found-reported : (found : Bool) (seen : ℕ) (answer : DecoderResult) → (found || has_malformed (reported_events seen answer)) ≡ found_after found answer
-found-reported found seen answer = grind (arith, or-false, or-true)
+replaced-call k seen cs answer = grind (arith, replaced-shift, replaced-append, replaced-of_scalars)
 
 found-call : (events : List DecodeEvent) (k seen : ℕ) (cs : List ℕ) (answer : DecoderResult) →
     found_after (has_malformed events) answer ≡ has_malformed (events ++ shift k (out_events seen cs answer))
-found-call events k seen cs answer = grind (arith, has_malformed-shift, has_malformed-append, has_malformed-of_scalars, found-reported)
+found-call events k seen cs answer = grind (arith, has_malformed-shift, has_malformed-append, has_malformed-of_scalars, or-false, or-true)
 
 -- ---- the result of all calls
 
@@ -59,12 +53,10 @@ same_found : (found : Bool) (result : CoderResult) → found ≡ found_after fou
 same_found found result = grind arith
 
 is_full : (result : CoderResult) → last_answer result ≡ OutputFull → result ≡ coder.OutputFull
-is_full coder.InputEmpty e = cc
-is_full coder.OutputFull e = refl
+is_full result e = grind arith
 
 is_empty : (result : CoderResult) → (last_answer result ≡ OutputFull → ⊥) → result ≡ coder.InputEmpty
-is_empty coder.InputEmpty h = refl
-is_empty coder.OutputFull h = absurd (h refl)
+is_empty result h = grind arith
 
 -- ---- the room for U+FFFD
 
@@ -144,9 +136,7 @@ module _ {form : EncodingForm} {before : DecoderState} {source : List ℕ} {last
 
   replaced_after : (count : ℕ) (scalars : List ℕ) (answer : DecoderResult) →
       replaced_scalars (out_after count scalars answer) ≡ replaced_scalars r.out ++ (scalars ++ reported_scalars answer)
-  replaced_after count scalars answer =
-      let out = out_events (length now.held + count) scalars answer in
-      replaced-append r.out (shift r.passed out) ∙ ap (λ l. replaced_scalars r.out ++ l) (replaced-call r.passed (length now.held + count) scalars answer)
+  replaced_after count scalars answer = rw (replaced-append, replaced-call r.passed (length now.held + count) scalars answer) refl
 
   text_after : (count : ℕ) (scalars : List ℕ) (answer : DecoderResult) →
       r.written ++ all_code_units form (scalars ++ reported_scalars answer) ≡ all_code_units form (replaced_scalars (out_after count scalars answer))
@@ -173,12 +163,9 @@ module _ {form : EncodingForm} {before : DecoderState} {source : List ℕ} {last
 
     scalar_after : All IsScalar (replaced_scalars (out_after count scalars answer))
     scalar_after =
-        let added = All-append IsScalar scalars (reported_scalars answer) c.scalar (reported answer) in
-        rw (replaced_after count scalars answer) (All-append IsScalar (replaced_scalars r.out) (scalars ++ reported_scalars answer) r.scalar added) where
-          reported : (answer : DecoderResult) → All IsScalar (reported_scalars answer)
-          reported InputEmpty = All-nil IsScalar
-          reported OutputFull = All-nil IsScalar
-          reported (Malformed a b) = All-cons IsScalar 0xFFFD [] refl (All-nil IsScalar)
+        let reported : All IsScalar (reported_scalars answer) = grind (arith, All-nil, All-cons) in
+        let added = All-append IsScalar scalars (reported_scalars answer) c.scalar reported in
+        rw (replaced_after count scalars answer) (All-append IsScalar (replaced_scalars r.out) (scalars ++ reported_scalars answer) r.scalar added)
 
     within_after : read + count ≤ length source
     within_after = let w = c.within in let v = r.within in omega (arith, length-drop read source)
@@ -217,22 +204,18 @@ module _ {form : EncodingForm} {before : DecoderState} {source : List ℕ} {last
           let x = Malformed a b in
           let units = all_code_units form scalars in
           let fffd = code_units form 0xFFFD in
-          let one : all_code_units form (0xFFFD ∷ []) ≡ fffd = append-nil fffd in
-          let same : r.written ++ (units ++ fffd) ≡ r.written ++ all_code_units form (scalars ++ reported_scalars x) =
-          rw (all_code_units-append form scalars (0xFFFD ∷ []), one) refl in
           let all = length-append r.written (units ++ fffd) ∙ ap (λ n. length r.written + n) (length-append units fffd) in
           record {
             written = r.written ++ (units ++ fffd);
             contents =
-                rw (put_is, contents_now scalars stepped_is)
-                (append_assoc old (r.written ++ units) fffd ∙ ap (λ l. old ++ l) (append_assoc r.written units fffd));
+                rw (put_is, contents_now scalars stepped_is) (simp append_assoc);
             fits = omega (arith, room_now scalars stepped_is left_now e, r.fits, all);
             within = within_after c;
             passed = r.passed + c.passed;
             out = out_after count scalars x;
             progress = progress_after c;
             scalar = scalar_after c;
-            text = same ∙ text_after count scalars x;
+            text = rw (all_code_units-append form scalars (0xFFFD ∷ []), append-nil fffd) at (text_after count scalars x);
             found_is = found_is_after count scalars x;
             untouched = λ h. let never : x ≡ OutputFull = (full_so c h).0 in cc;
             lowers = λ more h. omega (arith, lowers_after c more h, all, counted_units form, replacement_count form);

@@ -1,7 +1,7 @@
 -- Runs of an encoder, and of a decoder over its output.
 use Rattle.std.proofs.Common.{◌≡◌, ◌∙◌, List, ℕ, ◌++◌, Bool, true, map, sym, ap, append-nil}
 use Rattle.legacy_base.specs.{declared.results.DecodeEvent.TheVariants.Scalar, declared.results.EncodeEvent.EncodeEvent, Grammar.events_of, Encoders.Codec}
-use Rattle.legacy_base.specs.Encoders.{single_byte, user_defined, big5, euc_kr, shift_jis, euc_jp, gb18030, gbk, iso_2022_jp, EncoderState, new_encoder}
+use Rattle.legacy_base.specs.Encoders.{iso_2022_jp, EncoderState, new_encoder}
 use Rattle.legacy_base.specs.{Encoders.encoded, RoundTrips.{grammar_of, IsEncodedAs, bytes_of}}
 use Rattle.legacy_base.proofs.RoundTrips.{round_trips, same_scalars, encodes_well_formed, escapes_are_in_place}
 use Rattle.legacy_codecs.specs.{Pieces.{place_before, joined}, Runs.placed, EncodeRuns.IsEncodeRun, RoundTripRuns.{RunsEncode, RunsRoundTrip}}
@@ -30,15 +30,8 @@ runs_encode_well_formed codec accepted text sound given run answered f =
 -- ---- the events of one run
 
 in_place : (codec : Codec) (text bytes : List ℕ) → IsEncodedAs codec text bytes → HasEscapesInPlace codec text bytes
-in_place (single_byte table) text bytes t = tt
-in_place user_defined text bytes t = tt
-in_place (big5 index) text bytes t = tt
-in_place (euc_kr index) text bytes t = tt
-in_place (shift_jis jis0208) text bytes t = tt
-in_place (euc_jp jis0208 jis0212) text bytes t = tt
-in_place (gb18030 index ranges pua) text bytes t = tt
-in_place (gbk index ranges pua) text bytes t = tt
 in_place (iso_2022_jp jis0208 katakana_index) text bytes t = escapes_are_in_place jis0208 katakana_index text bytes t
+in_place _ text bytes t = tt
 
 pub run_comes_back : (before : EncoderState) (pieces : List (List ℕ)) {lengths : List ℕ} {calls : ℕ} {finished : Bool} {items : List EncodeEvent}
     {after : EncoderState} →

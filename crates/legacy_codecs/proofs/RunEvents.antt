@@ -31,16 +31,13 @@ events_ahead p = events_of p.state.grammar (ahead p)
 abbrev pub behind : RunPlace DecoderState → DecoderState → DecoderResult → ℕ → RunPlace DecoderState
 behind p after answer read = place_behind p after (is_input_empty answer) (drop read p.piece)
 
-next-ahead : (s : DecoderState) (later : List (List ℕ)) → s.held ++ ([] ++ joined later) ≡ ahead (place_before s later)
-next-ahead s later = grind arith
-
 pub place_before-ahead : (s : DecoderState) (pieces : List (List ℕ)) → events_ahead (place_before s pieces) ≡ events_of s.grammar (s.held ++ joined pieces)
 place_before-ahead s pieces = grind arith
 
 -- after a call the same bytes are ahead, without those that it is done with
 place_behind-ahead : (p : RunPlace DecoderState) (after : DecoderState) (answer : DecoderResult) (read : ℕ) → (answer ≡ InputEmpty → read ≡ length p.piece) →
     after.held ++ (drop read p.piece ++ joined p.later) ≡ ahead (behind p after answer read)
-place_behind-ahead p after answer read h = grind (arith, drop_of_length-le, next-ahead)
+place_behind-ahead p after answer read h = grind (arith, drop_of_length-le)
 
 module _ {form : EncodingForm} {from : RunPlace DecoderState} {lengths : List ℕ} where
   -- the events up to a place, and then those of what is ahead, are all events
@@ -55,11 +52,7 @@ module _ {form : EncodingForm} {from : RunPlace DecoderState} {lengths : List �
       let two : events_of after.grammar (after.held ++ (drop read p.piece ++ joined p.later)) ≡ events_ahead next =
       ap (λ l. events_of after.grammar l) (place_behind-ahead p after answer read (λ q. (c.input_empty q).0))
       ∙ ap (λ (s : DecoderState). events_of s.grammar (ahead next)) (sym (place_behind-state p after (is_input_empty answer) (drop read p.piece))) in
-      Reaches-events r
-      ∙ ap (λ l. events ++ shift passed l) (one ∙ ap (λ l. out ++ shift c.passed l) two)
-      ∙ ap (λ l. events ++ l) (shift-append passed out (shift c.passed (events_ahead next)))
-      ∙ ap (λ l. events ++ (shift passed out ++ l)) (shift-shift passed c.passed (events_ahead next))
-      ∙ sym (append_assoc events (shift passed out) (shift (passed + c.passed) (events_ahead next)))
+      Reaches-events r ∙ rw (one, two, shift-append, shift-shift, append_assoc) refl
 
   -- a finished run is past all pieces, and nothing is left
   pub Reaches-finished : {calls : ℕ} {events : List DecodeEvent} {passed : ℕ} {finished : Bool} {p : RunPlace DecoderState} →
@@ -82,8 +75,7 @@ is_beginning {before = before} {pieces = pieces} {items = items} r =
           ∙ ap (λ l. l ++ placed h left) (sym given_is);
       all = λ e.
           let done = Reaches-finished r.reaches e in
-          let none : events_ahead r.place ≡ [] = ap events_ahead done.0 ∙ ap (events_of r.place.state.grammar) (append-nil r.place.state.held) ∙ done.1 in
-          ap (λ l. placed h (shift r.passed l)) none;
+          rw (done.0, append-nil r.place.state.held, done.1) refl;
     }
 
 -- a finished run leaves nothing

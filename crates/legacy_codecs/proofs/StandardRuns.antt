@@ -1,25 +1,21 @@
 -- Finished runs give what the Standard's decoders and encoders give.
-use Rattle.std.proofs.Common.{◌≡◌, ◌∙◌, ℕ, Bool, List, [], ◌∷◌, append-nil, refl, sym, ap, subst, arith}
+use Rattle.std.proofs.Common.{◌≡◌, ◌∙◌, ℕ, Bool, List, [], ◌∷◌, append-nil, refl, sym, subst, arith}
 use Rattle.legacy_base.specs.declared.results.DecodeEvent.{DecodeEvent}
 use Rattle.legacy_base.specs.{declared.results.EncodeEvent.EncodeEvent, States.DecoderState, Encoders.EncoderState}
-use Rattle.legacy_base.specs.Encoders.{Codec, single_byte, user_defined, big5, euc_kr, shift_jis, euc_jp, gb18030, gbk, iso_2022_jp}
+use Rattle.legacy_base.specs.Encoders.{Codec, gb18030}
 use Rattle.legacy_base.specs.RoundTrips.{HasAcceptedLists}
 use Rattle.legacy_tables.proofs.Accepted.{parts}
 use Rattle.legacy_standard.specs.{DecoderLaw.HandlerDecodes, EncoderLaw.{HasAcceptedRanges, AreAcceptedRanges, HandlerEncodes}}
 use Rattle.legacy_standard.proofs.AllCodecs.{all_decoders, all_encoders}
-use Rattle.legacy_codecs.specs.{Runs.{placed_event, placed, IsBeginning}, EncodeRuns.IsEncodeBeginning, StandardRuns.RunIsDecodedByHandler}
+use Rattle.legacy_codecs.specs.{Runs.{placed, IsBeginning}, EncodeRuns.IsEncodeBeginning, StandardRuns.RunIsDecodedByHandler}
 use Rattle.legacy_codecs.specs.StandardRuns.{RunIsEncodedByHandler, RunsAreDecodedByHandlers, RunsAreEncodedByHandlers}
 use Rattle.legacy_codecs.proofs.{RunEvents.finished_gives, EncodeRunEvents.finished_encodes}
 
 -- for a decoder that holds nothing back, places do not change
-placed_event-zero : (event : DecodeEvent) → placed_event 0 event ≡ event
-placed_event-zero event = grind arith
-
 placed-zero : (events : List DecodeEvent) → placed 0 events ≡ events
 unfolding placed
 placed-zero [] = refl
-placed-zero (event ∷ events) =
-    ap (λ e. e ∷ placed 0 events) (placed_event-zero event) ∙ ap (λ es. event ∷ es) (placed-zero events)
+placed-zero (event ∷ events) = grind (arith, placed-zero events)
 
 pub run_is_decoded : (before : DecoderState) (pieces : List (List ℕ)) {finished : Bool} {answered : List DecodeEvent} →
     IsBeginning before pieces finished answered → RunIsDecodedByHandler before pieces finished answered
@@ -30,17 +26,10 @@ runs_are_decoded decoder bytes all answered run =
     subst (HandlerDecodes decoder bytes) (sym (placed-zero _) ∙ finished_gives run) (all_decoders decoder bytes all)
 
 accepted_ranges : (codec : Codec) → HasAcceptedLists codec → HasAcceptedRanges codec
-accepted_ranges (single_byte table) lists = tt
-accepted_ranges user_defined lists = tt
-accepted_ranges (big5 index) lists = tt
-accepted_ranges (euc_kr index) lists = tt
-accepted_ranges (shift_jis jis0208) lists = tt
-accepted_ranges (euc_jp jis0208 jis0212) lists = tt
 accepted_ranges (gb18030 index ranges pua) (indexes, _, same, _) =
     let p = parts indexes.flat indexes.accepted in
     subst AreAcceptedRanges (sym same) (record { ordered = p.ordered; valued = p.valued })
-accepted_ranges (gbk index ranges pua) lists = tt
-accepted_ranges (iso_2022_jp jis0208 katakana_index) lists = tt
+accepted_ranges _ lists = tt
 
 pub run_is_encoded : (before : EncoderState) (pieces : List (List ℕ)) {finished : Bool} {answered : List EncodeEvent} →
     IsEncodeBeginning before pieces finished answered → RunIsEncodedByHandler before pieces finished answered

@@ -1,5 +1,5 @@
 -- A call with replacement that read its whole source gave the text of it.
-use Rattle.std.proofs.Common.{◌≡◌, ◌∙◌, ℕ, List, [], ◌∷◌, ◌++◌, length, drop, refl, sym, ap, arith, take, ◌≤◌, Bool, true, IsTrue, All, Some, append-nil}
+use Rattle.std.proofs.Common.{◌≡◌, ◌∙◌, ℕ, List, [], ◌∷◌, ◌++◌, length, refl, sym, ap, arith, take, ◌≤◌, Bool, true, IsTrue, All, Some, append-nil}
 use Rattle.std.proofs.{lemmas.List.{drop_all, take-take, take-append-le}, lemmas.List.Elements.{All-head, All-tail}, lemmas.Str.chars_from_encodes}
 use Rattle.std.specs.{Char.IsScalar, Str.{chars, IsUtf8}}
 use lib.Utf8.{encode, encodes, scalars}
@@ -34,16 +34,12 @@ pub front_of_buffer : (written count : ℕ) (output behind : List ℕ) → writt
     take written (take count (output ++ behind)) ≡ take written output
 front_of_buffer written count output behind h e = take-take written count (output ++ behind) (omega (arith, h, e)) ∙ take-append-le written output behind h
 
--- nothing is left of a source that was read
-all_read : (source : List ℕ) (read : ℕ) → read ≡ length source → drop read source ≡ []
-all_read source read e = drop_all read source (omega (arith, e))
-
 module _ {form : EncodingForm} {before : DecoderState} {source : List ℕ} {last : Bool} {free : ℕ} {after : DecoderState} {answer : CoderResult} {read : ℕ}
     {written : List ℕ} {found : Bool}
     (c : ReplacingDecoderCall form before source last free after answer read written found) (empty : answer ≡ InputEmpty) where
   scalars_go_on : (later : List ℕ) → (IsTrue last → later ≡ []) → text_of before (source ++ later) ≡ replaced_scalars c.out ++ text_of after later
   unfolding text_of
-  scalars_go_on later h = grind (arith, all_read, end_found-last, replaced-append, replaced-shift)
+  scalars_go_on later h = grind (arith, drop_all, end_found-last, replaced-append, replaced-shift)
 
   pub text_goes_on : TextGoesOn form last before source after written
   text_goes_on later h = grind (arith, scalars_go_on, all_code_units-append)

@@ -1,5 +1,5 @@
 -- Calls of an encoder with references, over a whole text.
-use Rattle.std.proofs.Common.{◌≡◌, ◌∙◌, ℕ, ◌≤◌, ◌<◌, List, [], ◌++◌, length, refl, sym, ap, arith, append-nil, append_assoc, length-append, Bool, true}
+use Rattle.std.proofs.Common.{◌≡◌, ℕ, ◌≤◌, ◌<◌, List, [], ◌++◌, length, refl, arith, append-nil, append_assoc, length-append, Bool, true}
 use Rattle.std.proofs.{Common.{IsTrue, inl}, lemmas.Grind.flat_map-append}
 use Rattle.legacy_base.specs.Encoders.{EncoderState, encoded}
 use Rattle.legacy_base.proofs.EncoderLaws.{end-encoded}
@@ -15,10 +15,8 @@ module _ {last : Bool} (before : EncoderState) (source : List ℕ) (free : ℕ) 
   -- what was written, and then the bytes of what is left, are those of the text
   pub bytes_go_on : referenced_bytes (encoded before source last) ≡ bytes ++ referenced_bytes (encoded after left last)
   bytes_go_on =
-      let gives : encoded before (source ++ []) last ≡ c.out ++ encoded after (left ++ []) last = c.gives [] last (λ w. inl (refl, wrote_last last answer w)) in
-      let all = rw (append-nil source, append-nil left) at gives in
-      ap referenced_bytes all ∙ flat_map-append event_bytes c.out (encoded after left last)
-      ∙ ap (λ l. l ++ referenced_bytes (encoded after left last)) (sym c.text)
+      let all = rw (append-nil source, append-nil left) at (c.gives [] last (λ w. inl (refl, wrote_last last answer w))) in
+      rw (all, flat_map-append event_bytes c.out (encoded after left last), ← c.text) refl
 
   -- a full output that was long enough has some
   pub bytes_less : 14 ≤ free → answer ≡ OutputFull →
@@ -35,5 +33,4 @@ module _ {before : EncoderState} {source : List ℕ} {free : ℕ} {after : Encod
   pub bytes_after : (done : List ℕ) {now whole : List ℕ} → done ++ referenced_bytes (encoded before source true) ≡ whole → now ≡ done ++ bytes →
       now ++ referenced_bytes (encoded after left true) ≡ whole
   bytes_after done h e =
-      let rest = referenced_bytes (encoded after left true) in
-      ap (λ l. l ++ rest) e ∙ append_assoc done bytes rest ∙ ap (λ l. done ++ l) (sym (bytes_go_on _ _ _ _ _ _ _ _ c)) ∙ h
+      rw (e, append_assoc, ← (bytes_go_on _ _ _ _ _ _ _ _ c)) h

@@ -1,5 +1,5 @@
 -- A list of codes after one of its ranges was looked up.
-use Rattle.std.proofs.{Common.{◌≡◌, ℕ, ◌+◌, ◌<◌, ◌≤◌, List, length, slice_index, false, ◌==◌, arith, inl, inr}, lemmas.Bool.cases_lt}
+use Rattle.std.proofs.{Common.{◌≡◌, ℕ, ◌+◌, ◌<◌, ◌≤◌, List, length, slice_index, false, ◌==◌, arith}, lemmas.Bool.cases_lt}
 use Rattle.std.proofs.lemmas.Bool.Decides.{nat_tests}
 use Rattle.legacy_base.specs.Encoders.{Codec}
 use Rattle.legacy_encoder_engine.specs.CachedPairs.{AreAllPairsOf, IsOutside, IsRightEntry}
@@ -14,13 +14,7 @@ outside-first end c out = grind arith
 -- an entry has the property after a range was looked up, if it had it before or is in the range
 pub asked : (Is : ℕ → ℕ → Type 0) (old new : List ℕ) (first end c : ℕ) → ((k : ℕ) → first ≤ k → k < end → Is k (slice_index new k))
     → ((k : ℕ) → IsOutside first end k → slice_index new k ≡ slice_index old k) → (IsOutside first end c → Is c (slice_index old c)) → Is c (slice_index new c)
-asked Is old new first end c inside outside before = elim (cases_lt c first) [
-  | inl l ↦ rw (outside c (inl l)) (before (inl l))
-  | inr f ↦ elim (cases_lt c end) [
-    | inl l ↦ inside c f l
-    | inr h ↦ rw (outside c (inr h)) (before (inr h))
-  ]
-]
+asked Is old new first end c inside outside before = grind (arith, cases_lt c first, cases_lt c end)
 
 -- a list of right entries has all pairs
 pub all-right : (codec : Codec) (pairs : List ℕ) → length pairs ≡ 65536

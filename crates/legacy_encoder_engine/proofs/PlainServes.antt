@@ -1,6 +1,6 @@
 -- The codecs without modes: their rooms are enough for their scalars, and each move writes the code of its scalar.
-use Rattle.std.proofs.Common.{◌/◌, ◌%◌, ◌≡◌, ◌∙◌, ℕ, ◌+◌, ◌-◌, ◌≤◌, ◌<◌, List, [], ◌∷◌, ◌++◌, length, refl, sym, ap, subst, arith, Bool, true, false, Some}
-use Rattle.std.proofs.{Common.{Option, cond, option_map, ltb, inl, inr}, lemmas.Bool.{cases_lt, lt-ltb, le-ltb}, lemmas.Bool.Decides.nat_tests}
+use Rattle.std.proofs.Common.{◌/◌, ◌%◌, ◌≡◌, ◌∙◌, ℕ, ◌+◌, ◌-◌, ◌≤◌, ◌<◌, List, [], ◌∷◌, ◌++◌, length, refl, sym, ap, subst, arith, Bool, false, Some}
+use Rattle.std.proofs.{Common.{Option, cond, option_map, ltb}, lemmas.Bool.{cases_lt, lt-ltb, le-ltb}, lemmas.Bool.Decides.nat_tests}
 use Rattle.std.specs.Option.{option_or}
 use Rattle.legacy_text.specs.{EncodingForm.{EncodingForm, Utf8, Utf16, unit_count}, UnitCodes.IsNoSurrogate}
 use Rattle.legacy_base.specs.{Encoders.{Codec, encoder_profile, EncoderState, new_encoder, code, encoded, scalar_room}, EncoderProfile.{EncoderMode, in_ascii}}
@@ -16,9 +16,6 @@ use Rattle.legacy_encoder_engine.proofs.{ReadingAhead.IsSame, CallUnderWay.state
 
 pub differs-same : (m : EncoderMode) → differs m m ≡ false
 differs-same m = grind arith
-
-never : {A : Type 0} (m : EncoderMode) → differs m m ≡ true → A
-never m e = let no : true ≡ false = sym e ∙ differs-same m in absurd (cc)
 
 -- a scalar past ASCII has at least two bytes in UTF-8
 pub two_units : (c : ℕ) → 128 ≤ c → 2 ≤ unit_count Utf8 c
@@ -37,32 +34,25 @@ module _ (code : ℕ → Option (List ℕ)) (past most : ℕ) (from_utf8 from_ut
 
   low : (mode : EncoderMode) (c : ℕ) (form : EncodingForm) (t : ℕ)
       → mode_room P form mode t + code_length (code c) ≤ mode_room P form mode (unit_count form c + t)
-  low mode c Utf16 t = elim (cases_lt c 128) [
-    | inl a ↦ omega (arith, f.low16 (unit_count Utf16 c) t (code_length (code c)) (some_unit Utf16 c) (omega (arith, one c a, f.fits.0)))
-    | inr a ↦ omega (arith, f.low16 (unit_count Utf16 c) t (code_length (code c)) (some_unit Utf16 c) (short c a))
-  ]
-  low mode c Utf8 t = elim (cases_lt c 128) [
-    | inl a ↦ omega (arith, f.ascii8 (unit_count Utf8 c) t (code_length (code c)) (some_unit Utf8 c) (one c a))
-    | inr a ↦ omega (arith, f.low8 (unit_count Utf8 c) t (code_length (code c)) (two_units c a) (short c a))
-  ]
+  low mode c Utf16 t =
+      let l = f.low16 (unit_count Utf16 c) t (code_length (code c)) (some_unit Utf16 c) in let s = f.fits in grind (arith, cases_lt c 128, one, short)
+  low mode c Utf8 t =
+      let l = f.ascii8 (unit_count Utf8 c) t (code_length (code c)) (some_unit Utf8 c) in
+      let m = f.low8 (unit_count Utf8 c) t (code_length (code c)) in grind (arith, cases_lt c 128, two_units, one, short)
 
   enough : (mode : EncoderMode) (c : ℕ) (form : EncodingForm) (t : ℕ) → cond (ltb c 128) 1 past ≤ mode_room P form mode (unit_count form c + t)
   enough mode c Utf16 t =
       let l = f.enough16 (unit_count Utf16 c) t (some_unit Utf16 c) in let s = f.fits in grind arith
-  enough mode c Utf8 t = elim (cases_lt c 128) [
-    | inl a ↦ let l = f.ascii8 (unit_count Utf8 c) t 1 (some_unit Utf8 c) (omega arith) in rw (lt-ltb c 128 a) (omega arith)
-    | inr a ↦ rw (le-ltb c 128 a) (omega (arith, f.enough8 (unit_count Utf8 c) t (two_units c a)))
-  ]
+  enough mode c Utf8 t =
+      let l = f.ascii8 (unit_count Utf8 c) t 1 (some_unit Utf8 c) (omega arith) in
+      let m = f.enough8 (unit_count Utf8 c) t in grind (arith, nat_tests, two_units)
 
   rises : (form : EncodingForm) (m k : ℕ) → m ≤ k → value (P.formula form (number m)) ≤ value (P.formula form (number k))
-  rises form m k h = elim (cases_lt m k) [
-    | inl l ↦
-        let e : k - m + m ≡ k = omega arith in
-        let r16 = f.low16 (k - m) m 0 (omega arith) (omega arith) in
-        let r8 = f.ascii8 (k - m) m 0 (omega arith) (omega arith) in
-        rw (← e) (grind arith)
-    | inr l ↦ let e : m ≡ k = omega arith in rw e (omega arith)
-  ]
+  rises form m k h =
+      let e : k - m + m ≡ k = omega arith in
+      let r16 = f.low16 (k - m) m 0 in
+      let r8 = f.ascii8 (k - m) m 0 in
+      grind (arith, cases_lt m k)
 
   profile_serves : Serves (plain_encoder code past from_utf8 from_utf16)
   unfolding plain_events
@@ -71,8 +61,8 @@ module _ (code : ℕ → Option (List ℕ)) (past most : ℕ) (from_utf8 from_ut
     settled = λ mode c. differs-same mode;
     low = low;
     enough = enough;
-    escape_low = λ mode c e form t. never mode e;
-    escape_enough = λ mode c e form t. never mode e;
+    escape_low = λ mode c e form t. cc (differs-same mode);
+    escape_enough = λ mode c e form t. cc (differs-same mode);
     end = λ mode form. omega arith;
     escapes = λ mode e. cc;
     rises = rises;
@@ -145,10 +135,9 @@ module _ (codec : Codec) (past : ℕ) (p : IsPlainCodec codec past) where
   widest_room c = let room = acts_plainly.room c in let fits = p.lengths.fits in grind arith
 
   fits : (c : ℕ) → code_length (code S c) ≤ scalar_room S c
-  fits c = elim (cases_lt c 128) [
-    | inl a ↦ let e = ascii_room c a in let o = ap code_length (code_is c ∙ p.ascii c a) in omega arith
-    | inr a ↦ let e = room_past_ascii c a in let o = ap code_length (code_is c) in let s = p.short c a in let f = p.lengths.fits.1 in omega arith
-  ]
+  fits c =
+      let o : c < 128 → code_length (p.code c) ≡ 1 = λ a. ap code_length (p.ascii c a) in
+      rw (code_is c) (grind (arith, o, cases_lt c 128, ascii_room c, room_past_ascii c, p.short c, p.lengths.fits))
 
   -- a move that writes the code of its scalar is correct
   pub plain_moves : (c : ℕ) (move : EncoderMove) → IsCode (code S c) c move → Moves S c S move

@@ -1,8 +1,8 @@
 -- Reading ahead of the moves.
-use Rattle.std.proofs.Common.{◌≡◌, ◌∙◌, ℕ, suc, ◌+◌, ◌-◌, ◌≤◌, ◌<◌, List, [], ◌∷◌, ◌++◌, length, get_or, take, drop, refl, sym, ap, subst, arith, append_assoc}
+use Rattle.std.proofs.Common.{◌≡◌, ◌∙◌, ℕ, suc, ◌+◌, ◌-◌, ◌≤◌, ◌<◌, List, [], ◌∷◌, ◌++◌, length, get_or, take, drop, refl, sym, subst, arith, append_assoc}
 use Rattle.std.proofs.{Common.{append-nil, length-append, false, IsAscii}, lemmas.Grind.common_steps, lemmas.List.{get_or-take, length-take-le}}
 use Rattle.std.proofs.lemmas.List.{take-append-drop}
-use Rattle.legacy_text.specs.{EncodingForm.{EncodingForm, code_units, all_code_units, unit_count, total_unit_count}, NextScalars.IsFirst, UnitCodes.WritesCodes}
+use Rattle.legacy_text.specs.{EncodingForm.{EncodingForm, code_units, all_code_units, total_unit_count}, NextScalars.IsFirst, UnitCodes.WritesCodes}
 use Rattle.legacy_text.proofs.CodeUnits.{length-code_units-ascii, total_unit_count-append}
 use Rattle.legacy_base.specs.Encoders.{EncoderState, encoder_profile, scalar_room}
 use Rattle.legacy_encoder_engine.specs.{declared.moves.EncoderMove.EncoderMove, Moves.{Moves, move_bytes, move_report, is_escape}, UnfinishedCall.KeepsOn}
@@ -72,9 +72,7 @@ same_bytes left old n within ascii =
 ascii_units : (form : EncodingForm) (front : List ℕ) → IsAscii front → total_unit_count form front ≡ length front
 ascii_units form [] a = refl
 ascii_units form (c ∷ front) a =
-    let one : length (code_units form c) ≡ 1 = length-code_units-ascii form c (a 0) in
-    let others = ascii_units form front (λ i. a (suc i)) in
-    omega (arith, length-append (code_units form c) (all_code_units form front))
+    omega (arith, length-append (code_units form c) (all_code_units form front), length-code_units-ascii form c (a 0), ascii_units form front (λ i. a (suc i)))
 
 pub ascii_count : (form : EncodingForm) (left : List ℕ) (n : ℕ) → n ≤ length left → IsAscii (take n left) → total_unit_count form (take n left) ≡ n
 ascii_count form left n within ascii = ascii_units form (take n left) ascii ∙ length-take-le n left within
@@ -104,25 +102,13 @@ pub encodes_codes : {state : EncoderState} (form : EncodingForm) (free room : �
     → n ≤ length left → left' ≡ drop n left → passed' ≡ passed + total_unit_count form (take n left)
     → WritesCodes gives left n old new → length old ≡ at → at + n + room ≤ free
     → Encodes state form free left passed old at left' passed' new (at + n)
-encodes_codes form free room serves reads passed within rest units writes long fits =
+encodes_codes form free room serves reads {left} passed {n = n} within rest units writes long fits =
     record {
       keeps = rw rest (keeps_codes _ _ serves room _ reads _ _ _ _ within (omega arith) writes);
       start = omega arith;
       end = omega arith;
-      units = counted form _ _ passed _ rest units;
+      units = rw rest (omega (arith, units, rw (take-append-drop n left) at (total_unit_count-append form (take n left) (drop n left))));
     }
-  where
-    counted : (form : EncodingForm) (left : List ℕ) (n passed : ℕ) {left' : List ℕ} (passed' : ℕ)
-        → left' ≡ drop n left → passed' ≡ passed + total_unit_count form (take n left)
-        → passed' + total_unit_count form left' ≡ passed + total_unit_count form left
-    counted form left n passed passed' rest units =
-        let both = total_unit_count-append form (take n left) (drop n left) in
-        let whole = take-append-drop n left in
-        rw rest (omega (arith, units, rw whole at both))
-
-first_count : (form : EncodingForm) (left : List ℕ) (c n : ℕ) → IsFirst form left c n → n ≡ unit_count form (get_or left 0 0)
-first_count form [] c n is = let e = is.0 in cc
-first_count form (x ∷ xs) c n is = let e = is.0 in let same : x ≡ c = cc in sym is.1 ∙ ap (unit_count form) (sym same)
 
 -- one more scalar
 pub encodes_put : {state : EncoderState} (form : EncodingForm) {free passed passed' passed'' start at end c n room : ℕ}
@@ -138,5 +124,5 @@ encodes_put form serves fits before is put next units long room =
       keeps = rw (put.bytes, next) (keeps_then before.keeps one);
       start = omega (arith, put.ends, before.start);
       end = omega (arith, put.ends, fits);
-      units = rw next (omega (arith, first_units form _ _ is.0, first_count form _ _ _ is, before.units));
+      units = rw next (omega (arith, first_units form _ _ is.0, is.1, before.units));
     }

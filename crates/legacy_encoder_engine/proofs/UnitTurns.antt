@@ -3,7 +3,6 @@ use Rattle.std.proofs.Common.{◌≡◌, ◌∙◌, ℕ, suc, ◌+◌, ◌<◌, 
 use Rattle.std.proofs.{Math.Seq.{take-suc, take-append-add}, lemmas.Bool.cases_lt, lemmas.List.{get_or-take, length-take-le, take-take}}
 use Rattle.std.proofs.lemmas.Grind.{common_steps}
 use Rattle.legacy_base.specs.Encoders.{EncoderState, encoder_profile, scalar_room}
-use Rattle.legacy_text.specs.UnitCodes.{IsNoSurrogate}
 use Rattle.legacy_encoder_engine.specs.{ProfileSuffices.Serves, UnitTurns.{PutsUnits, ReadsUnit, two_bytes}}
 use Rattle.legacy_encoder_engine.proofs.ReadingAhead.{keeps_none, keeps_then, keeps_move}
 
@@ -35,17 +34,10 @@ module _ (state : EncoderState) (free : ℕ) where
       let long : length (take k units) ≡ k = length-take-le k units (omega arith) in
       let one : suc k ≡ k + 1 = omega arith in
       subst (λ n. PutsUnits state free (take n units) old new) one (record {
-        bmp = λ j h. elim (cases_lt j k) [
-          | inl l ↦
-              let below : j < length (take k units) = omega arith in
-              let same : get_or (take k units) j 0 ≡ get_or (take (suc k) units) j 0 = grind (arith, common_steps) in
-              subst IsNoSurrogate same (before.bmp j below)
-          | inr l ↦
-              let all : length (take (suc k) units) ≡ suc k = length-take-le (suc k) units (omega arith) in
-              let here : j ≡ k = omega arith in
-              let same : c ≡ get_or (take (suc k) units) j 0 = rw here (sym is ∙ sym (get_or-take (suc k) units k 0 (omega arith))) in
-              subst IsNoSurrogate same own.bmp
-        ];
+        bmp = λ j h. rw (get_or-take (suc k) units j 0 (omega (arith, h, length-take-le (suc k) units (omega arith)))) (elim (cases_lt j k) [
+          | inl l ↦ rw (get_or-take k units j 0 l) at (before.bmp j (omega arith))
+          | inr l ↦ let here : j ≡ k = omega (arith, h, length-take-le (suc k) units (omega arith)) in rw (here, is) own.bmp
+        ]);
         keeps = λ rest.
             let second = keeps_move state free serves (c ∷ rest) bytes c rest own.move refl own.moves own.reads own.silent (omega arith) in
             rw (new_is ∙ ap (λ l. bytes ++ l) (sym own.bytes), units_are, append_assoc (take k units) (c ∷ []) rest)

@@ -1,17 +1,13 @@
 -- The list of codes after a walk over an index.
 use Rattle.std.proofs.Common.{◌≡◌, ◌≢◌, ◌∙◌, ℕ, ◌+◌, ◌*◌, ◌<◌, ◌≤◌, List, [], ◌∷◌, length, slice_index, Option, Some, None, option_map, ap, sym, refl, subst}
 use Rattle.std.proofs.{Common.arith, lemmas.Bool.Decides.nat_tests}
-use Rattle.std.specs.{Char.IsScalar, Option.IfSome}
+use Rattle.std.specs.{Option.IfSome}
 use Rattle.legacy_tables.specs.{declared.tables.packed.PackedPart.PackedPart, Packed.pointer_of, Unicode.AreScalars, Walks.{marked, IsFilled}}
 use Rattle.legacy_tables.proofs.{PackedAccepted.entry-scalar, PackedPointers.pointer-taken}
 use Rattle.legacy_text.specs.UnitCodes.{IsNoSurrogate}
 use Rattle.legacy_base.specs.Encoders.{Codec, encoder_profile}
 use Rattle.legacy_encoder_engine.specs.{UnitTurns.two_bytes, CachedPairs.{AreAllPairsOf, IsNoPair, IsOutside, IsRightEntry}}
 use Rattle.legacy_encoder_engine.proofs.CachedPairs.{all-right, asked, outside-first}
-
--- a scalar value is not a surrogate
-no-surrogate : (c : ℕ) → IsScalar c → IsNoSurrogate c
-no-surrogate c scalar high = grind (arith, nat_tests)
 
 -- a lead and a trail are the bytes of their number
 pub halves : (lead trail : ℕ) → lead < 256 → lead ∷ trail ∷ [] ≡ two_bytes (lead + 256 * trail)
@@ -44,7 +40,7 @@ module _ (codec : Codec) (part : PackedPart) (mark : ℕ → ℕ) (index : List 
   walked-right by entries all filled c h d = go (slice_index entries c) (pointer_of part index c) (filled.each c (omega arith)) refl
     where
       is_lone : (p : ℕ) → pointer_of part index c ≡ Some p → IsNoSurrogate c
-      is_lone p e = let t = (pointer-taken part index c).chosen p e in no-surrogate c (subst IsScalar t.1 (entry-scalar index by.scalars p))
+      is_lone p e high = let t = (pointer-taken part index c).chosen p e in let scalar = entry-scalar index by.scalars p in grind (arith, nat_tests)
 
       go : (entry : ℕ) (o : Option ℕ) → entry ≡ marked mark (pointer_of part index c) → pointer_of part index c ≡ o → IsRightEntry codec c entry
       go entry None is e =

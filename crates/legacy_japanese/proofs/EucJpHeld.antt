@@ -5,7 +5,7 @@ use Rattle.std.specs.{Int.is_in_range, Char.{IsScalar, is_ascii}}
 use Rattle.legacy_base.specs.{EucJp.euc_jp_scalars, Fronts.malformed, Calls.IsMalformedByte, Grammar.{Grammar, euc_jp, events_of}, States.is_euc_jp_lead}
 use Rattle.legacy_base.specs.States.{euc_jp_may_hold, state_of}
 use Rattle.legacy_tables.specs.{AcceptedTables.AcceptedIndexes, Unicode.{IsByte, AreBytes}}
-use Rattle.legacy_decoder_engine.specs.{Steps.finish, Moves.{IsCovered, Feeds, Reports}, StepUnits.IsNarrowIndex, Feeding.Took, Shown.IsShown, ReadAhead.Runs}
+use Rattle.legacy_decoder_engine.specs.{Steps.finish, Moves.{IsCovered, Feeds, Reports}, Feeding.Took, Shown.IsShown, ReadAhead.Runs}
 use Rattle.legacy_decoder_engine.specs.{ReadAhead.{HasAscii, IsPair}, LaneRows.row_place, declared.moves.Fed.Fed}
 use Rattle.legacy_tables.proofs.Accepted.{jis0208-below, jis0212-below, jis0208-scalars, length-jis0208}
 use Rattle.legacy_decoder_engine.proofs.{RunForms.{pair_runs, has_ascii, ascii_is}, Widths.idx_below, LanePlaces.entry_is}
@@ -20,22 +20,13 @@ of_lead lead = grind (arith, nat_tests)
 may : (held : Held) → euc_jp_may_hold (held_bytes held) ≡ true
 may held = grind (arith, nat_tests)
 
-first_byte : (b : ℕ) → b < 2 ^ 8 → AreBytes (b ∷ [])
-first_byte b byte = All-cons IsByte b [] byte (All-nil IsByte)
-
 are_bytes : (held : Held) → AreBytes (held_bytes held)
-are_bytes held = grind (arith, All-nil, first_byte, of_lead, All-cons)
+are_bytes held = grind (arith, All-nil, of_lead, All-cons)
 
 -- ---- pairs
 
 lead_other : (b : ℕ) → is_euc_jp_lead b ≡ true → (is_ascii b ≡ false) × ((b == 0x8E) ≡ false) × ((b == 0x8F) ≡ false)
 lead_other b is = grind (arith, nat_tests)
-
-pair_below : (index : List ℕ) (lead trail c : ℕ) → IsNarrowIndex index → euc_jp_scalars index lead trail ≡ c ∷ [] → c < 0x1_0000
-pair_below index lead trail c narrow e = grind (arith, cond_both, idx_below)
-
-bytes-some : (held : Held) → (held ≡ Nothing → ⊥) → held_bytes held ≢ []
-bytes-some held h = grind arith
 
 module _ (tables : AcceptedIndexes) where
   abbrev g : Grammar
@@ -63,7 +54,7 @@ module _ (tables : AcceptedIndexes) where
   ends_none held none = moves.ends_none shown (held_bytes held) (may held) (are_bytes held) refl (nil_from_length (held_bytes held) none)
 
   pub ends_some : (held : Held) → (held ≡ Nothing → ⊥) → events_of (euc_jp tables.flat.jis0208 tables.flat.jis0212) (held_bytes held) ≢ []
-  ends_some held n = moves.ends_some shown (held_bytes held) (may held) (are_bytes held) refl (bytes-some held n)
+  ends_some held n = moves.ends_some shown (held_bytes held) (may held) (are_bytes held) refl (grind arith)
 
   -- ---- runs
 
@@ -76,7 +67,7 @@ module _ (tables : AcceptedIndexes) where
       (c < 0x1_0000) × Runs g (lead ∷ trail ∷ []) (c ∷ [])
   pair lead trail c byte byte' scalar is e =
       let other = lead_other lead is in (
-        pair_below tables.flat.jis0208 lead trail c (jis0208-below tables.flat tables.accepted) e,
+        (let narrow = jis0208-below tables.flat tables.accepted in grind (arith, cond_both, idx_below)),
         pair_runs shown lead trail c byte byte' scalar (rw (other.1, other.2, is) refl) refl refl refl
             (rw (other.0, other.1, other.2, is) refl) (rw (other.1, other.2, e) refl),
       )

@@ -1,6 +1,6 @@
 -- The steps of EUC-JP agree with its grammar.
 use Rattle.std.proofs.{Common.{◌≡◌, ℕ, ◌+◌, ◌-◌, ◌*◌, ◌≤◌, List, [], ◌∷◌, length, true, false, cond, refl, inl, ◌∙◌, ◌||◌, ◌==◌, arith}, lemmas.Bool.false≢true}
-use Rattle.std.proofs.{lemmas.Bool.{eqb-true, and_parts, or_parts, ltb-true, cond_both}, lemmas.Bool.Decides.nat_tests}
+use Rattle.std.proofs.{Common.{suc, ◌++◌, lit≤}, lemmas.Bool.{eqb-true, and_parts, or_parts, ltb-true, cond_both}, lemmas.Bool.Decides.nat_tests}
 use Rattle.std.specs.{Int.is_in_range, Char.is_ascii}
 use Rattle.legacy_base.specs.{EucJp.{euc_jp_front, euc_jp_katakana, euc_jp_second, euc_jp_third, euc_jp_pair, euc_jp_scalars, euc_jp_weight}, Fronts.malformed}
 use Rattle.legacy_base.specs.{Fronts.{reads_or, trail_rule, cut}, Grammar.{euc_jp, events_of}, DecoderActs.{act_room, takes}}
@@ -10,7 +10,7 @@ use Rattle.legacy_base.proofs.{Cuts.cut-nil, FrontLaws.euc_jp_front-of}
 use Rattle.legacy_decoder_engine.specs.{Steps.{Step, end_events, trail_step, Meets}, StepUnits.{units, IsWidth, IsNarrowIndex, Cost}}
 use Rattle.legacy_decoder_engine.specs.{StatesAfterSteps.{IsOneOrMarked, Settles}, Shown.IsShown}
 use Rattle.legacy_decoder_engine.proofs.{FrontMoves.{Fits, fits_trail, fits_meets, end_meets, report_meets}, RoomMoves.{first_room, held_room_is, HasCosts}}
-use Rattle.legacy_decoder_engine.proofs.{RoomMoves.{IsSloped, sloped_rooms}, CallUnderWay.same_rooms, Widths.narrow_idx_units, TwoByteCosts.katakana_below}
+use Rattle.legacy_decoder_engine.proofs.{RoomMoves.{sloped_rooms}, CallUnderWay.same_rooms, Widths.narrow_idx_units, TwoByteCosts.katakana_below}
 use Rattle.legacy_decoder_engine.proofs.SettledSteps.{one_option, trail_settles}
 use Rattle.legacy_japanese.specs.EucJpMachine.{euc_jp_first, euc_jp_second_step, euc_jp_step, euc_jp_machine}
 
@@ -29,13 +29,11 @@ pair_small index lead b h = cond_both (is_in_range 0xA1 0xFE b) _ [] IsSmall
     (λ e. record { one = one_option false _; fits = λ len narrow wide w. narrow_idx_units len narrow wide w index ((lead - 0xA1) * 94 + (b - 0xA1)) h })
     (λ e. none_small)
 
-one_cost : (len : ℕ → ℕ) (narrow lead b : ℕ) (scalars : List ℕ) → narrow ≤ 3 → units len scalars ≤ narrow
-    → Cost len narrow narrow euc_jp_weight 3 (lead ∷ []) b (trail_step 1 scalars b)
-one_cost len narrow lead b scalars m h = record { fits = grind arith; pays = grind arith; pays_without = grind arith }
-
-two_cost : (len : ℕ → ℕ) (narrow first lead b : ℕ) (scalars : List ℕ) → narrow ≤ 3 → units len scalars ≤ narrow
-    → Cost len narrow narrow euc_jp_weight 3 (first ∷ lead ∷ []) b (trail_step 2 scalars b)
-two_cost len narrow first lead b scalars m h = record { fits = grind arith; pays = grind arith; pays_without = grind arith }
+trail_cost : (len : ℕ → ℕ) (narrow first b : ℕ) (others scalars : List ℕ) → length others ≤ 1 → narrow ≤ 3 → units len scalars ≤ narrow
+    → Cost len narrow narrow euc_jp_weight 3 (first ∷ others) b (trail_step (suc (length others)) scalars b)
+trail_cost len narrow first b [] scalars few m h = record { fits = grind arith; pays = grind arith; pays_without = grind arith }
+trail_cost len narrow first b (lead ∷ []) scalars few m h = record { fits = grind arith; pays = grind arith; pays_without = grind arith }
+trail_cost len narrow first b (lead ∷ other ∷ others) scalars few m h = absurd (omega arith)
 
 -- the room that a byte needs
 abbrev most : List ℕ → ℕ → ℕ → ℕ
@@ -72,13 +70,15 @@ module _ (jis0208 jis0212 : List ℕ) where
         costs = λ len narrow wide w. record { fits = rw a (omega arith); pays = omega arith; pays_without = omega arith };
       }))
 
-  -- a trail after one held-back byte
-  one_shows : (lead b : ℕ) (scalars : List ℕ) → IsSmall scalars
-      → ((more : List ℕ) → euc_jp_front jis0208 jis0212 lead (b ∷ more) ≡ reads_or 2 scalars (trail_rule 1 b)) → Shows (lead ∷ []) b (trail_step 1 scalars b)
-  one_shows lead b scalars small front = record {
-    fits = fits_trail (euc_jp_front jis0208 jis0212) euc_jp_may_hold (lead ∷ []) scalars b refl (omega arith) front;
-    settles = trail_settles (euc_jp jis0208 jis0212) (lead ∷ []) b scalars small.one;
-    costs = λ len narrow wide w. one_cost len narrow lead b scalars w.most (small.fits len narrow wide w);
+  -- a trail after one or two held-back bytes
+  trail_shows : (first b : ℕ) (others scalars : List ℕ) → length others ≤ 1 → IsSmall scalars
+      → ((more : List ℕ) → euc_jp_front jis0208 jis0212 first (others ++ b ∷ more)
+      ≡ reads_or (suc (length others) + 1) scalars (trail_rule (suc (length others)) b))
+      → Shows (first ∷ others) b (trail_step (suc (length others)) scalars b)
+  trail_shows first b others scalars few small front = record {
+    fits = fits_trail (euc_jp_front jis0208 jis0212) euc_jp_may_hold (first ∷ others) scalars b refl (omega arith) front;
+    settles = trail_settles (euc_jp jis0208 jis0212) (first ∷ others) b scalars small.one;
+    costs = λ len narrow wide w. trail_cost len narrow first b others scalars few w.most (small.fits len narrow wide w);
   }
 
   -- a byte after one held-back byte
@@ -92,7 +92,7 @@ module _ (jis0208 jis0212 : List ℕ) where
         costs = λ len narrow wide w. let l = katakana_below b k in let q : len (katakana_of b) ≤ narrow = w.bmp (katakana_of b) (omega arith) in
             record { fits = omega arith; pays = omega arith; pays_without = omega arith };
       })
-      (λ k. one_shows lead b [] none_small (λ more. rw (eqb-true lead 0x8E e, k))))
+      (λ k. trail_shows lead b [] [] (lit≤ tt) none_small (λ more. rw (eqb-true lead 0x8E e, k))))
       (λ e. cond_both (lead == 0x8F) _ _ (Shows (lead ∷ []) b)
       (λ f. cond_both (is_euc_jp_lead b) _ _ (Shows (lead ∷ []) b)
       (λ l. record {
@@ -100,8 +100,8 @@ module _ (jis0208 jis0212 : List ℕ) where
         settles = refl;
         costs = λ len narrow wide w. record { fits = omega arith; pays = omega arith; pays_without = omega arith };
       })
-      (λ l. one_shows lead b [] none_small (λ more. rw (eqb-true lead 0x8F f, l))))
-      (λ f. one_shows lead b (euc_jp_scalars jis0208 lead b) (pair_small jis0208 lead b narrow_index)
+      (λ l. trail_shows lead b [] [] (lit≤ tt) none_small (λ more. rw (eqb-true lead 0x8F f, l))))
+      (λ f. trail_shows lead b [] (euc_jp_scalars jis0208 lead b) (lit≤ tt) (pair_small jis0208 lead b narrow_index)
       (λ more. let l = rw (e, f) at h in grind (arith, nat_tests))))
 
   -- a byte after two held-back bytes
@@ -110,12 +110,8 @@ module _ (jis0208 jis0212 : List ℕ) where
   unfolding euc_jp_front euc_jp_second euc_jp_third
   third_shows narrow_index first lead b h =
       let p = and_parts (first == 0x8F) (is_euc_jp_lead lead) h in
-      let small = pair_small jis0212 lead b narrow_index in record {
-        fits = fits_trail (euc_jp_front jis0208 jis0212) euc_jp_may_hold (first ∷ lead ∷ []) (euc_jp_scalars jis0212 lead b) b refl (omega arith)
-            (λ more. rw (eqb-true first 0x8F p.0, p.1));
-        settles = trail_settles (euc_jp jis0208 jis0212) (first ∷ lead ∷ []) b (euc_jp_scalars jis0212 lead b) small.one;
-        costs = λ len narrow wide w. two_cost len narrow first lead b (euc_jp_scalars jis0212 lead b) w.most (small.fits len narrow wide w);
-      }
+      trail_shows first b (lead ∷ []) (euc_jp_scalars jis0212 lead b) (lit≤ tt) (pair_small jis0212 lead b narrow_index)
+      (λ more. rw (eqb-true first 0x8F p.0, p.1))
 
   step_shows : IsNarrowIndex jis0208 → IsNarrowIndex jis0212 → (held : List ℕ) (b : ℕ) → euc_jp_may_hold held ≡ true →
       Shows held b (euc_jp_step jis0208 jis0212 held b)
@@ -151,9 +147,6 @@ module _ (jis0208 jis0212 : List ℕ) where
       act_room narrow wide (state_of (euc_jp jis0208 jis0212) held) (takes b) ≡ most held b narrow
   room_is len narrow wide held b = grind (arith, first_room, held_room_is)
 
-  sloped : IsSloped (euc_jp jis0208 jis0212) (euc_jp_machine jis0208 jis0212) euc_jp_weight 3
-  sloped = grind arith
-
   pub euc_jp_shown : IsNarrowIndex jis0208 → IsNarrowIndex jis0212 → IsShown (euc_jp jis0208 jis0212) (euc_jp_machine jis0208 jis0212)
   euc_jp_shown n m =
       let meets : Meets (euc_jp jis0208 jis0212) (euc_jp_machine jis0208 jis0212) = record {
@@ -171,7 +164,7 @@ module _ (jis0208 jis0212 : List ℕ) where
         cost = λ len narrow wide w held b h r bytes byte. rw (room_is len narrow wide held b) (let s = step_shows n m held b h in s.costs len narrow wide w);
       } in record {
         meets = meets;
-        rooms = λ query. sloped_rooms (euc_jp jis0208 jis0212) (euc_jp_machine jis0208 jis0212) euc_jp_weight 3 meets costs sloped query;
+        rooms = λ query. sloped_rooms (euc_jp jis0208 jis0212) (euc_jp_machine jis0208 jis0212) euc_jp_weight 3 meets costs (grind arith) query;
         settles = λ held b h r. let s = step_shows n m held b h in s.settles;
         write_settles = λ held h. tt;
         same_rooms = λ held b. same_rooms (euc_jp jis0208 jis0212);

@@ -1,6 +1,6 @@
 -- The moves of the ISO-2022-JP encoder, by its tables and by a list of pairs.
-use Rattle.std.proofs.Common.{◌≡◌, ◌∙◌, ℕ, List, [], ◌∷◌, ◌++◌, refl, sym, arith, Bool, true, false, IsTrue, ◌||◌, Option, Some, eqb, map, ◌⊎◌, inl}
-use Rattle.std.proofs.{Common.{inr, ◌/◌, ◌%◌}, lemmas.Bool.{lt-ltb, cases_Bool, false≢true}, lemmas.Bool.Decides.nat_tests}
+use Rattle.std.proofs.Common.{◌≡◌, ℕ, List, [], ◌∷◌, ◌++◌, refl, arith, Bool, true, false, IsTrue, ◌||◌, Option, Some, eqb, map, ◌⊎◌, inl}
+use Rattle.std.proofs.{Common.{inr, ◌/◌, ◌%◌}, lemmas.Bool.{lt-ltb, cases_Bool}, lemmas.Bool.Decides.nat_tests}
 use Rattle.legacy_base.specs.{declared.results.EncodeEvent.EncodeEvent, Iso2022Jp.{iso_2022_jp_code, iso_2022_jp_reported, escape_to, escape_between}}
 use Rattle.legacy_base.specs.{Iso2022Jp.mode_behind, EncoderProfile.{EncoderMode, in_ascii, in_two_byte}, Beginnings.BeginsWith}
 use Rattle.legacy_base.specs.{EncodeEvents.code_events, Encoders.{encoder_profile, iso_2022_jp, is_pending}}
@@ -83,21 +83,10 @@ module _ (jis0208 katakana_index : List ℕ) where
       → ((more ≡ []) × IsTrue ended) ⊎ BeginsWith (text_events jis0208 katakana_index mode more ended) to_ascii
       → text_events jis0208 katakana_index mode more ended ≡ to_ascii ++ text_events jis0208 katakana_index in_ascii more ended
   escape_first mode other is [] true h = rw (text_events-end jis0208 katakana_index mode, text_events-end jis0208 katakana_index in_ascii, is) refl
-  escape_first mode other is [] false h = elim h [
-    | inl e ↦ absurd (false≢true e.1)
-    | inr g ↦ let e = sym (text_events-open jis0208 katakana_index mode) ∙ g.1 in cc
-  ]
-  escape_first mode other is (c ∷ more) ended h = elim h [
-    | inl e ↦ absurd (let none : c ∷ more ≡ [] = e.0 in cc)
-    | inr g ↦ elim (same_or_other (mode_for jis0208 katakana_index mode c) in_ascii) [
-      | inl a ↦ text_events-escape jis0208 katakana_index mode in_ascii c a other more ended
-      | inr a ↦ elim (same_or_other mode (mode_for jis0208 katakana_index mode c)) [
-        | inl s ↦ absurd (no_escape c (iso_2022_jp_reported c) _ _ (sym (text_events-here jis0208 katakana_index mode c (sym s) more ended) ∙ g.1))
-        | inr s ↦ absurd (no_other (mode_for jis0208 katakana_index mode c) _ g.0 a
-            (sym (text_events-escape jis0208 katakana_index mode (mode_for jis0208 katakana_index mode c) c refl s more ended) ∙ g.1))
-      ]
-    ]
-  ]
+  escape_first mode other is [] false h = grind (arith, text_events-open)
+  escape_first mode other is (c ∷ more) ended h =
+      let mode' = mode_for jis0208 katakana_index mode c in
+      grind (arith, same_or_other mode' in_ascii, same_or_other mode mode', text_events-here, text_events-escape, no_escape, no_other)
 
   pub finishes : (mode : Mode) → is_pending (state_in jis0208 katakana_index mode) ≡ true
       → Finishes (state_in jis0208 katakana_index mode) (state_in jis0208 katakana_index modes.Ascii)

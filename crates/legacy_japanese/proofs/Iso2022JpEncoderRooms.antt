@@ -1,17 +1,11 @@
 -- The length formulas of the ISO-2022-JP encoder are enough for its scalars and for the escapes before them.
-use Rattle.std.proofs.{Common.{◌≡◌, ℕ, ◌+◌, ◌-◌, ◌≤◌, List, length, arith, Bool, true, false, Option}, lemmas.Bool.Decides.nat_tests}
+use Rattle.std.proofs.{Common.{◌≡◌, ℕ, ◌+◌, ◌-◌, ◌≤◌, List, length, arith, Bool, true, false}, lemmas.Bool.Decides.nat_tests}
 use Rattle.legacy_text.specs.EncodingForm.{EncodingForm, Utf8, unit_count}
-use Rattle.legacy_base.specs.Iso2022Jp.{iso_2022_jp_encoder, iso_2022_jp_code, is_pair, is_two_byte_scalar, is_roman_scalar, escape_between}
+use Rattle.legacy_base.specs.Iso2022Jp.{iso_2022_jp_encoder, iso_2022_jp_code, is_two_byte_scalar, is_roman_scalar, escape_between}
 use Rattle.legacy_base.specs.{EncodeEvents.code_length, EncoderProfile.{EncoderProfile, EncoderMode, in_ascii}, Lengths.{number, value}}
 use Rattle.legacy_base.proofs.{SameUnits.some_unit, Iso2022JpEncoding.{mode_by, mode_for-by, code-short}}
 use Rattle.legacy_encoder_engine.specs.Moves.{differs}
 use Rattle.legacy_encoder_engine.proofs.PlainServes.{two_units}
-
-two_bytes_in : (form : EncodingForm) (c : ℕ) → 128 ≤ c → form ≡ Utf8 → 2 ≤ unit_count form c
-two_bytes_in form c h e = rw e (two_units c h)
-
-short_by : (own : Option (List ℕ)) → is_pair own ≡ false → code_length own ≤ 2 → code_length own ≤ 1
-short_by own h h1 = grind arith
 
 module _ (jis0208 katakana_index : List ℕ) where
   abbrev encoder : EncoderProfile
@@ -22,12 +16,6 @@ module _ (jis0208 katakana_index : List ℕ) where
   room form mode n = value (encoder.formula form (number n)) - encoder.surplus form mode n
 
   -- ---- on numbers: a scalar of u code units, t more after it, and `own` bytes for the scalar
-
-  own_low : (mode : EncoderMode) (form : EncodingForm) (t u own : ℕ) → own ≤ 2 → 1 ≤ u → room form mode t + own ≤ room form mode (u + t)
-  own_low mode form t u own p q = grind arith
-
-  own_enough : (mode : EncoderMode) (form : EncodingForm) (t u : ℕ) → 1 ≤ u → 3 ≤ room form mode (u + t)
-  own_enough mode form t u q = grind arith
 
   pub end_enough : (mode : EncoderMode) (form : EncodingForm) → length (escape_between mode in_ascii) ≤ room form mode 0
   end_enough mode form = grind arith
@@ -57,15 +45,15 @@ module _ (jis0208 katakana_index : List ℕ) where
 
   pub scalar_low : (mode : EncoderMode) (c : ℕ) (form : EncodingForm) (t : ℕ)
       → room form mode t + code_length (encoder.code c) ≤ room form mode (unit_count form c + t)
-  scalar_low mode c form t = own_low mode form t (unit_count form c) (code_length (encoder.code c)) (code-short jis0208 katakana_index c) (some_unit form c)
+  scalar_low mode c form t = grind (arith, code-short, some_unit)
 
   pub scalar_enough : (mode : EncoderMode) (c : ℕ) (form : EncodingForm) (t : ℕ) → encoder.scalar_room c ≤ room form mode (unit_count form c + t)
-  scalar_enough mode c form t = own_enough mode form t (unit_count form c) (some_unit form c)
+  scalar_enough mode c form t = grind (arith, some_unit)
 
   pub escape_low : (mode : EncoderMode) (c : ℕ) → differs mode (encoder.mode_for mode c) ≡ true → (form : EncodingForm) (t : ℕ)
       → room form (encoder.mode_for mode c) t + (3 + code_length (encoder.code c)) ≤ room form mode (unit_count form c + t)
-  escape_low mode c n form t = grind (arith, mode_for-by, code-short, low_by, short_by, some_unit, two_bytes_in, pair_past, roman_past)
+  escape_low mode c n form t = grind (arith, mode_for-by, code-short, low_by, some_unit, two_units, pair_past, roman_past)
 
   pub escape_enough : (mode : EncoderMode) (c : ℕ) → differs mode (encoder.mode_for mode c) ≡ true → (form : EncodingForm) (t : ℕ)
       → 3 + encoder.scalar_room c ≤ room form mode (unit_count form c + t)
-  escape_enough mode c n form t = grind (arith, enough_by, mode_for-by, some_unit, two_bytes_in, pair_past, roman_past)
+  escape_enough mode c n form t = grind (arith, enough_by, mode_for-by, some_unit, two_units, pair_past, roman_past)

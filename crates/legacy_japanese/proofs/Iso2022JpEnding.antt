@@ -3,7 +3,7 @@ use Rattle.std.specs.{Prelude.{◌==◌, is_some}, Int.is_in_range}
 use Rattle.std.proofs.Common.{◌≡◌, ◌≢◌, ◌∙◌, ℕ, ◌++◌, ◌⊎◌, cond, Bool, true, false, Option, Some, None, List, [], ◌∷◌, inl, inr, length, refl, sym, ap, arith}
 use Rattle.std.proofs.{Common.append-nil, lemmas.Bool.cond_both, lemmas.Bool.Decides.nat_tests}
 use Rattle.legacy_base.specs.{declared.results.DecodeEvent.DecodeEvent, declared.results.DecodeEvent.TheVariants.{Scalar, Bad}, Fronts.{Front, reads}}
-use Rattle.legacy_base.specs.{Fronts.{malformed, front_length, front_events}, Iso2022Jp.{esc, escape_mode, part_mode, iso_2022_jp_events}}
+use Rattle.legacy_base.specs.{Fronts.{front_length, front_events}, Iso2022Jp.{esc, escape_mode, part_mode, iso_2022_jp_events}}
 use Rattle.legacy_base.specs.{Beginnings.BeginsWith, Events.shift, Grammar.{iso_2022_jp, events_of}, Lengths.replacement_units}
 use Rattle.legacy_base.specs.States.{is_two_byte_mode, rests}
 use Rattle.legacy_text.proofs.CodeUnits.{length-code_units-bmp}
@@ -34,11 +34,9 @@ module _ (jis0208 : List ℕ) where
 
   -- so the byte has an event
   write_some : (mode : Mode) (b : ℕ) → is_held mode (Byte b) ≡ true → is_resting mode (Byte b) ≡ false → events_in jis0208 mode (b ∷ []) ≢ []
-  write_some mode b held two = by_option (single mode b) refl (grind (arith, nat_tests))
-    where
-      by_option : (o : Option ℕ) → single mode b ≡ o → is_some o ≡ true → events_in jis0208 mode (b ∷ []) ≢ []
-      by_option None e s n = cc
-      by_option (Some c) e s n = let l = write_law mode b c [] held e in cc
+  write_some mode b held two =
+      let some : is_some (single mode b) ≡ true = grind (arith, nat_tests) in
+      grind (arith, write_law)
 
   -- the law of writing the byte's scalar
   pub released : (mode : Mode) (held : Held) (c : ℕ) → is_held mode held ≡ true → Some c ≡ pending mode held → IsNarrowScalar c
@@ -87,11 +85,7 @@ module _ (jis0208 : List ℕ) where
   -- a lead and a trail do not give a malformed byte alone
   no_malformed_pair : (f : Front) (items rest : List DecodeEvent) → front_length f ≡ 2 → front_events 0 f ++ shift 2 items ≡ Bad 0 1 ∷ rest → ⊥
   no_malformed_pair (reads n []) items rest two e = no_sooner 2 0 1 items rest (omega arith) e
-  no_malformed_pair (reads n (c ∷ scalars)) items rest two e = cc
-  no_malformed_pair (malformed n) items rest two e = cc
-
-  pair_two : (l t : ℕ) (rest : List ℕ) → is_in_range 0x21 0x7E l ≡ true → front_length (front_in jis0208 TwoByte l (t ∷ rest)) ≡ 2
-  pair_two l t rest lead = rw (front-trail jis0208 l t rest lead) (grind arith)
+  no_malformed_pair _ items rest two e = cc
 
   -- a lead at the end, or a lead that is reported alone, has no trail
   malformed_lead : (l : ℕ) (more : List ℕ) → is_in_range 0x21 0x7E l ≡ true → (more ≡ []) ⊎ BeginsWith (events_in jis0208 TwoByte (l ∷ more)) (Bad 0 1 ∷ [])
@@ -101,7 +95,7 @@ module _ (jis0208 : List ℕ) where
     | inl z ↦ absurd (let n : t ∷ more ≡ [] = z in cc)
     | inr g ↦ cond_both (t == esc) [] (t ∷ first_part more) (λ bytes. bytes ≡ []) (λ e. refl) (λ e.
         let f = front_in jis0208 TwoByte l (t ∷ first_part more) in
-        let two = pair_two l t (first_part more) lead in
+        let two : front_length f ≡ 2 = rw (front-trail jis0208 l t (first_part more) lead) (grind arith) in
         absurd (no_malformed_pair f (events_in jis0208 TwoByte more) g.0 two
         (sym (step_two jis0208 (mode_meaning TwoByte) l t more f (in_range_plain l lead) e refl two) ∙ g.1)))
   ]
@@ -111,10 +105,6 @@ module _ (jis0208 : List ℕ) where
   lead_end mode l h h1 = grind (arith, step_one, in_range_plain, front_in, malformed_lead, front-malformed_byte)
 
   -- if an escape byte after a whole escape is reported alone, the whole escape is not malformed
-  whole_alone : (mode : Mode) (e : Escape) (items rest : List DecodeEvent) (o : Option iso.Mode) →
-      cond (is_some o) (Bad 0 3 ∷ []) [] ++ items ≡ Bad 3 1 ∷ rest → o ≡ None
-  whole_alone mode e items rest o h = grind arith
-
   whole_end : (mode : Mode) (e : Escape) (rest more : List ℕ) → part_mode (esc ∷ rest) ≡ None
       → (more ≡ []) ⊎ BeginsWith (events_in jis0208 mode (esc ∷ second_of e ∷ third_of e ∷ esc ∷ rest ++ more)) (Bad 3 1 ∷ [])
       → events_in jis0208 mode (esc ∷ second_of e ∷ third_of e ∷ esc ∷ rest ++ more) ≡ Bad 3 1 ∷ shift 4 (events_in jis0208 (mode_of e) (rest ++ more))
@@ -122,8 +112,9 @@ module _ (jis0208 : List ℕ) where
       let behind = esc ∷ rest ++ more in
       let alone : part_mode behind ≡ None = elim h [
         | inl z ↦ ap (λ l. part_mode (esc ∷ l)) (ap (λ l. rest ++ l) z ∙ append-nil rest) ∙ none
-        | inr g ↦ whole_alone mode e (shift 3 (events_in jis0208 (mode_of e) behind)) g.0 (part_mode behind)
-            (sym (step_escape jis0208 (mode_meaning mode) (mode_meaning (mode_of e)) (second_of e) (third_of e) behind (valid e)) ∙ g.1)
+        | inr g ↦
+            let first = sym (step_escape jis0208 (mode_meaning mode) (mode_meaning (mode_of e)) (second_of e) (third_of e) behind (valid e)) ∙ g.1 in
+            grind (arith, first)
       ] in
       rw (escape_alone jis0208 mode e behind alone, step_no_escape jis0208 (mode_meaning (mode_of e)) (rest ++ more) alone, shift-shift 3 1) refl
 
@@ -190,9 +181,6 @@ module _ (jis0208 : List ℕ) where
   resting_rest : (mode : Mode) (held : Held) → is_held mode held ≡ true → is_resting mode held ≡ true → HasRest mode held (is_some (finish mode held))
   resting_rest mode held sound resting = grind (arith, from_facts, ends, held_rests)
 
-  rest_is : (mode : Mode) (held : Held) → is_held mode held ≡ true → HasRest mode held (is_some (finish mode held))
-  unfolding events_of
-  rest_is mode held h = grind (arith, resting_rest, write_some)
-
   pub rest_known : (mode : Mode) (held : Held) (t : Bool) → is_held mode held ≡ true → t ≡ is_some (finish mode held) → HasRest mode held t
-  rest_known mode held t sound is = rw is (rest_is mode held sound)
+  unfolding events_of
+  rest_known mode held t sound is = rw is (grind (arith, resting_rest, write_some))

@@ -1,5 +1,5 @@
 -- The runs of ISO-2022-JP before and after an escape.
-use Rattle.std.proofs.Common.{◌≡◌, ◌≢◌, ◌∙◌, ℕ, ◌+◌, ◌-◌, ◌<◌, List, ◌∷◌, ◌++◌, length, take, drop, get_or, refl, sym, ap, subst, arith, append-nil}
+use Rattle.std.proofs.Common.{◌≡◌, ◌≢◌, ◌∙◌, ℕ, ◌+◌, ◌-◌, ◌<◌, List, ◌∷◌, ◌++◌, length, take, drop, get_or, refl, sym, ap, arith, append-nil}
 use Rattle.std.proofs.{Common.length-drop, Math.Seq.{drop-cons, take-add}, lemmas.Grind.common_steps, lemmas.Bool.ne_eqb, lemmas.List.drop-drop}
 use Rattle.legacy_text.specs.{declared.destination.Destination.Ghosts, EncodingForm.all_code_units}
 use Rattle.legacy_base.specs.{States.DecoderState, Grammar.{iso_2022_jp, events_of}}
@@ -41,12 +41,8 @@ module _ {D : Type 0} {T : Ghosts D} where
     writes = record {
       scalars = reads.writes.scalars;
       runs =
-          let g = iso_2022_jp jis0208 (mode_meaning (mode_of e)) in
-          let ds : List ℕ = reads.writes.scalars in
-          let run : Runs g (get_or source 3 0 ∷ take (read - 1) (drop 4 source)) ds =
-          subst (λ bytes. Runs g bytes ds) (run_bytes source read has.within some) reads.writes.runs in
-          subst (λ bytes. RunsTo (iso_2022_jp jis0208 (mode_meaning mode)) g bytes ds) (sym (escape_bytes e source read has some))
-          (escape_runs jis0208 mode e (get_or source 3 0) (take (read - 1) (drop 4 source)) ds has.alone run);
+          let run = rw (run_bytes source read has.within some) at reads.writes.runs in
+          rw (escape_bytes e source read has some) (escape_runs jis0208 mode e _ _ _ has.alone run);
       written = reads.writes.written;
       room = reads.writes.room;
       loan = reads.writes.loan;
@@ -65,12 +61,7 @@ module _ {D : Type 0} {T : Ghosts D} where
       let S : List ℕ = take (length source - at) (drop at source) in
       let rest : take (length source - (at + 3)) (drop (at + 3) source) ≡ drop 3 S = rest_of source (at + 3) ∙ sym (drop-drop 3 at source)
       ∙ ap (drop 3) (sym (rest_of source at)) in
-      let run : ReadsAhead T (run_state jis0208 (mode_of e)) (drop 3 S) read mid new =
-      subst (λ m. ReadsAhead T (run_state jis0208 m) (drop 3 S) read mid new) is
-      (subst (λ bytes. ReadsAhead T (run_state jis0208 next) bytes read mid new) rest reads)
-      in
-      subst (λ m. ReadsTo T (run_state jis0208 first) (run_state jis0208 m) source (at + (3 + read)) old new) (sym is)
-      (reads_then runs (reads_escape jis0208 mode e S mid new read has some run))
+      rw is (reads_then runs (reads_escape jis0208 mode e S mid new read has some (rw (is, rest) at reads)))
 
   -- runs, after which nothing was read
   pub reads_end : {before after other : DecoderState} {source behind : List ℕ} {old mid new : D} {at read : ℕ} → read ≡ 0 →

@@ -1,17 +1,17 @@
 -- The machine's steps, as the decoders' loop sees them.
-use Rattle.std.specs.{Prelude.if◌then◌else◌, Char.IsScalar}
-use Rattle.std.proofs.Common.{◌≡◌, ◌≢◌, ◌∙◌, ℕ, ◌+◌, ◌*◌, ◌≤◌, true, All, None, List, [], ◌∷◌, ◌++◌, length, map, sym, ap, arith, append-nil}
+use Rattle.std.specs.{Prelude.if◌then◌else◌}
+use Rattle.std.proofs.Common.{◌≡◌, ◌∙◌, ℕ, ◌+◌, true, List, [], ◌∷◌, ◌++◌, length, map, sym, ap, arith, append-nil}
 use Rattle.std.proofs.lemmas.List.Elements.{All-cons, All-nil}
 use Rattle.legacy_base.specs.{declared.results.DecodeEvent.TheVariants.Scalar, DecoderActs.HadRoom, States.rests, Grammar.{iso_2022_jp, events_of}}
-use Rattle.legacy_base.specs.Lengths.{LengthQuery, query_form}
-use Rattle.legacy_text.specs.EncodingForm.{EncodingForm, bmp_room, total_unit_count}
-use Rattle.legacy_decoder_engine.specs.Moves.{fed_scalars, fed_malformed, fed_units, unread_byte, FedHolds, Feeds}
+use Rattle.legacy_base.specs.Lengths.{query_form}
+use Rattle.legacy_text.specs.EncodingForm.{total_unit_count}
+use Rattle.legacy_decoder_engine.specs.Moves.{fed_scalars, fed_malformed, fed_units, unread_byte, Feeds}
 use Rattle.legacy_japanese.specs.{declared.iso_2022_jp.steps.Mode.Mode, declared.iso_2022_jp.steps.Held.Held, declared.iso_2022_jp.steps.Action.Action}
 use Rattle.legacy_japanese.specs.declared.iso_2022_jp.steps.Outcome.{Outcome}
 use Rattle.legacy_japanese.specs.{Iso2022JpMoves.{state_in, is_left, move_events, rooms_of, fed_by, fed_of, IsNarrow}, Iso2022JpMachine.mode_meaning}
 use Rattle.legacy_japanese.specs.Iso2022JpMachine.{bytes_of, is_held, read}
-use Rattle.legacy_japanese.proofs.{Iso2022JpRooms.{same_rooms, read_room-is, one_fits, room-falls, replacement_fits, times_one}, Iso2022JpLaw.HasSizes}
-use Rattle.legacy_japanese.proofs.{Iso2022JpLaw.{RestsAfter, done}, Iso2022JpStep.{IsStep, read_step}, Iso2022JpHeld.{held_allowed, held_rests}}
+use Rattle.legacy_japanese.proofs.{Iso2022JpRooms.{same_rooms, read_room-is, one_fits, room-falls, replacement_fits, times_one}}
+use Rattle.legacy_japanese.proofs.{Iso2022JpLaw.{done}, Iso2022JpStep.{IsStep, read_step}, Iso2022JpHeld.{held_allowed, held_rests}}
 
 -- ---- a move, and what the loop gets from it
 
@@ -20,28 +20,6 @@ events_are k move back = grind arith
 
 left_is : (move : Action) (back b : ℕ) (more : List ℕ) → (if is_left move then b ∷ more else more) ≡ unread_byte b (fed_by move back) ++ more
 left_is move back b more = grind arith
-
-scalars_fit : (form : EncodingForm) (move : Action) (back : ℕ) → IsNarrow move → total_unit_count form (fed_scalars (fed_by move back)) ≤ bmp_room form
-scalars_fit form move back h = grind (arith, one_fits)
-
-had_room : (form : EncodingForm) (jis0208 : List ℕ) (mode : Mode) (free : ℕ) (move : Action) (back : ℕ) → bmp_room form ≤ free
-    → HadRoom form (iso_2022_jp jis0208 (mode_meaning mode)) None free (fed_scalars (fed_by move back))
-unfolding HadRoom
-had_room form jis0208 mode free move back h = grind arith
-
-are_scalars : (move : Action) (back : ℕ) → IsNarrow move → All IsScalar (fed_scalars (fed_by move back))
-are_scalars move back h = grind (arith, All-cons, All-nil)
-
-units_paid : (query : LengthQuery) (move : Action) (back : ℕ) → IsNarrow move
-    → total_unit_count (query_form query) (fed_scalars (fed_by move back)) + fed_units query (fed_by move back) ≤ bmp_room (query_form query) * rooms_of move
-units_paid query move back h = grind (arith, times_one, one_fits, replacement_fits)
-
-nothing_held : (move : Action) (mode : Mode) (held : Held) (back : ℕ) → RestsAfter move mode held → fed_scalars (fed_by move back) ≢ [] → bytes_of held ≡ []
-nothing_held move mode held back h h1 = grind arith
-
-holds_back : (jis0208 : List ℕ) (k : ℕ) (move : Action) (mode : Mode) (held : Held) → is_held mode held ≡ true → HasSizes k move (bytes_of held)
-    → RestsAfter move mode held → FedHolds k (state_in jis0208 mode held) (fed_by move (length (bytes_of held)))
-holds_back jis0208 k move mode held h h1 h2 = grind (arith, held_rests)
 
 -- ---- a step
 
@@ -59,7 +37,7 @@ kept jis0208 mode held byte o sound rest is = (let s = stepped jis0208 mode held
 pub feeds : (jis0208 : List ℕ) (mode : Mode) (held : Held) (byte : ℕ) (o : Outcome) → is_held mode held ≡ true
     → rests (iso_2022_jp jis0208 (mode_meaning mode)) (bytes_of held) ≡ true → o ≡ read jis0208 mode held byte → IsNarrow o.action
     → Feeds (state_in jis0208 mode held) byte (state_in jis0208 o.mode o.held) (fed_of o)
-unfolding events_of
+unfolding events_of HadRoom
 feeds jis0208 mode held byte o may rest is narrow =
     let step = stepped jis0208 mode held byte o may rest is in
     let sound = step.sound in
@@ -74,15 +52,16 @@ feeds jis0208 mode held byte o may rest is narrow =
         rest = sound.suffix [] ∙ ap (λ l. bytes_of o.held ++ l) (left_is o.action back byte [] ∙ append-nil (unread_byte byte (fed_of o)));
         events = λ more never. rw (← (events_are (done held o) o.action back), ← (left_is o.action back byte more)) (step.law more);
       };
-      holds = holds_back jis0208 (done held o) o.action o.mode o.held sound.kept sound.sizes sound.rest;
+      holds = grind (arith, held_rests);
       allowed = held_allowed jis0208 o.mode o.held sound.kept;
       rooms = same_rooms jis0208 mode o.mode;
-      empties = nothing_held o.action o.mode o.held back sound.rest;
+      empties = grind arith;
       report = λ form. omega arith;
       full = λ form some. rw (read_room-is form jis0208 mode held byte) (omega arith);
-      fits = λ form. rw (read_room-is form jis0208 mode held byte) (scalars_fit form o.action back narrow);
-      had = λ form free enough. had_room form jis0208 mode free o.action back (let e = read_room-is form jis0208 mode held byte in omega arith);
-      scalar = are_scalars o.action back narrow;
+      fits = λ form. rw (read_room-is form jis0208 mode held byte) (grind (arith, one_fits));
+      had = λ form free enough. let e = read_room-is form jis0208 mode held byte in grind arith;
+      scalar = grind (arith, All-cons, All-nil);
       lowers = λ query n. room-falls query jis0208 mode o.mode held o.held (n + 1) (n + length (unread_byte byte (fed_of o))) (rooms_of o.action)
-          (total_unit_count (query_form query) (fed_scalars (fed_of o)) + fed_units query (fed_of o)) (omega arith) (units_paid query o.action back narrow);
+          (total_unit_count (query_form query) (fed_scalars (fed_of o)) + fed_units query (fed_of o)) (omega arith)
+          (grind (arith, times_one, one_fits, replacement_fits));
     }

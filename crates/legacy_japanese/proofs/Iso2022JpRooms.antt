@@ -1,7 +1,7 @@
 -- The room that an ISO-2022-JP decoder needs, and how it decreases.
 use Rattle.std.proofs.Common.{◌≡◌, ℕ, ◌+◌, ◌*◌, ◌<◌, ◌≤◌, Bool, true, false, cond, Some, List, [], ◌∷◌, length, refl, arith, length-append, ◌&&◌}
 use Rattle.std.specs.Char.{is_ascii}
-use Rattle.legacy_base.specs.{declared.results.DecodeEvent.DecodeEvent, DecoderActs.{writes, act_at_end, act_at_rest, room_of_act}, Lengths.LengthQuery}
+use Rattle.legacy_base.specs.{DecoderActs.{writes, act_at_rest, room_of_act}, Lengths.LengthQuery}
 use Rattle.legacy_base.specs.{Lengths.{to_utf16, query_form, replacement_units, room}, Grammar.{iso_2022_jp, events_of}, States.{rests, is_empty}}
 use Rattle.legacy_text.specs.EncodingForm.{EncodingForm, bmp_room, wide_room, code_units, total_unit_count}
 use Rattle.legacy_text.proofs.CodeUnits.{length-code_units-bmp}
@@ -36,16 +36,12 @@ pub room-is : (query : LengthQuery) (jis0208 : List ℕ) (mode : Mode) (held : H
 room-is to_utf16 jis0208 mode held n = rw (held_weight jis0208 mode held) (omega arith)
 room-is _ jis0208 mode held n = rw (held_weight jis0208 mode held) refl
 
-falls : (query : LengthQuery) (x y r u : ℕ) → x + r ≤ y → u ≤ bmp_room (query_form query) * r →
-    bmp_room (query_form query) * x + u ≤ bmp_room (query_form query) * y
-falls query x y r u h k = grind arith
-
 -- the room decreases by what is written, if the weight decreases by the number of scalars and reports
 pub room-falls : (query : LengthQuery) (jis0208 : List ℕ) (mode new_mode : Mode) (held new_held : Held) (n m r u : ℕ)
     → (m + weight_of new_held) + r ≤ n + weight_of held → u ≤ bmp_room (query_form query) * r
     → room query (state_in jis0208 new_mode new_held) m + u ≤ room query (state_in jis0208 mode held) n
 room-falls query jis0208 mode new_mode held new_held n m r u h k =
-    rw (room-is query jis0208 mode held n, room-is query jis0208 new_mode new_held m) (falls query (m + weight_of new_held) (n + weight_of held) r u h k)
+    rw (room-is query jis0208 mode held n, room-is query jis0208 new_mode new_held m) (grind arith)
 
 -- the room of a malformed sequence
 pub replacement_fits : (query : LengthQuery) → replacement_units query ≤ bmp_room (query_form query) * 1
@@ -56,9 +52,6 @@ times_one query u h = grind arith
 
 -- ---- the room of the next act
 
-some_room : (query : LengthQuery) (x : ℕ) → 1 ≤ x → bmp_room (query_form query) ≤ bmp_room (query_form query) * x
-some_room query x h = grind arith
-
 module _ (query : LengthQuery) (jis0208 : List ℕ) (mode : Mode) where
   -- the room of the next act, by whether the held-back bytes rest
   needed : Held → List ℕ → Bool → Bool → ℕ
@@ -66,15 +59,10 @@ module _ (query : LengthQuery) (jis0208 : List ℕ) (mode : Mode) where
       room_of_act (bmp_room (query_form query)) (wide_room (query_form query)) (state_in jis0208 mode held)
       (cond resting (act_at_rest (state_in jis0208 mode held) unread last) (Some writes))
 
-  end_most : (held : Held) (events : List DecodeEvent) (last : Bool)
-      → room_of_act (bmp_room (query_form query)) (wide_room (query_form query)) (state_in jis0208 mode held) (act_at_end events last) ≤ bmp_room
-      (query_form query)
-  end_most held events last = grind arith
-
   most : (held : Held) (unread : List ℕ) (last resting : Bool) → needed held unread last resting ≤ bmp_room (query_form query)
   unfolding needed
   most held unread last false = omega arith
-  most held [] last true = end_most held (events_of (iso_2022_jp jis0208 (mode_meaning mode)) (bytes_of held)) last
+  most held [] last true = grind arith
   most held (b ∷ unread) last true = let e = read_room-is (query_form query) jis0208 mode held b in omega arith
 
   none : (last : Bool) → needed (Begun Nothing) [] last true ≡ 0
@@ -87,7 +75,7 @@ module _ (query : LengthQuery) (jis0208 : List ℕ) (mode : Mode) where
   enough [] last (Begun Nothing) = let n = none last in omega arith
   enough unread last held =
       let m = most held unread last (rests (iso_2022_jp jis0208 (mode_meaning mode)) (bytes_of held)) in
-      let s = some_room query (length unread + weight_of held) (omega arith) in
+      let s : bmp_room (query_form query) ≤ bmp_room (query_form query) * (length unread + weight_of held) = grind arith in
       omega arith
 
 -- the room of a length query is enough for the next act

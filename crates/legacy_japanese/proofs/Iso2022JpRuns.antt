@@ -2,7 +2,7 @@
 use Rattle.std.proofs.Common.{◌≡◌, ◌∙◌, ℕ, suc, ◌+◌, ◌-◌, ◌*◌, ◌<◌, ◌≤◌, Option, Some, List, [], ◌∷◌, ◌++◌, length, take, get_or, refl}
 use Rattle.std.proofs.{Common.{sym, ap, arith}, lemmas.Bool.{cases_lt, ne_eqb}, lemmas.Bool.Decides.nat_tests, lemmas.List.{length-take, length-take-le}}
 use Rattle.std.proofs.{lemmas.List.get_or-take, lemmas.List.Elements.{All-nil, All-cons, All-from_get_or}, lemmas.Str.Ascii.IsAscii-from_all}
-use Rattle.std.specs.{Prelude.{All, IsAscii, IfSome}, Char.IsScalar}
+use Rattle.std.specs.{Prelude.{All, IfSome}, Char.IsScalar}
 use Rattle.legacy_text.specs.{declared.destination.Destination.Ghosts, EncodingForm.{EncodingForm, code_units}}
 use Rattle.legacy_base.specs.{Iso2022Jp.{ascii, two_byte, iso_2022_jp_front}, Grammar.{iso_2022_jp, events_of}}
 use Rattle.legacy_tables.specs.Indexes.{idx}
@@ -65,16 +65,13 @@ pub plain_units : (form : EncodingForm) (source : List ℕ) (count at : ℕ) →
     → code_units form (get_or source at 0) ≡ get_or source at 0 ∷ []
 plain_units form source count at within plain h = code_units_ascii form (get_or source at 0) ((plain at h).0)
 
-are_ascii : (bytes : List ℕ) → All IsPlain bytes → IsAscii bytes
-are_ascii bytes h = IsAscii-from_all bytes (λ i d l. (h i d l).0)
-
 pub reads_plain : {D : Type 0} (T : Ghosts D) (jis0208 source : List ℕ) (old new : D) (count : ℕ) → count ≤ length source → ArePlain source count
     → T.contents new ≡ T.contents old ++ take count source → T.room new + count ≡ T.room old → T.loan new ≡ T.loan old → (0 < count → count + 3 ≤ T.room old)
     → ReadsAhead T (run_state jis0208 Ascii) source count old new
 reads_plain T jis0208 source old new count within plain contents room loan enough =
     let l : length (take count source) ≡ count = length-take-le count source within in
     let all = All-from_get_or IsPlain (take count source) 0 (λ k h. rw (get_or-take count source k 0 (omega arith)) (plain k (omega arith))) in
-    let same = all_code_units_ascii T.form (take count source) (are_ascii (take count source) all) in
+    let same = all_code_units_ascii T.form (take count source) (IsAscii-from_all _ (λ i d l. (all i d l).0)) in
     record {
       within = within;
       idle = λ h. refl;

@@ -1,6 +1,6 @@
 -- A walk over the pointers of index jis0208 lists the codes of the scalars that have the code of their pointer. The other
 -- scalars are looked up one by one.
-use Rattle.std.proofs.Common.{◌∙◌, ◌≡◌, ℕ, ◌+◌, ◌/◌, ◌<◌, Bool, cond, nat_lt, List, length, slice_index, refl, arith, option_map}
+use Rattle.std.proofs.Common.{◌∙◌, ◌≡◌, ℕ, ◌+◌, ◌/◌, ◌<◌, List, length, slice_index, arith, option_map}
 use Rattle.std.proofs.lemmas.Bool.Decides.{nat_tests}
 use Rattle.legacy_tables.specs.{Indexes.FlatIndexes, TableChecks.AreAccepted, Walks.IsFilled, Pointers.{euc_jp_pointer_of, shift_jis_pointer_of}}
 use Rattle.legacy_tables.specs.{declared.tables.packed.PackedPart.TheVariants.{EucJpOrder, ShiftJisOrder}, declared.tables.packed.PackedPart.PackedPart}
@@ -32,13 +32,10 @@ module _ (flat : FlatIndexes) (accepted : AreAccepted flat) where
   unfolding shift_jis_code
   shift-jis-code c by = grind (arith, nat_tests, by.ascii, by.yen, by.overline, by.minus, by.katakana)
 
-  first-small : (t : Bool) (row : ℕ) → row < 60 → nat_lt row 0x1F ≡ t → row + cond t 0x81 0xC1 < 256
-  first-small t row h e = grind arith
-
   pub shift-jis-by-pointers : GoesByPointers (shift_jis flat.jis0208) ShiftJisOrder shift_jis_mark flat.jis0208 GoesByPointer
   shift-jis-by-pointers =
       by-pairs _ _ _ _ GoesByPointer shift_jis_bytes 11280 (jis0208-scalars flat accepted) shift_jis_mark-some (λ c d. grind (arith, d.ascii))
-      (shift-jis-bound flat accepted) (λ p h. halves (p / 188 + _) _ (first-small (nat_lt (p / 188) 0x1F) (p / 188) (omega arith) refl)) shift-jis-code
+      (shift-jis-bound flat accepted) (λ p h. halves (p / 188 + _) _ (grind (arith, nat_tests))) shift-jis-code
 
   iso-2022-jp-code : (c : ℕ) → GoesByPointer c → iso_2022_jp_code flat.jis0208 flat.katakana c ≡ option_map iso_2022_jp_pair (euc_jp_pointer_of flat.jis0208 c)
   unfolding iso_2022_jp_code

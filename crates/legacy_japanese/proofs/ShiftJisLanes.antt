@@ -37,9 +37,7 @@ trail_tests b h = agree_below_at trail_test (λ _. true) 256 b refl h
 lead_of : (code : ℕ) → lead_place_of 0x21 0x2E 188 (bit_xor code 0xA0) ≡ changed_place (code % 256)
 lead_of code =
     let same : code % 256 % 256 ≡ code % 256 = omega arith in
-    let e : bit_xor code 0xA0 % 256 ≡ bit_xor (code % 256) 0xA0 % 256 =
-    xor_mod code 0xA0 8 ∙ ap (λ n. bit_xor n 0xA0) (sym same) ∙ sym (xor_mod (code % 256) 0xA0 8) in
-    ap (λ l. cond (is_in_range 0x21 0x4F l) ((l - 0x21) * 188) 65535) e
+    rw (xor_mod code 0xA0 8, xor_mod (code % 256) 0xA0 8, same) refl
 
 trail_of : (code : ℕ) → trail_place_of 0x80 0xFC code ≡ shift_jis_trail_place (code / 256)
 unfolding shift_jis_trail_place

@@ -1,7 +1,6 @@
 -- The tables contain the places of leads and trails; index jis0208 is read at their sum.
-use Rattle.std.proofs.Common.{◌≡◌, ℕ, ◌+◌, ◌≤◌, List, [], ◌∷◌, length, Bool, false, cond, Some, None, refl, ap, arith}
+use Rattle.std.proofs.Common.{◌≡◌, ℕ, ◌+◌, ◌≤◌, List, [], ◌∷◌, length, false, cond, Some, refl, ap, arith}
 use Rattle.std.proofs.lemmas.Bool.Decides.{nat_tests}
-use Rattle.std.specs.Option.{option_map_or}
 use Rattle.std.specs.{Int.is_in_range, Prelude.option_to_list}
 use Rattle.legacy_tables.specs.{AcceptedTables.AcceptedIndexes, Indexes.idx}
 use Rattle.legacy_tables.specs.declared.tables.IndexName.TheVariants as names
@@ -20,16 +19,11 @@ pub shift_jis_trails_are : IsTableOf shift_jis_trail_place TRAILS
 unfolding shift_jis_trail_place
 shift_jis_trails_are = refl
 
--- the scalars of a pointer, if there is a pointer
-of_pointer : (scalars : ℕ → List ℕ) (a b : Bool) (low high : ℕ) →
-    cond a (scalars low) (cond b (scalars high) []) ≡ option_map_or scalars (cond a (Some low) (cond b (Some high) None)) []
-of_pointer scalars a b low high = grind arith
-
 pub shift_jis_entry : (index : List ℕ) → length index ≤ 65535 → (lead trail : ℕ) →
     shift_jis_scalars index (shift_jis_lead_place lead + shift_jis_trail_place trail)
     ≡ cond (is_shift_jis_lead lead) (shift_jis_pair_scalars index lead trail) []
 unfolding shift_jis_lead_place shift_jis_trail_place
-shift_jis_entry index short lead trail = grind (arith, pair_entry, nat_tests, none_past, of_pointer)
+shift_jis_entry index short lead trail = grind (arith, pair_entry, nat_tests, none_past)
 
 -- the entry of a pointer is its only scalar, as no entry is at a pointer for private use
 pub entry_alone : (tables : AcceptedIndexes) (p c : ℕ) → Some c ≡ idx tables.flat.jis0208 p → c ∷ [] ≡ shift_jis_scalars tables.flat.jis0208 p

@@ -1,7 +1,7 @@
 -- Byte sequences of Shift_JIS that give one scalar.
-use Rattle.std.proofs.{Common.{◌≡◌, ◌≤◌, ◌<◌, ◌^◌, ◌+◌, ◌-◌, ◌==◌, ℕ, List, [], ◌∷◌, Option, false, true, cond, refl, arith}, lemmas.Bool.cond_both}
+use Rattle.std.proofs.{Common.{◌≡◌, ◌≤◌, ◌<◌, ◌^◌, ◌==◌, ℕ, List, [], ◌∷◌, Option, false, true, cond, refl, arith}, lemmas.Bool.cond_both}
 use Rattle.std.proofs.lemmas.Bool.Decides.{nat_tests}
-use Rattle.std.specs.{Char.{IsScalar, is_ascii}, Int.is_in_range, Option.option_map_or}
+use Rattle.std.specs.{Char.{IsScalar, is_ascii}, Option.option_map_or}
 use Rattle.legacy_tables.specs.{AcceptedTables.AcceptedIndexes, Unicode.{is_katakana_byte, katakana_of}}
 use Rattle.legacy_base.specs.{Grammar.shift_jis, ShiftJis.{is_shift_jis_lead, shift_jis_pointer, shift_jis_scalars}}
 use Rattle.legacy_tables.proofs.Accepted.{jis0208-below}
@@ -9,11 +9,8 @@ use Rattle.legacy_decoder_engine.specs.{ReadAhead.Runs, StepUnits.IsNarrowIndex}
 use Rattle.legacy_decoder_engine.proofs.{LeadHeld.pair, PairPlaces.found, RunForms.single_runs, Widths.idx_below}
 use Rattle.legacy_japanese.specs.{ShiftJisMachine.shift_jis_pair_scalars, ShiftJisShown.shift_jis_codec}
 
-private_use_below : (p c : ℕ) → is_in_range 8836 10715 p ≡ true → (0xE000 + (p - 8836)) ∷ [] ≡ c ∷ [] → c < 0x1_0000
-private_use_below p c t e = grind (arith, nat_tests)
-
 scalar_below : (jis0208 : List ℕ) (o : Option ℕ) (c : ℕ) → IsNarrowIndex jis0208 → option_map_or (shift_jis_scalars jis0208) o [] ≡ c ∷ [] → c < 0x1_0000
-scalar_below jis0208 o c h h1 = grind (arith, cond_both, private_use_below, idx_below)
+scalar_below jis0208 o c h h1 = grind (arith, cond_both, nat_tests, idx_below)
 
 module _ (tables : AcceptedIndexes) where
   -- a lead and a trail

@@ -1,5 +1,5 @@
-use Rattle.std.proofs.Common.{◌≡◌, ◌∙◌, ℕ, ◌+◌, ◌-◌, ◌≤◌, List, ◌++◌, length, take, is_some, sym, ap, arith, append_assoc, inl, inr}
-use Rattle.std.proofs.lemmas.List.{length-take-le}
+use Rattle.std.proofs.Common.{◌≡◌, ◌∙◌, ℕ, ◌+◌, ◌≤◌, ◌++◌, length, take, is_some, sym, ap, arith, append_assoc, inl, inr}
+use Rattle.std.proofs.lemmas.List.{length-take, length-take-le}
 use Rattle.legacy_base.specs.declared.results.EncoderResult.TheVariants.{OutputFull}
 use Rattle.legacy_codecs.specs.References.{reference}
 use Rattle.legacy_codecs.specs.declared.results.CoderResult.TheVariants as coder
@@ -7,30 +7,25 @@ use Rattle.legacy_codecs.proofs.ReferencingCalls.{referencing_start, referencing
 use Rattle.legacy_codecs.proofs.ReferencingCalls.{nothing_left}
 use Rattle.legacy_codecs.proofs.character_references.encode_replacing.Goals as goal
 
--- the room of a call after the bytes that are written
-room_of : (dst : List ℕ) (written free : ℕ) → written ≤ length dst → length dst ≡ free →
-    length dst - 10 - written ≡ free - length (take written dst) - 10
-room_of dst written free within same = let long = length-take-le written dst within in omega (arith, long, same)
-
 pub calls-init : goal.calls-init
 calls-init g c = grind (arith, referencing_start)
 
 pub returns-in-InputEmpty-clause-call : goal.returns-in-InputEmpty-clause-call
 returns-in-InputEmpty-clause-call g c =
     let call = c.encode_from-answer.ensures.call in
-    rw call.2 (referencing_end c.calls.invariant.calls (room_of c.calls.dst _ _ c.calls.invariant.within c.calls.auto.dst) coder.InputEmpty
+    rw call.2 (referencing_end c.calls.invariant.calls (omega (arith, length-take {A = ℕ})) coder.InputEmpty
     (rw c.in-InputEmpty.is at call.1))
 
 pub returns-in-OutputFull-clause-call : goal.returns-in-OutputFull-clause-call
 returns-in-OutputFull-clause-call g c =
     let call = c.encode_from-answer.ensures.call in
-    rw call.2 (referencing_end c.calls.invariant.calls (room_of c.calls.dst _ _ c.calls.invariant.within c.calls.auto.dst) coder.OutputFull
+    rw call.2 (referencing_end c.calls.invariant.calls (omega (arith, length-take {A = ℕ})) coder.OutputFull
     (rw c.in-OutputFull.is at call.1))
 
 pub calls-smaller : goal.calls-smaller
 calls-smaller g c =
     let call = c.encode_from-answer.ensures.call in
-    referencing_less c.calls.invariant.calls (room_of c.calls.dst _ _ c.calls.invariant.within c.calls.auto.dst) c.in-Unmappable.c
+    referencing_less c.calls.invariant.calls (omega (arith, length-take {A = ℕ})) c.in-Unmappable.c
     (rw c.in-Unmappable.is at call.1)
 
 pub calls-preserved : goal.calls-preserved

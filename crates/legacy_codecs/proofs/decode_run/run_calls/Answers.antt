@@ -1,4 +1,4 @@
-use Rattle.std.proofs.{Common.{◌≡◌, ◌+◌, [], drop, length, refl, arith, ap, sym, ◌∙◌, vec_len, append-nil, length-drop, Vec, Global}, lemmas.Bool.true≢false}
+use Rattle.std.proofs.{Common.{◌≡◌, ◌+◌, [], drop, length, refl, arith, ap, sym, ◌∙◌, append-nil, length-drop}, lemmas.Bool.true≢false}
 use Rattle.std.proofs.{lemmas.Option.slice_get-get_or, lemmas.List.length-map}
 use Rattle.std.specs.Prelude.{slice_index_or}
 use Rattle.legacy_codecs.specs.Pieces.{contents_of}
@@ -7,12 +7,8 @@ use Rattle.legacy_codecs.proofs.{RunSteps.{running_call, is_run, place_at-more},
 use Rattle.legacy_codecs.proofs.decode_run.run_calls.Goals.{in-Malformed}
 use Rattle.legacy_codecs.proofs.decode_run.run_calls.Goals as goal
 
--- at the start there are no events
-none : {A : Type 0} (v : Vec A Global) → v.items ≡ [] → vec_len v ≡ 0
-none v e = v.ok.0 ∙ ap length e
-
 pub loop-calls-init : goal.loop-calls-init
-loop-calls-init g c = grind (arith, none, place_at-first, length-map, running_start)
+loop-calls-init g c = let none = c.args.events.ok.0 ∙ ap length c.requires.empty in grind (arith, place_at-first, length-map, running_start)
 
 pub overflow_add-total : goal.overflow_add-total
 overflow_add-total g c = grind (arith, pieces-length)
@@ -46,10 +42,6 @@ loop-calls-preserved g c =
     let last = c.is_last-last.ensures in
     let given = slice_get-get_or c.args.lengths.now c.loop-calls.calls 0 c.loop-calls-test.true in
     let step = room_step c.args.lengths.now c.loop-calls.calls c.loop-calls-test.true in
-    let len = c.call_once-answer.ensures.len in
-    let capacity = c.call_once-answer.ensures.capacity in
-    let room = i.room in
-    let read = call.1.within in
     let unread_length = ap length unread in
     elim c.match-answer.branch [
       | in-InputEmpty+else-last w ↦

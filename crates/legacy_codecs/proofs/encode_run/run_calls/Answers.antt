@@ -1,4 +1,4 @@
-use Rattle.std.proofs.Common.{◌≡◌, ℕ, ◌+◌, ◌≤◌, ◌<◌, ◌++◌, List, [], drop, get_or, length, map, vec_len, Vec, Global, All, refl, arith, ap, sym}
+use Rattle.std.proofs.Common.{◌≡◌, ◌+◌, ◌≤◌, ◌++◌, [], drop, get_or, length, map, All, refl, arith, ap, sym}
 use Rattle.std.proofs.{Common.{◌∙◌, length-append, length-drop, length-take}, lemmas.Bool.true≢false, lemmas.List.length-map}
 use Rattle.std.proofs.lemmas.List.{get_or-map}
 use Rattle.legacy_codecs.specs.{Pieces.place_before, EncodeRuns.EncodeReaches.begun}
@@ -6,13 +6,9 @@ use Rattle.legacy_codecs.proofs.{Places.{place_before-state, place_at-begin, pla
 use Rattle.legacy_codecs.proofs.encode_run.run_calls.Goals.{then-call_once+else-last, else-call_once}
 use Rattle.legacy_codecs.proofs.encode_run.run_calls.Goals as goal
 
--- at the start there are no events
-none : {A : Type 0} (v : Vec A Global) → v.items ≡ [] → vec_len v ≡ 0
-none v e = v.ok.0 ∙ ap length e
-
 pub loop-calls-init : goal.loop-calls-init
 loop-calls-init g c =
-    let n = none c.args.events c.requires.empty in
+    let none = c.args.events.ok.0 ∙ ap length c.requires.empty in
     let first = place_at-begin (g.E.RawEncoder.state c.args.encoder.now) (map g.T.Text.scalars c.args.pieces.now) in
     record {
       reaches = rw (c.requires.empty, c.cursor-unread.ensures, c.first_piece.ensures, first) begun;
@@ -20,11 +16,6 @@ loop-calls-init g c =
       output = c.requires.output;
       inside = omega arith;
     }
-
--- the scalars of the piece at an index
-piece_is : {A : Type 0} (f : A → List ℕ) (pieces : List A) (index : ℕ) (piece : A) → index < length pieces → piece ≡ get_or pieces index piece →
-    get_or (map f pieces) index [] ≡ f piece
-piece_is f pieces index piece h e = get_or-map f pieces index piece [] h ∙ ap f (sym e)
 
 pub returns-then-last : goal.returns-then-last
 returns-then-last g c =
@@ -59,14 +50,10 @@ loop-calls-preserved g c =
     let call = c.call_once.ensures.call in
     let last = c.is_last-last.ensures ∙ same_end g.T.Piece.units g.T.Text.scalars pieces (index + 1) in
     let step = room_step c.args.lengths.now c.loop-calls.calls c.loop-calls-test.true in
-    let len = c.call_once.ensures.len in
-    let capacity = c.call_once.ensures.capacity in
-    let room = i.room in
     let small = i.output c.loop-calls.calls 0 c.loop-calls-test.true in
     let next = get_or c.args.lengths.now c.loop-calls.calls 0 in
     let taken = length-take next c.loop-calls.output in
     let behind = length-drop next c.loop-calls.output in
-    let kept = c.call_once.auto.output in
     let both = length-append c.call_once.new.output (drop next c.loop-calls.output) in
     let output : All (λ n. n ≤ length (c.call_once.new.output ++ drop next c.loop-calls.output)) c.args.lengths.now =
     λ k d h. let b = i.output k d h in omega arith in
@@ -78,7 +65,7 @@ loop-calls-preserved g c =
           let emptied = sym w.if-call_once.true ∙ call.3 in
           let left =
           w.cursor-unread-then-call_once.ensures
-          ∙ sym (piece_is g.T.Text.scalars pieces (index + 1) _ (omega (arith, more, same)) w.index-pieces-index.is) in
+          ∙ ap g.T.Text.scalars w.index-pieces-index.is ∙ sym (get_or-map g.T.Text.scalars pieces (index + 1) _ [] (omega (arith, more, same))) in
           rw (w.index-is, w.unread-is, left) record {
             reaches =
                 reaches_call c.loop-calls.output i.reaches c.loop-calls-test.true i.output call.2 last emptied call.4 goes

@@ -1,13 +1,12 @@
-use Rattle.std.proofs.Common.{◌∙◌, ◌++◌, arith, sym, ap, append-nil}
+use Rattle.std.proofs.Common.{arith, append-nil}
 use Rattle.legacy_codecs.proofs.WholeTexts.{bytes_end, bytes_less, bytes_after}
 use Rattle.legacy_codecs.proofs.whole.encode_whole.Goals as goal
 
 pub returns-in-InputEmpty : goal.returns-in-InputEmpty
 returns-in-InputEmpty g c =
     let call = c.encode_replacing_utf8-answer.ensures.call in
-    let all = bytes_after call _ c.calls.invariant.1 c.in_ok-extend_from_slice.ensures.items in
-    let none = bytes_end call c.in-InputEmpty.is in
-    sym (append-nil c.extend_from_slice.new.self.items) ∙ ap (λ l. c.extend_from_slice.new.self.items ++ l) (sym none) ∙ all
+    rw (bytes_end call c.in-InputEmpty.is, append-nil c.extend_from_slice.new.self.items)
+    at (bytes_after call _ c.calls.invariant.1 c.in_ok-extend_from_slice.ensures.items)
 
 pub calls-smaller : goal.calls-smaller
 calls-smaller g c =

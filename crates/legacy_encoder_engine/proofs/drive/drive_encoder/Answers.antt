@@ -1,9 +1,9 @@
-use Rattle.std.proofs.{Common.{◌≡◌, ◌∙◌, length, false, IsTrue, refl, sym, ap, arith}, lemmas.Bool.false≢true, lemmas.List.length-take-le}
+use Rattle.std.proofs.{Common.{◌≡◌, ◌∙◌, length, ℕ, false, IsTrue, refl, sym, ap, arith}, lemmas.List.length-take}
 use Rattle.legacy_base.specs.Encoders.{is_pending}
 use Rattle.legacy_text.proofs.Texts.{first_cons, none_left}
 use Rattle.legacy_encoder_engine.specs.Moves.{is_escape}
 use Rattle.legacy_encoder_engine.proofs.CallUnderWay.{underway_start, underway_read, underway_escape, call_full_scalar, call_full_end, call_unmappable}
-use Rattle.legacy_encoder_engine.proofs.CallUnderWay.{call_done, call_finish, no_report, no_escape, first_units}
+use Rattle.legacy_encoder_engine.proofs.CallUnderWay.{call_done, call_finish, first_units}
 use Rattle.legacy_encoder_engine.proofs.drive.drive_encoder.Goals.{else-is_pending-via-then-is_pending+else-last, else-is_pending-via-else-is_pending}
 use Rattle.legacy_encoder_engine.proofs.drive.drive_encoder.Goals as goal
 
@@ -19,32 +19,29 @@ pub returns-then-dst-written-clause-call : goal.returns-then-dst-written-clause-
 returns-then-dst-written-clause-call g c =
     let a = c.read_ahead-written in
     let under = (rw c.loop-c.auto.dst at a.ensures.keeps).keeps _ _ _ c.loop-c.invariant.0 in
-    let n = length-take-le a.result a.new.dst (omega (arith, a.ensures.end)) in
-    call_full_scalar _ _ _ _ _ _ _ under c.room.ensures.serves c.in-Some.c _ (first_cons _ _ c.in-Some.ensures) (omega arith)
+    call_full_scalar _ _ _ _ _ _ _ under c.room.ensures.serves c.in-Some.c _ (first_cons _ _ c.in-Some.ensures) (omega (arith, length-take {A = ℕ}))
 
 pub returns-in-Unmappable-clause-call : goal.returns-in-Unmappable-clause-call
 returns-in-Unmappable-clause-call g c =
     let a = c.read_ahead-written in
     let under = (rw c.loop-c.auto.dst at a.ensures.keeps).keeps _ _ _ c.loop-c.invariant.0 in
-    let n = length-take-le a.result a.new.dst (omega (arith, a.ensures.end)) in
     rw c.advance.ensures.left
     (call_unmappable _ _ _ _ _ _ _ under c.room.ensures.serves c.in-Some.c _ (first_cons _ _ c.in-Some.ensures) _ c.in-Unmappable.reported
-    (rw c.in-Unmappable.is at c.next-step.ensures) (omega arith))
+    (rw c.in-Unmappable.is at c.next-step.ensures) (omega (arith, length-take {A = ℕ})))
 
 pub loop-c-preserved : goal.loop-c-preserved
 loop-c-preserved g c =
     let a = c.read_ahead-written in
     let under = (rw c.loop-c.auto.dst at a.ensures.keeps).keeps _ _ _ c.loop-c.invariant.0 in
-    let n = length-take-le a.result a.new.dst (omega (arith, a.ensures.end)) in
-    let f = c.next-step.ensures.fits in
     let cons = first_cons _ _ c.in-Some.ensures in (
       rw (c.advance-in-loop-c.ensures.left, c.put_move-written.ensures.bytes)
-          (underway_read _ _ _ _ _ _ _ under c.room.ensures.serves c.in-Some.c _ cons _ c.next-step.result c.next-step.ensures (omega arith)
-          (no_escape c.next-step.result c.in_default-step-2.not-Escape) (no_report c.next-step.result c.in_default-step.not-Unmappable)),
+          (underway_read _ _ _ _ _ _ _ under c.room.ensures.serves c.in-Some.c _ cons _ c.next-step.result c.next-step.ensures
+          (omega (arith, length-take {A = ℕ})) (grind (arith, c.in_default-step-2.not-Escape))
+          (grind (arith, c.in_default-step.not-Unmappable))),
       omega arith,
       rw c.advance-in-loop-c.ensures.left (omega (
         arith,
-        c.advance-in-loop-c.ensures.passed,
+        rw cons at c.advance-in-loop-c.ensures.passed,
         first_units g.S.Source.form (g.S.Source.left a.new.src) c.in-Some.c cons,
         a.ensures.units,
         c.loop-c.invariant.2,
@@ -55,23 +52,17 @@ pub returns-else-is_pending-clause-call : goal.returns-else-is_pending-clause-ca
 returns-else-is_pending-clause-call g c =
     let a = c.read_ahead-written in
     let under = (rw c.loop-c.auto.dst at a.ensures.keeps).keeps _ _ _ c.loop-c.invariant.0 in
-    let none : IsTrue c.args.last → is_pending (g.E.EncoderMoves.state c.loop-c.encoder) ≡ false =
-    elim c.else-is_pending.branch [
-      | else-is_pending-via-then-is_pending+else-last w ↦ λ l. absurd (false≢true (sym w.if-last.false ∙ l))
-      | else-is_pending-via-else-is_pending w ↦ λ l. sym c.is_pending.ensures.is ∙ w.if-is_pending.false
-    ] in
+    let none : IsTrue c.args.last → is_pending (g.E.EncoderMoves.state c.loop-c.encoder) ≡ false = grind (arith, c.else-is_pending.branch) in
     call_done _ _ _ _ _ _ _ under c.is_pending.ensures.serves (none_left _ (sym c.in_default.is ∙ c.peek.ensures)) none
 
 pub loop-c-preserved-in-Escape : goal.loop-c-preserved-in-Escape
 loop-c-preserved-in-Escape g c =
     let a = c.read_ahead-written in
     let under = (rw c.loop-c.auto.dst at a.ensures.keeps).keeps _ _ _ c.loop-c.invariant.0 in
-    let n = length-take-le a.result a.new.dst (omega (arith, a.ensures.end)) in
-    let f = c.next-step.ensures.fits in
     let cons = first_cons _ _ c.in-Some.ensures in (
       rw c.put_move-written.ensures.bytes
-          (underway_escape _ _ _ _ _ _ _ under c.room.ensures.serves c.in-Some.c _ cons _ c.next-step.result c.next-step.ensures (omega arith)
-          (ap is_escape c.in-Escape.is)),
+          (underway_escape _ _ _ _ _ _ _ under c.room.ensures.serves c.in-Some.c _ cons _ c.next-step.result c.next-step.ensures
+          (omega (arith, length-take {A = ℕ})) (ap is_escape c.in-Escape.is)),
       omega arith,
       omega (arith, a.ensures.units, c.loop-c.invariant.2),
     )
@@ -80,16 +71,15 @@ pub returns-then-dst-written-lt3-clause-call : goal.returns-then-dst-written-lt3
 returns-then-dst-written-lt3-clause-call g c =
     let a = c.read_ahead-written in
     let under = (rw c.loop-c.auto.dst at a.ensures.keeps).keeps _ _ _ c.loop-c.invariant.0 in
-    let n = length-take-le a.result a.new.dst (omega (arith, a.ensures.end)) in
     let pending = sym c.is_pending.ensures.is ∙ c.if-is_pending.true in
-    call_full_end _ _ _ _ _ _ _ under c.is_pending.ensures.serves (none_left _ (sym c.in_default.is ∙ c.peek.ensures)) c.if-last.true pending (omega arith)
+    call_full_end _ _ _ _ _ _ _ under c.is_pending.ensures.serves (none_left _ (sym c.in_default.is ∙ c.peek.ensures)) c.if-last.true pending
+    (omega (arith, length-take {A = ℕ}))
 
 pub returns-else-dst-written-lt3-clause-call : goal.returns-else-dst-written-lt3-clause-call
 returns-else-dst-written-lt3-clause-call g c =
     let a = c.read_ahead-written in
     let under = (rw c.loop-c.auto.dst at a.ensures.keeps).keeps _ _ _ c.loop-c.invariant.0 in
-    let n = length-take-le a.result a.new.dst (omega (arith, a.ensures.end)) in
     let pending = sym c.is_pending.ensures.is ∙ c.if-is_pending.true in
     rw c.put_move-written-then-last.ensures.bytes
     (call_finish _ _ _ _ _ _ _ under c.is_pending.ensures.serves (none_left _ (sym c.in_default.is ∙ c.peek.ensures)) c.if-last.true pending _
-    (c.finish.ensures pending) (omega arith))
+    (c.finish.ensures pending) (omega (arith, length-take {A = ℕ})))
