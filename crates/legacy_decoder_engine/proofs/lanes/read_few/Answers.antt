@@ -1,10 +1,9 @@
 use Rattle.std.proofs.{Common.{◌-◌, ◌+◌, length, drop, arith}, lemmas.List.{length-take, length-drop}}
-use Rattle.legacy_base.specs.States.{new_state}
 use Rattle.legacy_decoder_engine.proofs.{JoinedRuns.reads_more, WrittenRuns.reads_none}
 use Rattle.legacy_decoder_engine.proofs.lanes.read_few.Goals as goal
 
 pub loop-at-init : goal.loop-at-init
-loop-at-init g c = reads_none g.T.Destination (new_state (g.C.LaneCodec.grammar c.args.blocks.now.tables.now.flat)) c.args.src.now c.args.dst.now
+loop-at-init g c = reads_none _ _ _ _
 
 pub read_last-requires : goal.read_last-requires
 read_last-requires g c = c.requires

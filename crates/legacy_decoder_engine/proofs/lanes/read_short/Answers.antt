@@ -1,10 +1,9 @@
 use Rattle.std.proofs.{Common.{◌-◌, length, drop, arith}, lemmas.List.{length-take, length-drop}}
-use Rattle.legacy_base.specs.States.{new_state}
 use Rattle.legacy_decoder_engine.proofs.{JoinedRuns.reads_more, WrittenRuns.reads_none}
 use Rattle.legacy_decoder_engine.proofs.lanes.read_short.Goals as goal
 
 pub loop-codes-init : goal.loop-codes-init
-loop-codes-init g c = reads_none g.T.Destination (new_state (g.C.LaneCodec.grammar c.args.tables.now.flat)) c.args.src.now c.args.dst.now
+loop-codes-init g c = reads_none _ _ _ _
 
 pub loop-codes-smaller : goal.loop-codes-smaller
 loop-codes-smaller g c =

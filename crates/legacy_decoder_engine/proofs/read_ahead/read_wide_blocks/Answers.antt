@@ -1,10 +1,9 @@
 use Rattle.std.proofs.{Common.{◌-◌, length, drop, arith}, lemmas.List.{length-take, length-drop}}
-use Rattle.legacy_base.specs.States.{new_state}
 use Rattle.legacy_decoder_engine.proofs.{JoinedRuns.{reads_ascii, reads_more}, WrittenRuns.reads_none}
 use Rattle.legacy_decoder_engine.proofs.read_ahead.read_wide_blocks.Goals as goal
 
 pub loop-at-init : goal.loop-at-init
-loop-at-init g c = (omega arith, λ grammar law. reads_none g.T.Destination (new_state grammar) c.args.src.now c.args.dst.now)
+loop-at-init g c = (omega arith, λ grammar law. reads_none _ _ _ _)
 
 pub returns-then-count-lt64-clause-ahead : goal.returns-then-count-lt64-clause-ahead
 returns-then-count-lt64-clause-ahead g c grammar law =
