@@ -30,9 +30,6 @@ module _ {grammar : FlatIndexes → Grammar} {is_lead_byte : ℕ → Bool} {firs
 
 module _ {L : Type 0} {grammar : FlatIndexes → Grammar} {is_lead_byte : ℕ → Bool} {first : ℕ → Step} {scalars : FlatIndexes → ℕ → ℕ → List ℕ}
     (is : IsLeadCodec grammar is_lead_byte first scalars) {byte : L → ℕ} (leads : (lead : L) → is_lead_byte (byte lead) ≡ true) (tables : AcceptedIndexes) where
-  abbrev g : Grammar
-  g = grammar tables.flat
-
   shown : IsShown (grammar tables.flat) (two_byte_machine (grammar tables.flat) first (scalars tables.flat))
   shown = is.shown tables.flat tables.accepted
 

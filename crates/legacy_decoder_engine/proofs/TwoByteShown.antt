@@ -39,19 +39,11 @@ module _ (g : Grammar) (front : ℕ → List ℕ → Front) (is_lead_byte : ℕ 
     where
       cost : (len : ℕ → ℕ) (narrow wide : ℕ) → IsWidth len narrow wide → (held : List ℕ) (b : ℕ) → single_lead_may_hold is_lead_byte held ≡ true →
           Cost len narrow (act_room narrow wide (state_of g held) (takes b)) length paid held b (two_byte_step first scalars held b)
-      cost len narrow wide w [] b h =
-          let between = narrow_read narrow wide w.rises g in
-          rw (unreported, short_ascii, first_room (is_ascii b) 1 (full_room narrow wide g))
-          (first_cost len narrow wide w is_lead_byte paid (full_room narrow wide g) b (first b) between.0 (firsts b))
-      cost len narrow wide w (lead ∷ []) b h =
-          let between = narrow_read narrow wide w.rises g in
-          let some = w.some in
-          let twice = w.twice in
-          rw (unreported, short_ascii, held_room_is (is_ascii b) true 1 (full_room narrow wide g))
-          (trail_cost len narrow wide w (full_room narrow wide g) paid lead b (scalars lead b) (has_rooms.pair_units len narrow wide w lead b) (between.0)
-          (omega arith)
-          (has_rooms.is_paid len narrow wide w))
-      cost len narrow wide w (lead ∷ c ∷ held) b h = absurd (false≢true h)
+      cost len narrow wide w held b h =
+          let one = firsts b in
+          let two = has_rooms.pair_units len narrow wide w in
+          let three = has_rooms.is_paid len narrow wide w in
+          grind (arith, false≢true, narrow_read, first_cost, trail_cost, unreported, short_ascii)
 
   sloped : HasTwoByteRooms g scalars paid → IsSloped g (two_byte_machine g first scalars) length paid
   sloped has_rooms = grind arith

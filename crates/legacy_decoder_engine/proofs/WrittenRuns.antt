@@ -19,15 +19,7 @@ runs_none g = record { events = λ more. sym (shift-zero (events_of g more)); sc
 -- bytes, and then more bytes
 pub runs_then : (g h k : Grammar) (xs ys cs ds : List ℕ) → RunsTo g h xs cs → RunsTo h k ys ds → RunsTo g k (xs ++ ys) (cs ++ ds)
 runs_then g h k xs ys cs ds a b = record {
-  events = λ more.
-      ap (events_of g) (append_assoc xs ys more) ∙ a.events (ys ++ more)
-      ∙ ap (λ es. map Scalar cs ++ shift (length xs) es) (b.events more)
-      ∙ ap (λ es. map Scalar cs ++ es) (shift-append (length xs) (map Scalar ds) (shift (length ys) (events_of k more)))
-      ∙ ap (λ es. map Scalar cs ++ (es ++ shift (length xs) (shift (length ys) (events_of k more)))) (shift-scalars (length xs) ds)
-      ∙ ap (λ es. map Scalar cs ++ (map Scalar ds ++ es)) (shift-shift (length xs) (length ys) (events_of k more))
-      ∙ sym (append_assoc (map Scalar cs) (map Scalar ds) (shift (length xs + length ys) (events_of k more)))
-      ∙ ap (λ es. es ++ shift (length xs + length ys) (events_of k more)) (sym (map-append Scalar cs ds))
-      ∙ ap (λ n. map Scalar (cs ++ ds) ++ shift n (events_of k more)) (sym (length-append xs ys));
+  events = λ more. simp (append_assoc, a.events, b.events, shift-append, shift-scalars, shift-shift, map-append, length-append);
   scalar = All-append IsScalar cs ds a.scalar b.scalar;
   lowers = λ query n.
       let p = b.lowers query n in
@@ -55,8 +47,7 @@ code_units_ascii form c h = grind (arith, encode_1, utf16_1)
 -- the code units of ASCII bytes are the bytes
 pub all_code_units_ascii : (form : EncodingForm) (xs : List ℕ) → IsAscii xs → all_code_units form xs ≡ xs
 all_code_units_ascii form [] h = refl
-all_code_units_ascii form (x ∷ xs) h = ap (λ l. l ++ all_code_units form xs) (code_units_ascii form x (h 0))
-    ∙ ap (λ l. x ∷ l) (all_code_units_ascii form xs (λ i. h (suc i)))
+all_code_units_ascii form (x ∷ xs) h = rw (code_units_ascii form x (h 0), all_code_units_ascii form xs (λ i. h (suc i))) refl
 
 -- any scalar fits into four code units
 pub four_fit : (form : EncodingForm) (c room : ℕ) → 4 ≤ room → length (code_units form c) ≤ room
@@ -72,7 +63,7 @@ all_short form [] small = omega arith
 all_short form (c ∷ cs) small =
     let one = short form c (small zero (omega arith)) in
     let more = all_short form cs (λ k h. small (suc k) (omega arith)) in
-    omega (arith, one, more, length-append (code_units form c) (all_code_units form cs))
+    simp length-append (omega arith)
 
 -- a scalar up to U+FFFF fits into three code units
 pub three_fit : (form : EncodingForm) (c room : ℕ) → c < 65536 → 3 ≤ room → length (code_units form c) ≤ room
@@ -116,9 +107,7 @@ module _ {D : Type 0} (T : Ghosts D) where
     writes_then a b = record {
       scalars = a.scalars ++ b.scalars;
       runs = runs_then g h k xs ys a.scalars b.scalars a.runs b.runs;
-      written = b.written ∙ ap (λ l. l ++ all_code_units T.form b.scalars) a.written
-          ∙ append_assoc (T.contents x) (all_code_units T.form a.scalars) (all_code_units T.form b.scalars)
-          ∙ ap (λ l. T.contents x ++ l) (sym (all_code_units-append T.form a.scalars b.scalars));
+      written = simp (b.written, a.written, append_assoc, all_code_units-append);
       room = omega (arith, total_unit_count-append T.form a.scalars b.scalars, a.room, b.room);
       loan = b.loan ∙ a.loan;
     }
@@ -162,11 +151,5 @@ module _ {D : Type 0} (T : Ghosts D) where
       → T.room new + length bytes ≡ T.room old → T.loan new ≡ T.loan old
       → Writes T g bytes old new
   writes_ascii g old new bytes law ascii contents room loan =
-      let same = all_code_units_ascii T.form bytes ascii in
-      record {
-        scalars = bytes;
-        runs = runs_ascii g law bytes ascii;
-        written = contents ∙ ap (λ l. T.contents old ++ l) (sym same);
-        room = ap (λ l. T.room new + length l) same ∙ room;
-        loan = loan;
-      }
+      let runs = runs_ascii g law bytes ascii in
+      grind (arith, all_code_units_ascii)
