@@ -1,12 +1,12 @@
 -- A run of common sequences within a call in progress.
-use Rattle.std.proofs.Common.{◌≡◌, ◌∙◌, ℕ, suc, ◌+◌, ◌-◌, ◌≤◌, ◌<◌, List, [], ◌∷◌, ◌++◌, length, map, take, drop, refl, sym, ap, subst, arith, add-zero}
+use Rattle.std.proofs.Common.{◌≡◌, ◌∙◌, ℕ, ◌+◌, ◌-◌, ◌≤◌, ◌<◌, List, [], ◌∷◌, ◌++◌, length, map, take, drop, sym, ap, subst, arith, add-zero}
 use Rattle.std.proofs.{Common.{append_assoc, append-nil, true, length-append, length-drop, Bool, Some, None, Option, inl, inr}, lemmas.List.length-map}
 use Rattle.std.proofs.{lemmas.List.{take-append-drop, length-take-le, nil_from_length}, lemmas.Bool.{cases_lt, true≢false}}
 use Rattle.legacy_text.specs.EncodingForm.{EncodingForm, code_units, unit_count, all_code_units, total_unit_count, wide_room}
 use Rattle.legacy_text.specs.declared.destination.Destination.{Ghosts}
 use Rattle.legacy_text.proofs.CodeUnits.{all_code_units-append, total_unit_count-append}
-use Rattle.legacy_base.specs.{States.{DecoderState, new_state, rests, may_hold}, Grammar.{Grammar, events_of}, declared.results.DecodeEvent.DecodeEvent}
-use Rattle.legacy_base.specs.{declared.results.DecodeEvent.TheVariants.Scalar, DecoderActs.HadRoom, Events.shift}
+use Rattle.legacy_base.specs.{States.{DecoderState, new_state, rests, may_hold}, Grammar.{Grammar, events_of}}
+use Rattle.legacy_base.specs.{declared.results.DecodeEvent.TheVariants.Scalar, DecoderActs.HadRoom}
 use Rattle.legacy_base.proofs.{Shifts.shift-zero, GrammarLaws.{rests-none, may_none}, Rooms.{lacks_small, full_most}, SameUnits.some_unit}
 use Rattle.legacy_decoder_engine.specs.{ReadAhead.{RunsTo, Runs, ReadsTo}, Moves.HoldsBytes}
 use Rattle.legacy_decoder_engine.proofs.{CallUnderWay.{Going, going_then, held_going}, WrittenRuns.rest_of}

@@ -1,7 +1,7 @@
 -- Runs that are read one after another.
-use Rattle.std.proofs.Common.{◌≡◌, ◌∙◌, ℕ, ◌+◌, ◌-◌, ◌<◌, ◌≤◌, List, ◌++◌, length, take, drop, sym, ap, subst, arith, inl, inr, IsAscii}
-use Rattle.std.proofs.{lemmas.Bool.cases_lt, lemmas.List.{take-take, length-take, length-take-le, length-drop}, Math.Seq.take-add}
-use Rattle.legacy_text.specs.{declared.destination.Destination.Ghosts, EncodingForm.total_unit_count}
+use Rattle.std.proofs.Common.{◌≡◌, ◌∙◌, ℕ, ◌+◌, ◌-◌, ◌<◌, ◌≤◌, List, ◌++◌, length, take, drop, sym, ap, subst, arith, IsAscii}
+use Rattle.std.proofs.{lemmas.List.{take-take, length-take, length-take-le, length-drop}, Math.Seq.take-add}
+use Rattle.legacy_text.specs.{declared.destination.Destination.Ghosts}
 use Rattle.legacy_base.specs.{Grammar.Grammar, States.{DecoderState, new_state}}
 use Rattle.legacy_decoder_engine.specs.ReadAhead.{HasAscii, IsIdle, Writes, WritesTo, ReadsTo, ReadsAhead}
 use Rattle.legacy_decoder_engine.proofs.{AheadRuns.{reads_nothing, with_empty}, CallUnderWay.{same_rooms, both_rooms}, WrittenRuns.{writes_then, writes_ascii}}

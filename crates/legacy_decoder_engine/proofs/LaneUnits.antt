@@ -1,7 +1,7 @@
 -- The units of eight codes, lane by lane, are the scalars of their forms.
-use Rattle.std.proofs.Common.{◌≡◌, ◌≢◌, ◌∙◌, ℕ, zero, suc, ◌+◌, ◌-◌, ◌*◌, ◌/◌, ◌%◌, ◌^◌, ◌<◌, ◌≤◌, min, Bool, true, false, cond, ltb, leb, eqb, All, List, []}
-use Rattle.std.proofs.Common.{◌∷◌, ◌++◌, length, get_or, map, take, drop, replicate, bit_and, bit_or, refl, sym, ap, subst, arith, w16, Fits, length-append}
-use Rattle.std.proofs.{Common.{◌⊎◌, inl, inr}, lemmas.Bool.{ltb-true, ltb-false, cases_lt}, lemmas.Bool.Decides.nat_tests, lemmas.Nat.and_mask}
+use Rattle.std.proofs.Common.{◌≡◌, ◌≢◌, ◌∙◌, ℕ, zero, suc, ◌+◌, ◌-◌, ◌*◌, ◌%◌, ◌^◌, ◌<◌, ◌≤◌, min, false, cond, ltb, leb, eqb, All, List, []}
+use Rattle.std.proofs.Common.{◌∷◌, ◌++◌, length, get_or, map, take, drop, replicate, bit_and, bit_or, refl, sym, ap, arith, w16, Fits, length-append}
+use Rattle.std.proofs.{Common.{inl, inr}, lemmas.Bool.{cases_lt}, lemmas.Bool.Decides.nat_tests, lemmas.Nat.and_mask}
 use Rattle.std.proofs.lemmas.List.{take-take, take-append-drop, take-append-le, length-take, length-take-le, length-drop, length-map, get_or-take, get_or-drop}
 use Rattle.std.proofs.{lemmas.List.Sums.{sum_by-cons, sum_by-append, count_by-le-length}, lemmas.List.Folds.sum_by-replicate, lemmas.Grind.flat_map-append}
 use Rattle.std.proofs.{Math.Seq.{take-append_seam, take-add}, lemmas.Simd.{tops_compared, length-zip2, get_or-zip2, get_or-sel_l, get_or-replicate}}
@@ -13,7 +13,7 @@ use Rattle.legacy_text.specs.{declared.destination.Destination.Ghosts, EncodingF
 use Rattle.legacy_text.proofs.{UnitLanes.of_eight}
 use Rattle.legacy_base.specs.Grammar.{Grammar}
 use Rattle.legacy_decoder_engine.proofs.{LanePlaces.mask_if, WrittenRuns.{runs_none, runs_more, writes_none, writes_then, all_short}}
-use Rattle.legacy_decoder_engine.specs.ReadAhead.{HasAscii, Runs, Writes}
+use Rattle.legacy_decoder_engine.specs.ReadAhead.{HasAscii, Runs}
 use Rattle.legacy_decoder_engine.specs.LaneCodes.{kept_of, place_of, unit_at, ArePairs, AreLanes, IsLane, IsForm, AreWritten}
 use Rattle.legacy_decoder_engine.specs.PickedForms.{form_of, forms_of}
 

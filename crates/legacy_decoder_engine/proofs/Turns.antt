@@ -1,5 +1,6 @@
 -- The turns of a loop that takes four at a time.
-use Rattle.std.proofs.{Common.{◌≡◌, ℕ, ◌+◌, ◌-◌, ◌*◌, ◌/◌, ◌%◌, ◌<◌, ◌≤◌, refl, arith}, lemmas.Bool.Decides.nat_tests, Math.Nat.le-mul_of_pos_right}
+use Rattle.std.proofs.{Common.{◌≡◌, ℕ, ◌+◌, ◌-◌, ◌*◌, ◌/◌, ◌%◌, ◌<◌, ◌≤◌, refl, arith}, lemmas.Bool.Decides.nat_tests}
+use Rattle.std.proofs.Math.Nat.{le-mul_of_pos_right}
 
 -- all turns, before the first
 pub all_turns : (size turns : ℕ) → size * (4 * (turns / 4) + turns % 4) ≡ size * turns

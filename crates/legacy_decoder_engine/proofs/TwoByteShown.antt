@@ -1,13 +1,12 @@
 -- The proof for all codecs with sequences of one and two bytes, from the few facts that each shows.
-use Rattle.std.proofs.{Common.{◌≡◌, ℕ, ◌<◌, ◌≤◌, List, [], ◌∷◌, length, Bool, true, false, refl, inl, ap, arith}, lemmas.Bool.false≢true}
-use Rattle.std.specs.Char.{is_ascii}
+use Rattle.std.proofs.{Common.{◌≡◌, ℕ, ◌<◌, ◌≤◌, List, ◌∷◌, length, Bool, true, false, refl, inl, ap, arith}, lemmas.Bool.false≢true}
 use Rattle.legacy_base.specs.{DecoderActs.{act_room, takes, full_room, full_room_in, release_room_in, has_short_ascii, has_reported}, Fronts.Front}
 use Rattle.legacy_base.specs.{Grammar.Grammar, States.{single_lead_may_hold, may_hold, state_of}, Lengths.{LengthQuery, query_form, room}}
 use Rattle.legacy_tables.specs.{Indexes.FlatIndexes, TableChecks.AreAccepted}
 use Rattle.legacy_decoder_engine.specs.{Steps.Step, LeadMachines.{two_byte_step, two_byte_machine}, StepUnits.{units, IsWidth, Cost}, StatesAfterSteps.Settles}
 use Rattle.legacy_decoder_engine.specs.{Shown.IsShown, LeadCodecs.IsLeadCodec}
 use Rattle.legacy_decoder_engine.proofs.TwoByteMeets.{IsFirst, IsTwoByte, may_is, rests_is, ascii_first, lead_holds, first_settles, two_byte_meets}
-use Rattle.legacy_decoder_engine.proofs.RoomMoves.{first_room, held_room_is, narrow_read, Falls, query_slope, HasCosts, IsSloped, sloped_rooms}
+use Rattle.legacy_decoder_engine.proofs.RoomMoves.{narrow_read, Falls, query_slope, HasCosts, IsSloped, sloped_rooms}
 use Rattle.legacy_decoder_engine.proofs.{CallUnderWay.same_rooms, TwoByteCosts.{first_cost, trail_cost}, SettledSteps.trail_settles}
 
 -- The rooms of such a codec. A pair fits into the full room. For each two bytes, `paid` code units are enough. The
