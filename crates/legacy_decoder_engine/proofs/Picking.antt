@@ -1,6 +1,6 @@
 -- Codes of two bytes at places, by a shuffle from a table.
-use Rattle.std.proofs.Common.{◌≡◌, ℕ, zero, suc, ◌+◌, ◌*◌, ◌/◌, ◌%◌, ◌<◌, ◌≤◌, true, leb, eqb, List, [], ◌∷◌, ◌++◌, length, get_or, map, take}
-use Rattle.std.proofs.{Common.{replicate, refl, sym, ap, ◌∙◌, arith, w8, Fits, ◌-◌, ◌^◌, drop}, lemmas.Bool.{leb-true, eqb-true}}
+use Rattle.std.proofs.Common.{◌≡◌, ℕ, zero, suc, ◌+◌, ◌*◌, ◌/◌, ◌%◌, ◌<◌, ◌≤◌, true, cond, leb, eqb, List, [], ◌∷◌, ◌++◌, length, get_or, map, take}
+use Rattle.std.proofs.{Common.{replicate, refl, sym, ap, ap₂, ◌∙◌, arith, w8, Fits, ◌-◌, ◌^◌, ◌==◌, drop}, lemmas.Bool.{leb-true, eqb-true}}
 use Rattle.std.proofs.{lemmas.Bool.{agree_below_at, cases_lt}, lemmas.List.{take-take, take-map, get_or_past, length-take-le}}
 use Rattle.std.proofs.{lemmas.List.{take-append-le, map-append, append_assoc, append-nil}, lemmas.Simd.{swz_l, Each1-get_or, below_from_Fits, get_or-chunk}}
 use Rattle.std.proofs.{lemmas.Simd.put_chunk_is, lemmas.Bool.Decides.nat_tests, lemmas.Grind.common_steps, Math.Seq.{take-append_seam, take-append-add}}
@@ -70,7 +70,7 @@ moved bs from base (suc n) x h =
     let first = get_or-chunk from 16 bs base 0 (omega arith) in
     let second = get_or-chunk from 16 bs (base + 1) 0 (omega arith) in
     let rest = moved bs from (base + 1) n (x / 2) (omega arith) in
-    grind (arith, nat_tests, common_steps)
+    grind (arith, nat_tests)
 
 -- codes that are stored at a place of a list
 pub codes_stored : (block : List ℕ) (from x : ℕ) (all found : List ℕ) (at : ℕ) → x < 256 → length found ≡ 8 → at + 8 ≤ length all

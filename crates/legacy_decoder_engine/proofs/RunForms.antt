@@ -1,5 +1,5 @@
 -- The sequences of a machine as runs, which a loop may read ahead.
-use Rattle.std.proofs.Common.{rules, ◌≡◌, ◌∙◌, ℕ, suc, ◌+◌, ◌≤◌, ◌<◌, List, [], ◌∷◌, ◌++◌, length, append_assoc, length-append, ap, refl, arith, true}
+use Rattle.std.proofs.Common.{rules, ◌≡◌, ◌∙◌, ℕ, suc, ◌+◌, ◌≤◌, ◌<◌, List, [], ◌∷◌, ◌++◌, length, append_assoc, length-append, ap, refl, sym, arith, true}
 use Rattle.std.proofs.{Common.{false, add-zero}, lemmas.List.Elements.{All-nil, All-cons, All-append}, lemmas.Bool.Decides.nat_tests}
 use Rattle.std.specs.Char.{IsScalar, is_ascii}
 use Rattle.legacy_tables.specs.Unicode.{IsByte, AreBytes}
@@ -28,7 +28,8 @@ module _ {g : Grammar} {m : DecoderMachine} (shown : IsShown g m) where
       → (more : List ℕ) → events_of g (held ++ (b ∷ rest ++ more)) ≡ Scalar c ∷ shift (length held + length (b ∷ rest)) (events_of g more)
   leads_events held b [] c may resting l more = grind (arith, all_dropped)
   leads_events held b (next ∷ rest) c may resting l more =
-      let later = leads_events (held ++ b ∷ []) next rest c l.3 l.4 l.5 more in grind (arith, append_assoc, length-append)
+      let n : length (held ++ b ∷ []) + length (next ∷ rest) ≡ length held + length (b ∷ next ∷ rest) = omega (arith, length-append held (b ∷ [])) in
+      let later = leads_events (held ++ b ∷ []) next rest c l.3 l.4 l.5 more in cc (append_assoc held (b ∷ []) (next ∷ rest ++ more))
 
   leads_lowers : (held : List ℕ) (b : ℕ) (rest : List ℕ) (c : ℕ) → may_hold g held ≡ true → rests g held ≡ true → AreBytes held → Leads g m held b rest c
       → (query : LengthQuery) (n : ℕ)

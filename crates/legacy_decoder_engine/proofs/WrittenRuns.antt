@@ -153,3 +153,6 @@ module _ {D : Type 0} (T : Ghosts D) where
   writes_ascii g old new bytes law ascii contents room loan =
       let runs = runs_ascii g law bytes ascii in
       grind (arith, all_code_units_ascii)
+
+-- a run of no bytes
+pub ruleset no_bytes = (same_rooms, writes_none)

@@ -76,15 +76,7 @@ pub fn read_run<F: Forms, T: Destination>(forms: &F, src: &[u8], dst: &mut T) ->
 ///
 /// Returns 0 if the form is uncommon, if the input may be too short for it, or if three code units may not stay free.
 #[inline(always)]
-#[tactic(
-    auto,
-    using(
-        crate::proofs::CallUnderWay::same_rooms,
-        crate::proofs::WrittenRuns::writes_none,
-        crate::proofs::JoinedRuns::reads_written,
-        crate::proofs::Turns::one_turn
-    )
-)]
+#[tactic(auto, using(crate::proofs::WrittenRuns::no_bytes, crate::proofs::JoinedRuns::reads_written, crate::proofs::Turns::one_turn))]
 pub fn read_one<F: Forms, T: Destination>(forms: &F, src: &[u8], dst: &mut T) -> usize
     requires { F.ready forms.now }
     ensures { ReadsAhead T.Destination (new_state (F.grammar forms.now)) src.now result

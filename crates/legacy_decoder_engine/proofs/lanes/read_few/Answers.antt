@@ -5,12 +5,6 @@ use Rattle.legacy_decoder_engine.proofs.lanes.read_few.Goals as goal
 pub loop-at-init : goal.loop-at-init
 loop-at-init g c = reads_none _ _ _ _
 
-pub read_last-requires : goal.read_last-requires
-read_last-requires g c = c.requires
-
-pub read_in_turn-few-requires : goal.read_in_turn-few-requires
-read_in_turn-few-requires g c = c.requires
-
 pub returns-then-src-at-lt16-clause-ahead : goal.returns-then-src-at-lt16-clause-ahead
 returns-then-src-at-lt16-clause-ahead g c = reads_more (reads_more c.loop-at.invariant (c.read_ascii-ascii.ensures.ahead _ c.requires)) c.read_last.ensures
 
