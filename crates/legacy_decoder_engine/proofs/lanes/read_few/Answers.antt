@@ -1,4 +1,4 @@
-use Rattle.std.proofs.{Common.{◌-◌, ◌+◌, length, drop, arith}, lemmas.List.{length-take, length-drop}}
+use Rattle.std.proofs.{Common.{ℕ, arith}, lemmas.List.{length-take, length-drop}}
 use Rattle.legacy_decoder_engine.proofs.{JoinedRuns.reads_more, WrittenRuns.reads_none}
 use Rattle.legacy_decoder_engine.proofs.lanes.read_few.Goals as goal
 
@@ -27,7 +27,4 @@ pub loop-at-preserved : goal.loop-at-preserved
 loop-at-preserved g c = reads_more (reads_more c.loop-at.invariant (c.read_ascii-ascii.ensures.ahead _ c.requires)) c.read_in_turn-few.ensures
 
 pub loop-at-smaller : goal.loop-at-smaller
-loop-at-smaller g c =
-    let src = c.args.src.now in
-    let front = c.loop-at.at + c.read_ascii-ascii.result in
-    omega (arith, c.if-few-eq0.false, c.read_in_turn-few.ensures.within, length-take (length src - front) (drop front src), length-drop front src)
+loop-at-smaller g c = omega (arith, c.if-few-eq0.false, c.read_in_turn-few.ensures.within, length-take {A = ℕ}, length-drop {A = ℕ})

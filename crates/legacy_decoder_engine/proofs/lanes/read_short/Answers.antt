@@ -1,4 +1,4 @@
-use Rattle.std.proofs.{Common.{◌-◌, length, drop, arith}, lemmas.List.{length-take, length-drop}}
+use Rattle.std.proofs.{Common.{ℕ, arith}, lemmas.List.{length-take, length-drop}}
 use Rattle.legacy_decoder_engine.proofs.{JoinedRuns.reads_more, WrittenRuns.reads_none}
 use Rattle.legacy_decoder_engine.proofs.lanes.read_short.Goals as goal
 
@@ -7,13 +7,12 @@ loop-codes-init g c = reads_none _ _ _ _
 
 pub loop-codes-smaller : goal.loop-codes-smaller
 loop-codes-smaller g c =
-    let at = c.loop-codes.at in
     omega (
       arith,
       c.read_front-read.ensures.goes_on c.if-not-goes_on.false,
       c.read_front-read.ensures.ahead.within,
-      length-take (length c.args.src.now - at) (drop at c.args.src.now),
-      length-drop at c.args.src.now,
+      length-take {A = ℕ},
+      length-drop {A = ℕ},
     )
 
 pub loop-codes-preserved : goal.loop-codes-preserved
