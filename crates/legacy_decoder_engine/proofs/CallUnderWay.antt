@@ -36,9 +36,6 @@ front_nil (x ∷ xs) ys e = cc
 next_byte : (source : List ℕ) (read : ℕ) → read < length source → drop read source ≡ get_or source read 0 ∷ drop (read + 1) source
 next_byte source read h = drop-cons source read 0 h ∙ rw add-one refl
 
-gave : (fed : Fed) → (fed_scalars fed ≡ []) ⊎ (fed_scalars fed ≢ [])
-gave fed = grind arith
-
 -- ---- rooms
 
 module _ (form : EncodingForm) (g : Grammar) where
@@ -196,10 +193,7 @@ module _ {form : EncodingForm} {last : Bool} where
     resting = f.holds;
     allowed = f.allowed;
     rooms = f.rooms;
-    held = λ a ne. elim (gave fed) [
-      | inl z ↦ omega (arith, f.full form (inr ne), enough, ap (total_unit_count form) z)
-      | inr z ↦ absurd (ne (f.empties z))
-    ];
+    held = λ a ne. let full = f.full form (inr ne) in let none = f.empties in grind arith;
     had = rw r (f.had form free enough);
     released = λ e. absurd (true≢false (sym r ∙ e));
     fits = omega (arith, f.fits form, enough);

@@ -77,17 +77,13 @@ pub codes_stored : (block : List ℕ) (from x : ℕ) (all found : List ℕ) (at 
     → take (length (places 0 8 x)) found ≡ map (code_at (chunk from 16 block)) (places 0 8 x)
     → take (at + count_ones x) (put_chunk at all found) ≡ take at all ++ map (code_at block) (places from 8 x)
 codes_stored block from x all found at small long room e =
-    let n = length (places 0 8 x) in
     let front : length (take at all) ≡ at = length-take-le at all (omega arith) in
-    let place : at + count_ones x ≡ length (take at all) + n = omega (arith, counted x small) in
+    let place : at + count_ones x ≡ length (take at all) + length (places 0 8 x) = omega (arith, counted x small) in
     let behind = drop (length found) (drop at all) in
     let zero_in : from + 0 ≡ from = omega arith in
-    ap (take (at + count_ones x)) (put_chunk_is at all found (omega arith))
-    ∙ ap (λ k. take k (take at all ++ (found ++ behind))) place
-    ∙ take-append-add (take at all) (found ++ behind) n
-    ∙ ap (λ (l : List ℕ). take at all ++ l)
-    (take-append-le n found behind (omega (arith, places_most x small)) ∙ e ∙ moved block from 0 8 x (omega arith)
-    ∙ ap (λ k. map (code_at block) (places k 8 x)) zero_in)
+    let most : length (places 0 8 x) ≤ length found = omega (arith, places_most x small) in
+    let same = rw zero_in at (moved block from 0 8 x (omega arith)) in
+    rw (put_chunk_is at all found (omega arith), place, take-append-add, take-append-le _ found behind most, e, same) refl
 
 -- ---- places of a word eight by eight
 

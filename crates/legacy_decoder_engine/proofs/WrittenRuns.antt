@@ -76,18 +76,14 @@ one_unit form c room h = let most = length-code_units-bmp form c h in let least 
 pub take_two : (src : List ℕ) (at : ℕ) → at + 1 < length src → take (at + 2) src ≡ take at src ++ get_or src at 0 ∷ get_or src (at + 1) 0 ∷ []
 take_two src at h =
     let e : at + 2 ≡ at + 1 + 1 = omega arith in
-    ap (λ n. take n src) e ∙ take_more src (at + 1) 0 h ∙ ap (λ l. l ++ get_or src (at + 1) 0 ∷ []) (take_more src at 0 (omega arith))
-    ∙ append_assoc (take at src) (get_or src at 0 ∷ []) (get_or src (at + 1) 0 ∷ [])
+    rw (e, take_more src (at + 1) 0 h, take_more src at 0 (omega arith), append_assoc) refl
 
 take_four : (src : List ℕ) (at : ℕ) → at + 3 < length src
     → take (at + 4) src ≡ take at src ++ get_or src at 0 ∷ get_or src (at + 1) 0 ∷ get_or src (at + 2) 0 ∷ get_or src (at + 3) 0 ∷ []
 take_four src at h =
-    let two : at + 2 + 2 ≡ at + 4 = omega arith in
-    let three : at + 2 + 1 ≡ at + 3 = omega arith in
-    let first : List ℕ = get_or src at 0 ∷ get_or src (at + 1) 0 ∷ [] in
-    let last : List ℕ = get_or src (at + 2) 0 ∷ get_or src (at + 3) 0 ∷ [] in
-    ap (λ n. take n src) (sym two) ∙ take_two src (at + 2) (omega arith) ∙ ap (λ n. take (at + 2) src ++ get_or src (at + 2) 0 ∷ get_or src n 0 ∷ []) three
-    ∙ ap (λ l. l ++ last) (take_two src at (omega arith)) ∙ append_assoc (take at src) first last
+    let two : at + 4 ≡ at + 2 + 2 = omega arith in
+    let three : at + 3 ≡ at + 2 + 1 = omega arith in
+    rw (two, three, take_two src (at + 2) (omega arith), take_two src at (omega arith), append_assoc) refl
 
 -- the rest of a source, as the code takes it
 pub rest_of : (source : List ℕ) (at : ℕ) → take (length source - at) (drop at source) ≡ drop at source
