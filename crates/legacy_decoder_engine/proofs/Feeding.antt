@@ -1,6 +1,6 @@
 -- A machine that agrees with its grammar and keeps its rooms makes the moves that the loop requires.
 use Rattle.std.proofs.Common.{◌≡◌, ◌≢◌, ◌∙◌, ℕ, suc, ◌+◌, ◌-◌, ◌≤◌, List, [], ◌∷◌, ◌++◌, length, drop, refl, sym, ap, subst, arith, append-nil, length-append}
-use Rattle.std.proofs.Common.{length-drop, drop_of_length-le, Bool, true, false, cond, not, ◌&&◌, ◌||◌, ◌⊎◌, map, IsTrue, Option, Some, None, inl, inr, All}
+use Rattle.std.proofs.Common.{length-drop, drop_of_length-le, Bool, true, false, cond, ◌&&◌, ◌⊎◌, map, IsTrue, Option, Some, None, inl, inr, All}
 use Rattle.std.proofs.{lemmas.List.{drop-append-le, nil_from_length}, lemmas.List.Elements.{All-nil, All-cons}, lemmas.Bool.Decides.nat_tests}
 use Rattle.std.proofs.Math.Seq.{drop-length}
 use Rattle.std.specs.Char.{IsScalar, is_ascii}

@@ -1,5 +1,5 @@
 -- The sequences of a machine as runs, which a loop may read ahead.
-use Rattle.std.proofs.Common.{rules, ◌≡◌, ◌∙◌, ℕ, suc, ◌+◌, ◌≤◌, ◌<◌, List, [], ◌∷◌, ◌++◌, length, append_assoc, length-append, ap, refl, sym, arith, true}
+use Rattle.std.proofs.Common.{rules, ◌≡◌, ◌∙◌, ℕ, suc, ◌+◌, ◌≤◌, ◌<◌, List, [], ◌∷◌, ◌++◌, length, append_assoc, length-append, ap, refl, arith, true}
 use Rattle.std.proofs.{Common.{false, add-zero}, lemmas.List.Elements.{All-nil, All-cons, All-append}, lemmas.Bool.Decides.nat_tests}
 use Rattle.std.specs.Char.{IsScalar, is_ascii}
 use Rattle.legacy_tables.specs.Unicode.{IsByte, AreBytes}

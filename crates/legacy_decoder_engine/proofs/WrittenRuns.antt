@@ -1,5 +1,5 @@
 -- Laws of runs of bytes and of the scalars written for them.
-use Rattle.std.proofs.Common.{add-zero, ◌≡◌, ◌∙◌, ℕ, zero, suc, ◌+◌, ◌-◌, ◌*◌, ◌≤◌, ◌<◌, List, [], ◌∷◌, ◌++◌, length, take, drop, get_or, refl, sym, ap}
+use Rattle.std.proofs.Common.{add-zero, ◌≡◌, ◌∙◌, ℕ, zero, suc, ◌+◌, ◌-◌, ◌*◌, ◌≤◌, ◌<◌, List, [], ◌∷◌, ◌++◌, length, take, drop, get_or, refl, sym}
 use Rattle.std.proofs.{Common.{subst, arith, append_assoc, append-nil, length-append, IsAscii}, lemmas.List.{map-append, take_more, take_all, length-drop}}
 use Rattle.std.proofs.{lemmas.List.Elements.{All-append, All-nil}, Math.Seq.take-add}
 use Rattle.std.specs.Char.{IsScalar}
