@@ -1,13 +1,13 @@
 -- A run of common sequences within a call in progress.
-use Rattle.std.proofs.Common.{◌≡◌, ◌∙◌, ℕ, suc, ◌+◌, ◌-◌, ◌≤◌, ◌<◌, List, [], ◌∷◌, ◌++◌, length, map, take, drop, refl, sym, ap, subst, arith, add-zero}
+use Rattle.std.proofs.Common.{◌≡◌, ◌∙◌, ℕ, ◌+◌, ◌-◌, ◌≤◌, ◌<◌, List, [], ◌∷◌, ◌++◌, length, map, take, drop, sym, ap, subst, arith, add-zero}
 use Rattle.std.proofs.{Common.{append_assoc, append-nil, true, length-append, length-drop, Bool, Some, None, Option, inl, inr}, lemmas.List.length-map}
 use Rattle.std.proofs.{lemmas.List.{take-append-drop, length-take-le, nil_from_length}, lemmas.Bool.{cases_lt, true≢false}}
 use Rattle.legacy_text.specs.EncodingForm.{EncodingForm, code_units, unit_count, all_code_units, total_unit_count, wide_room}
 use Rattle.legacy_text.specs.declared.destination.Destination.{Ghosts}
 use Rattle.legacy_text.proofs.CodeUnits.{all_code_units-append, total_unit_count-append}
-use Rattle.legacy_base.specs.{States.{DecoderState, new_state, rests, may_hold}, Grammar.{Grammar, events_of}, declared.results.DecodeEvent.DecodeEvent}
-use Rattle.legacy_base.specs.{declared.results.DecodeEvent.TheVariants.Scalar, DecoderActs.HadRoom, Events.shift}
-use Rattle.legacy_base.proofs.{GrammarLaws.{rests-none, may_none}, Rooms.{lacks_small, full_most}, SameUnits.some_unit}
+use Rattle.legacy_base.specs.{States.{DecoderState, new_state, rests, may_hold}, Grammar.{Grammar, events_of}}
+use Rattle.legacy_base.specs.{declared.results.DecodeEvent.TheVariants.Scalar, DecoderActs.HadRoom}
+use Rattle.legacy_base.proofs.{Shifts.shift-zero, GrammarLaws.{rests-none, may_none}, Rooms.{lacks_small, full_most}, SameUnits.some_unit}
 use Rattle.legacy_decoder_engine.specs.{ReadAhead.{RunsTo, Runs, ReadsTo}, Moves.HoldsBytes}
 use Rattle.legacy_decoder_engine.proofs.{CallUnderWay.{Going, going_then, held_going}, WrittenRuns.rest_of}
 
@@ -29,15 +29,10 @@ ample form g previous free (c ∷ cs) h =
 pub with_empty : (s : DecoderState) → s.held ≡ [] → s ≡ new_state s.grammar
 with_empty s e = ap (λ h. record { grammar = s.grammar; held = h }) e
 
--- a shift does not change the number of events
-length-shift : (k : ℕ) (es : List DecodeEvent) → length (shift k es) ≡ length es
-length-shift k [] = refl
-length-shift k (x ∷ es) = ap suc (length-shift k es)
-
 runs_nothing : (g : Grammar) (cs : List ℕ) → Runs g [] cs → cs ≡ []
 runs_nothing g cs h =
-    let e : length (events_of g []) ≡ length (map Scalar cs ++ shift 0 (events_of g [])) = ap length (h.events []) in
-    nil_from_length cs (omega (arith, e, length-append (map Scalar cs) (shift 0 (events_of g [])), length-map cs Scalar, length-shift 0 (events_of g [])))
+    let e : length (events_of g []) ≡ length (map Scalar cs ++ events_of g []) = ap length (rw shift-zero at (h.events [])) in
+    nil_from_length cs (omega (arith, e, length-append (map Scalar cs) (events_of g []), length-map cs Scalar))
 
 -- a call is in progress, and the destination contains what was written
 abbrev pub IsUnderWay : {D : Type 0} → Ghosts D → Bool → DecoderState → List ℕ → D → DecoderState → ℕ → D → Type 0
@@ -77,12 +72,8 @@ module _ {D : Type 0} {T : Ghosts D} where
           counts = omega (arith, reads.within, length-drop r source, ap length none, ap length none');
           rest = ap (λ k. drop r (k ++ source)) none ∙ ap (λ k. k ++ drop r source) (sym none');
           events = λ more l.
-              ap (λ k. events_of s.grammar (k ++ (source ++ more))) none
-              ∙ ap (λ k. events_of s.grammar (k ++ more)) (sym (take-append-drop r source))
-              ∙ ap (events_of s.grammar) (append_assoc (take r source) (drop r source) more)
-              ∙ runs.events (drop r source ++ more)
-              ∙ ap (λ n. map Scalar ds ++ shift n (events_of next.grammar (drop r source ++ more))) long
-              ∙ ap (λ k. map Scalar ds ++ shift r (events_of next.grammar (k ++ (drop r source ++ more)))) (sym none');
+              let split = append_assoc (take r source) (drop r source) more in
+              rw (none, none') (cc (take-append-drop r source, runs.events (drop r source ++ more)));
         };
         resting = ap (rests next.grammar) none' ∙ rests-none next.grammar;
         allowed = ap (may_hold next.grammar) none' ∙ may_none next.grammar;

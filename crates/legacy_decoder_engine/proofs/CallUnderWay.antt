@@ -36,9 +36,6 @@ front_nil (x ∷ xs) ys e = cc
 next_byte : (source : List ℕ) (read : ℕ) → read < length source → drop read source ≡ get_or source read 0 ∷ drop (read + 1) source
 next_byte source read h = drop-cons source read 0 h ∙ rw add-one refl
 
-gave : (fed : Fed) → (fed_scalars fed ≡ []) ⊎ (fed_scalars fed ≢ [])
-gave fed = grind arith
-
 -- ---- rooms
 
 module _ (form : EncodingForm) (g : Grammar) where
@@ -175,39 +172,14 @@ module _ {form : EncodingForm} {last : Bool} where
 
   pub going_start : {before : DecoderState} {source : List ℕ} {free : ℕ} → rests before.grammar before.held ≡ true → may_hold before.grammar before.held ≡ true
       → Going form last before source free before 0 []
-  going_start {before} {source} {free} r m = record {
-    within = omega arith;
-    passed = 0;
-    progress = stay false before source;
-    resting = r;
-    allowed = m;
-    rooms = same_rooms before.grammar;
-    held = λ a. absurd (omega arith);
-    had = HadRooms-none form before free;
-    released = λ e. absurd (true≢false (sym r ∙ e));
-    fits = omega arith;
-    scalar = All-nil IsScalar;
-    once = λ l. (refl, refl, refl);
-    lowers = λ query e more. omega arith;
-  }
+  going_start {before} {source} {free} r m =
+      let none = stay false before source in grind (arith, HadRooms-none, All-nil, true≢false, same_rooms)
 
   pub going_release : {before : DecoderState} {source : List ℕ} {free : ℕ} {now : DecoderState} {c : ℕ} → rests before.grammar before.held ≡ false
       → release_room_in form before.grammar ≤ free → Releases before now c → Going form last before source free now 0 (c ∷ [])
-  going_release {before} {source} {free} {now} {c} r enough h = record {
-    within = omega arith;
-    passed = h.passed;
-    progress = behind before [] h.passed now [] (Scalar c ∷ []) source h.progress;
-    resting = h.resting;
-    allowed = h.allowed;
-    rooms = h.rooms;
-    held = λ a. absurd (omega arith);
-    had = HadRooms-released form before free c r enough;
-    released = λ e f. cc;
-    fits = let f = h.fits form in simp length-append (omega arith);
-    scalar = All-cons IsScalar c [] h.scalar (All-nil IsScalar);
-    once = λ l. let e = room_needed-release form before source last r in absurd (omega arith);
-    lowers = λ query e more. let l = h.lowers query (length source + more) in let l' = rw e at l in simp length-append (omega arith);
-  }
+  going_release {before} {source} {free} {now} {c} r enough h =
+      let written = behind before [] h.passed now [] (Scalar c ∷ []) source h.progress in
+      grind (arith, HadRooms-released, All-cons, All-nil, room_needed-release, length-append)
 
   -- a byte is read
   fed_going : {before : DecoderState} {byte : ℕ} {rest : List ℕ} {free : ℕ} {next : DecoderState} (fed : Fed) → rests before.grammar before.held ≡ true
@@ -221,10 +193,7 @@ module _ {form : EncodingForm} {last : Bool} where
     resting = f.holds;
     allowed = f.allowed;
     rooms = f.rooms;
-    held = λ a ne. elim (gave fed) [
-      | inl z ↦ omega (arith, f.full form (inr ne), enough, ap (total_unit_count form) z)
-      | inr z ↦ absurd (ne (f.empties z))
-    ];
+    held = λ a ne. let full = f.full form (inr ne) in let none = f.empties in grind arith;
     had = rw r (f.had form free enough);
     released = λ e. absurd (true≢false (sym r ∙ e));
     fits = omega (arith, f.fits form, enough);

@@ -1,6 +1,6 @@
 -- A machine that agrees with its grammar and keeps its rooms makes the moves that the loop requires.
 use Rattle.std.proofs.Common.{◌≡◌, ◌≢◌, ◌∙◌, ℕ, suc, ◌+◌, ◌-◌, ◌≤◌, List, [], ◌∷◌, ◌++◌, length, drop, refl, sym, ap, subst, arith, append-nil, length-append}
-use Rattle.std.proofs.Common.{length-drop, drop_of_length-le, Bool, true, false, cond, not, ◌&&◌, ◌||◌, ◌⊎◌, map, IsTrue, Option, Some, None, inl, inr, All}
+use Rattle.std.proofs.Common.{length-drop, drop_of_length-le, Bool, true, false, cond, ◌&&◌, ◌⊎◌, map, IsTrue, Option, Some, None, inl, inr, All}
 use Rattle.std.proofs.{lemmas.List.{drop-append-le, nil_from_length}, lemmas.List.Elements.{All-nil, All-cons}, lemmas.Bool.Decides.nat_tests}
 use Rattle.std.proofs.Math.Seq.{drop-length}
 use Rattle.std.specs.Char.{IsScalar, is_ascii}
@@ -63,20 +63,14 @@ module _ (narrow wide : ℕ) {g : Grammar} {m : DecoderMachine} (shown : IsShown
   short_or_usual held = grind (arith, by_tests, nat_tests)
 
 -- an ASCII scalar needs no more room if ASCII needs one code unit
-short_wants : (short marks mark : Bool) (want : ℕ) (free : ℕ) → short ≡ true → IsTrue (not (short || (marks && mark))) → want ≤ free
-short_wants short marks mark want free e w = grind (arith, nat_tests)
-
-mark_wants : (short : Bool) (both : Bool) (want free : ℕ) → both ≡ true → IsTrue (not (short || both)) → want ≤ free
-mark_wants short both want free e w = grind (arith, nat_tests)
+had_short : (form : EncodingForm) (g : Grammar) (free b : ℕ) → (has_short_ascii g && is_ascii b) ≡ true → HadRoom form g None free (b ∷ [])
+unfolding HadRoom
+had_short form g free b h = grind (arith, nat_tests)
 
 had_usual : (form : EncodingForm) (g : Grammar) (free : ℕ) (cs : List ℕ) → IsOneOrMarked (has_marks g) cs → full_room_in form g ≤ free
     → HadRoom form g None free cs
 unfolding HadRoom
-had_usual form g free cs h h1 = grind (arith, mark_wants)
-
-had_short : (form : EncodingForm) (g : Grammar) (free b : ℕ) → (has_short_ascii g && is_ascii b) ≡ true → HadRoom form g None free (b ∷ [])
-unfolding HadRoom
-had_short form g free b h = (λ w. short_wants (has_short_ascii g && is_ascii b) (has_marks g) false (full_room_in form g) free h w, tt)
+had_usual form g free cs h h1 = grind (arith, nat_tests)
 
 has_scalars : (fed : Fed) → HasScalars fed → All IsScalar (fed_scalars fed)
 has_scalars fed h = grind (arith, All-cons, All-nil)

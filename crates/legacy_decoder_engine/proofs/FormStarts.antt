@@ -65,11 +65,7 @@ module _ (block : List ℕ) (past starts end : ℕ) (long : 72 ≤ length block)
 
   -- a byte follows the first one of two
   has_second : (m i : ℕ) → i + suc m ≡ end → bit_at starts i ≡ 1 → bit_at past i ≡ 1 → 1 ≤ m
-  has_second zero i e a b =
-      let k : end - 1 ≡ i = omega (arith, e) in
-      let none : min (bit_at starts i) (bit_at past i) ≡ 0 = (λ t. min (bit_at starts (sym k t)) (bit_at past (sym k t))) ∙ is_end (omega (arith, e)) in
-      omega (arith, none, a, b)
-  has_second (suc m) i e a b = omega arith
+  has_second m i e a b = grind (arith, is_end)
 
   -- a form that starts at byte i, and those after it
   first_of : (m i y : ℕ) → i + suc m ≡ end → ((k : ℕ) → bit_at y k ≡ bit_at starts (i + k)) → bit_at starts i ≡ 1 → (t : Bool) → ltb (get_or block i 0) 128 ≡ t
@@ -139,14 +135,7 @@ bit_is_end past starts n e h = sym (bit_at_and starts past (n - 1)) ∙ e
 
 -- no form of two bytes starts at the byte before one that starts such a form
 before_pair : (past starts n : ℕ) → AreStarts past starts → n < 64 → bit_at (bit_and starts past) n ≡ 1 → IsEnd past starts n
-before_pair past starts zero are h e none = omega (arith, none)
-before_pair past starts (suc i) are h e some =
-    let z : suc i - 1 ≡ i = omega arith in
-    let both : min (bit_at starts (suc i)) (bit_at past (suc i)) ≡ 1 = sym (bit_at_and starts past (suc i)) ∙ e in
-    let next = are.next i (omega (arith, h)) in
-    let none : min (bit_at starts i) (bit_at past i) ≡ 0 =
-    omega (arith, next, both, bit_at-lt starts (suc i), bit_at-lt past (suc i), bit_at-lt starts i, bit_at-lt past i) in
-    (λ t. min (bit_at starts (z t)) (bit_at past (z t))) ∙ none
+before_pair past starts n are h e none = grind (arith, bit_at_and, bit_at-lt, are.next)
 
 pub whole_end : (past starts limit : ℕ) → AreStarts past starts → 0 < limit → limit ≤ 64
     → IsEnd past starts (limit - bit_and (bit_and starts past / 2 ^ (limit - 1)) 1)

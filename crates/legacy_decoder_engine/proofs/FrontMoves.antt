@@ -70,14 +70,7 @@ module _ (g : Grammar) (front : ℕ → List ℕ → Front) (ev_is : (bytes : Li
 
   pub fits_meets : (may : List ℕ → Bool) → ((held : List ℕ) → may_hold g held ≡ may held) → (held : List ℕ) (b : ℕ) (s : Step) → length held ≤ 3
       → Fits front may held b s → StepMeets g held b s g
-  fits_meets may may_is held b hold few fits =
-      let l : length (held ++ b ∷ []) ≡ length held + 1 = length-append held (b ∷ []) in record {
-        goes_on = λ more. rw (append_assoc, shift-zero);
-        counts = omega arith;
-        malformed_sequence = tt;
-        few = omega (arith, fits.0);
-        allowed = may_is _ ∙ fits.1;
-      }
+  fits_meets may may_is held b hold few fits = grind (arith, may_is, append_assoc, shift-zero, length-append)
   fits_meets may may_is held b (finish f) few fits =
       let l : length (held ++ b ∷ []) ≡ suc (length held) = omega (arith, length-append held (b ∷ [])) in
       let within : front_length f ≤ length (held ++ b ∷ []) = rw l (fits.2) in

@@ -1,7 +1,7 @@
 -- Runs that are read one after another.
-use Rattle.std.proofs.Common.{◌≡◌, ◌∙◌, ℕ, ◌+◌, ◌-◌, ◌<◌, ◌≤◌, List, ◌++◌, length, take, drop, sym, ap, subst, arith, inl, inr, IsAscii}
-use Rattle.std.proofs.{lemmas.Bool.cases_lt, lemmas.List.{take-take, length-take, length-take-le, length-drop}, Math.Seq.take-add}
-use Rattle.legacy_text.specs.{declared.destination.Destination.Ghosts, EncodingForm.total_unit_count}
+use Rattle.std.proofs.Common.{◌≡◌, ◌∙◌, ℕ, ◌+◌, ◌-◌, ◌<◌, ◌≤◌, List, ◌++◌, length, take, drop, sym, ap, subst, arith, IsAscii}
+use Rattle.std.proofs.{lemmas.List.{take-take, length-take, length-take-le, length-drop}, Math.Seq.take-add}
+use Rattle.legacy_text.specs.{declared.destination.Destination.Ghosts}
 use Rattle.legacy_base.specs.{Grammar.Grammar, States.{DecoderState, new_state}}
 use Rattle.legacy_decoder_engine.specs.ReadAhead.{HasAscii, IsIdle, Writes, WritesTo, ReadsTo, ReadsAhead}
 use Rattle.legacy_decoder_engine.proofs.{AheadRuns.{reads_nothing, with_empty}, CallUnderWay.{same_rooms, both_rooms}, WrittenRuns.{writes_then, writes_ascii}}
@@ -21,28 +21,13 @@ module _ {D : Type 0} {T : Ghosts D} {source : List ℕ} {old mid new : D} {r s 
       = take-add r s source ∙ ap (λ bytes. take r source ++ bytes) (sym (take-take s n (drop r source) low)) in
       record {
         within = let v = a.within in omega arith;
-        idle = λ h. elim (cases_lt 0 r) [
-          | inl p ↦ a.idle p
-          | inr z ↦ ap DecoderState.held (sym (a.stays (omega arith))) ∙ b.idle (omega arith)
-        ];
-        empties = λ h. elim (cases_lt 0 s) [
-          | inl p ↦ b.empties p
-          | inr z ↦ ap DecoderState.held (b.stays (omega arith)) ∙ a.empties (omega arith)
-        ];
+        idle = λ h. grind arith;
+        empties = λ h. grind arith;
         stays = λ e. b.stays (omega arith) ∙ a.stays (omega arith);
         rooms = both_rooms first.grammar next.grammar last.grammar a.rooms b.rooms;
         writes = subst (λ bytes. WritesTo T first.grammar last.grammar bytes old new) (sym place) (writes_then T a.writes b.writes);
-        slack = λ h. elim (cases_lt 0 s) [
-          | inl p ↦ b.slack p
-          | inr z ↦
-              let none : s ≡ 0 = omega arith in
-              let nothing = ap (total_unit_count T.form) (reads_nothing b none) in
-              omega (arith, a.slack (omega arith), b.writes.room, nothing)
-        ];
-        had = λ h. elim (cases_lt 0 r) [
-          | inl p ↦ a.had p
-          | inr z ↦ omega (arith, b.had (omega arith), a.writes.room)
-        ];
+        slack = λ h. let nothing = reads_nothing b in grind arith;
+        had = λ h. grind arith;
       }
 
   -- the same in one state

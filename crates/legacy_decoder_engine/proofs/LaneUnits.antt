@@ -1,19 +1,19 @@
 -- The units of eight codes, lane by lane, are the scalars of their forms.
-use Rattle.std.proofs.Common.{◌≡◌, ◌≢◌, ◌∙◌, ℕ, zero, suc, ◌+◌, ◌-◌, ◌*◌, ◌/◌, ◌%◌, ◌^◌, ◌<◌, ◌≤◌, min, Bool, true, false, cond, ltb, leb, eqb, All, List, []}
-use Rattle.std.proofs.Common.{◌∷◌, ◌++◌, length, get_or, map, take, drop, replicate, bit_and, bit_or, refl, sym, ap, subst, arith, w16, Fits, length-append}
-use Rattle.std.proofs.{Common.{◌⊎◌, inl, inr}, lemmas.Bool.{ltb-true, ltb-false, cases_lt}, lemmas.Bool.Decides.nat_tests, lemmas.Nat.and_mask}
-use Rattle.std.proofs.lemmas.List.{take-take, take-append-drop, take-append-le, length-take, length-take-le, length-map, get_or-take, get_or-drop, get_or-map}
+use Rattle.std.proofs.Common.{◌≡◌, ◌≢◌, ◌∙◌, ℕ, zero, suc, ◌+◌, ◌-◌, ◌*◌, ◌%◌, ◌^◌, ◌<◌, ◌≤◌, min, false, cond, ltb, leb, eqb, All, List, []}
+use Rattle.std.proofs.Common.{◌∷◌, ◌++◌, length, get_or, map, take, drop, replicate, bit_and, bit_or, refl, sym, ap, arith, w16, Fits, length-append}
+use Rattle.std.proofs.{Common.{inl, inr}, lemmas.Bool.{cases_lt}, lemmas.Bool.Decides.nat_tests, lemmas.Nat.and_mask}
+use Rattle.std.proofs.lemmas.List.{take-take, take-append-drop, take-append-le, length-take, length-take-le, length-drop, length-map, get_or-take, get_or-drop}
 use Rattle.std.proofs.{lemmas.List.Sums.{sum_by-cons, sum_by-append, count_by-le-length}, lemmas.List.Folds.sum_by-replicate, lemmas.Grind.flat_map-append}
 use Rattle.std.proofs.{Math.Seq.{take-append_seam, take-add}, lemmas.Simd.{tops_compared, length-zip2, get_or-zip2, get_or-sel_l, get_or-replicate}}
 use Rattle.std.proofs.lemmas.Simd.{bitmask_splat, bit_mask_l, ones-mask_l, length-chunk, chunk-drop, get_or-chunk, get_or-put_chunk_below, get_or-put_chunk_at}
-use Rattle.std.proofs.lemmas.List.Elements.{All-from_get_or}
+use Rattle.std.proofs.lemmas.List.{get_or-map, Elements.All-from_get_or}
 use Rattle.std.specs.{Char.IsScalar, List.count_by, Int.bit_at, Int.RustNames.count_ones}
 use lib.Lanes.{Each1, zip2, sel_l, top, mask_l, chunk, put_chunk}
 use Rattle.legacy_text.specs.{declared.destination.Destination.Ghosts, EncodingForm.{EncodingForm, all_code_units, total_unit_count}}
 use Rattle.legacy_text.proofs.{UnitLanes.of_eight}
 use Rattle.legacy_base.specs.Grammar.{Grammar}
 use Rattle.legacy_decoder_engine.proofs.{LanePlaces.mask_if, WrittenRuns.{runs_none, runs_more, writes_none, writes_then, all_short}}
-use Rattle.legacy_decoder_engine.specs.ReadAhead.{HasAscii, Runs, Writes}
+use Rattle.legacy_decoder_engine.specs.ReadAhead.{HasAscii, Runs}
 use Rattle.legacy_decoder_engine.specs.LaneCodes.{kept_of, place_of, unit_at, ArePairs, AreLanes, IsLane, IsForm, AreWritten}
 use Rattle.legacy_decoder_engine.specs.PickedForms.{form_of, forms_of}
 
@@ -77,61 +77,24 @@ module _ (g : Grammar) (ascii : HasAscii g) (entries : List ℕ) (pointer : ℕ 
   pub is_form : (code kept place entry unit : ℕ) → unit < 65536 → IsLane pointer code kept place → place < length entries
       → (entry ≢ 0 → entry ≡ get_or entries place 0)
       → unit ≡ unit_at kept entry → unit ≢ 0 → IsForm g code kept unit
-  is_form code kept place entry unit narrow lane within looked_up is some = go (ltb kept 128) refl is
-    where
-      go : (t : Bool) → ltb kept 128 ≡ t → unit ≡ cond t kept entry → IsForm g code kept unit
-      go true e is =
-          let first : kept ≡ code % 256 = lane.first (λ z. some (is ∙ z)) in
-          let low : code % 256 < 128 = omega (arith, ltb-true _ _ e, first) in
-          let same : unit ≡ code % 256 = is ∙ first in
-          let t : ltb (code % 256) 128 ≡ true = ap (λ k. ltb k 128) (sym first) ∙ e in
-          record {
-            scalar = subst IsScalar (sym same) ((ascii (code % 256) low).scalar 0 0 (omega arith));
-            runs = rw t (subst (λ u. Runs g (code % 256 ∷ []) (u ∷ [])) (sym same) (ascii (code % 256) low));
-            counted = rw t (rw e refl);
-          }
-      go false e is =
-          let high : 128 ≤ kept = ltb-false _ _ e in
-          let first : kept ≡ code % 256 = lane.first (λ z. omega (arith, high, z)) in
-          let at : place ≡ pointer code = lane.place_is high in
-          let same : unit ≡ get_or entries (pointer code) 0 = is ∙ looked_up (λ z. some (is ∙ z)) ∙ ap (λ p. get_or entries p 0) at in
-          let t : ltb (code % 256) 128 ≡ false = ap (λ k. ltb k 128) (sym first) ∙ e in
-          let pair = pairs code lane.small (omega (arith, high, first)) (omega (arith, within, at)) (omega (arith, narrow, same)) (λ z. some (same ∙ z)) in
-          record {
-            scalar = subst IsScalar (sym same) pair.0;
-            runs = rw t (subst (λ u. Runs g (code % 256 ∷ code / 256 ∷ []) (u ∷ [])) (sym same) pair.1.1);
-            counted = rw t (rw e refl);
-          }
+  is_form code kept place entry unit narrow lane within looked_up is some =
+      let byte : code % 256 < 128 → Runs g (code % 256 ∷ []) (code % 256 ∷ []) = ascii (code % 256) in
+      let pair = pairs code lane.small in
+      grind (arith, nat_tests, byte, pair)
 
 module _ (g : Grammar) where
-  pub forms_all : (cs ks us : List ℕ) → length cs ≡ length us → length ks ≡ length us
-      → ((k : ℕ) → k < length us → IsForm g (get_or cs k 0) (get_or ks k 0) (get_or us k 0))
-      → Runs g (forms_of cs) us × (length (forms_of cs) + count_by (λ k. ltb k 128) ks ≡ 2 * length cs)
-  forms_all [] [] [] e f each = (runs_none g, refl)
-  forms_all (c ∷ cs) us [] e f each = absurd (omega arith)
-  forms_all [] (k ∷ ks) [] e f each = absurd (omega arith)
-  forms_all [] ks (u ∷ us) e f each = absurd (omega arith)
-  forms_all (c ∷ cs) [] (u ∷ us) e f each = absurd (omega arith)
-  forms_all (c ∷ cs) (k ∷ ks) (u ∷ us) e f each =
-      let one = each 0 (omega arith) in
-      let more = forms_all cs ks us (omega arith) (omega arith) (λ i h. each (suc i) (omega arith)) in
-      let n = sum_by-cons (λ k. cond (ltb k 128) 1 0) k ks in (
-        runs_more g (form_of c) (forms_of cs) (u ∷ []) us one.runs more.0,
-        omega (arith, length-append (form_of c) (forms_of cs), n, one.counted, more.1),
-      )
-
   -- the first codes
   pub first_forms : (n : ℕ) (cs ks us : List ℕ) → n ≤ length cs → n ≤ length ks → n ≤ length us
       → ((k : ℕ) → k < n → IsForm g (get_or cs k 0) (get_or ks k 0) (get_or us k 0))
       → Runs g (forms_of (take n cs)) (take n us) × (length (forms_of (take n cs)) + count_by (λ k. ltb k 128) (take n ks) ≡ 2 * n)
-  first_forms n cs ks us p q r each =
-      let a = length-take-le n cs p in
-      let b = length-take-le n ks q in
-      let c = length-take-le n us r in
-      let both = forms_all (take n cs) (take n ks) (take n us) (a ∙ sym c) (b ∙ sym c) (λ k h.
-      let below : k < n = omega (arith, h, c) in
-      rw (get_or-take n cs k 0 below, get_or-take n ks k 0 below, get_or-take n us k 0 below) (each k below)) in
-      (both.0, both.1 ∙ ap (λ m. 2 * m) a)
+  first_forms zero cs ks us p q r each = (runs_none g, refl)
+  first_forms (suc n) (c ∷ cs) (k ∷ ks) (u ∷ us) p q r each =
+      let one = each 0 (omega arith) in
+      let more = first_forms n cs ks us (omega arith) (omega arith) (omega arith) (λ i h. each (suc i) (omega arith)) in (
+        runs_more g (form_of c) (forms_of (take n cs)) (u ∷ []) (take n us) one.runs more.0,
+        omega (arith, length-append (form_of c) (forms_of (take n cs)), sum_by-cons (λ k. cond (ltb k 128) 1 0) k (take n ks), one.counted, more.1),
+      )
+  first_forms (suc n) cs ks us p q r each = absurd (omega arith)
 
 -- ---- the front of the input
 
@@ -168,14 +131,7 @@ ascii_lanes ks long = (
 pub ascii_first : (n : ℕ) (ks : List ℕ) → n ≤ length ks
     → (count_by (λ k. ltb k 128) (take n ks ++ replicate (8 - n) 0) ≡ count_by (λ k. ltb k 128) (take n ks) + (8 - n))
     × (count_by (λ k. ltb k 128) (take n ks) ≤ n)
-ascii_first n ks within = (
-  omega (
-    arith,
-    sum_by-append (λ k. cond (ltb k 128) 1 0) (take n ks) (replicate (8 - n) 0),
-    sum_by-replicate (λ k. cond (ltb k 128) 1 0) (8 - n) 0,
-  ),
-  omega (arith, count_by-le-length (λ k. ltb k 128) (take n ks), length-take-le n ks within),
-)
+ascii_first n ks within = grind (arith, sum_by-append, sum_by-replicate, count_by-le-length, length-take-le)
 
 -- eight more of what is kept
 pub ascii_more : (at : ℕ) (ks : List ℕ) (n : ℕ) → at + 8 ≤ length ks → n ≤ 8
@@ -191,17 +147,12 @@ ascii_more at ks n room most =
 pub unit_known : (us : List ℕ) → length us ≡ 8 → (k : ℕ) → k < 8
     → bit_at (mask_l (map (top 15) (zip2 (λ a b. mask_if (eqb a b)) us (replicate 8 0))) % 2 ^ 64) k ≡ 0 → get_or us k 0 ≢ 0
 unit_known us long k h unset none =
-    let bit = ap (λ n. bit_at n k) (bitmask_splat w16 eqb us 8 0 long (omega arith)) ∙ bit_mask_l (map (λ u. eqb u 0) us) k
-    ∙ ap (λ t. cond t 1 0) (get_or-map (λ u. eqb u 0) us k 0 false (omega (arith, h, long)) ∙ ap (λ u. eqb u 0) none) in
-    omega (arith, unset, bit)
+    let bit = rw (bitmask_splat w16 eqb us 8 0 long (omega arith)) at unset in
+    grind (arith, bit_mask_l, get_or-map)
 
 -- units that are 0 or scalars are scalars
 pub all_scalars : (us : List ℕ) → ((k : ℕ) → k < length us → get_or us k 0 ≢ 0 → IsScalar (get_or us k 0)) → All IsScalar us
-all_scalars us known = All-from_get_or IsScalar us 0 (λ k h. go (get_or us k 0) (known k h))
-  where
-    go : (u : ℕ) → (u ≢ 0 → IsScalar u) → IsScalar u
-    go zero h = refl
-    go (suc u) h = h (λ e. absurd (omega (arith, e)))
+all_scalars us known = All-from_get_or IsScalar us 0 (λ k h. grind (arith, nat_tests))
 
 -- ---- groups of eight that are stored
 
@@ -210,23 +161,18 @@ pub next_eight_stored : (f : ℕ → ℕ) (group : ℕ) (codes now old found : L
     → 8 * (group + 1) ≤ length old → ((k : ℕ) → 8 * group ≤ k → get_or now k 0 ≡ get_or codes k 0)
     → ((k : ℕ) → k < 8 * group → get_or old k 0 ≡ f (get_or codes k 0)) → (k : ℕ) → k < 8 * (group + 1)
     → get_or (put_chunk (8 * group) old found) k 0 ≡ f (get_or codes k 0)
-next_eight_stored f group codes now old found is room room' same before k h = go (cases_lt k (8 * group))
-  where
-    go : (k < 8 * group) ⊎ (8 * group ≤ k) → get_or (put_chunk (8 * group) old found) k 0 ≡ f (get_or codes k 0)
-    go (inl below) = get_or-put_chunk_below (8 * group) old found k 0 below ∙ before k below
-    go (inr above) =
-        let j = k - 8 * group in
-        let e : 8 * group + j ≡ k = omega arith in
-        let eight : length (chunk (8 * group) 8 now) ≡ 8 = length-chunk (8 * group) 8 now (omega arith) in
-        let long : length found ≡ 8 = ap length is ∙ length-map (chunk (8 * group) 8 now) f ∙ eight in
-        ap (λ n. get_or (put_chunk (8 * group) old found) n 0) (sym e)
-        ∙ get_or-put_chunk_at (8 * group) old found j 0 (omega (arith, long)) (omega (arith, long))
-        ∙ ap (λ (l : List ℕ). get_or l j 0) is ∙ get_or-map f (chunk (8 * group) 8 now) j 0 0 (omega (arith, eight))
-        ∙ ap f (get_or-chunk (8 * group) 8 now j 0 (omega arith) ∙ ap (λ n. get_or now n 0) e ∙ same k above)
-
--- the codes before a place, and the first ones from there on
-pub forms_at : (at few : ℕ) (codes : List ℕ) → forms_of (take at codes) ++ forms_of (take few (drop at codes)) ≡ forms_of (take (at + few) codes)
-forms_at at few codes = sym (flat_map-append form_of (take at codes) (take few (drop at codes))) ∙ ap forms_of (sym (take-add at few codes))
+next_eight_stored f group codes now old found is room room' same before k h = elim (cases_lt k (8 * group)) [
+  | inl below ↦ get_or-put_chunk_below (8 * group) old found k 0 below ∙ before k below
+  | inr above ↦
+      let j = k - 8 * group in
+      let e : 8 * group + j ≡ k = omega arith in
+      let eight : length (chunk (8 * group) 8 now) ≡ 8 = length-chunk (8 * group) 8 now (omega arith) in
+      let long : length found ≡ 8 = ap length is ∙ length-map (chunk (8 * group) 8 now) f ∙ eight in
+      let stored = get_or-put_chunk_at (8 * group) old found j 0 (omega (arith, long)) (omega (arith, long)) in
+      let mapped = get_or-map f (chunk (8 * group) 8 now) j 0 0 (omega (arith, eight)) in
+      let loaded = get_or-chunk (8 * group) 8 now j 0 (omega arith) in
+      cc (same k above)
+]
 
 -- ---- eight lanes from a place on
 
@@ -238,51 +184,32 @@ lanes_from pointer at n most codes kept places within room room' lanes k h =
     rw (get_or-drop at codes k 0, get_from at (length kept - at) kept k (omega arith), get_from at (length places - at) places k (omega arith))
     (lanes (at + k) (omega arith))
 
--- the forms of units that were looked up there
-pub forms_from : (g : Grammar) (at n most : ℕ) (codes kept us : List ℕ) → at + n ≤ most → most ≤ length kept
-    → ((k : ℕ) → k < n → IsForm g (get_or (drop at codes) k 0) (get_or (take (length kept - at) (drop at kept)) k 0) (get_or us k 0))
-    → (k : ℕ) → k < n → IsForm g (get_or (drop at codes) k 0) (get_or (drop at kept) k 0) (get_or us k 0)
-forms_from g at n most codes kept us within room forms k h =
-    subst (λ x. IsForm g (get_or (drop at codes) k 0) x (get_or us k 0)) (get_or-take (length kept - at) (drop at kept) k 0 (omega arith)) (forms k h)
-
 -- ---- forms that are written
 
 pub none_written : {D : Type 0} (T : Ghosts D) (g : Grammar) (codes kept : List ℕ) (x : D) → AreWritten T g codes kept 0 x x
 none_written T g codes kept x = record { writes = writes_none T g x; counted = refl }
-
--- the codes so far and the next ones are written
-pub more_written : {D : Type 0} (T : Ghosts D) (g : Grammar) (codes kept : List ℕ) (at count : ℕ) {x y z : D} → AreWritten T g codes kept at x y
-    → AreWritten T g (drop at codes) (drop at kept) count y z → AreWritten T g codes kept (at + count) x z
-more_written T g codes kept at count {x} {y} {z} before next =
-    let more = forms_at at count codes in
-    let first = forms_of (take at codes) in
-    let second = forms_of (take count (drop at codes)) in
-    let n =
-    ap (count_by (λ k. ltb k 128)) (take-add at count kept) ∙ sum_by-append (λ k. cond (ltb k 128) 1 0) (take at kept) (take count (drop at kept)) in
-    record {
-      writes = subst (λ l. Writes T g l x z) more (writes_then T before.writes next.writes);
-      counted = omega (arith, n, before.counted, next.counted, ap length more, length-append first second);
-    }
 
 -- ---- units that a destination writes
 
 -- the first of eight units, which take 24 code units at most
 pub few_units : (form : EncodingForm) (few : ℕ) (us : List ℕ) → length us ≡ 8 → ((k : ℕ) → k < 8 → get_or us k 0 < 65536) → few ≤ 8
     → total_unit_count form (take few us) ≤ 24
-few_units form few us long small most =
-    let n = length-take-le few us (omega (arith, long, most)) in
-    omega (
-      arith,
-      n,
-      most,
-      all_short form (take few us) (λ k h. subst (λ u. u < 65536) (sym (get_or-take few us k 0 (omega (arith, h, n)))) (small k (omega (arith, h, n, most)))),
-    )
+few_units form few us long small most = grind (arith, length-take-le, all_short, get_or-take)
 
-pub units_written : {D : Type 0} (T : Ghosts D) (few : ℕ) (us : List ℕ) {x y : D} → few ≤ length us
-    → T.contents y ≡ T.contents x ++ all_code_units T.form (take few us)
-    → T.room y + total_unit_count T.form (take few us) ≡ T.room x → T.loan y ≡ T.loan x
-    → (g : Grammar) (codes kept : List ℕ) → few ≤ length codes → few ≤ length kept
-    → ((k : ℕ) → k < few → IsForm g (get_or codes k 0) (get_or kept k 0) (get_or us k 0)) → AreWritten T g codes kept few x y
-units_written T few us most contents room loan g codes kept within within' each =
-    let forms = first_forms g few codes kept us within within' most each in
-    record { writes = record { scalars = take few us; runs = forms.0; written = contents; room = room; loan = loan }; counted = forms.1 }
+-- the first of eight units from a place on are written, after those before it
+pub next_written : {D : Type 0} (T : Ghosts D) (g : Grammar) (pointer : ℕ → ℕ) (at few most : ℕ) (codes kept places us : List ℕ) {x y z : D}
+    → at + 8 ≤ most → few ≤ 8 → most ≤ length codes → most ≤ length kept → most ≤ length places → length us ≡ 8 → AreLanes pointer most codes kept places
+    → (AreLanes pointer 8 (drop at codes) (take (length kept - at) (drop at kept)) (take (length places - at) (drop at places))
+    → (k : ℕ) → k < few → IsForm g (get_or (drop at codes) k 0) (get_or (take (length kept - at) (drop at kept)) k 0) (get_or us k 0))
+    → AreWritten T g codes kept at x y → T.contents z ≡ T.contents y ++ all_code_units T.form (take few us)
+    → T.room z + total_unit_count T.form (take few us) ≡ T.room y → T.loan z ≡ T.loan y → AreWritten T g codes kept (at + few) x z
+next_written T g pointer at few most codes kept places us below some room room' room'' long lanes forms before contents room_is loan =
+    let here = lanes_from pointer at 8 most codes kept places below room' room'' lanes in
+    let next =
+    first_forms g few (drop at codes) (drop at kept) us (omega (arith, length-drop at codes)) (omega (arith, length-drop at kept)) (omega arith)
+    (λ k h. rw (get_or-take (length kept - at) (drop at kept) k 0 (omega arith)) at (forms here k h)) in
+    record {
+      writes = rw (take-add at few codes, flat_map-append)
+          (writes_then T before.writes (record { scalars = take few us; runs = next.0; written = contents; room = room_is; loan = loan }));
+      counted = simp (take-add, flat_map-append, sum_by-append, length-append) (omega (arith, before.counted, next.1));
+    }

@@ -1,9 +1,9 @@
 -- Codes of two bytes at places, by a shuffle from a table.
-use Rattle.std.proofs.Common.{◌≡◌, ℕ, zero, suc, ◌+◌, ◌*◌, ◌/◌, ◌%◌, ◌<◌, ◌≤◌, true, cond, leb, eqb, List, [], ◌∷◌, ◌++◌, length, get_or, map, take}
-use Rattle.std.proofs.{Common.{replicate, refl, sym, ap, ap₂, ◌∙◌, arith, w8, Fits, ◌-◌, ◌^◌, ◌==◌, drop}, lemmas.Bool.{leb-true, eqb-true}}
+use Rattle.std.proofs.Common.{◌≡◌, ℕ, zero, suc, ◌+◌, ◌*◌, ◌/◌, ◌%◌, ◌<◌, ◌≤◌, true, leb, eqb, List, [], ◌∷◌, ◌++◌, length, get_or, map, take}
+use Rattle.std.proofs.{Common.{replicate, refl, sym, ap, ◌∙◌, arith, w8, Fits, ◌-◌, ◌^◌, drop}, lemmas.Bool.{leb-true, eqb-true}}
 use Rattle.std.proofs.{lemmas.Bool.{agree_below_at, cases_lt}, lemmas.List.{take-take, take-map, get_or_past, length-take-le}}
 use Rattle.std.proofs.{lemmas.List.{take-append-le, map-append, append_assoc, append-nil}, lemmas.Simd.{swz_l, Each1-get_or, below_from_Fits, get_or-chunk}}
-use Rattle.std.proofs.{lemmas.Simd.put_chunk_is, lemmas.Bool.Decides.nat_tests, lemmas.Grind.common_steps, Math.Seq.{take-append_seam, take-append-add}}
+use Rattle.std.proofs.{lemmas.Simd.put_chunk_is, lemmas.Bool.Decides.nat_tests, Math.Seq.{take-append_seam, take-append-add}}
 use Rattle.std.proofs.{lemmas.Nat.{and_mask, pow_pos}, lemmas.Nat.Bits.ones_shr, Math.Nat.{div-eq_of_lt, mod-lt}}
 use Rattle.std.specs.{List.range_with_len, Int.RustNames.count_ones, Int.Bits.bit_and}
 use lib.{Lanes.{Each1, number_l, digits_l, all_below, chunk, put_chunk}, Pow.{field, mod-mod-pow, shr-shr}}
@@ -40,13 +40,7 @@ places_most x h = leb-true (length (places 0 8 x)) 8 (agree_below_at (λ n. leb 
 codes : (xs : List ℕ) (small : (j : ℕ) → get_or xs j 0 < 256) (ps : List ℕ)
     → digits_l 65536 (length ps) (number_l 256 (map (λ j. get_or xs j 0) (pairs ps))) ≡ map (code_at xs) ps
 codes xs small [] = refl
-codes xs small (p ∷ ps) =
-    let n = number_l 256 (map (λ j. get_or xs j 0) (pairs ps)) in
-    let a : get_or xs p 0 < 256 = small p in
-    let b : get_or xs (p + 1) 0 < 256 = small (p + 1) in
-    let low : (get_or xs p 0 + 256 * (get_or xs (p + 1) 0 + 256 * n)) % 65536 ≡ get_or xs p 0 + 256 * get_or xs (p + 1) 0 = omega arith in
-    let high : (get_or xs p 0 + 256 * (get_or xs (p + 1) 0 + 256 * n)) / 65536 ≡ n = omega arith in
-    (λ t. low t ∷ digits_l 65536 (length ps) (high t)) ∙ ap (λ (l : List ℕ). code_at xs p ∷ l) (codes xs small ps)
+codes xs small (p ∷ ps) = grind (arith, small p, small (p + 1), codes xs small ps)
 
 below_256 : (v : List ℕ) → Each1 (Fits w8) v → (i : ℕ) → get_or v i 0 < 256
 below_256 v fits i = grind (arith, cases_lt, Each1-get_or, below_from_Fits, w8, get_or_past)
@@ -73,31 +67,23 @@ moved : (bs : List ℕ) (from base n x : ℕ) → base + n < 16 → map (code_at
 unfolding places
 moved bs from base zero x h = refl
 moved bs from base (suc n) x h =
-    let place : from + (base + 1) ≡ from + base + 1 = omega arith in
-    let first : get_or (chunk from 16 bs) base 0 ≡ get_or bs (from + base) 0 = get_or-chunk from 16 bs base 0 (omega arith) in
-    let second : get_or (chunk from 16 bs) (base + 1) 0 ≡ get_or bs (from + base + 1) 0 =
-    get_or-chunk from 16 bs (base + 1) 0 (omega arith) ∙ ap (λ k. get_or bs k 0) place in
-    let here : code_at (chunk from 16 bs) base ≡ code_at bs (from + base) = ap₂ (λ x y. x + 256 * y) first second in
-    let rest : map (code_at (chunk from 16 bs)) (places (base + 1) n (x / 2)) ≡ map (code_at bs) (places (from + base + 1) n (x / 2)) =
-    moved bs from (base + 1) n (x / 2) (omega arith) ∙ ap (λ k. map (code_at bs) (places k n (x / 2))) place in
-    grind (arith, nat_tests, common_steps)
+    let first = get_or-chunk from 16 bs base 0 (omega arith) in
+    let second = get_or-chunk from 16 bs (base + 1) 0 (omega arith) in
+    let rest = moved bs from (base + 1) n (x / 2) (omega arith) in
+    grind (arith, nat_tests)
 
 -- codes that are stored at a place of a list
 pub codes_stored : (block : List ℕ) (from x : ℕ) (all found : List ℕ) (at : ℕ) → x < 256 → length found ≡ 8 → at + 8 ≤ length all
     → take (length (places 0 8 x)) found ≡ map (code_at (chunk from 16 block)) (places 0 8 x)
     → take (at + count_ones x) (put_chunk at all found) ≡ take at all ++ map (code_at block) (places from 8 x)
 codes_stored block from x all found at small long room e =
-    let n = length (places 0 8 x) in
     let front : length (take at all) ≡ at = length-take-le at all (omega arith) in
-    let place : at + count_ones x ≡ length (take at all) + n = omega (arith, counted x small) in
+    let place : at + count_ones x ≡ length (take at all) + length (places 0 8 x) = omega (arith, counted x small) in
     let behind = drop (length found) (drop at all) in
     let zero_in : from + 0 ≡ from = omega arith in
-    ap (take (at + count_ones x)) (put_chunk_is at all found (omega arith))
-    ∙ ap (λ k. take k (take at all ++ (found ++ behind))) place
-    ∙ take-append-add (take at all) (found ++ behind) n
-    ∙ ap (λ (l : List ℕ). take at all ++ l)
-    (take-append-le n found behind (omega (arith, places_most x small)) ∙ e ∙ moved block from 0 8 x (omega arith)
-    ∙ ap (λ k. map (code_at block) (places k 8 x)) zero_in)
+    let most : length (places 0 8 x) ≤ length found = omega (arith, places_most x small) in
+    let same = rw zero_in at (moved block from 0 8 x (omega arith)) in
+    rw (put_chunk_is at all found (omega arith), place, take-append-add, take-append-le _ found behind most, e, same) refl
 
 -- ---- places of a word eight by eight
 
@@ -105,22 +91,19 @@ pub low_places : (b k x : ℕ) → places b k (x % 2 ^ k) ≡ places b k x
 unfolding places
 low_places b zero x = refl
 low_places b (suc k) x =
-    let n : suc k ≡ k + 1 = omega arith in
-    let last : x % 2 ^ suc k % 2 ≡ x % 2 = ap (λ j. x % 2 ^ j % 2) n ∙ mod-mod-pow x k 1 in
-    let rest : x % 2 ^ suc k / 2 ≡ x / 2 % 2 ^ k = ap (λ j. x % 2 ^ j / 2) n ∙ field x k 1 in
-    (λ t. cond (last t == 1) (b ∷ places (b + 1) k (rest t)) (places (b + 1) k (rest t)))
-    ∙ ap (λ (l : List ℕ). cond (x % 2 == 1) (b ∷ l) l) (low_places (b + 1) k (x / 2))
+    let last = mod-mod-pow x k 1 in
+    let half = field x k 1 in
+    let rest = low_places (b + 1) k (x / 2) in
+    grind (arith, nat_tests)
 
 pub split_places : (b k m x : ℕ) → places b (k + m) x ≡ places b k x ++ places (b + k) m (x / 2 ^ k)
 unfolding places
 split_places b zero m x = grind arith
 split_places b (suc k) m x =
+    let half = shr-shr x 1 k in
+    let rest = split_places (b + 1) k m (x / 2) in
     let n : suc k + m ≡ suc (k + m) = omega arith in
-    let p : b + 1 + k ≡ b + suc k = omega arith in
-    let j : 1 + k ≡ suc k = omega arith in
-    let q : x / 2 / 2 ^ k ≡ x / 2 ^ suc k = shr-shr x 1 k ∙ ap (λ i. x / 2 ^ i) j in
-    let rest = split_places (b + 1) k m (x / 2) ∙ (λ t. places (b + 1) k (x / 2) ++ places (p t) m (q t)) in
-    ap (λ i. places b i x) n ∙ rw rest (grind (arith, nat_tests, common_steps))
+    ap (λ i. places b i x) n ∙ rw rest (grind (arith, nat_tests))
 
 -- one turn of the loop: eight more places
 pub next_eight : (f : ℕ → ℕ) (g x count count_next : ℕ) (codes_before codes_after : List ℕ) (all : List ℕ) → g < 8
@@ -128,15 +111,9 @@ pub next_eight : (f : ℕ → ℕ) (g x count count_next : ℕ) (codes_before co
     → take count_next codes_after ≡ take count codes_before ++ map f (places (8 * g) 8 (x % 256))
     → all ≡ take count_next codes_after ++ map f (places (8 * (g + 1)) (64 - 8 * (g + 1)) (x / 256))
 next_eight f g x count count_next before after all h e s =
-    let m = 64 - 8 * (g + 1) in
-    let n : 64 - 8 * g ≡ 8 + m = omega arith in
-    let p : 8 * g + 8 ≡ 8 * (g + 1) = omega arith in
-    e ∙ ap (λ (l : List ℕ). take count before ++ map f l)
-    (ap (λ k. places (8 * g) k x) n ∙ split_places (8 * g) 8 m x ∙ ap (λ k. places (8 * g) 8 x ++ places k m (x / 256)) p)
-    ∙ ap (λ (l : List ℕ). take count before ++ l) (map-append f (places (8 * g) 8 x) (places (8 * (g + 1)) m (x / 256)))
-    ∙ sym (append_assoc (take count before) (map f (places (8 * g) 8 x)) (map f (places (8 * (g + 1)) m (x / 256))))
-    ∙ ap (λ (l : List ℕ). l ++ map f (places (8 * (g + 1)) m (x / 256)))
-    (ap (λ (l : List ℕ). take count before ++ map f l) (sym (low_places (8 * g) 8 x)) ∙ sym s)
+    let split = split_places (8 * g) 8 (64 - 8 * (g + 1)) x in
+    let low = low_places (8 * g) 8 x in
+    grind (arith, map-append, append_assoc)
 
 -- after the last turn no places are left
 pub no_more : (f : ℕ → ℕ) (g x : ℕ) (before : List ℕ) → g ≡ 8 → before ++ map f (places (8 * g) (64 - 8 * g) x) ≡ before
@@ -152,11 +129,7 @@ no_places b (suc n) = no_places (b + 1) n
 
 places_below : (b k m x : ℕ) → places b (k + m) (x % 2 ^ k) ≡ places b k x
 places_below b k m x =
-    split_places b k m (x % 2 ^ k)
-    ∙ ap (λ j. places b k (x % 2 ^ k) ++ places (b + k) m j) (div-eq_of_lt (mod-lt x (pow_pos k)))
-    ∙ ap (λ (l : List ℕ). places b k (x % 2 ^ k) ++ l) (no_places (b + k) m)
-    ∙ append-nil (places b k (x % 2 ^ k))
-    ∙ low_places b k x
+    rw (split_places b k m (x % 2 ^ k), div-eq_of_lt (mod-lt x (pow_pos k)), no_places (b + k) m, append-nil) (low_places b k x)
 
 -- the starts below an end
 pub below_end : (end x : ℕ) → end ≤ 64 → places 0 64 (bit_and x ((2 ^ 64 - 1) / 2 ^ (64 - end))) ≡ places 0 end x

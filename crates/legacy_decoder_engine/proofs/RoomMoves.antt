@@ -123,27 +123,14 @@ module _ (g : Grammar) (m : DecoderMachine) (wt : List ℕ → ℕ) (paid : ℕ)
   w : IsWidth (unit_count (query_form query)) (bmp_room (query_form query)) (wide_room (query_form query))
   w = width_of (query_form query)
 
-  takes_covered : (held : List ℕ) (b n : ℕ) → 0 < n
-      → act_room (bmp_room (query_form query)) (wide_room (query_form query)) (state_of g held) (takes b) ≤ room query (state_of g held) n
-  takes_covered held b n p = grind (arith, read_most, w, room-rises)
-
-  holds_covered : (held : List ℕ) → may_hold g held ≡ true → (n : ℕ) → 0 < length held
-      → act_room (bmp_room (query_form query)) (wide_room (query_form query)) (state_of g held) writes ≤
-      room query (state_of g held) n
-  holds_covered held h n h1 = grind (arith, room-rises)
-
   pub sloped_rooms : KeepsRooms query g m
   sloped_rooms = record {
-    step_fits =
-        λ held b h r bytes byte.
-        (costs.cost (unit_count (query_form query)) (bmp_room (query_form query)) (wide_room (query_form query)) w held b h r bytes byte).fits;
+    step_fits = λ held b h r bytes byte. (costs.cost _ _ _ w held b h r bytes byte).fits;
     step_pays = λ held b n h r bytes byte. rw (costs.to_is held b)
-        (sloped_pays (room query) g wt (query_slope paid query) (is.falls query) held (step_held (m.step held b) held b) (step_left (m.step held b)) n
-        (step_units (unit_count (query_form query)) (replacement_units query) (m.step held b))
-        (paid_of query wt paid (act_room (bmp_room (query_form query)) (wide_room (query_form query)) (state_of g held) (takes b)) held b (m.step held b)
-        (costs.cost (unit_count (query_form query)) (bmp_room (query_form query)) (wide_room (query_form query)) w held b h r bytes byte)));
+        (sloped_pays (room query) g wt (query_slope paid query) (is.falls query) held (step_held (m.step held b) held b) (step_left (m.step held b)) n _
+        (paid_of query wt paid _ held b (m.step held b) (costs.cost _ _ _ w held b h r bytes byte)));
     write_pays = is.writes query;
     report_pays = λ b held h r. is.falls query (b ∷ held) [] 0 0 _ (malformed_paid query paid (wt []) (wt (b ∷ held)) (is.heavy b held h));
-    reads_covered = λ held b n h p. takes_covered held b n p;
-    holds_covered = λ held n h p. holds_covered held h n p;
+    reads_covered = λ held b n h p. grind (arith, read_most, w, room-rises);
+    holds_covered = λ held n h p. grind (arith, room-rises);
   }

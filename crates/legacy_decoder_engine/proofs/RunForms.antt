@@ -1,6 +1,6 @@
 -- The sequences of a machine as runs, which a loop may read ahead.
-use Rattle.std.proofs.Common.{rules, ◌≡◌, ◌∙◌, ℕ, suc, ◌+◌, ◌≤◌, ◌<◌, List, [], ◌∷◌, ◌++◌, length, append_assoc, length-append, ap, refl, sym, arith, true}
-use Rattle.std.proofs.{Common.false, lemmas.List.Elements.{All-nil, All-cons, All-append}, lemmas.Bool.Decides.nat_tests}
+use Rattle.std.proofs.Common.{rules, ◌≡◌, ◌∙◌, ℕ, suc, ◌+◌, ◌≤◌, ◌<◌, List, [], ◌∷◌, ◌++◌, length, append_assoc, length-append, ap, refl, arith, true}
+use Rattle.std.proofs.{Common.{false, add-zero}, lemmas.List.Elements.{All-nil, All-cons, All-append}, lemmas.Bool.Decides.nat_tests}
 use Rattle.std.specs.Char.{IsScalar, is_ascii}
 use Rattle.legacy_tables.specs.Unicode.{IsByte, AreBytes}
 use Rattle.legacy_text.specs.EncodingForm.{total_unit_count}
@@ -29,27 +29,22 @@ module _ {g : Grammar} {m : DecoderMachine} (shown : IsShown g m) where
   leads_events held b [] c may resting l more = grind (arith, all_dropped)
   leads_events held b (next ∷ rest) c may resting l more =
       let n : length (held ++ b ∷ []) + length (next ∷ rest) ≡ length held + length (b ∷ next ∷ rest) = omega (arith, length-append held (b ∷ [])) in
-      ap (events_of g) (sym (append_assoc held (b ∷ []) (next ∷ rest ++ more))) ∙ leads_events (held ++ b ∷ []) next rest c l.3 l.4 l.5 more
-      ∙ ap (λ n. Scalar c ∷ shift n (events_of g more)) n
+      let later = leads_events (held ++ b ∷ []) next rest c l.3 l.4 l.5 more in cc (append_assoc held (b ∷ []) (next ∷ rest ++ more))
 
   leads_lowers : (held : List ℕ) (b : ℕ) (rest : List ℕ) (c : ℕ) → may_hold g held ≡ true → rests g held ≡ true → AreBytes held → Leads g m held b rest c
       → (query : LengthQuery) (n : ℕ)
       → room query (state_of g []) n + total_unit_count (query_form query) (c ∷ []) ≤ room query (state_of g held) (n + length (b ∷ rest))
   leads_lowers held b [] c may resting bytes l query n =
       let p = (shown.rooms query).step_pays held b n may resting bytes l.0 in
-      let p' = rw (l.1, l.2, all_dropped (suc (length held)) held b refl) at p in
-      let z : n + 0 ≡ n = omega arith in
-      let p'' = rw z at p' in
-      omega (arith, p'', units-total (query_form query) (c ∷ []))
+      let p' = rw (l.1, l.2, all_dropped (suc (length held)) held b refl, add-zero n) at p in
+      omega (arith, p', units-total (query_form query) (c ∷ []))
   leads_lowers held b (next ∷ rest) c may resting bytes l query n =
       let p = (shown.rooms query).step_pays held b (n + length (next ∷ rest)) may resting bytes l.0 in
-      let p' = rw (l.1, l.2) at p in
-      let z : n + length (next ∷ rest) + 0 ≡ n + length (next ∷ rest) = omega arith in
-      let p'' = rw z at p' in
+      let p' = rw (l.1, l.2, add-zero (n + length (next ∷ rest))) at p in
       let e : n + length (b ∷ next ∷ rest) ≡ n + length (next ∷ rest) + 1 = omega arith in
       let more =
       leads_lowers (held ++ b ∷ []) next rest c l.3 l.4 (All-append IsByte held (b ∷ []) bytes (All-cons IsByte b [] l.0 (All-nil IsByte))) l.5 query n in
-      rw e (omega (arith, p'', more))
+      rw e (omega (arith, p', more))
 
   runs : (b : ℕ) (rest : List ℕ) (c : ℕ) → IsScalar c → Leads g m [] b rest c → Runs g (b ∷ rest) (c ∷ [])
   runs b rest c scalar l = record {

@@ -1,5 +1,6 @@
 -- The turns of a loop that takes four at a time.
 use Rattle.std.proofs.{Common.{◌≡◌, ℕ, ◌+◌, ◌-◌, ◌*◌, ◌/◌, ◌%◌, ◌<◌, ◌≤◌, refl, arith}, lemmas.Bool.Decides.nat_tests}
+use Rattle.std.proofs.Math.Nat.{le-mul_of_pos_right}
 
 -- all turns, before the first
 pub all_turns : (size turns : ℕ) → size * (4 * (turns / 4) + turns % 4) ≡ size * turns
@@ -12,3 +13,6 @@ four_turns size left rest h = let e : 4 * left + rest ≡ 4 + (4 * (left - 1) + 
 -- the rest alone
 pub last_turns : (size left rest : ℕ) → left ≤ 0 → size * (4 * left + rest) ≡ size * rest
 last_turns size left rest h = let e : 4 * left + rest ≡ rest = omega arith in rw e refl
+
+-- a single turn of some
+pub ruleset one_turn = (le-mul_of_pos_right)

@@ -1,13 +1,12 @@
 -- The proof for all codecs with sequences of one and two bytes, from the few facts that each shows.
-use Rattle.std.proofs.{Common.{◌≡◌, ℕ, ◌<◌, ◌≤◌, List, [], ◌∷◌, length, Bool, true, false, refl, inl, ap, arith}, lemmas.Bool.false≢true}
-use Rattle.std.specs.Char.{is_ascii}
+use Rattle.std.proofs.{Common.{◌≡◌, ℕ, ◌<◌, ◌≤◌, List, ◌∷◌, length, Bool, true, false, refl, inl, ap, arith}, lemmas.Bool.false≢true}
 use Rattle.legacy_base.specs.{DecoderActs.{act_room, takes, full_room, full_room_in, release_room_in, has_short_ascii, has_reported}, Fronts.Front}
 use Rattle.legacy_base.specs.{Grammar.Grammar, States.{single_lead_may_hold, may_hold, state_of}, Lengths.{LengthQuery, query_form, room}}
 use Rattle.legacy_tables.specs.{Indexes.FlatIndexes, TableChecks.AreAccepted}
 use Rattle.legacy_decoder_engine.specs.{Steps.Step, LeadMachines.{two_byte_step, two_byte_machine}, StepUnits.{units, IsWidth, Cost}, StatesAfterSteps.Settles}
 use Rattle.legacy_decoder_engine.specs.{Shown.IsShown, LeadCodecs.IsLeadCodec}
 use Rattle.legacy_decoder_engine.proofs.TwoByteMeets.{IsFirst, IsTwoByte, may_is, rests_is, ascii_first, lead_holds, first_settles, two_byte_meets}
-use Rattle.legacy_decoder_engine.proofs.RoomMoves.{first_room, held_room_is, narrow_read, Falls, query_slope, HasCosts, IsSloped, sloped_rooms}
+use Rattle.legacy_decoder_engine.proofs.RoomMoves.{narrow_read, Falls, query_slope, HasCosts, IsSloped, sloped_rooms}
 use Rattle.legacy_decoder_engine.proofs.{CallUnderWay.same_rooms, TwoByteCosts.{first_cost, trail_cost}, SettledSteps.trail_settles}
 
 -- The rooms of such a codec. A pair fits into the full room. For each two bytes, `paid` code units are enough. The
@@ -39,19 +38,11 @@ module _ (g : Grammar) (front : ℕ → List ℕ → Front) (is_lead_byte : ℕ 
     where
       cost : (len : ℕ → ℕ) (narrow wide : ℕ) → IsWidth len narrow wide → (held : List ℕ) (b : ℕ) → single_lead_may_hold is_lead_byte held ≡ true →
           Cost len narrow (act_room narrow wide (state_of g held) (takes b)) length paid held b (two_byte_step first scalars held b)
-      cost len narrow wide w [] b h =
-          let between = narrow_read narrow wide w.rises g in
-          rw (unreported, short_ascii, first_room (is_ascii b) 1 (full_room narrow wide g))
-          (first_cost len narrow wide w is_lead_byte paid (full_room narrow wide g) b (first b) between.0 (firsts b))
-      cost len narrow wide w (lead ∷ []) b h =
-          let between = narrow_read narrow wide w.rises g in
-          let some = w.some in
-          let twice = w.twice in
-          rw (unreported, short_ascii, held_room_is (is_ascii b) true 1 (full_room narrow wide g))
-          (trail_cost len narrow wide w (full_room narrow wide g) paid lead b (scalars lead b) (has_rooms.pair_units len narrow wide w lead b) (between.0)
-          (omega arith)
-          (has_rooms.is_paid len narrow wide w))
-      cost len narrow wide w (lead ∷ c ∷ held) b h = absurd (false≢true h)
+      cost len narrow wide w held b h =
+          let one = firsts b in
+          let two = has_rooms.pair_units len narrow wide w in
+          let three = has_rooms.is_paid len narrow wide w in
+          grind (arith, false≢true, narrow_read, first_cost, trail_cost, unreported, short_ascii)
 
   sloped : HasTwoByteRooms g scalars paid → IsSloped g (two_byte_machine g first scalars) length paid
   sloped has_rooms = grind arith

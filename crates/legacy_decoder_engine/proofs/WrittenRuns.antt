@@ -1,11 +1,11 @@
 -- Laws of runs of bytes and of the scalars written for them.
-use Rattle.std.proofs.Common.{add-zero, ◌≡◌, ◌∙◌, ℕ, zero, suc, ◌+◌, ◌-◌, ◌*◌, ◌≤◌, ◌<◌, List, [], ◌∷◌, ◌++◌, length, map, take, drop, get_or, refl, sym, ap}
+use Rattle.std.proofs.Common.{add-zero, ◌≡◌, ◌∙◌, ℕ, zero, suc, ◌+◌, ◌-◌, ◌*◌, ◌≤◌, ◌<◌, List, [], ◌∷◌, ◌++◌, length, take, drop, get_or, refl, sym}
 use Rattle.std.proofs.{Common.{subst, arith, append_assoc, append-nil, length-append, IsAscii}, lemmas.List.{map-append, take_more, take_all, length-drop}}
 use Rattle.std.proofs.{lemmas.List.Elements.{All-append, All-nil}, Math.Seq.take-add}
 use Rattle.std.specs.Char.{IsScalar}
 use Rattle.legacy_text.specs.EncodingForm.{EncodingForm, code_units, all_code_units, bmp_room, total_unit_count}
 use Rattle.legacy_text.specs.declared.destination.Destination.{Ghosts}
-use Rattle.legacy_base.specs.{Grammar.{Grammar, events_of}, declared.results.DecodeEvent.TheVariants.Scalar, Events.shift, Lengths.query_form}
+use Rattle.legacy_base.specs.{Grammar.{Grammar, events_of}, Lengths.query_form}
 use Rattle.legacy_base.specs.States.{DecoderState}
 use Rattle.legacy_base.proofs.{Shifts.{shift-append, shift-zero, shift-shift, shift-scalars}, SameUnits.some_unit}
 use Rattle.legacy_text.proofs.CodeUnits.{all_code_units-append, total_unit_count-append, encode_1, utf16_1, length-code_units-bmp, length-code_units-wide}
@@ -19,15 +19,7 @@ runs_none g = record { events = λ more. sym (shift-zero (events_of g more)); sc
 -- bytes, and then more bytes
 pub runs_then : (g h k : Grammar) (xs ys cs ds : List ℕ) → RunsTo g h xs cs → RunsTo h k ys ds → RunsTo g k (xs ++ ys) (cs ++ ds)
 runs_then g h k xs ys cs ds a b = record {
-  events = λ more.
-      ap (events_of g) (append_assoc xs ys more) ∙ a.events (ys ++ more)
-      ∙ ap (λ es. map Scalar cs ++ shift (length xs) es) (b.events more)
-      ∙ ap (λ es. map Scalar cs ++ es) (shift-append (length xs) (map Scalar ds) (shift (length ys) (events_of k more)))
-      ∙ ap (λ es. map Scalar cs ++ (es ++ shift (length xs) (shift (length ys) (events_of k more)))) (shift-scalars (length xs) ds)
-      ∙ ap (λ es. map Scalar cs ++ (map Scalar ds ++ es)) (shift-shift (length xs) (length ys) (events_of k more))
-      ∙ sym (append_assoc (map Scalar cs) (map Scalar ds) (shift (length xs + length ys) (events_of k more)))
-      ∙ ap (λ es. es ++ shift (length xs + length ys) (events_of k more)) (sym (map-append Scalar cs ds))
-      ∙ ap (λ n. map Scalar (cs ++ ds) ++ shift n (events_of k more)) (sym (length-append xs ys));
+  events = λ more. simp (append_assoc, a.events, b.events, shift-append, shift-scalars, shift-shift, map-append, length-append);
   scalar = All-append IsScalar cs ds a.scalar b.scalar;
   lowers = λ query n.
       let p = b.lowers query n in
@@ -55,8 +47,7 @@ code_units_ascii form c h = grind (arith, encode_1, utf16_1)
 -- the code units of ASCII bytes are the bytes
 pub all_code_units_ascii : (form : EncodingForm) (xs : List ℕ) → IsAscii xs → all_code_units form xs ≡ xs
 all_code_units_ascii form [] h = refl
-all_code_units_ascii form (x ∷ xs) h = ap (λ l. l ++ all_code_units form xs) (code_units_ascii form x (h 0))
-    ∙ ap (λ l. x ∷ l) (all_code_units_ascii form xs (λ i. h (suc i)))
+all_code_units_ascii form (x ∷ xs) h = rw (code_units_ascii form x (h 0), all_code_units_ascii form xs (λ i. h (suc i))) refl
 
 -- any scalar fits into four code units
 pub four_fit : (form : EncodingForm) (c room : ℕ) → 4 ≤ room → length (code_units form c) ≤ room
@@ -72,7 +63,7 @@ all_short form [] small = omega arith
 all_short form (c ∷ cs) small =
     let one = short form c (small zero (omega arith)) in
     let more = all_short form cs (λ k h. small (suc k) (omega arith)) in
-    omega (arith, one, more, length-append (code_units form c) (all_code_units form cs))
+    simp length-append (omega arith)
 
 -- a scalar up to U+FFFF fits into three code units
 pub three_fit : (form : EncodingForm) (c room : ℕ) → c < 65536 → 3 ≤ room → length (code_units form c) ≤ room
@@ -85,18 +76,14 @@ one_unit form c room h = let most = length-code_units-bmp form c h in let least 
 pub take_two : (src : List ℕ) (at : ℕ) → at + 1 < length src → take (at + 2) src ≡ take at src ++ get_or src at 0 ∷ get_or src (at + 1) 0 ∷ []
 take_two src at h =
     let e : at + 2 ≡ at + 1 + 1 = omega arith in
-    ap (λ n. take n src) e ∙ take_more src (at + 1) 0 h ∙ ap (λ l. l ++ get_or src (at + 1) 0 ∷ []) (take_more src at 0 (omega arith))
-    ∙ append_assoc (take at src) (get_or src at 0 ∷ []) (get_or src (at + 1) 0 ∷ [])
+    rw (e, take_more src (at + 1) 0 h, take_more src at 0 (omega arith), append_assoc) refl
 
 take_four : (src : List ℕ) (at : ℕ) → at + 3 < length src
     → take (at + 4) src ≡ take at src ++ get_or src at 0 ∷ get_or src (at + 1) 0 ∷ get_or src (at + 2) 0 ∷ get_or src (at + 3) 0 ∷ []
 take_four src at h =
-    let two : at + 2 + 2 ≡ at + 4 = omega arith in
-    let three : at + 2 + 1 ≡ at + 3 = omega arith in
-    let first : List ℕ = get_or src at 0 ∷ get_or src (at + 1) 0 ∷ [] in
-    let last : List ℕ = get_or src (at + 2) 0 ∷ get_or src (at + 3) 0 ∷ [] in
-    ap (λ n. take n src) (sym two) ∙ take_two src (at + 2) (omega arith) ∙ ap (λ n. take (at + 2) src ++ get_or src (at + 2) 0 ∷ get_or src n 0 ∷ []) three
-    ∙ ap (λ l. l ++ last) (take_two src at (omega arith)) ∙ append_assoc (take at src) first last
+    let two : at + 4 ≡ at + 2 + 2 = omega arith in
+    let three : at + 3 ≡ at + 2 + 1 = omega arith in
+    rw (two, three, take_two src (at + 2) (omega arith), take_two src at (omega arith), append_assoc) refl
 
 -- the rest of a source, as the code takes it
 pub rest_of : (source : List ℕ) (at : ℕ) → take (length source - at) (drop at source) ≡ drop at source
@@ -116,9 +103,7 @@ module _ {D : Type 0} (T : Ghosts D) where
     writes_then a b = record {
       scalars = a.scalars ++ b.scalars;
       runs = runs_then g h k xs ys a.scalars b.scalars a.runs b.runs;
-      written = b.written ∙ ap (λ l. l ++ all_code_units T.form b.scalars) a.written
-          ∙ append_assoc (T.contents x) (all_code_units T.form a.scalars) (all_code_units T.form b.scalars)
-          ∙ ap (λ l. T.contents x ++ l) (sym (all_code_units-append T.form a.scalars b.scalars));
+      written = simp (b.written, a.written, append_assoc, all_code_units-append);
       room = omega (arith, total_unit_count-append T.form a.scalars b.scalars, a.room, b.room);
       loan = b.loan ∙ a.loan;
     }
@@ -162,11 +147,8 @@ module _ {D : Type 0} (T : Ghosts D) where
       → T.room new + length bytes ≡ T.room old → T.loan new ≡ T.loan old
       → Writes T g bytes old new
   writes_ascii g old new bytes law ascii contents room loan =
-      let same = all_code_units_ascii T.form bytes ascii in
-      record {
-        scalars = bytes;
-        runs = runs_ascii g law bytes ascii;
-        written = contents ∙ ap (λ l. T.contents old ++ l) (sym same);
-        room = ap (λ l. T.room new + length l) same ∙ room;
-        loan = loan;
-      }
+      let runs = runs_ascii g law bytes ascii in
+      grind (arith, all_code_units_ascii)
+
+-- a run of no bytes
+pub ruleset no_bytes = (same_rooms, writes_none)

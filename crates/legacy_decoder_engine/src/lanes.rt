@@ -71,6 +71,7 @@ pub trait LaneCodec {
     ///
     /// It may also read ASCII between them. `guess` is what the codec keeps from one such form to the next.
     #[inline(always)]
+    #[tactic(auto, using(crate::proofs::WrittenRuns::no_bytes))]
     fn read_longer<T: Destination>(
         tables: &FlatTables<'_>,
         guess: &Cell<usize>,
@@ -346,6 +347,7 @@ fn read_front<C: LaneCodec, T: Destination>(
 
 /// Reads forms of more than two bytes from the front, if one is there, and returns the number of bytes read.
 #[inline(always)]
+#[tactic(auto, using(crate::proofs::WrittenRuns::no_bytes))]
 fn read_any_longer<C: LaneCodec, T: Destination>(
     tables: &FlatTables<'_>,
     guess: &Cell<usize>,
@@ -439,6 +441,7 @@ fn read_short<C: LaneCodec, T: Destination>(
 /// Reads blocks with many bytes past ASCII from the front, if one is there, and returns the number of bytes read.
 // The test is a function of its own, so that it is inlined also if the compiler does not inline the loop.
 #[inline(always)]
+#[tactic(auto, using(crate::proofs::WrittenRuns::no_bytes))]
 fn read_lanes<C: LaneCodec, T: Destination>(
     tables: &FlatTables<'_>,
     guess: &Cell<usize>,
@@ -706,6 +709,7 @@ fn read_alone<C: LaneCodec, T: Destination>(
 /// Returns the number of bytes read, which may be 0. If it reads any, three code units stay free.
 // Malformed sequences often follow one another, or have a single form between them. Neither costs a call.
 #[inline(always)]
+#[tactic(auto, using(crate::proofs::WrittenRuns::no_bytes))]
 pub fn read_common<C: LaneCodec, T: Destination>(
     blocks: &LaneBlocks<'_, '_, C>,
     src: &[u8],

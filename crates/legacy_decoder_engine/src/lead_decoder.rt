@@ -133,6 +133,7 @@ impl<'a, C: LeadCodec> DecoderMoves for LeadDecoder<'a, C> {
     }
 
     #[inline]
+    #[tactic(auto, using(crate::proofs::LeadHeld::covered))]
     fn reading_room(&self, byte: u8) -> Room {
         if byte < 0x80 && self.held.is_none() {
             return Room::Unit;
@@ -141,6 +142,7 @@ impl<'a, C: LeadCodec> DecoderMoves for LeadDecoder<'a, C> {
     }
 
     #[inline]
+    #[tactic(auto, using(crate::proofs::LeadHeld::covered))]
     fn release_room(&self) -> Room {
         C::room()
     }
@@ -151,6 +153,7 @@ impl<'a, C: LeadCodec> DecoderMoves for LeadDecoder<'a, C> {
     }
 
     #[inline(always)]
+    #[tactic(auto, using(crate::proofs::LeadHeld::feeds))]
     fn feed(&mut self, byte: u8) -> Fed {
         match self.held {
             Some(lead) => {

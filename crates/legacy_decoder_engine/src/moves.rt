@@ -113,6 +113,7 @@ pub trait DecoderMoves {
     /// switch its mode. It reads only if at least four code units are free, and leaves three, so that no act of the
     /// machine would have lacked room. A decoder without common sequences reads nothing.
     #[inline(always)]
+    #[tactic(auto, using(crate::proofs::WrittenRuns::no_bytes))]
     fn read_runs<T: Destination>(&mut self, src: &[u8], dst: &mut T) -> usize
         ensures runs { ReadsTo T.Destination (state self.old) (state self.new) src.now result
             dst.old dst.new }

@@ -61,6 +61,7 @@ fn codes_at(bytes: u8x16, starts: u8) -> u16x8
 ///
 /// Codes without meaning fill the rest of the eight. Returns the place after the codes at starts.
 #[inline(always)]
+#[tactic(auto, using(crate::proofs::Picking::codes_stored))]
 fn put_codes(block: &[u8], from: usize, starts: u8, codes: &mut [u16], at: usize) -> usize
     requires read { from + 16 ≤ length block.now }
     requires room { at + 8 ≤ length codes.old }
@@ -76,6 +77,7 @@ fn put_codes(block: &[u8], from: usize, starts: u8, codes: &mut [u16], at: usize
 ///
 /// Returns the place after them.
 #[inline(always)]
+#[tactic(auto, using(crate::proofs::Picking::no_more))]
 fn pick(block: &[u8], starts: u64, codes: &mut [u16], count: usize) -> usize
     requires read { 72 ≤ length block.now }
     requires room { count + 64 ≤ length codes.old }

@@ -76,6 +76,7 @@ pub fn read_run<F: Forms, T: Destination>(forms: &F, src: &[u8], dst: &mut T) ->
 ///
 /// Returns 0 if the form is uncommon, if the input may be too short for it, or if three code units may not stay free.
 #[inline(always)]
+#[tactic(auto, using(crate::proofs::WrittenRuns::no_bytes, crate::proofs::JoinedRuns::reads_written, crate::proofs::Turns::one_turn))]
 pub fn read_one<F: Forms, T: Destination>(forms: &F, src: &[u8], dst: &mut T) -> usize
     requires { F.ready forms.now }
     ensures { ReadsAhead T.Destination (new_state (F.grammar forms.now)) src.now result
@@ -142,6 +143,7 @@ fn read_wide_blocks<T: Destination>(src: &[u8], dst: &mut T) -> (usize, bool)
 
 /// Reads ASCII from the front by short blocks, and returns the number of bytes read, which may be 0.
 #[inline(always)]
+#[tactic(auto, using(std::proofs::lemmas::Grind::common_steps, crate::proofs::JoinedRuns::reads_front, crate::proofs::WrittenRuns::writes_ascii))]
 fn read_short_blocks<T: Destination>(src: &[u8], dst: &mut T) -> usize
     ensures read { result ≤ length src.now }
     ensures ahead { (grammar : Grammar) → HasAscii grammar

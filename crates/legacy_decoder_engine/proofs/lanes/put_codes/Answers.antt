@@ -1,6 +1,5 @@
-use Rattle.std.proofs.Common.{◌≡◌, ◌*◌, ◌+◌, ◌/◌, ◌≤◌, length, drop, arith}
-use Rattle.std.proofs.lemmas.List.{length-drop}
-use Rattle.legacy_decoder_engine.proofs.LaneUnits.{all_scalars, few_units, forms_from, lanes_from, more_written, none_written, units_written}
+use Rattle.std.proofs.Common.{◌*◌, ◌+◌, ◌/◌, ◌≤◌, drop, arith}
+use Rattle.legacy_decoder_engine.proofs.LaneUnits.{all_scalars, few_units, lanes_from, next_written, none_written}
 use Rattle.legacy_decoder_engine.proofs.lanes.put_codes.Goals as goal
 
 pub returns-then-entries-eq0-clause-writes : goal.returns-then-entries-eq0-clause-writes
@@ -32,32 +31,20 @@ put_first-requires-clause-scalars g c =
 
 pub returns-clause-writes : goal.returns-clause-writes
 returns-clause-writes g c =
-    let T = g.T.Destination in
-    let grammar = g.C.LaneCodec.grammar c.args.tables.now.flat in
     let at = 8 * c.put_groups-at.result in
     let all = 8 * ((c.args.most + 7) / 8) in
     let codes = c.args.codes.now in
-    let kept = c.split_codes.new.codes in
-    let places = c.split_codes.new.places in
     let few = c.min-few.result in
-    let units = c.units_of-units.result in
     let e = c.put_first.ensures in
-    let long : length units ≡ 8 = omega (arith, c.units_of-units.type_inv) in
     let some : few ≤ 8 = omega (arith, c.min-few.ensures, c.known_count.ensures.most) in
     let below : at + 8 ≤ all = omega (arith, c.put_groups-at.ensures.most, c.min-groups.ensures, c.if-at-most.false) in
-    let room : all ≤ length kept = omega (arith, c.requires.codes, c.split_codes.auto.codes) in
     let most : 8 * c.min-groups.result ≤ all = omega (arith, c.min-groups.ensures) in
-    let here =
-    lanes_from g.C.LaneCodec.place at 8 all codes kept places below room (omega (arith, c.requires.places, c.split_codes.auto.places))
-    c.split_codes.ensures.lanes in
-    let forms =
-    forms_from grammar at few all codes kept units (omega (arith, below, some)) room (λ k h.
-    c.units_of-units.ensures.forms (drop at codes) here k (omega (arith, h, some)) (c.known_count.ensures.known k (omega (arith, h, c.min-few.ensures)))) in
     let before = c.put_groups-at.ensures.writes codes (omega (arith, most, c.requires.codes)) (λ k h. c.split_codes.ensures.lanes k (omega (arith, h, most))) in
-    let next =
-    units_written T few units (omega (arith, long, some)) e.contents e.room e.loan grammar (drop at codes) (drop at kept)
-    (omega (arith, c.requires.codes, below, some, length-drop at codes)) (omega (arith, room, below, some, length-drop at kept)) forms in
-    more_written T grammar codes kept at few before next
+    next_written g.T.Destination _ g.C.LaneCodec.place at few all codes c.split_codes.new.codes c.split_codes.new.places c.units_of-units.result below some
+    c.requires.codes (omega (arith, c.requires.codes, c.split_codes.auto.codes)) (omega (arith, c.requires.places, c.split_codes.auto.places))
+    (omega (arith, c.units_of-units.type_inv)) c.split_codes.ensures.lanes (λ lanes k h.
+    c.units_of-units.ensures.forms (drop at codes) lanes k (omega (arith, h, some)) (c.known_count.ensures.known k (omega (arith, h, c.min-few.ensures))))
+    before e.contents e.room e.loan
 
 pub returns-clause-slack : goal.returns-clause-slack
 returns-clause-slack g c h =

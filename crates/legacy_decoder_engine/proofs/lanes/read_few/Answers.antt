@@ -1,16 +1,9 @@
-use Rattle.std.proofs.{Common.{◌-◌, ◌+◌, length, drop, arith}, lemmas.List.{length-take, length-drop}}
-use Rattle.legacy_base.specs.States.{new_state}
+use Rattle.std.proofs.{Common.{ℕ, arith}, lemmas.List.{length-take, length-drop}}
 use Rattle.legacy_decoder_engine.proofs.{JoinedRuns.reads_more, WrittenRuns.reads_none}
 use Rattle.legacy_decoder_engine.proofs.lanes.read_few.Goals as goal
 
 pub loop-at-init : goal.loop-at-init
-loop-at-init g c = reads_none g.T.Destination (new_state (g.C.LaneCodec.grammar c.args.blocks.now.tables.now.flat)) c.args.src.now c.args.dst.now
-
-pub read_last-requires : goal.read_last-requires
-read_last-requires g c = c.requires
-
-pub read_in_turn-few-requires : goal.read_in_turn-few-requires
-read_in_turn-few-requires g c = c.requires
+loop-at-init g c = reads_none _ _ _ _
 
 pub returns-then-src-at-lt16-clause-ahead : goal.returns-then-src-at-lt16-clause-ahead
 returns-then-src-at-lt16-clause-ahead g c = reads_more (reads_more c.loop-at.invariant (c.read_ascii-ascii.ensures.ahead _ c.requires)) c.read_last.ensures
@@ -34,7 +27,4 @@ pub loop-at-preserved : goal.loop-at-preserved
 loop-at-preserved g c = reads_more (reads_more c.loop-at.invariant (c.read_ascii-ascii.ensures.ahead _ c.requires)) c.read_in_turn-few.ensures
 
 pub loop-at-smaller : goal.loop-at-smaller
-loop-at-smaller g c =
-    let src = c.args.src.now in
-    let front = c.loop-at.at + c.read_ascii-ascii.result in
-    omega (arith, c.if-few-eq0.false, c.read_in_turn-few.ensures.within, length-take (length src - front) (drop front src), length-drop front src)
+loop-at-smaller g c = omega (arith, c.if-few-eq0.false, c.read_in_turn-few.ensures.within, length-take {A = ℕ}, length-drop {A = ℕ})

@@ -1,11 +1,10 @@
-use Rattle.std.proofs.{Common.{◌≡◌, ◌<◌, ◌≤◌, ◌∙◌, length, take, ap, sym, subst, arith}, lemmas.List.length-take}
-use Rattle.legacy_decoder_engine.specs.{ReadAhead.{Writes}, PickedForms.forms_of}
+use Rattle.std.proofs.{Common.{◌≡◌, ◌<◌, ◌≤◌, ◌∙◌, length, take, ap, arith}, lemmas.List.length-take}
+use Rattle.legacy_decoder_engine.specs.{PickedForms.forms_of}
 use Rattle.legacy_decoder_engine.proofs.{JoinedRuns.reads_front, LaneUnits.front_forms}
 use Rattle.legacy_decoder_engine.proofs.lanes.read_front.Goals as goal
 
 pub returns-then-done-count-clause-ahead : goal.returns-then-done-count-clause-ahead
 returns-then-done-count-clause-ahead g c =
-    let grammar = g.C.LaneCodec.grammar c.args.tables.now.flat in
     let p = c.pick_blocks-count in
     let e = c.put_codes-done.ensures in
     let src = c.args.src.now in
@@ -15,12 +14,11 @@ returns-then-done-count-clause-ahead g c =
     let bytes : c.byte_total.result ≡ length forms = omega (arith, e.writes.counted, c.byte_total.ensures) in
     let read : take c.byte_total.result src ≡ forms = ap (λ n. take n src) bytes ∙ front in
     let within : c.byte_total.result ≤ length src = omega (arith, bytes, ap length front, length-take (length forms) src) in
-    reads_front within (subst (λ l. Writes g.T.Destination grammar l c.args.dst.now c.put_codes-done.new.dst) (sym read) e.writes.writes)
+    reads_front within (rw read e.writes.writes)
     (λ h. e.slack (omega (arith, h, c.byte_total.ensures))) (λ h. e.had (omega (arith, h, c.byte_total.ensures)))
 
 pub returns-clause-ahead : goal.returns-clause-ahead
 returns-clause-ahead g c =
-    let grammar = g.C.LaneCodec.grammar c.args.tables.now.flat in
     let p = c.pick_blocks-count in
     let e = c.put_codes-done.ensures in
     let src = c.args.src.now in
@@ -28,5 +26,5 @@ returns-clause-ahead g c =
     let read : forms_of (take c.put_codes-done.result p.new.codes) ≡ take p.result.1 src = ap (λ n. forms_of (take n p.new.codes)) done ∙ p.ensures.forms in
     let some : 0 < p.result.1 → 0 < c.put_codes-done.result =
     λ h. omega (arith, h, e.writes.counted, ap length read, length-take p.result.1 src, p.ensures.read) in
-    reads_front p.ensures.read (subst (λ l. Writes g.T.Destination grammar l c.args.dst.now c.put_codes-done.new.dst) read e.writes.writes)
+    reads_front p.ensures.read (rw (← read) e.writes.writes)
     (λ h. e.slack (some h)) (λ h. e.had (some h))

@@ -1,5 +1,4 @@
-use Rattle.std.proofs.{Common.{◌-◌, [], ◌∷◌, take, subst, sym, drop, length, length-drop, arith}, lemmas.List.length-take}
-use Rattle.legacy_decoder_engine.specs.ReadAhead.{HasAscii, Runs}
+use Rattle.std.proofs.{Common.{ℕ, ◌-◌, take, drop, length, length-drop, arith}, lemmas.List.length-take}
 use Rattle.legacy_decoder_engine.proofs.WrittenRuns.{writes_none, writes_put, writes_run, four_fit}
 use Rattle.legacy_decoder_engine.proofs.lanes.read_last.Goals as goal
 
@@ -9,7 +8,7 @@ loop-at-init g c =
     (omega arith, writes_none g.T.Destination grammar c.args.dst.now, λ h. absurd (omega arith), λ h. absurd (omega arith))
 
 pub form_at-requires-clause-ascii : goal.form_at-requires-clause-ascii
-form_at-requires-clause-ascii g c = subst (λ flat. HasAscii (g.C.LaneCodec.grammar flat)) (sym c.copied-tables.ensures) c.requires
+form_at-requires-clause-ascii g c = rw c.copied-tables.ensures c.requires
 
 pub put-requires : goal.put-requires
 put-requires g c = four_fit g.T.Destination.form c.in-Some.scalar _ (omega (arith, c.free.ensures, c.if-free-ge7.true))
@@ -22,12 +21,10 @@ loop-at-preserved g c =
     let i = c.loop-at.invariant in
     let e = c.put.ensures in
     let form = c.in-Some.ensures in
-    let l = length-take (length src - at) (drop at src) in
-    let d = length-drop at src in
     let bytes = take c.in-Some.length (take (length src - at) (drop at src)) in
-    let runs = subst (λ flat. Runs (g.C.LaneCodec.grammar flat) bytes (c.in-Some.scalar ∷ [])) c.copied-tables.ensures form.2 in
+    let runs = rw c.copied-tables.ensures at form.2 in
     let small = four_fit T.form c.in-Some.scalar 4 (omega arith) in (
-      omega (arith, i.0, form.1, l, d),
+      omega (arith, i.0, form.1, length-take {A = ℕ}, length-drop {A = ℕ}),
       writes_run T src at c.in-Some.length i.1 (writes_put T bytes c.in-Some.scalar runs e.contents e.room e.loan),
       λ h. omega (arith, c.free.ensures, c.if-free-ge7.true, e.room, small),
       λ h. omega (arith, c.free.ensures, c.if-free-ge7.true, i.1.room),

@@ -1,20 +1,18 @@
-use Rattle.std.proofs.{Common.{◌-◌, length, drop, arith}, lemmas.List.{length-take, length-drop}}
-use Rattle.legacy_base.specs.States.{new_state}
+use Rattle.std.proofs.{Common.{ℕ, arith}, lemmas.List.{length-take, length-drop}}
 use Rattle.legacy_decoder_engine.proofs.{JoinedRuns.reads_more, WrittenRuns.reads_none}
 use Rattle.legacy_decoder_engine.proofs.lanes.read_short.Goals as goal
 
 pub loop-codes-init : goal.loop-codes-init
-loop-codes-init g c = reads_none g.T.Destination (new_state (g.C.LaneCodec.grammar c.args.tables.now.flat)) c.args.src.now c.args.dst.now
+loop-codes-init g c = reads_none _ _ _ _
 
 pub loop-codes-smaller : goal.loop-codes-smaller
 loop-codes-smaller g c =
-    let at = c.loop-codes.at in
     omega (
       arith,
       c.read_front-read.ensures.goes_on c.if-not-goes_on.false,
       c.read_front-read.ensures.ahead.within,
-      length-take (length c.args.src.now - at) (drop at c.args.src.now),
-      length-drop at c.args.src.now,
+      length-take {A = ℕ},
+      length-drop {A = ℕ},
     )
 
 pub loop-codes-preserved : goal.loop-codes-preserved

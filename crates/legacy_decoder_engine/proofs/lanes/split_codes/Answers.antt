@@ -38,8 +38,3 @@ returns-clause-lanes g c k h =
     let i = c.loop-group.invariant in
     let below : k < 8 * c.loop-group.group = omega (arith, h, c.loop-group-test.false) in
     rw (i.keeps k below, i.finds k below) (lane_is g.C.LaneCodec.place c.args.last (get_or c.args.codes.now k 0) (i.small k below))
-
-pub returns-clause-within : goal.returns-clause-within
-returns-clause-within g c k h =
-    let below : k < 8 * c.loop-group.group = omega (arith, h, c.loop-group-test.false) in
-    omega (arith, c.loop-group.invariant.finds k below)

@@ -1,6 +1,6 @@
 use Rattle.std.proofs.Common.{arith}
 use Rattle.legacy_decoder_engine.specs.PickedForms.{code_at}
-use Rattle.legacy_decoder_engine.proofs.Picking.{next_eight, no_more}
+use Rattle.legacy_decoder_engine.proofs.Picking.{next_eight}
 use Rattle.legacy_decoder_engine.proofs.picks.pick.Goals as goal
 
 pub loop-group-preserved : goal.loop-group-preserved
@@ -13,6 +13,3 @@ loop-group-preserved c =
       picked = next_eight (code_at c.args.block.now) l.group l.left l.at c.put_codes-at.result l.codes c.put_codes-at.new.codes _
           (omega arith) i.picked c.put_codes-at.ensures.written;
     }
-
-pub returns-clause-written : goal.returns-clause-written
-returns-clause-written c = grind (arith, no_more)

@@ -1,31 +1,22 @@
-use Rattle.std.proofs.{Common.{◌-◌, length, drop, arith}, lemmas.List.{length-take, length-drop}}
-use Rattle.legacy_base.specs.States.{new_state}
+use Rattle.std.proofs.{Common.{ℕ, arith}, lemmas.List.{length-take, length-drop}}
 use Rattle.legacy_decoder_engine.proofs.{JoinedRuns.{reads_ascii, reads_more}, WrittenRuns.reads_none}
 use Rattle.legacy_decoder_engine.proofs.read_ahead.read_wide_blocks.Goals as goal
 
 pub loop-at-init : goal.loop-at-init
-loop-at-init g c = (omega arith, λ grammar law. reads_none g.T.Destination (new_state grammar) c.args.src.now c.args.dst.now)
+loop-at-init g c = (omega arith, λ grammar law. reads_none _ _ _ _)
 
 pub returns-then-count-lt64-clause-ahead : goal.returns-then-count-lt64-clause-ahead
 returns-then-count-lt64-clause-ahead g c grammar law =
-    let src = c.args.src.now in
-    let at = c.loop-at.at in
     let e = c.put_front-count.ensures in
-    let l = length-take (length src - at) (drop at src) in
-    let d = length-drop at src in
     reads_more (c.loop-at.invariant.1 grammar law)
-    (reads_ascii law (omega (arith, e.read, l, d, c.loop-at-test.true)) e.ascii e.contents e.room e.loan
+    (reads_ascii law (omega (arith, e.read, length-take {A = ℕ}, length-drop {A = ℕ}, c.loop-at-test.true)) e.ascii e.contents e.room e.loan
     (λ h. omega (arith, e.room, e.read, c.free.ensures, c.if-free-ge67.true)))
 
 pub loop-at-preserved : goal.loop-at-preserved
 loop-at-preserved g c =
-    let src = c.args.src.now in
-    let at = c.loop-at.at in
-    let e = c.put_front-count.ensures in
-    let l = length-take (length src - at) (drop at src) in
-    let d = length-drop at src in (
-      omega (arith, e.read, l, d, c.loop-at-test.true, c.loop-at.invariant.0),
+    let e = c.put_front-count.ensures in (
+      omega (arith, e.read, length-take {A = ℕ}, length-drop {A = ℕ}, c.loop-at-test.true, c.loop-at.invariant.0),
       λ grammar law. reads_more (c.loop-at.invariant.1 grammar law)
-          (reads_ascii law (omega (arith, e.read, l, d, c.loop-at-test.true)) e.ascii e.contents e.room e.loan
+          (reads_ascii law (omega (arith, e.read, length-take {A = ℕ}, length-drop {A = ℕ}, c.loop-at-test.true)) e.ascii e.contents e.room e.loan
           (λ h. omega (arith, e.room, e.read, c.free.ensures, c.if-free-ge67.true))),
     )

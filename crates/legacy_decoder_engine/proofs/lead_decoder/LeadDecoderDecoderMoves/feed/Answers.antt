@@ -7,6 +7,3 @@ returns-in-Some g c =
     let byte : c.args.byte < 2 ^ 8 = omega arith in
     let laws = g.met.C.LeadCodec in
     rw c.in-Some.is (feeds laws.codec laws.leads c.args.self.now.tables.now (Some c.in-Some.lead) c.args.byte byte c.read_pair.result None c.read_pair.ensures)
-
-pub returns-in-None : goal.returns-in-None
-returns-in-None g c = grind (arith, feeds)

@@ -1,14 +1,9 @@
 use Rattle.std.proofs.Common.{◌∙◌, sym}
-use Rattle.legacy_decoder_engine.specs.LeadCodecs.{lead_state}
 use Rattle.legacy_decoder_engine.proofs.{JoinedRuns.reads_idle, LeadHeld.idle, WrittenRuns.reads_none}
 use Rattle.legacy_decoder_engine.proofs.lead_decoder.LeadDecoderDecoderMoves.read_runs.Goals as goal
 
 pub returns-then-is_some : goal.returns-then-is_some
-returns-then-is_some g c =
-    record {
-      runs = reads_none g.T.Destination
-          (lead_state g.C.LaneCodec.grammar g.C.LeadCodec.byte_of c.args.self.now.tables.now c.args.self.now.held) c.args.src.now c.args.dst.now;
-    }
+returns-then-is_some g c = record { runs = reads_none _ _ _ _ }
 
 pub returns-in-None : goal.returns-in-None
 returns-in-None g c =
