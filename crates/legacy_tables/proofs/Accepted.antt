@@ -1,17 +1,17 @@
 -- Facts about indexes and single-byte tables that passed their check.
 use Rattle.std.proofs.Common.{◌≡◌, ◌≢◌, ◌∙◌, ◌⊎◌, ℕ, zero, suc, ◌+◌, ◌-◌, ◌≤◌, ◌<◌, List, [], ◌∷◌, length, get_or, add-one, refl, inl, inr, sym, arith, Some}
-use Rattle.std.proofs.{Common.{None, Option, true, false, Bool, not, cond, eq-eqb, nat_le, nat_lt, subst, ◌==◌}, lemmas.Bool.{and_parts, cases_eq, ne_eqb}}
-use Rattle.std.proofs.{lemmas.Bool.{eqb-false, not-false}, lemmas.Option.{cond_some, same_Some}, lemmas.Bool.Decides.nat_tests, lemmas.List.Elements.All-nil}
-use Rattle.std.proofs.{lemmas.List.Elements.All-cons, lemmas.List.Sorted.IsNonDecreasingBy-from_all_adjacent}
+use Rattle.std.proofs.{Common.{None, Option, true, false, Bool, ◌&&◌, not, cond, eq-eqb, nat_le, nat_lt, subst, ◌==◌}, lemmas.Bool.{and_parts, cases_eq, ne_eqb}}
+use Rattle.std.proofs.{lemmas.Bool.{eqb-false, not-false}, lemmas.Option.{cond_some, same_Some}, lemmas.Bool.Decides.nat_tests, lemmas.List.get_or_default}
+use Rattle.std.proofs.lemmas.List.Sorted.{IsNonDecreasingBy-from_all_adjacent}
 use Rattle.std.specs.{List.{All, AllAdjacentBelow}, Char.IsScalar, Option.option_or, Int.is_in_range, List.Sorted.IsNonDecreasingBy}
 use borrow.Author.Tests.{ltb-false, ltb-true, leb-true, leb-false, le-leb, lt-leb}
 use Rattle.legacy_tables.specs.{declared.tables.IndexName.IndexName, declared.tables.TableError.TableError, declared.tables.TableError.TheVariants.TooLong}
 use Rattle.legacy_tables.specs.declared.tables.TableError.TheVariants.{BadEntry, NotEmpty, KatakanaLength, RangeOrder, RangeValue}
 use Rattle.legacy_tables.specs.{declared.tables.packed.PackedPart.PackedPart, Indexes.{FlatIndexes, entry_scalar, idx, range, last_range_scalar}}
 use Rattle.legacy_tables.specs.{Walks.order_index, Unicode.AreScalars, Tables.{index_list, is_narrow_index}, TableChecks.{is_entry, must_be_empty, entry_fault}}
-use Rattle.legacy_tables.specs.TableChecks.{entries_fault, index_fault, katakana_fault, range_order_fault, AreAccepted, next_pointer, has_range_scalars}
+use Rattle.legacy_tables.specs.TableChecks.{entries_fault, index_fault, katakana_fault, range_order_fault, follows_range, AreAccepted, next_pointer, has_range_scalars}
 use Rattle.legacy_tables.specs.TableChecks.{range_value_fault, rows_fault, table_fault}
-use Rattle.legacy_tables.proofs.FirstPlaces.{taken}
+use Rattle.legacy_tables.proofs.FirstPlaces.{taken, each-fine}
 use Rattle.legacy_tables.specs.declared.tables.IndexName.TheVariants as names
 
 -- ---- no fault of two parts, and of a test
@@ -83,15 +83,6 @@ entry_has P entry test fault other at_zero good e = elim (cases_eq entry 0) [
   | inr some ↦ good (not-false test (untaken (not test) fault other (rw (ne_eqb entry 0 some) at e)).0)
 ]
 
-pub all_entries : (P : ℕ → Type 0) (name : IndexName) → P 0 → ((e : ℕ) → is_entry name e ≡ true → P e) → (place : ℕ) (index : List ℕ)
-    → entries_fault name place index ≡ None → All P index
-unfolding entries_fault
-all_entries P name at_zero good place [] e = All-nil P
-all_entries P name at_zero good place (x ∷ xs) e =
-    let h = or_none (entry_fault name place x) _ e in
-    All-cons P x xs (entry_has P x (is_entry name x) (BadEntry name place) _ at_zero (good x) h.0)
-    (all_entries P name at_zero good (place + 1) xs h.1)
-
 -- each of the entries without a fault has none, and 0 has none
 pub entry_at : (name : IndexName) (place : ℕ) (index : List ℕ) → entries_fault name place index ≡ None → (k : ℕ)
     → entry_fault name (place + k) (get_or index k 0) ≡ None
@@ -105,6 +96,11 @@ entry_at name place (x ∷ xs) e (suc k) =
     let h = or_none (entry_fault name place x) _ e in
     let same : (place + 1) + k ≡ place + suc k = omega arith in
     rw same at (entry_at name (place + 1) xs h.1 k)
+
+pub all_entries : (P : ℕ → Type 0) (name : IndexName) → P 0 → ((e : ℕ) → is_entry name e ≡ true → P e) → (place : ℕ) (index : List ℕ)
+    → entries_fault name place index ≡ None → All P index
+all_entries P name at_zero good place index e = λ k d h.
+    rw (get_or_default index k d 0 h) (entry_has P _ (is_entry name _) (BadEntry name _) _ at_zero (good _) (entry_at name place index e k))
 
 allowed-scalar : (name : IndexName) (e : ℕ) → is_entry name e ≡ true → IsScalar e
 allowed-scalar name e h = grind (arith, nat_tests)
@@ -149,9 +145,6 @@ module _ (flat : FlatIndexes) (accepted : AreAccepted flat) where
   pub gb18030-scalars : AreScalars flat.gb18030
   gb18030-scalars = index-scalars names.Gb18030
 
-  pub katakana-scalars : AreScalars flat.katakana
-  katakana-scalars = index-scalars names.Katakana
-
   pub euc_kr-below : All (λ c. c < 0x1_0000) flat.euc_kr
   euc_kr-below = (narrow_index names.EucKr refl).0
 
@@ -191,39 +184,32 @@ module _ (flat : FlatIndexes) (accepted : AreAccepted flat) where
 
 -- ---- accepted ranges
 
--- pointers and scalars rise together, and pointers do not rise by more
-pub climb : (place : ℕ) (before : Option (ℕ × ℕ)) (ranges : List (ℕ × ℕ)) → range_order_fault place before ranges ≡ None →
-    AllAdjacentBelow (λ r s. (r.0 < s.0) × (r.1 + (s.0 - r.0) ≤ s.1)) ranges (length ranges)
+range_step : (place : ℕ) (before : Option (ℕ × ℕ)) (r : ℕ × ℕ) (ranges : List (ℕ × ℕ)) → range_order_fault place before (r ∷ ranges) ≡ None
+    → ((nat_le r.0 39419 && follows_range before r) ≡ true) × (range_order_fault (place + 1) (Some r) ranges ≡ None)
 unfolding range_order_fault
-climb place before [] e k d h = absurd (omega arith)
-climb place before (r ∷ []) e k d h = absurd (omega arith)
-climb place before (r ∷ s ∷ ranges) e zero d h =
-    let t = taken _ (RangeOrder place) (range_order_fault (place + 1) (Some r) (s ∷ ranges)) e in
-    let next = taken _ (RangeOrder (place + 1)) (range_order_fault (place + 1 + 1) (Some s) ranges) t.1 in
-    let b = and_parts (nat_lt r.0 s.0) _ (and_parts _ _ next.0).1 in
-    (ltb-true r.0 s.0 b.0, leb-true _ s.1 b.1)
-climb place before (r ∷ s ∷ ranges) e (suc k) d h =
-    let t = taken _ (RangeOrder place) (range_order_fault (place + 1) (Some r) (s ∷ ranges)) e in
-    rw (add-one (suc k)) (rw (add-one k) at (climb (place + 1) (Some r) (s ∷ ranges) t.1 k d (omega arith)))
-
--- each range starts at 39419 or before
-pub started_by : (place : ℕ) (before : Option (ℕ × ℕ)) (ranges : List (ℕ × ℕ)) → range_order_fault place before ranges ≡ None
-    → (k : ℕ) → k < length ranges → (get_or ranges k (0, 0)).0 ≤ 39419
-unfolding range_order_fault
-started_by place before [] e k h = absurd (omega arith)
-started_by place before (r ∷ ranges) e zero h =
-    leb-true r.0 39419 (and_parts _ _ (taken _ (RangeOrder place) (range_order_fault (place + 1) (Some r) ranges) e).0).0
-started_by place before (r ∷ ranges) e (suc k) h =
-    started_by (place + 1) (Some r) ranges (taken _ (RangeOrder place) (range_order_fault (place + 1) (Some r) ranges) e).1 k (omega arith)
+range_step place before r ranges e = taken _ (RangeOrder place) _ e
 
 module _ (ranges : List (ℕ × ℕ)) (ordered : range_order_fault 0 None ranges ≡ None) where
+  -- each range starts at 39419 or before
+  pub started_by : (k : ℕ) → k < length ranges → (get_or ranges k (0, 0)).0 ≤ 39419
+  started_by k h =
+      leb-true _ 39419 (and_parts _ _ (each-fine range_order_fault (λ before r. (nat_le r.0 39419 && follows_range before r) ≡ true) (λ r. Some r)
+      range_step 0 None ranges ordered k (0, 0) h)).0
+
+  -- pointers and scalars rise together, and pointers do not rise by more
+  pub climb : AllAdjacentBelow (λ r s. (r.0 < s.0) × (r.1 + (s.0 - r.0) ≤ s.1)) ranges (length ranges)
+  climb k d h =
+      let fine = each-fine range_order_fault (λ before r. (nat_le r.0 39419 && follows_range before r) ≡ true) (λ r. Some r)
+      range_step 0 None ranges ordered (suc k) d (omega arith) in
+      let b = and_parts _ _ (and_parts _ _ fine).1 in
+      rw (add-one k) (ltb-true _ _ b.0, leb-true _ _ b.1)
+
   pub rising : IsNonDecreasingBy (λ r. r.0) ranges
-  rising = IsNonDecreasingBy-from_all_adjacent (λ r. r.0) ranges (λ k d h. let up = (climb 0 None ranges ordered k d h).0 in omega arith)
+  rising = IsNonDecreasingBy-from_all_adjacent (λ r. r.0) ranges (λ k d h. let up = (climb k d h).0 in omega arith)
 
   pub rising_scalars : IsNonDecreasingBy (λ r. r.1) ranges
   rising_scalars =
-      IsNonDecreasingBy-from_all_adjacent (λ r. r.1) ranges
-      (λ k d h. let low = (climb 0 None ranges ordered k d h).0 in let high = (climb 0 None ranges ordered k d h).1 in omega arith)
+      IsNonDecreasingBy-from_all_adjacent (λ r. r.1) ranges (λ k d h. let low = (climb k d h).0 in let high = (climb k d h).1 in omega arith)
 
 -- the last range that starts at or before p, at place n
 pub record IsGiven (ranges : List (ℕ × ℕ)) (p n : ℕ) : Type 0 where

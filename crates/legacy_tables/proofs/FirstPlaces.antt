@@ -1,5 +1,5 @@
 -- The first and the last number of a range of numbers that passes a test.
-use Rattle.std.proofs.Common.{◌≡◌, ◌∙◌, ℕ, zero, suc, ◌+◌, ◌-◌, ◌≤◌, ◌<◌, List, length, get_or, Option, Some, None, true, false, Bool, ◌||◌, cond, arith, refl}
+use Rattle.std.proofs.Common.{◌≡◌, ◌∙◌, ℕ, zero, suc, ◌+◌, ◌-◌, ◌≤◌, ◌<◌, List, [], ◌∷◌, length, get_or, Option, Some, None, true, false, Bool, ◌||◌, cond, arith, refl}
 use Rattle.std.proofs.{Common.{sym, ap, inl, inr, find, subst}, lemmas.Bool.{cases_lt, false_from_ne_true}, lemmas.List.Folds.find_at}
 use Rattle.std.proofs.{lemmas.List.FromFn.{get_or-range_with_len, length-range_with_len}, lemmas.List.Sums.{position_or_len_is, fails_before_first}}
 use Rattle.std.proofs.{lemmas.List.Sums.passes_at_first, lemmas.Option.{slice_get-get_or, slice_get_past, slice_get_within, get_or_from_slice_get}}
@@ -10,6 +10,21 @@ use Rattle.legacy_tables.specs.Pointers.{last_below}
 pub taken : {A : Type 0} (t : Bool) (fault : A) (a : Option A) → cond t a (Some fault) ≡ None → (t ≡ true) × (a ≡ None)
 taken true fault a e = (refl, e)
 taken false fault a e = cc
+
+-- ---- a check of a list that compares each item with a value made of the one before it
+
+module _ {A S Y : Type 0} (fault : ℕ → S → List A → Option Y) (Fine : S → A → Type 0) (next : A → S)
+    (step : (place : ℕ) (s : S) (x : A) (xs : List A) → fault place s (x ∷ xs) ≡ None → Fine s x × (fault (place + 1) (next x) xs ≡ None)) where
+  -- the value with which the item at a place is compared
+  abbrev pub carried : S → List A → ℕ → A → S
+  carried s xs zero d = s
+  carried s xs (suc k) d = next (get_or xs k d)
+
+  pub each-fine : (place : ℕ) (s : S) (xs : List A) → fault place s xs ≡ None → (k : ℕ) (d : A) → k < length xs → Fine (carried s xs k d) (get_or xs k d)
+  each-fine place s [] e k d h = absurd (omega arith)
+  each-fine place s (x ∷ xs) e zero d h = (step place s x xs e).0
+  each-fine place s (x ∷ xs) e (suc zero) d h = each-fine (place + 1) (next x) xs (step place s x xs e).1 zero d (omega arith)
+  each-fine place s (x ∷ xs) e (suc (suc k)) d h = each-fine (place + 1) (next x) xs (step place s x xs e).1 (suc k) d (omega arith)
 
 -- ---- the first item of a list that passes a test
 

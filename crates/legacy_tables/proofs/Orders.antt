@@ -3,11 +3,12 @@ use Rattle.std.proofs.Common.{◌≡◌, ◌≢◌, ◌∙◌, ℕ, zero, suc, �
 use Rattle.std.proofs.{Common.{Option, true, false, find, Bool, cond, eq-eqb, ◌==◌, nat_lt, not, inl, inr, drop, drop-cons, add-one}, lemmas.Bool.cases_lt}
 use Rattle.std.proofs.{lemmas.Bool.{cases_eq, ne_eqb, eqb-true, and_parts, not-false, not_from_false, false_from_ne_true}, lemmas.List.get_or_default}
 use Rattle.std.proofs.{lemmas.List.Folds.{list_any_at, Any-from_list_any}, lemmas.Option.same_Some, Math.ListN.drop_of_length-le}
+use Rattle.std.proofs.lemmas.List.Sorted.{IsNonDecreasingBy-from_all_adjacent}
 use Rattle.std.specs.{List.list_any, List.Sorted.IsNonDecreasingBy}
 use borrow.Author.Tests.{ltb-true, ltb-false}
 use Rattle.legacy_tables.specs.{declared.tables.packed.PackedPart.PackedPart, Orders.{IsLookup, IsOrder, RisesBy, order_pointer}, Packed.{may_use, pointer_of}}
 use Rattle.legacy_tables.specs.Packed.{takes_last, is_pointer_in_order, order_fault_from, order_fault, is_lacking, order_difference}
-use Rattle.legacy_tables.proofs.{FirstPlaces.{taken, find-at, find-absent, find-place, find-none-at}, Pointers.{first-least, taken-within}}
+use Rattle.legacy_tables.proofs.{FirstPlaces.{taken, carried, each-fine, find-at, find-absent, find-place, find-none-at}, Pointers.{first-least, taken-within}}
 use Rattle.legacy_tables.proofs.PackedPointers.{pointer-taken, pointer-same}
 
 -- ---- the order, as a loop reads it
@@ -30,31 +31,12 @@ module _ (part : PackedPart) (index : List ℕ) where
   abbrev IsAbove : ℕ → ℕ → Type 0
   IsAbove above q = (may_use part q ≡ true) × (above < slice_index index q)
 
-  in_order : (above p : ℕ) → is_pointer_in_order part index above p ≡ true → IsAbove above p
-  in_order above p e = let b = and_parts (may_use part p) _ e in (b.0, ltb-true above (slice_index index p) b.1)
-
-  each_above : (place above : ℕ) (order : List ℕ) → order_fault_from part index place above order ≡ None
-      → (i : ℕ) → i < length order → IsAbove above (get_or order i 0)
+  step : (place above p : ℕ) (order : List ℕ) → order_fault_from part index place above (p ∷ order) ≡ None
+      → IsAbove above p × (order_fault_from part index (place + 1) (slice_index index p) order ≡ None)
   unfolding order_fault_from
-  each_above place above [] e i h = absurd (omega arith)
-  each_above place above (p ∷ order) e zero h =
-      in_order above p (taken _ place (order_fault_from part index (place + 1) (slice_index index p) order) e).0
-  each_above place above (p ∷ order) e (suc i) h =
-      let t = taken (is_pointer_in_order part index above p) place (order_fault_from part index (place + 1) (slice_index index p) order) e in
-      let next = each_above (place + 1) (slice_index index p) order t.1 i (omega arith) in
-      (next.0, let low = (in_order above p t.0).1 in let high = next.1 in omega arith)
-
-  rising_from : (place above : ℕ) (order : List ℕ) → order_fault_from part index place above order ≡ None → (i j : ℕ) → i < j → j < length order
-      → slice_index index (get_or order i 0) < slice_index index (get_or order j 0)
-  unfolding order_fault_from
-  rising_from place above [] e i j h l = absurd (omega arith)
-  rising_from place above (p ∷ order) e i zero h l = absurd (omega arith)
-  rising_from place above (p ∷ order) e zero (suc j) h l =
-      (each_above (place + 1) (slice_index index p) order (taken _ place (order_fault_from part index (place + 1) (slice_index index p) order) e).1
-      j (omega arith)).1
-  rising_from place above (p ∷ order) e (suc i) (suc j) h l =
-      rising_from (place + 1) (slice_index index p) order (taken _ place (order_fault_from part index (place + 1) (slice_index index p) order) e).1
-      i j (omega arith) (omega arith)
+  step place above p order e =
+      let t = taken _ place (order_fault_from part index (place + 1) (slice_index index p) order) e in
+      let b = and_parts (may_use part p) _ t.0 in ((b.0, ltb-true above (slice_index index p) b.1), t.1)
 
 -- the place of a pointer that the order contains
 place_of : (order : List ℕ) (q : ℕ) → list_any (λ r. q == r) order ≡ true → (i : ℕ) × (i < length order) × (get_or order i 0 ≡ q)
@@ -97,12 +79,27 @@ module _ (index order : List ℕ) (rises : RisesBy index order) (c : ℕ) where
       ]))
 
 module _ (part : PackedPart) (index order : List ℕ) (none : order_fault part index order ≡ None) where
+  fine : (k : ℕ) → k < length order → IsAbove part index (carried (order_fault_from part index) (IsAbove part index) (slice_index index) (step part index)
+      0 order k 0) (get_or order k 0)
+  fine k h = each-fine (order_fault_from part index) (IsAbove part index) (slice_index index) (step part index) 0 0 order none k 0 h
+
   -- an order without a fault rises
   pub order-rises : RisesBy index order
-  order-rises = record { above = rising_from part index 0 0 order none }
+  order-rises = record {
+    above = λ i j h l.
+        let first = (fine (suc i) (omega arith)).1 in
+        let rest = IsNonDecreasingBy-from_all_adjacent (λ p. slice_index index p) order (λ k d m.
+        let up = (each-fine (order_fault_from part index) (IsAbove part index) (slice_index index) (step part index) 0 0 order none (suc k) d (omega arith)).1 in
+        rw (add-one k) (omega arith)) (suc i) j 0 (omega arith) l in
+        omega arith;
+  }
+
+  each_above : (k : ℕ) → k < length order → IsAbove part index 0 (get_or order k 0)
+  each_above zero h = fine zero h
+  each_above (suc k) h = let f = fine (suc k) h in let low = f.1 in (f.0, omega arith)
 
   member : (q : ℕ) → list_any (λ r. q == r) order ≡ true → IsAbove part index 0 q
-  member q h = let at = place_of order q h in subst (IsAbove part index 0) at.2 (each_above part index 0 0 order none at.0 at.1)
+  member q h = let at = place_of order q h in subst (IsAbove part index 0) at.2 (each_above at.0 at.1)
 
   -- a look-up in it returns its pointers
   pub order-lookup : IsLookup part index order (order_pointer index order)

@@ -2,11 +2,12 @@
 use Rattle.std.proofs.Common.{◌≡◌, ◌∙◌, ℕ, zero, suc, ◌+◌, ◌-◌, ◌≤◌, ◌<◌, List, [], ◌∷◌, length, get_or, drop, drop-cons, add-one, refl, sym, ap, arith, Some}
 use Rattle.std.proofs.{Common.{None, true, cond, nat_le, inl, inr}, Math.Bool.and-false, Math.ListN.drop_of_length-le, lemmas.Bool.{and_parts, cases_lt}}
 use Rattle.std.proofs.{lemmas.List.get_or_past, lemmas.List.FromFn.{get_or-map-range_with_len, length-map-range_with_len}}
+use Rattle.std.proofs.lemmas.List.Sorted.{IsNonDecreasingBy-from_all_adjacent}
 use Rattle.std.specs.{List.Sorted.IsNonDecreasingBy, Option.option_map_or}
 use borrow.Author.Tests.{ltb-true, leb-true, le-leb, lt-leb, lt-ltb, le-ltb}
 use Rattle.legacy_tables.specs.{declared.tables.packed.Run.Run, Runs.{run_at, HasPointer, run_end, run_scalar, runs_scalar, runs_entry, runs_end, runs_list}}
 use Rattle.legacy_tables.specs.Runs.{is_run_in_order, run_fault_from, run_fault, AreInOrder, IsFirstBehind}
-use Rattle.legacy_tables.proofs.FirstPlaces.{taken}
+use Rattle.legacy_tables.proofs.FirstPlaces.{taken, each-fine}
 
 -- a run without pointers
 abbrev pub no_run : Run
@@ -41,36 +42,28 @@ in_order before limit run e =
     let c = and_parts _ _ a.1 in
     record { full = ltb-true 0 _ b.0; behind = leb-true before _ b.1; reach = leb-true (run_end run) limit c.0; scalars = leb-true _ 0x11_0000 c.1 }
 
-behind_all : (place before limit : ℕ) (runs : List Run) → run_fault_from place before limit runs ≡ None
-    → (i : ℕ) (d : Run) → i < length runs → IsBehind before limit (get_or runs i d)
+step : (limit place before : ℕ) (run : Run) (runs : List Run) → run_fault_from place before limit (run ∷ runs) ≡ None
+    → IsBehind before limit run × (run_fault_from (place + 1) (run_end run) limit runs ≡ None)
 unfolding run_fault_from
-behind_all place before limit [] e i d h = absurd (omega arith)
-behind_all place before limit (run ∷ runs) e zero d h =
-    in_order before limit run (taken _ place (run_fault_from (place + 1) (run_end run) limit runs) e).0
-behind_all place before limit (run ∷ runs) e (suc i) d h =
-    let t = taken (is_run_in_order before limit run) place (run_fault_from (place + 1) (run_end run) limit runs) e in
-    let first = (in_order before limit run t.0).behind in
-    let next = behind_all (place + 1) (run_end run) limit runs t.1 i d (omega arith) in
-    record { full = next.full; behind = let later = next.behind in omega arith; reach = next.reach; scalars = next.scalars }
-
-rising_ends : (place before limit : ℕ) (runs : List Run) → run_fault_from place before limit runs ≡ None
-    → (i j : ℕ) (d : Run) → i < j → j < length runs → run_end (get_or runs i d) ≤ (get_or runs j d).pointer
-unfolding run_fault_from
-rising_ends place before limit [] e i j d h l = absurd (omega arith)
-rising_ends place before limit (run ∷ runs) e i zero d h l = absurd (omega arith)
-rising_ends place before limit (run ∷ runs) e zero (suc j) d h l =
-    (behind_all (place + 1) (run_end run) limit runs (taken _ place (run_fault_from (place + 1) (run_end run) limit runs) e).1 j d (omega arith)).behind
-rising_ends place before limit (run ∷ runs) e (suc i) (suc j) d h l =
-    rising_ends (place + 1) (run_end run) limit runs (taken _ place (run_fault_from (place + 1) (run_end run) limit runs) e).1 i j d (omega arith) (omega arith)
+step limit place before run runs e =
+    let t = taken _ place (run_fault_from (place + 1) (run_end run) limit runs) e in (in_order before limit run t.0, t.1)
 
 -- runs without a fault are in order
 pub are_in_order : (limit : ℕ) (runs : List Run) → run_fault limit runs ≡ None → AreInOrder limit runs
-are_in_order limit runs e = record {
-  full = λ i d h. (behind_all 0 0 limit runs e i d h).full;
-  reach = λ i d h. (behind_all 0 0 limit runs e i d h).reach;
-  scalars = λ i d h. (behind_all 0 0 limit runs e i d h).scalars;
-  rising = rising_ends 0 0 limit runs e;
-}
+are_in_order limit runs e =
+    let fine = each-fine (λ place before rest. run_fault_from place before limit rest) (λ before run. IsBehind before limit run) run_end
+    (step limit) 0 0 runs e in
+    record {
+      full = λ i d h. (fine i d h).full;
+      reach = λ i d h. (fine i d h).reach;
+      scalars = λ i d h. (fine i d h).scalars;
+      rising = λ i j d h l.
+          let first = (fine (suc i) d (omega arith)).behind in
+          let rest = IsNonDecreasingBy-from_all_adjacent (λ (run : Run). run.pointer) runs (λ k d m.
+          let up = (fine (suc k) d (omega arith)).behind in
+          rw (add-one k) (omega arith)) (suc i) j d (omega arith) l in
+          omega arith;
+    }
 
 -- ---- the first pointers of runs rise
 

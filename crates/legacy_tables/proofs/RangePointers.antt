@@ -92,15 +92,15 @@ module _ (ranges : List (ℕ × ℕ)) (ordered : range_order_fault 0 None ranges
   ends : Ends (next_pointer (drop (place + 1) ranges))
   ends = elim (cases_lt (place + 1) (length ranges)) [
     | inl l ↦ rw (drop-cons ranges (place + 1) (0, 0) l)
-        (record { most = let h = started_by 0 None ranges ordered (place + 1) l in omega arith; next = λ h. refl; last = λ h. absurd (omega arith) })
+        (record { most = let h = started_by ranges ordered (place + 1) l in omega arith; next = λ h. refl; last = λ h. absurd (omega arith) })
     | inr l ↦ rw (drop_of_length-le ranges l) (record { most = omega arith; next = λ h. absurd (omega arith); last = λ h. refl })
   ]
 
   -- a range starts before it ends
   pub starts-before : place < length ranges → (range_at ranges place).0 < next_pointer (drop (place + 1) ranges)
   starts-before within = elim (cases_lt (place + 1) (length ranges)) [
-    | inl l ↦ let next = ends.next l in let up = (climb 0 None ranges ordered place (0, 0) l).0 in omega arith
-    | inr l ↦ let end = ends.last l in let last = started_by 0 None ranges ordered place within in omega arith
+    | inl l ↦ let next = ends.next l in let up = (climb ranges ordered place (0, 0) l).0 in omega arith
+    | inr l ↦ let end = ends.last l in let last = started_by ranges ordered place within in omega arith
   ]
 
   is_given : place < length ranges → (p : ℕ) → (range_at ranges place).0 ≤ p → p < next_pointer (drop (place + 1) ranges) → IsGiven ranges p place
@@ -133,7 +133,7 @@ module _ (ranges : List (ℕ × ℕ)) (ordered : range_order_fault 0 None ranges
       → (k : ℕ) → place < k → k < length ranges → c < (range_at ranges k).1
   begun_ahead c reached before k l h =
       let next = ends.next (omega arith) in
-      let high = (climb 0 None ranges ordered place (0, 0) (omega arith)).1 in
+      let high = (climb ranges ordered place (0, 0) (omega arith)).1 in
       let above = rising_scalars ranges ordered (place + 1) k (0, 0) (omega arith) h in
       omega arith
 
@@ -152,7 +152,7 @@ module _ (ranges : List (ℕ × ℕ)) (ordered : range_order_fault 0 None ranges
     same_place : (q j : ℕ) → IsGiven ranges q j → scalar_of ranges j q ≡ c → j ≡ place
     same_place q j g is = elim (cases_lt j place) [
       | inl l ↦
-          let high = (climb 0 None ranges ordered j (0, 0) (omega arith)).1 in
+          let high = (climb ranges ordered j (0, 0) (omega arith)).1 in
           let before = g.ahead (j + 1) (omega arith) (omega arith) in
           let started = g.started in
           let above = rising_scalars ranges ordered (j + 1) place (0, 0) (omega arith) within in
