@@ -1,12 +1,12 @@
 -- Facts about indexes and single-byte tables that passed their check.
-use Rattle.std.proofs.Common.{◌≡◌, ◌≢◌, ◌∙◌, ◌⊎◌, ℕ, zero, suc, ◌+◌, ◌-◌, ◌≤◌, ◌<◌, List, [], ◌∷◌, length, get_or, add-one, refl, inl, inr, sym, arith, Some}
-use Rattle.std.proofs.{Common.{None, Option, true, false, Bool, ◌&&◌, not, cond, eq-eqb, nat_le, nat_lt, subst, ◌==◌}, lemmas.Bool.{and_parts, cases_eq, ne_eqb}}
-use Rattle.std.proofs.{lemmas.Bool.{eqb-false, not-false}, lemmas.Option.{cond_some, same_Some}, lemmas.Bool.Decides.nat_tests, lemmas.List.get_or_default}
+use Rattle.std.proofs.Common.{◌≡◌, ◌≢◌, ◌⊎◌, ℕ, zero, suc, ◌+◌, ◌-◌, ◌≤◌, ◌<◌, List, [], ◌∷◌, length, get_or, add-one, refl, inl, inr, sym, arith, Some}
+use Rattle.std.proofs.{Common.{None, Option, true, false, Bool, ◌&&◌, not, cond, nat_le, subst, ◌==◌}, lemmas.Bool.{and_parts, cases_eq, ne_eqb}}
+use Rattle.std.proofs.{lemmas.Bool.{not-false}, lemmas.Bool.Decides.nat_tests, lemmas.List.get_or_default}
 use Rattle.std.proofs.lemmas.List.Sorted.{IsNonDecreasingBy-from_all_adjacent}
 use Rattle.std.specs.{List.{All, AllAdjacentBelow}, Char.IsScalar, Option.option_or, Int.is_in_range, List.Sorted.IsNonDecreasingBy}
 use borrow.Author.Tests.{ltb-false, ltb-true, leb-true, leb-false, le-leb, lt-leb}
 use Rattle.legacy_tables.specs.{declared.tables.IndexName.IndexName, declared.tables.TableError.TableError, declared.tables.TableError.TheVariants.TooLong}
-use Rattle.legacy_tables.specs.declared.tables.TableError.TheVariants.{BadEntry, NotEmpty, KatakanaLength, RangeOrder, RangeValue}
+use Rattle.legacy_tables.specs.declared.tables.TableError.TheVariants.{BadEntry, KatakanaLength, RangeOrder, RangeValue}
 use Rattle.legacy_tables.specs.{declared.tables.packed.PackedPart.PackedPart, Indexes.{FlatIndexes, entry_scalar, idx, range, last_range_scalar}}
 use Rattle.legacy_tables.specs.{Walks.order_index, Unicode.AreScalars, Tables.{index_list, is_narrow_index}, TableChecks.{is_entry, must_be_empty, entry_fault}}
 use Rattle.legacy_tables.specs.TableChecks.{entries_fault, index_fault, katakana_fault, range_order_fault, follows_range, AreAccepted, next_pointer, has_range_scalars}
@@ -17,12 +17,10 @@ use Rattle.legacy_tables.specs.declared.tables.IndexName.TheVariants as names
 -- ---- no fault of two parts, and of a test
 
 pub or_none : {A : Type 0} (a b : Option A) → option_or a b ≡ None → (a ≡ None) × (b ≡ None)
-or_none None b e = (refl, e)
-or_none (Some x) b e = cc
+or_none a b e = grind arith
 
 pub untaken : {A : Type 0} (t : Bool) (fault : A) (a : Option A) → cond t (Some fault) a ≡ None → (t ≡ false) × (a ≡ None)
-untaken true fault a e = cc
-untaken false fault a e = (refl, e)
+untaken t fault a e = grind arith
 
 -- ---- the parts of the check
 
@@ -159,16 +157,7 @@ module _ (flat : FlatIndexes) (accepted : AreAccepted flat) where
 
   -- a pointer of an index that has a scalar has no other rule
   pub entry-used : (name : IndexName) (p c : ℕ) → Some c ≡ idx (index_list flat name) p → must_be_empty name p ≡ false
-  entry-used name p c e =
-      let index = index_list flat name in
-      let same : 0 + p ≡ p = omega arith in
-      let fine = rw same at (entry_at name 0 index (entries-fine name) p) in
-      elim (cases_eq (get_or index p 0) 0) [
-        | inl none ↦ let no = rw (eq-eqb (get_or index p 0) 0 none) at e in cc
-        | inr some ↦
-            (untaken _ (NotEmpty name p) None
-            (untaken _ (BadEntry name p) _ (rw (ne_eqb (get_or index p 0) 0 some) at fine)).1).0
-      ]
+  entry-used name p c e = grind (arith, entry_at name 0 (index_list flat name) (entries-fine name) p)
 
   pub length-big5 : length flat.big5 ≤ 19782
   length-big5 = (parts flat accepted).big5.0
@@ -247,12 +236,7 @@ next-above (r ∷ ranges) p h e = none-ahead (r ∷ ranges) p e 0 (omega arith)
 -- a range gives p its scalar, or is the last that starts at or before p
 pub last-cases : (r : ℕ × ℕ) (ranges : List (ℕ × ℕ)) (p c : ℕ) → last_range_scalar (r ∷ ranges) p ≡ Some c
     → (last_range_scalar ranges p ≡ Some c) ⊎ ((last_range_scalar ranges p ≡ None) × (r.0 ≤ p) × (r.1 + (p - r.0) ≡ c))
-last-cases r ranges p c e = go (last_range_scalar ranges p) e
-  where
-    go : (o : Option ℕ) → option_or o (cond (nat_le r.0 p) (Some (r.1 + (p - r.0))) None) ≡ Some c
-        → (o ≡ Some c) ⊎ ((o ≡ None) × (r.0 ≤ p) × (r.1 + (p - r.0) ≡ c))
-    go (Some x) z = inl z
-    go None z = let t = cond_some _ _ c z in inr (refl, leb-true r.0 p t.0, t.1)
+last-cases r ranges p c e = grind (arith, nat_tests)
 
 in_range : (r0 r1 end p : ℕ) → has_range_scalars (r0, r1) end ≡ true → r0 ≤ p → p < end → IsScalar (r1 + (p - r0)) × (r1 + (p - r0) < 0x1_0000)
 in_range r0 r1 end p h l g = (grind (arith, nat_tests), grind (arith, nat_tests))
@@ -275,10 +259,7 @@ last_range-narrow place (r ∷ ranges) e p c h is =
 
 -- the scalar of an entry is the entry, which is not 0
 pub entry_scalar-is : (e c : ℕ) → entry_scalar e ≡ Some c → (c ≢ 0) × (e ≡ c)
-entry_scalar-is e c h = elim (cases_eq e 0) [
-  | inl none ↦ let no = rw (eq-eqb e 0 none) at h in cc
-  | inr some ↦ let same = same_Some e c (rw (ne_eqb e 0 some) at h) in (λ n. some (same ∙ n), same)
-]
+entry_scalar-is e c h = grind arith
 
 -- a property of all entries of an index holds for the scalar of each pointer
 pub idx-all : (P : ℕ → Type 0) (index : List ℕ) → All P index → (p c : ℕ) → idx index p ≡ Some c → P c
@@ -294,16 +275,7 @@ pub range-cases : (ranges : List (ℕ × ℕ)) (p c : ℕ) → range ranges p �
     ⊎ (((is_in_range 189000 1237575 p ≡ true) × (0x1_0000 + (p - 189000) ≡ c))
     ⊎ ((p ≢ 7457) × (p ≤ 39419) × (last_range_scalar ranges p ≡ Some c)))
 unfolding range
-range-cases ranges p c e = go (p == 7457) (is_in_range 189000 1237575 p) (nat_le p 39419) refl refl e
-  where
-    go : (a b t : Bool) → (p == 7457) ≡ a → nat_le p 39419 ≡ t
-        → cond a (Some 0xE7C7) (cond b (Some (0x1_0000 + (p - 189000))) (cond t (last_range_scalar ranges p) None)) ≡ Some c
-        → (c ≡ 0xE7C7) ⊎ (((b ≡ true) × (0x1_0000 + (p - 189000) ≡ c))
-        ⊎ ((p ≢ 7457) × (p ≤ 39419) × (last_range_scalar ranges p ≡ Some c)))
-    go true b t q s z = inl (sym (same_Some 0xE7C7 c z))
-    go false true t q s z = inr (inl (refl, same_Some _ c z))
-    go false false true q s z = inr (inr (eqb-false p 7457 q, leb-true p 39419 s, z))
-    go false false false q s z = cc
+range-cases ranges p c e = grind (arith, nat_tests)
 
 -- `range` gives only scalars for accepted ranges
 pub range-scalar : (flat : FlatIndexes) → AreAccepted flat → (p c : ℕ) → range flat.ranges p ≡ Some c → IsScalar c

@@ -3,13 +3,13 @@ use Rattle.std.proofs.Common.{◌≡◌, ◌≢◌, ◌∙◌, ℕ, zero, suc, �
 use Rattle.std.proofs.{Common.{eqb, eq-eqb, ◌==◌, position, inl, inr}, lemmas.Bool.{eqb-true, ne_eqb, or_parts, cases_lt, lt-ltb}}
 use Rattle.std.proofs.{lemmas.Bool.Decides.nat_tests, lemmas.List.get_or_past, lemmas.List.Elements.{All-nil, All-cons}, lemmas.List.Quantifiers.position-Some}
 use Rattle.std.specs.{List.{All, list_any, position_or_len}, Char.IsScalar}
-use Rattle.legacy_tables.specs.{declared.tables.TableError.TheVariants.{BadByteEntry, Repeated}, Indexes.idx, Unicode.AreScalars, TableChecks.is_byte_entry}
+use Rattle.legacy_tables.specs.{declared.tables.TableError.TheVariants.{BadByteEntry}, Indexes.idx, Unicode.AreScalars, TableChecks.is_byte_entry}
 use Rattle.legacy_tables.specs.TableChecks.{byte_entry_fault, byte_entries_fault, IsAcceptedTable}
-use Rattle.legacy_tables.proofs.Accepted.{or_none, untaken, entry_has, entry_scalar-is}
+use Rattle.legacy_tables.proofs.Accepted.{or_none, entry_has, entry_scalar-is}
 
 -- an accepted entry that is not 0 is not among the entries before it
 once : (place : ℕ) (before : List ℕ) (c : ℕ) → byte_entry_fault place before c ≡ None → c ≢ 0 → list_any (λ x. eqb x c) before ≡ false
-once place before c f n = (untaken _ (Repeated place) None (untaken _ (BadByteEntry place) _ (rw (ne_eqb c 0 n) at f)).1).0
+once place before c f n = grind arith
 
 apart : (place : ℕ) (before entries : List ℕ) (k c : ℕ) → byte_entries_fault place before entries ≡ None → get_or entries k 0 ≡ c → c ≢ 0
     → list_any (λ x. eqb x c) before ≡ false

@@ -8,8 +8,7 @@ use Rattle.legacy_tables.specs.Pointers.{last_below}
 
 -- a check without a fault has passed its test
 pub taken : {A : Type 0} (t : Bool) (fault : A) (a : Option A) → cond t a (Some fault) ≡ None → (t ≡ true) × (a ≡ None)
-taken true fault a e = (refl, e)
-taken false fault a e = cc
+taken t fault a e = grind arith
 
 -- ---- a check of a list that compares each item with a value made of the one before it
 

@@ -1,14 +1,15 @@
 -- Orders of pointers that passed their check, and look-ups in them.
 use Rattle.std.proofs.Common.{◌≡◌, ◌≢◌, ◌∙◌, ℕ, zero, suc, ◌+◌, ◌≤◌, ◌<◌, List, [], ◌∷◌, length, get_or, slice_index, refl, sym, ap, subst, arith, Some, None}
 use Rattle.std.proofs.{Common.{Option, true, false, find, Bool, cond, eq-eqb, ◌==◌, nat_lt, not, inl, inr, drop, drop-cons, add-one}, lemmas.Bool.cases_lt}
-use Rattle.std.proofs.{lemmas.Bool.{cases_eq, ne_eqb, eqb-true, and_parts, not-false, not_from_false, false_from_ne_true}, lemmas.List.get_or_default}
+use Rattle.std.proofs.{lemmas.Bool.{cases_eq, ne_eqb, eqb-true, not-false, not_from_false, false_from_ne_true}, lemmas.List.get_or_default}
 use Rattle.std.proofs.{lemmas.List.Folds.{list_any_at, Any-from_list_any}, lemmas.Option.same_Some, Math.ListN.drop_of_length-le}
 use Rattle.std.proofs.lemmas.List.Sorted.{IsNonDecreasingBy-from_all_adjacent}
 use Rattle.std.specs.{List.list_any, List.Sorted.IsNonDecreasingBy}
+use Rattle.std.proofs.lemmas.Bool.Decides.{nat_tests}
 use borrow.Author.Tests.{ltb-true, ltb-false}
 use Rattle.legacy_tables.specs.{declared.tables.packed.PackedPart.PackedPart, Orders.{IsLookup, IsOrder, RisesBy, order_pointer}, Packed.{may_use, pointer_of}}
 use Rattle.legacy_tables.specs.Packed.{takes_last, is_pointer_in_order, order_fault_from, order_fault, is_lacking, order_difference}
-use Rattle.legacy_tables.proofs.{FirstPlaces.{taken, carried, each-fine, find-at, find-absent, find-place, find-none-at}, Pointers.{first-least, taken-within}}
+use Rattle.legacy_tables.proofs.{FirstPlaces.{carried, each-fine, find-at, find-absent, find-place, find-none-at}, Pointers.{first-least, taken-within}}
 use Rattle.legacy_tables.proofs.PackedPointers.{pointer-taken, pointer-same}
 
 -- ---- the order, as a loop reads it
@@ -34,9 +35,7 @@ module _ (part : PackedPart) (index : List ℕ) where
   step : (place above p : ℕ) (order : List ℕ) → order_fault_from part index place above (p ∷ order) ≡ None
       → IsAbove above p × (order_fault_from part index (place + 1) (slice_index index p) order ≡ None)
   unfolding order_fault_from
-  step place above p order e =
-      let t = taken _ place (order_fault_from part index (place + 1) (slice_index index p) order) e in
-      let b = and_parts (may_use part p) _ t.0 in ((b.0, ltb-true above (slice_index index p) b.1), t.1)
+  step place above p order e = grind (arith, nat_tests)
 
 -- the place of a pointer that the order contains
 place_of : (order : List ℕ) (q : ℕ) → list_any (λ r. q == r) order ≡ true → (i : ℕ) × (i < length order) × (get_or order i 0 ≡ q)

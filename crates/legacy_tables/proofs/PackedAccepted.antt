@@ -1,6 +1,6 @@
 -- Runs with the scalars of accepted indexes are accepted indexes too.
-use Rattle.std.proofs.Common.{◌≡◌, ◌∙◌, ℕ, suc, ◌+◌, ◌≤◌, ◌<◌, All, List, [], ◌∷◌, length, get_or, refl, sym, ap, arith, Some, None, Option, false, not, ◌==◌}
-use Rattle.std.proofs.{Common.{inl, inr}, lemmas.Bool.{cases_lt, cases_eq, ne_eqb, eqb-true, not-false}, lemmas.Bool.Decides.nat_tests, lemmas.List.get_or_past}
+use Rattle.std.proofs.Common.{◌≡◌, ◌∙◌, ℕ, suc, ◌+◌, ◌≤◌, ◌<◌, All, List, [], ◌∷◌, length, get_or, refl, sym, ap, arith, None, Option, false, not, ◌==◌}
+use Rattle.std.proofs.{Common.{inl, inr}, lemmas.Bool.{cases_lt}, lemmas.Bool.Decides.nat_tests, lemmas.List.get_or_past}
 use Rattle.std.proofs.lemmas.List.Elements.{All-get_or}
 use Rattle.std.specs.{Char.IsScalar, Option.{option_eq, option_map_or}}
 use borrow.Author.Tests.{le-ltb}
@@ -36,18 +36,13 @@ entry-narrow xs all p = entry_all (λ c. c < 0x1_0000) xs (omega arith) all p
 -- ---- one index
 
 same_options : (a b : Option ℕ) → not (option_eq (λ x y. x == y) a b) ≡ false → a ≡ b
-same_options None None e = refl
-same_options None (Some b) e = cc
-same_options (Some a) None e = cc
-same_options (Some a) (Some b) e = ap Some (eqb-true a b (not-false (a == b) e))
+same_options a b e = grind arith
 
 entry-back : (e : ℕ) → option_map_or (λ c. c) (entry_scalar e) 0 ≡ e
-entry-back e = elim (cases_eq e 0) [ inl z ↦ rw z refl | inr n ↦ rw (ne_eqb e 0 n) refl ]
+entry-back e = grind arith
 
 part-none : (part : PackedPart) (a b : Option ℕ) → part_fault part a b ≡ None → (a ≡ None) × (b ≡ None)
-part-none part None None e = (refl, refl)
-part-none part None (Some b) e = cc
-part-none part (Some a) b e = cc
+part-none part a b e = grind arith
 
 no_entries_fault : (name : IndexName) (place : ℕ) (index : List ℕ)
     → ((k : ℕ) → k < length index → entry_fault name (place + k) (get_or index k 0) ≡ None)

@@ -1,10 +1,11 @@
 -- Runs in order, and the scalars that they give.
 use Rattle.std.proofs.Common.{◌≡◌, ◌∙◌, ℕ, zero, suc, ◌+◌, ◌-◌, ◌≤◌, ◌<◌, List, [], ◌∷◌, length, get_or, drop, drop-cons, add-one, refl, sym, ap, arith, Some}
-use Rattle.std.proofs.{Common.{None, true, cond, nat_le, inl, inr}, Math.Bool.and-false, Math.ListN.drop_of_length-le, lemmas.Bool.{and_parts, cases_lt}}
+use Rattle.std.proofs.{Common.{None, true, cond, nat_le, inl, inr}, Math.Bool.and-false, Math.ListN.drop_of_length-le, lemmas.Bool.{cases_lt}}
 use Rattle.std.proofs.{lemmas.List.get_or_past, lemmas.List.FromFn.{get_or-map-range_with_len, length-map-range_with_len}}
 use Rattle.std.proofs.lemmas.List.Sorted.{IsNonDecreasingBy-from_all_adjacent}
 use Rattle.std.specs.{List.Sorted.IsNonDecreasingBy, Option.option_map_or}
-use borrow.Author.Tests.{ltb-true, leb-true, le-leb, lt-leb, lt-ltb, le-ltb}
+use Rattle.std.proofs.lemmas.Bool.Decides.{nat_tests}
+use borrow.Author.Tests.{le-leb, lt-leb, lt-ltb, le-ltb}
 use Rattle.legacy_tables.specs.{declared.tables.packed.Run.Run, Runs.{run_at, HasPointer, run_end, run_scalar, runs_scalar, runs_entry, runs_end, runs_list}}
 use Rattle.legacy_tables.specs.Runs.{is_run_in_order, run_fault_from, run_fault, AreInOrder, IsFirstBehind}
 use Rattle.legacy_tables.proofs.FirstPlaces.{taken, each-fine}
@@ -36,11 +37,7 @@ pub record IsBehind (before limit : ℕ) (run : Run) : Type 0 where
   pub scalars : run.scalar + run.length ≤ 0x11_0000
 
 pub in_order : (before limit : ℕ) (run : Run) → is_run_in_order before limit run ≡ true → IsBehind before limit run
-in_order before limit run e =
-    let a = and_parts _ _ e in
-    let b = and_parts _ _ a.0 in
-    let c = and_parts _ _ a.1 in
-    record { full = ltb-true 0 _ b.0; behind = leb-true before _ b.1; reach = leb-true (run_end run) limit c.0; scalars = leb-true _ 0x11_0000 c.1 }
+in_order before limit run e = grind (arith, nat_tests)
 
 step : (limit place before : ℕ) (run : Run) (runs : List Run) → run_fault_from place before limit (run ∷ runs) ≡ None
     → IsBehind before limit run × (run_fault_from (place + 1) (run_end run) limit runs ≡ None)

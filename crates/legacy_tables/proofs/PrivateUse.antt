@@ -1,12 +1,13 @@
 -- Private-use rows that passed their check, and the search in them.
-use Rattle.std.proofs.Common.{◌≡◌, ◌≢◌, inl, inr, ℕ, zero, suc, ◌+◌, ◌≤◌, ◌<◌, List, [], ◌∷◌, length, ◌∙◌, sym, ap, get_or, add-one, refl, arith, Some, None}
-use Rattle.std.proofs.{Common.{Option, true, false, not, eq-eqb, ◌==◌}, lemmas.Bool.{and_parts, not-false, ne_eqb, cases_lt, true≢false}}
+use Rattle.std.proofs.Common.{◌≡◌, ◌≢◌, inl, inr, ℕ, suc, ◌+◌, ◌≤◌, ◌<◌, List, ◌∷◌, length, ◌∙◌, sym, ap, get_or, add-one, refl, arith, Some, None}
+use Rattle.std.proofs.lemmas.Bool.Decides.{nat_tests}
+use Rattle.std.proofs.{Common.{Option, true, false, eq-eqb, ◌==◌}, lemmas.Bool.{ne_eqb, cases_lt, true≢false}}
 use Rattle.std.proofs.lemmas.List.Sorted.{IsNonDecreasingBy-from_all_adjacent}
-use Rattle.std.specs.{Int.is_in_range, List.AllAdjacentBelow, List.Sorted.IsNonDecreasingBy}
+use Rattle.std.specs.{Int.is_in_range, List.Sorted.IsNonDecreasingBy}
 use borrow.Author.Tests.{ltb-true}
-use Rattle.legacy_tables.specs.{declared.tables.TableError.TheVariants.{PuaOrder, PuaScalar}, Indexes.gb18030_pua_of, TableChecks.follows_scalar}
-use Rattle.legacy_tables.specs.TableChecks.{is_row_scalar, row_fault, rows_fault}
-use Rattle.legacy_tables.proofs.{Accepted.{or_none, untaken}, FirstPlaces.{each-fine, find-at, find-absent}}
+use Rattle.legacy_tables.specs.{Indexes.gb18030_pua_of, TableChecks.follows_scalar}
+use Rattle.legacy_tables.specs.TableChecks.{rows_fault}
+use Rattle.legacy_tables.proofs.{FirstPlaces.{each-fine, find-at, find-absent}}
 
 -- a row without a fault follows the row before it, and its scalar is for private use
 abbrev IsFine : Option ℕ → ℕ × ℕ × ℕ → Type 0
@@ -15,10 +16,7 @@ IsFine before r = (follows_scalar before r.0 ≡ true) × (is_in_range 0xE000 0x
 row_step : (place : ℕ) (before : Option ℕ) (r : ℕ × ℕ × ℕ) (rows : List (ℕ × ℕ × ℕ)) → rows_fault place before (r ∷ rows) ≡ None
     → IsFine before r × (rows_fault (place + 1) (Some r.0) rows ≡ None)
 unfolding rows_fault
-row_step place before r rows e =
-    let h = or_none (row_fault place before r) _ e in
-    let t = untaken (not (follows_scalar before r.0)) (PuaOrder place) _ h.0 in
-    ((not-false _ t.0, (and_parts _ _ (not-false _ (untaken (not (is_row_scalar r.0)) (PuaScalar place) _ t.1).0)).0), h.1)
+row_step place before r rows e = grind (arith, nat_tests)
 
 pub rows-rising : (rows : List (ℕ × ℕ × ℕ)) → rows_fault 0 None rows ≡ None → IsNonDecreasingBy (λ r. r.0) rows
 rows-rising rows e =
