@@ -43,27 +43,7 @@ pub record Parts (flat : FlatIndexes) : Type 0 where
 
 pub parts : (flat : FlatIndexes) → AreAccepted flat → Parts flat
 unfolding table_fault
-parts flat e =
-    let a = or_none (index_fault names.Big5 19782 flat.big5) _ e in
-    let b = or_none (index_fault names.EucKr 23940 flat.euc_kr) _ a.1 in
-    let c = or_none (index_fault names.Jis0208 11280 flat.jis0208) _ b.1 in
-    let d = or_none (index_fault names.Jis0212 8836 flat.jis0212) _ c.1 in
-    let f = or_none (index_fault names.Gb18030 23940 flat.gb18030) _ d.1 in
-    let g = or_none (katakana_fault flat.katakana) _ f.1 in
-    let h = or_none (range_order_fault 0 None flat.ranges) _ g.1 in
-    let i = or_none (range_value_fault 0 flat.ranges) _ h.1 in
-    record {
-      big5 = index_parts names.Big5 19782 _ a.0;
-      euc_kr = index_parts names.EucKr 23940 _ b.0;
-      jis0208 = index_parts names.Jis0208 11280 _ c.0;
-      jis0212 = index_parts names.Jis0212 8836 _ d.0;
-      gb18030 = index_parts names.Gb18030 23940 _ f.0;
-      katakana_whole = g.0;
-      katakana = (taken _ KatakanaLength (entries_fault names.Katakana 0 flat.katakana) g.0).1;
-      ordered = h.0;
-      valued = i.0;
-      private_use = i.1;
-    }
+parts flat e = grind (arith, or_none, index_parts, nat_tests)
 
 -- no index of pairs is longer than 23940 entries
 pub order_index-short : (flat : FlatIndexes) → AreAccepted flat → (part : PackedPart) → length (order_index flat part) ≤ 23940
@@ -76,24 +56,15 @@ order_index-short flat accepted part =
 -- an entry that is 0, or passes its test
 pub entry_has : (P : ℕ → Type 0) (entry : ℕ) (test : Bool) (fault : TableError) (other : Option TableError) → P 0
     → (test ≡ true → P entry) → cond (entry == 0) None (cond (not test) (Some fault) other) ≡ None → P entry
-entry_has P entry test fault other at_zero good e = elim (cases_eq entry 0) [
-  | inl zero_there ↦ subst P (sym zero_there) at_zero
-  | inr some ↦ good (not-false test (untaken (not test) fault other (rw (ne_eqb entry 0 some) at e)).0)
-]
+entry_has P entry test fault other at_zero good e = grind arith
 
 -- each of the entries without a fault has none, and 0 has none
 pub entry_at : (name : IndexName) (place : ℕ) (index : List ℕ) → entries_fault name place index ≡ None → (k : ℕ)
     → entry_fault name (place + k) (get_or index k 0) ≡ None
 unfolding entries_fault
 entry_at name place [] e k = refl
-entry_at name place (x ∷ xs) e zero =
-    let h = or_none (entry_fault name place x) _ e in
-    let same : place + 0 ≡ place = omega arith in
-    rw same h.0
-entry_at name place (x ∷ xs) e (suc k) =
-    let h = or_none (entry_fault name place x) _ e in
-    let same : (place + 1) + k ≡ place + suc k = omega arith in
-    rw same at (entry_at name (place + 1) xs h.1 k)
+entry_at name place (x ∷ xs) e zero = grind (arith, or_none)
+entry_at name place (x ∷ xs) e (suc k) = grind (arith, or_none, entry_at name (place + 1) xs)
 
 pub all_entries : (P : ℕ → Type 0) (name : IndexName) → P 0 → ((e : ℕ) → is_entry name e ≡ true → P e) → (place : ℕ) (index : List ℕ)
     → entries_fault name place index ≡ None → All P index
@@ -248,12 +219,7 @@ unfolding range_value_fault
 last_range-narrow place [] e p c h is = cc
 last_range-narrow place (r ∷ ranges) e p c h is =
     let t = taken _ (RangeValue place) (range_value_fault (place + 1) ranges) e in
-    elim (last-cases r ranges p c is) [
-      | inl later ↦ last_range-narrow (place + 1) ranges t.1 p c h later
-      | inr here ↦
-          let high = next-above ranges p h here.0 in
-          rw (← here.2) (in_range r.0 r.1 _ p t.0 here.1 high)
-    ]
+    grind (arith, last-cases r ranges p c is, last_range-narrow (place + 1) ranges t.1 p c h, next-above ranges p h, in_range r.0 r.1 _ p t.0)
 
 -- ---- look-ups
 
@@ -279,10 +245,5 @@ range-cases ranges p c e = grind (arith, nat_tests)
 
 -- `range` gives only scalars for accepted ranges
 pub range-scalar : (flat : FlatIndexes) → AreAccepted flat → (p c : ℕ) → range flat.ranges p ≡ Some c → IsScalar c
-range-scalar flat accepted p c e = elim (range-cases flat.ranges p c e) [
-  | inl fixed ↦ rw fixed refl
-  | inr other ↦ elim other [
-    | inl wide ↦ rw (← wide.1) (wide-scalar p wide.0)
-    | inr g ↦ (last_range-narrow 0 flat.ranges (parts flat accepted).valued p c g.1 g.2).0
-  ]
-]
+range-scalar flat accepted p c e =
+    grind (arith, range-cases flat.ranges p c e, wide-scalar p, last_range-narrow 0 flat.ranges (parts flat accepted).valued p c)

@@ -18,10 +18,7 @@ use Rattle.legacy_tables.specs.declared.tables.packed.PackedPart.TheVariants as 
 -- ---- each entry is a scalar, also 0 past the end
 
 pub entry_all : (P : ℕ → Type 0) (xs : List ℕ) → P 0 → All P xs → (p : ℕ) → P (get_or xs p 0)
-entry_all P xs at_zero all p = elim (cases_lt p (length xs)) [
-  | inl h ↦ All-get_or P xs p 0 h all
-  | inr h ↦ rw (get_or_past xs p 0 h) at_zero
-]
+entry_all P xs at_zero all p = grind (arith, nat_tests, All-get_or, get_or_past)
 
 pub entry-scalar : (xs : List ℕ) → AreScalars xs → (p : ℕ) → IsScalar (get_or xs p 0)
 entry-scalar xs all p = entry_all IsScalar xs refl all p
@@ -117,19 +114,7 @@ module _ (flat : FlatIndexes) (packed : Packed) (accepted : AreAccepted flat) (n
 
   pub packed-accepted : AreAccepted (packed_lists flat packed)
   unfolding table_fault
-  packed-accepted =
-      let p = parts flat accepted in
-      let a = all_agree in
-      rw (
-        a.big5.accepted,
-        a.euc_kr.accepted,
-        a.jis0208.accepted,
-        a.jis0212.accepted,
-        a.gb18030.accepted,
-        p.katakana_whole,
-        p.ordered,
-        p.valued,
-      ) p.private_use
+  packed-accepted = let p = parts flat accepted in let a = all_agree in grind arith
 
   -- the tables of those lists
   pub packed-tables : all_orders_fault flat packed ≡ None → ArePackedTables flat packed (packed_lists flat packed)
