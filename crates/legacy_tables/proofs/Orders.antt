@@ -58,9 +58,7 @@ module _ (index order : List ℕ) (rises : RisesBy index order) (c : ℕ) where
   -- at the one place that has the scalar
   pub order-at : (n : ℕ) → n < length order → slice_index index (slice_index order n) ≡ c → order_pointer index order c ≡ Some (slice_index order n)
   unfolding order_pointer
-  order-at n h is =
-      find-at (λ p. slice_index index p == c) 0 order n h (eq-eqb (slice_index index (slice_index order n)) c is)
-      (λ k l. let above = rises.above k n l h in ne_eqb (slice_index index (slice_index order k)) c (λ e. absurd (omega arith)))
+  order-at n h is = grind (arith, nat_tests, find-at (λ p. slice_index index p == c) 0 order n, rises.above)
 
   -- if no place has the scalar
   pub order-absent : (n : ℕ) → ((k : ℕ) → k < n → slice_index index (slice_index order k) < c)
@@ -68,14 +66,7 @@ module _ (index order : List ℕ) (rises : RisesBy index order) (c : ℕ) where
       → (n < length order → slice_index index (slice_index order n) ≢ c) → order_pointer index order c ≡ None
   unfolding order_pointer
   order-absent n below from other =
-      find-absent (λ p. slice_index index p == c) 0 order
-      (λ k h. ne_eqb (slice_index index (slice_index order k)) c (λ e. elim (cases_lt k n) [
-        | inl l ↦ let b = below k l in absurd (omega arith)
-        | inr l ↦ elim (cases_lt n k) [
-          | inl m ↦ let a = rises.above n k m h in let f = from n (omega arith) (omega arith) in absurd (omega arith)
-          | inr m ↦ let same : k ≡ n = omega arith in other (omega arith) (ap (λ i. slice_index index (slice_index order i)) (sym same) ∙ e)
-        ]
-      ]))
+      find-absent (λ p. slice_index index p == c) 0 order (λ k h. grind (arith, nat_tests, below, rises.above, from))
 
 module _ (part : PackedPart) (index order : List ℕ) (none : order_fault part index order ≡ None) where
   fine : (k : ℕ) → k < length order → IsAbove part index (carried (order_fault_from part index) (IsAbove part index) (slice_index index) (step part index)
@@ -119,10 +110,7 @@ module _ (part : PackedPart) (index order : List ℕ) (none : order_fault part i
 module _ (part : PackedPart) (index order : List ℕ) (lookup : ℕ → Option ℕ) (is : IsLookup part index order lookup) where
   -- if the scalar of the pointer used is not missing, the look-up returns the pointer
   held : (c s : ℕ) → pointer_of part index c ≡ Some s → is_lacking part index order s ≡ false → lookup c ≡ Some s
-  held c s e there =
-      let used = (pointer-taken part index c).chosen s e in
-      let shown = rw (used.1, ne_eqb c 0 used.2, used.0, e) at there in
-      is.only c s (not-false _ shown) used.1
+  held c s e there = let used = (pointer-taken part index c).chosen s e in grind (arith, is.only c s)
 
   module _ (p c : ℕ) (at : c ≡ slice_index index p) (mapped : c ≢ 0) (usable : may_use part p ≡ true) where
     -- the pointer used
@@ -139,42 +127,27 @@ module _ (part : PackedPart) (index order : List ℕ) (lookup : ℕ → Option �
     -- the scalar is missing unless the look-up returns the pointer used
     lacks : (t : Bool) → (t ≡ false → lookup c ≡ Some some.0) → (t ≡ true → lookup c ≡ Some some.0 → ⊥)
         → t ≡ is_lacking part index order p
-    lacks t same other = rw (← at, ne_eqb c 0 mapped, usable, some.1) (go t same other)
-      where
-        go : (t : Bool) → (t ≡ false → lookup c ≡ Some some.0) → (t ≡ true → lookup c ≡ Some some.0 → ⊥)
-            → t ≡ not (list_any (λ r. some.0 == r) order)
-        go false same other = sym (ap not (is.found c some.0 (same refl)).0)
-        go true same other = sym (not_from_false _ (false_from_ne_true _ (λ h. other refl (is.only c some.0 h stands))))
+    lacks t same other = grind (arith, is.found, is.only, stands)
 
     pub lacks-none : lookup (slice_index index p) ≡ None → true ≡ is_lacking part index order p
-    lacks-none e = lacks true (λ f. cc) (λ f z. let no = sym z ∙ ap lookup at ∙ e in cc)
+    lacks-none e = grind (arith, lacks true)
 
     module _ (q : ℕ) (found : lookup (slice_index index p) ≡ Some q) where
       pub lacks-last : (t : Bool) → (t ≡ false → pointer_of part index c ≡ Some q) → (t ≡ true → pointer_of part index c ≡ Some q → ⊥)
           → t ≡ is_lacking part index order p
-      lacks-last t same other =
-          lacks t (λ f. ap lookup at ∙ found ∙ sym (same f) ∙ some.1) (λ f z. other f (some.1 ∙ sym z ∙ ap lookup at ∙ found))
+      lacks-last t same other = grind (arith, lacks t)
 
       -- the first of the scalar's pointers is used, except for the six scalars of Big5
       least : takes_last part c ≡ false → (k : ℕ) → may_use part k ≡ true → slice_index index k ≡ c → some.0 ≤ k
-      least first k u e = first-least (may_use part) index c some.0 k (rw first at some.1) u e mapped
+      least first k u e = grind (arith, first-least)
 
       pub lacks-first : takes_last part c ≡ false → ((k : ℕ) → k < p → is_lacking part index order k ≡ false)
           → nat_lt p q ≡ is_lacking part index order p
-      lacks-first first passed = lacks (nat_lt p q)
-          (λ f.
+      lacks-first first passed =
           let there = is.found c q (ap lookup at ∙ found) in
           let low = least first q (is.usable q there.0) there.1 in
-          let high = ltb-false p q f in
-          elim (cases_eq some.0 q) [
-            | inl same ↦ ap lookup at ∙ found ∙ ap Some (sym same)
-            | inr other ↦ held c some.0 some.1 (passed some.0 (omega arith))
-          ])
-          (λ f z.
-          let same = same_Some some.0 q (sym z ∙ ap lookup at ∙ found) in
-          let low = least first p usable (sym at) in
-          let high = ltb-true p q f in
-          absurd (omega arith))
+          let own = least first p usable (sym at) in
+          lacks (nat_lt p q) (λ f. grind (arith, nat_tests, held c some.0 some.1, passed some.0)) (λ f z. grind (arith, nat_tests))
 
   -- if no scalar is missing, the look-up returns the pointers that are used
   pub order-answers : order_difference part index order ≡ None → (c : ℕ) → lookup c ≡ pointer_of part index c

@@ -5,9 +5,7 @@ use Rattle.legacy_tables.proofs.{Pointers.{IsTaken, first-taken, last-taken}, Wa
 
 -- the pointer that a codec uses
 pub pointer-taken : (part : PackedPart) (index : List ℕ) (c : ℕ) → IsTaken (may_use part) index c (pointer_of part index c)
-pointer-taken part index c =
-    cond_both (takes_last part c) _ _ (IsTaken (may_use part) index c)
-    (λ e. last-taken (may_use part) index c) (λ e. first-taken (may_use part) index c)
+pointer-taken part index c = grind (arith, last-taken, first-taken)
 
 module _ (part : PackedPart) (c : ℕ) where
   -- numbers past an index are no pointers

@@ -65,18 +65,15 @@ are_in_order limit runs e =
 -- ---- the first pointers of runs rise
 
 pub starts-rise : {limit : ℕ} (runs : List Run) → AreInOrder limit runs → IsNonDecreasingBy (λ (run : Run). run.pointer) runs
-starts-rise runs ordered = λ i j d h l. elim (cases_lt i j) [
-  | inl m ↦ let r = ordered.rising i j d m l in omega arith
-  | inr m ↦ let same : i ≡ j = omega arith in rw same (omega arith)
-]
+starts-rise runs ordered = grind (arith, ordered.rising)
 
 -- ---- the scalar that runs give a pointer
 
 pub outside-before : (run : Run) (p : ℕ) → p < run.pointer → run_scalar run p ≡ None
-outside-before run p h = rw (lt-leb run.pointer p h) refl
+outside-before run p h = grind (arith, nat_tests)
 
 pub outside-behind : (run : Run) (p : ℕ) → run_end run ≤ p → run_scalar run p ≡ None
-outside-behind run p h = rw (le-ltb p (run_end run) h, and-false (nat_le run.pointer p)) refl
+outside-behind run p h = grind (arith, nat_tests)
 
 pub scalar-none : (runs : List Run) (p : ℕ) → ((k : ℕ) → k < length runs → run_scalar (run_at runs k) p ≡ None) → runs_scalar runs p ≡ None
 scalar-none [] p all = refl
@@ -92,20 +89,12 @@ scalar-some (run ∷ runs) p (suc n) c h is before =
 module _ {limit : ℕ} (runs : List Run) (ordered : AreInOrder limit runs) (p : ℕ) where
   -- a run that has the pointer gives its scalar
   pub scalar-had : (n : ℕ) → HasPointer runs n p → runs_scalar runs p ≡ Some ((run_at runs n).scalar + (p - (run_at runs n).pointer))
-  scalar-had n has =
-      scalar-some runs p n _ has.within (rw (le-leb (run_at runs n).pointer p has.from, lt-ltb p (run_end (run_at runs n)) has.before) refl)
-      (λ k h. let end = ordered.rising k n no_run h has.within in let from = has.from in outside-behind (run_at runs k) p (omega arith))
+  scalar-had n has = grind (arith, nat_tests, scalar-some runs p n, outside-behind, ordered.rising)
 
   -- no run has a pointer after the last run that starts at or before it
   pub none-has : (n : ℕ) → ((k : ℕ) → n ≤ k → k < length runs → p < (run_at runs k).pointer)
       → (0 < n → run_end (run_at runs (n - 1)) ≤ p) → n ≤ length runs → runs_scalar runs p ≡ None
-  none-has n ahead behind within = scalar-none runs p (λ k l. elim (cases_lt k n) [
-    | inl h ↦ outside-behind (run_at runs k) p (elim (cases_lt k (n - 1)) [
-      | inl m ↦ let last = behind (omega arith) in let end = ordered.rising k (n - 1) no_run m (omega arith) in omega arith
-      | inr m ↦ let same : k ≡ n - 1 = omega arith in rw same (behind (omega arith))
-    ])
-    | inr h ↦ outside-before (run_at runs k) p (ahead k h l)
-  ])
+  none-has n ahead behind within = scalar-none runs p (λ k l. grind (arith, nat_tests, outside-behind, outside-before, ordered.rising k (n - 1) no_run))
 
 -- ---- the first run that ends after a pointer
 
@@ -118,20 +107,14 @@ module _ {limit : ℕ} (runs : List Run) (ordered : AreInOrder limit runs) where
   module _ (n p : ℕ) (first : IsFirstBehind runs n p) where
     -- a pointer before it has no scalar
     pub scalar-before : (n < length runs → p < (run_at runs n).pointer) → runs_scalar runs p ≡ None
-    scalar-before before = scalar-none runs p (λ k h. elim (cases_lt k n) [
-      | inl l ↦ outside-behind (run_at runs k) p (first.ended k l)
-      | inr l ↦ elim (cases_lt n k) [
-        | inl m ↦ let low = before (omega arith) in let up = ordered.rising n k no_run m h in outside-before (run_at runs k) p (omega arith)
-        | inr m ↦ let same : k ≡ n = omega arith in outside-before (run_at runs k) p (rw same (before (omega arith)))
-      ]
-    ])
+    scalar-before before = scalar-none runs p (λ k h. grind (arith, nat_tests, outside-behind, outside-before, ordered.rising n k no_run))
 
 -- ---- the flat list of runs
 
 pub end_most : (runs : List Run) (k : ℕ) → k < length runs → run_end (run_at runs k) ≤ runs_end runs
 end_most [] k h = absurd (omega arith)
 end_most (run ∷ runs) zero h = omega arith
-end_most (run ∷ runs) (suc k) h = let m = end_most runs k (omega arith) in omega arith
+end_most (run ∷ runs) (suc k) h = omega (arith, end_most runs k)
 
 pub runs_end-within : (limit : ℕ) (runs : List Run) → ((k : ℕ) → k < length runs → run_end (run_at runs k) ≤ limit) → runs_end runs ≤ limit
 runs_end-within limit [] all = omega arith
@@ -146,9 +129,7 @@ runs_list-length runs = length-map-range_with_len (runs_entry runs) 0 (runs_end 
 
 -- no run has a pointer past the flat list
 pub scalar-past_list : (runs : List Run) (p : ℕ) → length (runs_list runs) ≤ p → runs_scalar runs p ≡ None
-scalar-past_list runs p h =
-    let past : runs_end runs ≤ p = rw (← runs_list-length runs) h in
-    scalar-none runs p (λ k l. let m = end_most runs k l in outside-behind (run_at runs k) p (omega arith))
+scalar-past_list runs p h = grind (arith, scalar-none runs p, runs_list-length, end_most, outside-behind)
 
 list_entry : (runs : List Run) (p : ℕ) → p < runs_end runs → get_or (runs_list runs) p 0 ≡ runs_entry runs p
 unfolding runs_list
@@ -156,23 +137,13 @@ list_entry runs p h = get_or-map-range_with_len (runs_entry runs) 0 (runs_end ru
 
 -- the flat list has the entry that the runs give each pointer
 pub runs_list-entry : (runs : List Run) (p : ℕ) → get_or (runs_list runs) p 0 ≡ runs_entry runs p
-runs_list-entry runs p = elim (cases_lt p (length (runs_list runs))) [
-  | inl h ↦ list_entry runs p (rw runs_list-length at h)
-  | inr h ↦ get_or_past (runs_list runs) p 0 h ∙ sym (ap (λ o. option_map_or (λ c. c) o 0) (scalar-past_list runs p h))
-]
+runs_list-entry runs p = grind (arith, nat_tests, list_entry, runs_list-length, get_or_past, scalar-past_list)
 
 -- the flat list ends with the last run, and is empty if there are no runs
 pub runs_end-last : {limit : ℕ} (runs : List Run) → AreInOrder limit runs → (n : ℕ) → n + 1 ≡ length runs
     → run_end (run_at runs n) ≡ length (runs_list runs)
 runs_end-last runs ordered n last =
-    let most = end_most runs n (omega arith) in
-    let least = runs_end-within (run_end (run_at runs n)) runs (λ k h. elim (cases_lt k n) [
-      | inl m ↦ let end = ordered.rising k n no_run m (omega arith) in omega arith
-      | inr m ↦ let same : k ≡ n = omega arith in rw same (omega arith)
-    ]) in
-    rw (runs_list-length runs) (omega arith)
+    grind (arith, nat_tests, end_most, runs_end-within (run_end (run_at runs n)) runs, ordered.rising, runs_list-length)
 
 pub runs_end-none : (runs : List Run) → length runs ≡ 0 → 0 ≡ length (runs_list runs)
-runs_end-none runs none =
-    let least = runs_end-within 0 runs (λ k h. absurd (omega arith)) in
-    rw (runs_list-length runs) (omega arith)
+runs_end-none runs none = grind (arith, runs_end-within 0 runs, runs_list-length)

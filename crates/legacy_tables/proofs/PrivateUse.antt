@@ -35,10 +35,10 @@ module _ (c : ℕ) where
   -- the first `count` rows have lower scalars
   module _ (rows : List (ℕ × ℕ × ℕ)) (count : ℕ) (below : (k : ℕ) → k < count → (get_or rows k (0, 0, 0)).0 < c) where
     lower : (k : ℕ) → k < count → ((get_or rows k (0, 0, 0)).0 == c) ≡ false
-    lower k h = ne_eqb _ c (λ e. let low = below k h in absurd (omega arith))
+    lower k h = grind (arith, nat_tests)
 
     pub row-end : length rows ≤ count → None ≡ gb18030_pua_of rows c
-    row-end h = rw (find-absent (λ r. r.0 == c) (0, 0, 0) rows (λ k l. lower k (omega arith))) refl
+    row-end h = grind (arith, find-absent (λ r. r.0 == c) (0, 0, 0) rows, lower)
 
     pub row-other : rows_fault 0 None rows ≡ None → (ahead : (k : ℕ) → count ≤ k → k < length rows → c ≤ (get_or rows k (0, 0, 0)).0)
         → count < length rows → (get_or rows count (0, 0, 0)).0 ≢ c → None ≡ gb18030_pua_of rows c
@@ -52,4 +52,4 @@ module _ (c : ℕ) where
 
     pub row-found : count < length rows → (get_or rows count (0, 0, 0)).0 ≡ c
         → Some ((get_or rows count (0, 0, 0)).1, (get_or rows count (0, 0, 0)).2) ≡ gb18030_pua_of rows c
-    row-found h e = rw (find-at (λ r. r.0 == c) (0, 0, 0) rows count h (eq-eqb _ c e) lower) refl
+    row-found h e = grind (arith, find-at (λ r. r.0 == c) (0, 0, 0) rows count h, lower)
