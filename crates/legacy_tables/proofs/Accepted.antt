@@ -1,16 +1,16 @@
 -- Facts about indexes and single-byte tables that passed their check.
-use Rattle.std.proofs.Common.{◌≡◌, ◌≢◌, ◌⊎◌, ℕ, zero, suc, ◌+◌, ◌-◌, ◌≤◌, ◌<◌, List, [], ◌∷◌, length, get_or, add-one, refl, inl, inr, sym, arith, Some}
-use Rattle.std.proofs.{Common.{None, Option, true, false, Bool, ◌&&◌, not, cond, nat_le, subst, ◌==◌}, lemmas.Bool.{and_parts, cases_eq, ne_eqb}}
-use Rattle.std.proofs.{lemmas.Bool.{not-false}, lemmas.Bool.Decides.nat_tests, lemmas.List.get_or_default}
+use Rattle.std.proofs.Common.{◌≡◌, ◌≢◌, ◌⊎◌, ℕ, zero, suc, ◌+◌, ◌-◌, ◌≤◌, ◌<◌, List, [], ◌∷◌, length, get_or, add-one, refl, arith, Some}
+use Rattle.std.proofs.{Common.{None, Option, true, false, Bool, ◌&&◌, not, cond, nat_le, subst, ◌==◌}, lemmas.Bool.{and_parts}}
+use Rattle.std.proofs.{lemmas.Bool.Decides.nat_tests, lemmas.List.get_or_default}
 use Rattle.std.proofs.lemmas.List.Sorted.{IsNonDecreasingBy-from_all_adjacent}
 use Rattle.std.specs.{List.{All, AllAdjacentBelow}, Char.IsScalar, Option.option_or, Int.is_in_range, List.Sorted.IsNonDecreasingBy}
 use borrow.Author.Tests.{ltb-false, ltb-true, leb-true, leb-false, le-leb, lt-leb}
 use Rattle.legacy_tables.specs.{declared.tables.IndexName.IndexName, declared.tables.TableError.TableError, declared.tables.TableError.TheVariants.TooLong}
-use Rattle.legacy_tables.specs.declared.tables.TableError.TheVariants.{BadEntry, KatakanaLength, RangeOrder, RangeValue}
+use Rattle.legacy_tables.specs.declared.tables.TableError.TheVariants.{BadEntry, RangeOrder, RangeValue}
 use Rattle.legacy_tables.specs.{declared.tables.packed.PackedPart.PackedPart, Indexes.{FlatIndexes, entry_scalar, idx, range, last_range_scalar}}
 use Rattle.legacy_tables.specs.{Walks.order_index, Unicode.AreScalars, Tables.{index_list, is_narrow_index}, TableChecks.{is_entry, must_be_empty, entry_fault}}
-use Rattle.legacy_tables.specs.TableChecks.{entries_fault, index_fault, katakana_fault, range_order_fault, follows_range, AreAccepted, next_pointer, has_range_scalars}
-use Rattle.legacy_tables.specs.TableChecks.{range_value_fault, rows_fault, table_fault}
+use Rattle.legacy_tables.specs.TableChecks.{entries_fault, index_fault, katakana_fault, range_order_fault, AreAccepted, next_pointer, has_range_scalars}
+use Rattle.legacy_tables.specs.TableChecks.{follows_range, range_value_fault, rows_fault, table_fault}
 use Rattle.legacy_tables.proofs.FirstPlaces.{taken, each-fine}
 use Rattle.legacy_tables.specs.declared.tables.IndexName.TheVariants as names
 

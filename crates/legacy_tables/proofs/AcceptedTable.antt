@@ -1,6 +1,6 @@
 -- Facts about single-byte tables that passed their check.
-use Rattle.std.proofs.Common.{◌≡◌, ◌≢◌, ◌∙◌, ℕ, zero, suc, ◌+◌, ◌<◌, List, [], ◌∷◌, length, get_or, refl, sym, one-add, arith, Some, None, true, false, ◌↔◌}
-use Rattle.std.proofs.{Common.{eqb, eq-eqb, ◌==◌, position, inl, inr}, lemmas.Bool.{eqb-true, ne_eqb, or_parts, cases_lt, lt-ltb}}
+use Rattle.std.proofs.Common.{◌≡◌, ◌≢◌, ℕ, zero, suc, ◌+◌, ◌<◌, List, [], ◌∷◌, length, get_or, refl, sym, arith, Some, None, true, false, ◌↔◌}
+use Rattle.std.proofs.{Common.{eqb, eq-eqb, ◌==◌, position}, lemmas.Bool.{or_parts}}
 use Rattle.std.proofs.{lemmas.Bool.Decides.nat_tests, lemmas.List.get_or_past, lemmas.List.Elements.{All-nil, All-cons}, lemmas.List.Quantifiers.position-Some}
 use Rattle.std.specs.{List.{All, list_any, position_or_len}, Char.IsScalar}
 use Rattle.legacy_tables.specs.{declared.tables.TableError.TheVariants.{BadByteEntry}, Indexes.idx, Unicode.AreScalars, TableChecks.is_byte_entry}
@@ -25,7 +25,8 @@ first_place : (place : ℕ) (before entries : List ℕ) (k c : ℕ) → byte_ent
 unfolding byte_entries_fault
 first_place place before [] k c f e n = absurd (n (sym e))
 first_place place before (x ∷ xs) zero c f e n = rw (e, eq-eqb c c refl) refl
-first_place place before (x ∷ xs) (suc k) c f e n = grind (arith, or_none, or_parts, apart (place + 1) (x ∷ before) xs k c, first_place (place + 1) (x ∷ before) xs k c)
+first_place place before (x ∷ xs) (suc k) c f e n =
+    grind (arith, or_none, or_parts, apart (place + 1) (x ∷ before) xs k c, first_place (place + 1) (x ∷ before) xs k c)
 
 byte-scalar : (e : ℕ) → is_byte_entry e ≡ true → IsScalar e
 byte-scalar e h = grind (arith, nat_tests)

@@ -1,7 +1,7 @@
 -- The first and the last number of a range of numbers that passes a test.
-use Rattle.std.proofs.Common.{◌≡◌, ◌∙◌, ℕ, zero, suc, ◌+◌, ◌-◌, ◌≤◌, ◌<◌, List, [], ◌∷◌, length, get_or, Option, Some, None, true, false, Bool, ◌||◌, cond, arith, refl}
+use Rattle.std.proofs.Common.{◌≡◌, ◌∙◌, ℕ, zero, suc, ◌+◌, ◌-◌, ◌≤◌, ◌<◌, List, [], ◌∷◌, length, get_or, Option, Some, None, true, false, Bool, ◌||◌, cond}
 use Rattle.std.proofs.lemmas.Bool.Decides.{nat_tests}
-use Rattle.std.proofs.{Common.{sym, ap, inl, inr, find, subst}, lemmas.Bool.{cases_lt, false_from_ne_true}, lemmas.List.Folds.find_at}
+use Rattle.std.proofs.{Common.{arith, refl, sym, ap, inl, inr, find, subst}, lemmas.Bool.{cases_lt, false_from_ne_true}, lemmas.List.Folds.find_at}
 use Rattle.std.proofs.{lemmas.List.FromFn.{get_or-range_with_len, length-range_with_len}, lemmas.List.Sums.{position_or_len_is, fails_before_first}}
 use Rattle.std.proofs.{lemmas.List.Sums.passes_at_first, lemmas.Option.{slice_get-get_or, slice_get_past, slice_get_within, get_or_from_slice_get}}
 use Rattle.std.specs.{List.{range_with_len, slice_get, position_or_len}, Option.option_or}

@@ -1,12 +1,11 @@
 -- Orders of pointers that passed their check, and look-ups in them.
 use Rattle.std.proofs.Common.{◌≡◌, ◌≢◌, ◌∙◌, ℕ, zero, suc, ◌+◌, ◌≤◌, ◌<◌, List, [], ◌∷◌, length, get_or, slice_index, refl, sym, ap, subst, arith, Some, None}
-use Rattle.std.proofs.{Common.{Option, true, false, find, Bool, cond, eq-eqb, ◌==◌, nat_lt, not, inl, inr, drop, drop-cons, add-one}, lemmas.Bool.cases_lt}
-use Rattle.std.proofs.{lemmas.Bool.{cases_eq, ne_eqb, eqb-true, not-false, not_from_false, false_from_ne_true}, lemmas.List.get_or_default}
-use Rattle.std.proofs.{lemmas.List.Folds.{list_any_at, Any-from_list_any}, lemmas.Option.same_Some, Math.ListN.drop_of_length-le}
+use Rattle.std.proofs.{Common.{Option, true, false, find, Bool, cond, eq-eqb, ◌==◌, nat_lt, inl, inr, drop, drop-cons, add-one}, lemmas.Bool.cases_lt}
+use Rattle.std.proofs.{lemmas.Bool.{eqb-true}, lemmas.List.get_or_default}
+use Rattle.std.proofs.{lemmas.List.Folds.{list_any_at, Any-from_list_any}, Math.ListN.drop_of_length-le}
 use Rattle.std.proofs.lemmas.List.Sorted.{IsNonDecreasingBy-from_all_adjacent}
 use Rattle.std.specs.{List.list_any, List.Sorted.IsNonDecreasingBy}
 use Rattle.std.proofs.lemmas.Bool.Decides.{nat_tests}
-use borrow.Author.Tests.{ltb-true, ltb-false}
 use Rattle.legacy_tables.specs.{declared.tables.packed.PackedPart.PackedPart, Orders.{IsLookup, IsOrder, RisesBy, order_pointer}, Packed.{may_use, pointer_of}}
 use Rattle.legacy_tables.specs.Packed.{takes_last, is_pointer_in_order, order_fault_from, order_fault, is_lacking, order_difference}
 use Rattle.legacy_tables.proofs.{FirstPlaces.{carried, each-fine, find-at, find-absent, find-place, find-none-at}, Pointers.{first-least, taken-within}}
@@ -69,24 +68,24 @@ module _ (index order : List ℕ) (rises : RisesBy index order) (c : ℕ) where
       find-absent (λ p. slice_index index p == c) 0 order (λ k h. grind (arith, nat_tests, below, rises.above, from))
 
 module _ (part : PackedPart) (index order : List ℕ) (none : order_fault part index order ≡ None) where
-  fine : (k : ℕ) → k < length order → IsAbove part index (carried (order_fault_from part index) (IsAbove part index) (slice_index index) (step part index)
-      0 order k 0) (get_or order k 0)
-  fine k h = each-fine (order_fault_from part index) (IsAbove part index) (slice_index index) (step part index) 0 0 order none k 0 h
+  fine : (k d : ℕ) → k < length order → IsAbove part index (carried (order_fault_from part index) (IsAbove part index) (slice_index index) (step part index)
+      0 order k d) (get_or order k d)
+  fine = each-fine (order_fault_from part index) (IsAbove part index) (slice_index index) (step part index) 0 0 order none
 
   -- an order without a fault rises
   pub order-rises : RisesBy index order
   order-rises = record {
     above = λ i j h l.
-        let first = (fine (suc i) (omega arith)).1 in
+        let first = (fine (suc i) 0 (omega arith)).1 in
         let rest = IsNonDecreasingBy-from_all_adjacent (λ p. slice_index index p) order (λ k d m.
-        let up = (each-fine (order_fault_from part index) (IsAbove part index) (slice_index index) (step part index) 0 0 order none (suc k) d (omega arith)).1 in
+        let up = (fine (suc k) d (omega arith)).1 in
         rw (add-one k) (omega arith)) (suc i) j 0 (omega arith) l in
         omega arith;
   }
 
   each_above : (k : ℕ) → k < length order → IsAbove part index 0 (get_or order k 0)
-  each_above zero h = fine zero h
-  each_above (suc k) h = let f = fine (suc k) h in let low = f.1 in (f.0, omega arith)
+  each_above zero h = fine zero 0 h
+  each_above (suc k) h = let f = fine (suc k) 0 h in let low = f.1 in (f.0, omega arith)
 
   member : (q : ℕ) → list_any (λ r. q == r) order ≡ true → IsAbove part index 0 q
   member q h = let at = place_of order q h in subst (IsAbove part index 0) at.2 (each_above at.0 at.1)

@@ -1,6 +1,6 @@
 -- The pointer that the codec of an order uses, which is the same in indexes with the same entries.
-use Rattle.std.proofs.{Common.{◌≡◌, ◌∙◌, ℕ, zero, suc, ◌+◌, List, length, slice_index, sym, arith}, lemmas.Bool.cond_both, lemmas.List.get_or_past}
-use Rattle.legacy_tables.specs.{declared.tables.packed.PackedPart.PackedPart, Packed.{may_use, pointer_of, takes_last}, Walks.taken_below}
+use Rattle.std.proofs.{Common.{◌≡◌, ◌∙◌, ℕ, zero, suc, ◌+◌, List, length, slice_index, sym, arith}, lemmas.List.get_or_past}
+use Rattle.legacy_tables.specs.{declared.tables.packed.PackedPart.PackedPart, Packed.{may_use, pointer_of}, Walks.taken_below}
 use Rattle.legacy_tables.proofs.{Pointers.{IsTaken, first-taken, last-taken}, Walks.{none-taken, taken-more, taken-empty, taken-whole}}
 
 -- the pointer that a codec uses

@@ -1,11 +1,10 @@
 -- Runs in order, and the scalars that they give.
-use Rattle.std.proofs.Common.{◌≡◌, ◌∙◌, ℕ, zero, suc, ◌+◌, ◌-◌, ◌≤◌, ◌<◌, List, [], ◌∷◌, length, get_or, drop, drop-cons, add-one, refl, sym, ap, arith, Some}
-use Rattle.std.proofs.{Common.{None, true, cond, nat_le, inl, inr}, Math.Bool.and-false, Math.ListN.drop_of_length-le, lemmas.Bool.{cases_lt}}
+use Rattle.std.proofs.Common.{◌≡◌, ℕ, zero, suc, ◌+◌, ◌-◌, ◌≤◌, ◌<◌, List, [], ◌∷◌, length, get_or, drop, drop-cons, add-one, refl, arith, Some}
+use Rattle.std.proofs.{Common.{None, true, cond}, Math.ListN.drop_of_length-le}
 use Rattle.std.proofs.{lemmas.List.get_or_past, lemmas.List.FromFn.{get_or-map-range_with_len, length-map-range_with_len}}
 use Rattle.std.proofs.lemmas.List.Sorted.{IsNonDecreasingBy-from_all_adjacent}
-use Rattle.std.specs.{List.Sorted.IsNonDecreasingBy, Option.option_map_or}
+use Rattle.std.specs.{List.Sorted.IsNonDecreasingBy}
 use Rattle.std.proofs.lemmas.Bool.Decides.{nat_tests}
-use borrow.Author.Tests.{le-leb, lt-leb, lt-ltb, le-ltb}
 use Rattle.legacy_tables.specs.{declared.tables.packed.Run.Run, Runs.{run_at, HasPointer, run_end, run_scalar, runs_scalar, runs_entry, runs_end, runs_list}}
 use Rattle.legacy_tables.specs.Runs.{is_run_in_order, run_fault_from, run_fault, AreInOrder, IsFirstBehind}
 use Rattle.legacy_tables.proofs.FirstPlaces.{taken, each-fine}

@@ -1,11 +1,11 @@
 -- The pointer that an encoder uses: a usable pointer of the scalar, either the first or the last one.
 use Rattle.std.proofs.Common.{◌≡◌, ◌≢◌, ◌∙◌, ℕ, ◌≤◌, ◌<◌, List, length, slice_index, refl, sym, ap, arith, Some, None, Option, true, false, Bool, ◌&&◌, ◌||◌}
-use Rattle.std.proofs.{Common.{cond, min, nat_le, nat_lt, eq-eqb, ◌==◌, inl, inr}, lemmas.Bool.{cases_lt, cases_eq, ne_eqb, eqb-true, true≢false, and_parts}}
-use Rattle.std.proofs.{lemmas.Bool.{cond_both, false_from_ne_true}, lemmas.Bool.Decides.nat_tests, lemmas.List.get_or_past, lemmas.Option.same_Some}
+use Rattle.std.proofs.{Common.{cond, min, nat_le, nat_lt, eq-eqb, ◌==◌, inl, inr}, lemmas.Bool.{cases_eq, ne_eqb, and_parts}}
+use Rattle.std.proofs.{lemmas.Bool.Decides.nat_tests, lemmas.List.get_or_past}
 use Rattle.std.specs.Option.{IfSome, option_map_or, option_or}
 use borrow.Author.Tests.{ltb-true, leb-true, lt-ltb, le-leb}
 use Rattle.legacy_tables.specs.{Indexes.range, Pointers.{is_shift_jis_pointer, is_pointer_of, first_pointer, last_pointer, big5_pointer_of}}
-use Rattle.legacy_tables.specs.Pointers.{takes_last_big5_pointer, is_big5_pointer, is_range_pointer_of, first_range_pointer, range_pointer_of}
+use Rattle.legacy_tables.specs.Pointers.{is_big5_pointer, is_range_pointer_of, first_range_pointer, range_pointer_of}
 use Rattle.legacy_tables.proofs.FirstPlaces.{find-some, find-none, find-none-at, find-first, last-some, last-none, last-is, find-same, find-either}
 
 module _ (may : ℕ → Bool) (index : List ℕ) (c : ℕ) where

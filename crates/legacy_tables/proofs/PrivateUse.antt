@@ -1,7 +1,7 @@
 -- Private-use rows that passed their check, and the search in them.
-use Rattle.std.proofs.Common.{◌≡◌, ◌≢◌, inl, inr, ℕ, suc, ◌+◌, ◌≤◌, ◌<◌, List, ◌∷◌, length, ◌∙◌, sym, ap, get_or, add-one, refl, arith, Some, None}
+use Rattle.std.proofs.Common.{◌≡◌, ◌≢◌, inl, inr, ℕ, suc, ◌+◌, ◌≤◌, ◌<◌, List, ◌∷◌, length, get_or, add-one, refl, arith, Some, None}
 use Rattle.std.proofs.lemmas.Bool.Decides.{nat_tests}
-use Rattle.std.proofs.{Common.{Option, true, false, eq-eqb, ◌==◌}, lemmas.Bool.{ne_eqb, cases_lt, true≢false}}
+use Rattle.std.proofs.{Common.{Option, true, false, ◌==◌}, lemmas.Bool.{ne_eqb, cases_lt}}
 use Rattle.std.proofs.lemmas.List.Sorted.{IsNonDecreasingBy-from_all_adjacent}
 use Rattle.std.specs.{Int.is_in_range, List.Sorted.IsNonDecreasingBy}
 use borrow.Author.Tests.{ltb-true}
@@ -29,8 +29,9 @@ module _ (c : ℕ) where
   pub row-outside : (rows : List (ℕ × ℕ × ℕ)) → rows_fault 0 None rows ≡ None → is_in_range 0xE000 0xF8FF c ≡ false
       → None ≡ gb18030_pua_of rows c
   row-outside rows none outside =
-      rw (find-absent (λ r. r.0 == c) (0, 0, 0) rows (λ k h. ne_eqb _ c (λ e.
-      true≢false (sym (each-fine rows_fault IsFine (λ r. Some r.0) row_step 0 None rows none k (0, 0, 0) h).1 ∙ ap (is_in_range 0xE000 0xF8FF) e ∙ outside)))) refl
+      rw (find-absent (λ r. r.0 == c) (0, 0, 0) rows (λ k h.
+      let private = (each-fine rows_fault IsFine (λ r. Some r.0) row_step 0 None rows none k (0, 0, 0) h).1 in
+      grind arith)) refl
 
   -- the first `count` rows have lower scalars
   module _ (rows : List (ℕ × ℕ × ℕ)) (count : ℕ) (below : (k : ℕ) → k < count → (get_or rows k (0, 0, 0)).0 < c) where

@@ -1,9 +1,8 @@
 -- The pointer of four bytes that has a scalar. Ranges in order give each scalar of the Basic Multilingual Plane at most
 -- one pointer.
 use Rattle.std.proofs.Common.{◌≡◌, ◌≢◌, ◌∙◌, ℕ, zero, suc, ◌+◌, ◌-◌, ◌≤◌, ◌<◌, List, [], ◌∷◌, length, get_or, drop, drop-cons, refl, sym, ap, subst, arith}
-use Rattle.std.proofs.{Common.{Some, None, inl, inr}, lemmas.Bool.{cases_lt, ne_eqb}, lemmas.Bool.Decides.nat_tests, Math.ListN.drop_of_length-le}
+use Rattle.std.proofs.{Common.{Some, None, inl, inr}, lemmas.Bool.{cases_lt}, lemmas.Bool.Decides.nat_tests, Math.ListN.drop_of_length-le}
 use Rattle.std.specs.Char.{IsScalar}
-use borrow.Author.Tests.{le-leb, lt-leb}
 use Rattle.legacy_tables.specs.{declared.tables.ranges.RangePart.RangePart, Indexes.{range, last_range_scalar}, Pointers.range_pointer_of}
 use Rattle.legacy_tables.specs.{RangeParts.IsRangePart, TableChecks.{next_pointer, range_order_fault, range_value_fault}}
 use Rattle.legacy_tables.proofs.Accepted.{climb, rising, rising_scalars, started_by, IsGiven, last-at, none-ahead, last-cases, last_range-narrow, range-cases}

@@ -1,5 +1,5 @@
 -- The entries that a search by blocks passes over.
-use Rattle.std.proofs.Common.{refl, ◌≡◌, ◌≢◌, ◌∙◌, ℕ, ◌+◌, ◌-◌, ◌≤◌, ◌<◌, List, length, take, drop, get_or, slice_index, sym, arith, true, Bool, not, eq-eqb}
+use Rattle.std.proofs.Common.{◌≡◌, ◌≢◌, ◌∙◌, ℕ, ◌-◌, ◌≤◌, ◌<◌, List, length, take, drop, get_or, slice_index, sym, arith, true, Bool, not, eq-eqb}
 use Rattle.std.proofs.{Common.◌==◌, lemmas.Bool.{not-true, true≢false}, lemmas.List.{length-take-le, length-drop, get_or-take, get_or-drop}}
 use Rattle.std.proofs.lemmas.List.Folds.{list_any_at}
 use Rattle.std.specs.List.{list_any}
