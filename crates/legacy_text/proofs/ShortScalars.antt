@@ -63,34 +63,20 @@ module _ (text : List ℕ) (place : ℕ) (within : place + 2 ≤ length text) (u
   byte_at k = sym (get_or-drop place text k 0) ∙ ap (λ l. get_or l k 0) bytes
 
   reads : (n : ℕ) → n ≡ unit_count Utf8 (get_or (chars (drop place text)) 0 0) → ReadsScalar text place (get_or (chars (drop place text)) 0 0) (place + n)
-  reads n e =
-      let p = utf8_pass text place n (omega arith) u some e in
-      record { left = first_cons Left C (first_some Left some) ∙ ap (λ l. C ∷ l) (sym p.2); is_text = p.1; within = p.0; passed = ap (λ m. place + m) e }
+  reads n e = grind (arith, utf8_pass text place n, first_cons, first_some Left some)
 
   tells : TellsCount (get_or (chars (drop place text)) 0 0) (get_or text place 0)
   tells = utf8_tells text place C u (first_some Left some)
 
   -- ASCII is its own scalar
   pub reads_ascii : get_or text place 0 < 128 → ReadsScalar text place (get_or text place 0) (place + 1)
-  reads_ascii h =
-      let one = tells.one h in
-      let same : get_or text place 0 ≡ C =
-      ap (λ n. get_or text n 0) (sym (add-zero place)) ∙ byte_at 0 ∙ ap (λ l. get_or (l ++ encodes (drop 1 Left)) 0 0) (encode_1 C (one_below C one)) in
-      rw same (reads 1 (sym one))
+  reads_ascii h = grind (arith, tells, byte_at 0, encode_1, one_below, reads 1)
 
   -- two bytes contain the eleven bits of a scalar
   pub reads_pair : 128 ≤ get_or text place 0
       → (0x3080 ≤ get_or text place 0 * 64 + get_or text (place + 1) 0) × ReadsScalar text place (get_or text place 0 * 64 + get_or text (place + 1) 0 - 0x3080)
       (place + 2)
-  reads_pair h =
-      let two = tells.two h short in
-      let above = two_above C two in
-      let below = two_below C two in
-      let first : get_or text place 0 ≡ 192 + C / 64 =
-      ap (λ n. get_or text n 0) (sym (add-zero place)) ∙ byte_at 0 ∙ ap (λ l. get_or (l ++ encodes (drop 1 Left)) 0 0) (encode_2 C above below) in
-      let second : get_or text (place + 1) 0 ≡ 128 + C % 64 = byte_at 1 ∙ ap (λ l. get_or (l ++ encodes (drop 1 Left)) 1 0) (encode_2 C above below) in
-      let same : get_or text place 0 * 64 + get_or text (place + 1) 0 - 0x3080 ≡ C = rw (first, second) (omega arith) in
-      (rw (first, second) (omega arith), rw same (reads 2 (sym two)))
+  reads_pair h = grind (arith, tells, byte_at 0, byte_at 1, encode_2, two_above, two_below, reads 2)
 
 -- ---- turns
 

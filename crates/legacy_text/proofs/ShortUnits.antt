@@ -1,6 +1,6 @@
 -- Code units below 0x800.
 use Rattle.std.proofs.Common.{◌≡◌, ℕ, zero, suc, ◌+◌, ◌-◌, ◌*◌, ◌/◌, ◌%◌, ◌^◌, ◌<◌, ◌≤◌, Bool, true, false, cond, ltb, leb, eqb, List, [], ◌∷◌, ◌++◌, length}
-use Rattle.std.proofs.{Common.{get_or, map, take, replicate, bit_and, refl, ap, ap₂, ◌∙◌, arith, w8, w16, Fits, All}, lemmas.Bool.{ltb-true, lt-ltb, leb-true}}
+use Rattle.std.proofs.{Common.{get_or, map, take, replicate, bit_and, refl, ap, ap₂, ◌∙◌, ◌&&◌, arith, w8, w16, Fits, All}, lemmas.Bool.{ltb-true, lt-ltb, leb-true}}
 use Rattle.std.proofs.{lemmas.Bool.{eqb-true, agree_below_at}, lemmas.Bool.Decides.nat_tests, lemmas.Grind.common_steps, lemmas.List.{map-append, length-map}}
 use Rattle.std.proofs.{lemmas.List.{take-take, take-map}, Math.Seq.take-append_seam, lemmas.Nat.and_mask, lemmas.Simd.{bitmask_splat, mask_l-lt, swz_l}}
 use Rattle.std.specs.{Char.encode_utf8, Int.RustNames.count_ones, List.range_with_len}
@@ -60,9 +60,8 @@ short_row_long r h = eqb-true _ _ (agree_below_at (λ n. eqb (length (short_row 
 pub short_counted : (at r : ℕ) → r < 256 → at + 16 - count_ones r ≡ at + length (short_places 0 8 r)
 unfolding short_places count_ones
 short_counted at r h =
-    let count = agree_below_at (λ n. eqb (16 - count_ones n) (length (short_places 0 8 n))) (λ _. true) 256 r refl h in
-    let ones = agree_below_at (λ n. leb (count_ones n) 8) (λ _. true) 256 r refl h in
-    omega (arith, eqb-true _ _ count, leb-true _ _ ones)
+    let count = agree_below_at (λ n. eqb (16 - count_ones n) (length (short_places 0 8 n)) && leb (count_ones n) 8) (λ _. true) 256 r refl h in
+    grind (arith, nat_tests)
 
 pub short_places_most : (r : ℕ) → r < 256 → length (short_places 0 8 r) ≤ 16
 unfolding short_places

@@ -90,9 +90,7 @@ stands_tells text place c s = first_tells c (get_or text place 0) s.rest (sym (s
 
 stands_within : (text : List ℕ) (place c : ℕ) → StandsAt text place c → place + unit_count Utf8 c ≤ length text
 stands_within text place c s =
-    let some = (len_utf8_bounds c).0 in
-    let long = length-encode c in
-    omega (arith, some, long, ap length s.is, length-append (encode c) s.rest, length-drop place text)
+    omega (arith, (len_utf8_bounds c).0, length-encode c, ap length s.is, length-append (encode c) s.rest, length-drop place text)
 
 pub stands_one : {text : List ℕ} {place c : ℕ} → StandsAt text place c → get_or text place 0 < 0x80 → unit_count Utf8 c ≡ 1
 stands_one {text} {place} {c} s h = (stands_tells text place c s).one h
@@ -133,6 +131,12 @@ made_of_three {text} {place} {c} s low high =
 abbrev pub replaced : Option ℕ → ℕ
 replaced o = unwrap_or o 0xFFFD
 
+pub scalars_one : (u : ℕ) (rest : List ℕ) → (IsPair u (get_or rest 0 0) → ⊥) → unit_scalars (u ∷ rest) ≡ replaced (lone_unit_char u) ∷ unit_scalars rest
+scalars_one u rest n = ap (map replaced) (utf16_chars_lone u rest n)
+
+scalars_two : (u v : ℕ) (rest : List ℕ) → IsPair u v → unit_scalars (u ∷ v ∷ rest) ≡ surrogate_pair_char u v ∷ unit_scalars rest
+scalars_two u v rest p = ap (map replaced) (utf16_chars_pair u v rest p)
+
 pub scalars_lone : (units : List ℕ) (at : ℕ) → at < length units → (IsPair (get_or units at 0) (get_or units (at + 1) 0) → ⊥) →
     unit_scalars (drop at units) ≡ unwrap_or (lone_unit_char (get_or units at 0)) 0xFFFD ∷ unit_scalars (drop (at + 1) units)
 scalars_lone units at h n = ap (map replaced) (utf16_chars-drop_lone units at h n)
@@ -147,15 +151,15 @@ scalars_end units at h = ap (map replaced) (utf16_chars-drop_all units at h)
 -- the unit at the place, as a scalar
 pub first_low : (units : List ℕ) (at : ℕ) → at < length units → get_or units at 0 < 0xD800 →
     Some (get_or units at 0) ≡ slice_get (unit_scalars (drop at units)) 0
-first_low units at h l = let e = scalars_lone units at h (λ p. omega (arith, p.0)) in rw (e, lone_unit_char_low (get_or units at 0) l) refl
+first_low units at h l = grind (arith, scalars_lone, lone_unit_char_low)
 
 pub first_high : (units : List ℕ) (at : ℕ) → at < length units → 0xE000 ≤ get_or units at 0 →
     Some (get_or units at 0) ≡ slice_get (unit_scalars (drop at units)) 0
-first_high units at h l = let e = scalars_lone units at h (λ p. omega (arith, p.1)) in rw (e, lone_unit_char_high (get_or units at 0) l) refl
+first_high units at h l = grind (arith, scalars_lone, lone_unit_char_high)
 
 pub first_unpaired : (units : List ℕ) (at : ℕ) → at < length units → 0xD800 ≤ get_or units at 0 → get_or units at 0 < 0xE000 →
     (IsPair (get_or units at 0) (get_or units (at + 1) 0) → ⊥) → Some 0xFFFD ≡ slice_get (unit_scalars (drop at units)) 0
-first_unpaired units at h l m n = let e = scalars_lone units at h n in rw (e, lone_unit_char_surrogate (get_or units at 0) l m) refl
+first_unpaired units at h l m n = grind (arith, scalars_lone, lone_unit_char_surrogate)
 
 pub first_pair : (units : List ℕ) (at : ℕ) → at + 1 < length units → IsPair (get_or units at 0) (get_or units (at + 1) 0) →
     Some (surrogate_pair_char (get_or units at 0) (get_or units (at + 1) 0)) ≡ slice_get (unit_scalars (drop at units)) 0
@@ -180,10 +184,7 @@ unpaired_bound u h = grind arith
 -- by the scalar at the place and its number of units
 step_of : (list : List ℕ) (place c n s k : ℕ) → unit_scalars (drop place list) ≡ s ∷ unit_scalars (drop (place + k) list) →
     Some c ≡ slice_get (unit_scalars (drop place list)) 0 → n ≡ k → k ≡ unit_count Utf16 s → place + k ≤ length list → Utf16Step list place c n
-step_of list place c n s k all e same width within =
-    let f : Some c ≡ Some s = e ∙ ap (λ l. slice_get l 0) all in
-    let is : c ≡ s = cc in
-    record { width = rw (same, is) width; within = omega arith; behind = rw same (sym (ap (drop 1) all)); first = ap (λ l. get_or l 0 0) all ∙ sym is }
+step_of list place c n s k all e same width within = grind arith
 
 pub utf16_step : (list : List ℕ) (place c n : ℕ) → ((i : ℕ) → get_or list i 0 < 65536) → place < length list →
     Some c ≡ slice_get (unit_scalars (drop place list)) 0 → (c < 65536 → n ≡ 1) → (65536 ≤ c → n ≡ 2) → Utf16Step list place c n
@@ -202,7 +203,7 @@ encodes-code_units (c ∷ cs) = ap (λ l. encode c ++ l) (encodes-code_units cs)
 
 scalars-right : (xs ys : List ℕ) → scalars (xs ++ ys) ≡ true → scalars ys ≡ true
 scalars-right [] ys e = e
-scalars-right (x ∷ xs) ys e = scalars-right xs ys (and_parts (scalar x) (scalars (xs ++ ys)) e).1
+scalars-right (x ∷ xs) ys e = grind (arith, scalars-right xs ys)
 
 -- the scalars taken off a text end at a place between two of them, and those left are those from the place on
 pub record CutAt (text taken left : List ℕ) (place : ℕ) : Type 0 where
@@ -243,32 +244,24 @@ cut_pair : (u v : ℕ) (list left : List ℕ) (place n : ℕ) → IsPair u v →
 cut_pair u v list left place n p e h = grind arith
 
 pub utf16_cut : (list taken left : List ℕ) → Bounded list → unit_scalars list ≡ taken ++ left → CutUnits list left (length (all_code_units Utf16 taken))
-utf16_cut list [] left b e = record { left_is = e; within = omega arith; apart = λ k f. absurd (omega arith) }
+utf16_cut list [] left b e = grind arith
 utf16_cut [] (c ∷ taken) left b e = let n : unit_scalars [] ≡ [] = ap (map replaced) utf16_chars-nil in let f : [] ≡ c ∷ (taken ++ left) = sym n ∙ e in cc
-utf16_cut (u ∷ []) (c ∷ taken) left b e = let p : IsPair u 0 → ⊥ = λ q. omega (arith, q.2) in
-    let all : unit_scalars (u ∷ []) ≡ replaced (lone_unit_char u) ∷ unit_scalars [] = ap (map replaced) (utf16_chars_lone u [] p) in
-    let f : replaced (lone_unit_char u) ∷ unit_scalars [] ≡ c ∷ (taken ++ left) = sym all ∙ e in
-    let is : c ≡ replaced (lone_unit_char u) = cc in
-    let rest : unit_scalars [] ≡ taken ++ left = cc in
-    let narrow : c < 65536 = rw is (unpaired_bound u (b 0)) in
-    cut_lone u [] left _ _ p (ap (λ l. length (l ++ all_code_units Utf16 taken)) (utf16_1 c narrow)) (utf16_cut [] taken left (λ i. b (suc i)) rest)
-utf16_cut (u ∷ v ∷ list) (c ∷ taken) left b e = elim (pair_or_not u v) [
-  | inl p ↦
-      let all : unit_scalars (u ∷ v ∷ list) ≡ surrogate_pair_char u v ∷ unit_scalars list = ap (map replaced) (utf16_chars_pair u v list p) in
-      let f : surrogate_pair_char u v ∷ unit_scalars list ≡ c ∷ (taken ++ left) = sym all ∙ e in
-      let is : c ≡ surrogate_pair_char u v = cc in
-      let rest : unit_scalars list ≡ taken ++ left = cc in
-      let wide : 65536 ≤ c = omega (arith, p.2) in
-      cut_pair u v list left _ _ p (ap (λ l. length (l ++ all_code_units Utf16 taken)) (utf16_2 c wide)) (utf16_cut list taken left (λ i. b (suc (suc i))) rest)
-  | inr p ↦
-      let all : unit_scalars (u ∷ v ∷ list) ≡ replaced (lone_unit_char u) ∷ unit_scalars (v ∷ list) = ap (map replaced) (utf16_chars_lone u (v ∷ list) p) in
-      let f : replaced (lone_unit_char u) ∷ unit_scalars (v ∷ list) ≡ c ∷ (taken ++ left) = sym all ∙ e in
-      let is : c ≡ replaced (lone_unit_char u) = cc in
-      let rest : unit_scalars (v ∷ list) ≡ taken ++ left = cc in
-      let narrow : c < 65536 = rw is (unpaired_bound u (b 0)) in
-      cut_lone u (v ∷ list) left _ _ p (ap (λ l. length (l ++ all_code_units Utf16 taken)) (utf16_1 c narrow))
-      (utf16_cut (v ∷ list) taken left (λ i. b (suc i)) rest)
-]
+utf16_cut (u ∷ []) (c ∷ taken) left b e =
+    grind (arith, scalars_one u [], unpaired_bound u (b 0), utf16_1 c, cut_lone u [] left, utf16_cut [] taken left (λ i. b (suc i)))
+utf16_cut (u ∷ v ∷ list) (c ∷ taken) left b e =
+    grind (
+      arith,
+      pair_or_not u v,
+      scalars_one,
+      scalars_two,
+      unpaired_bound u (b 0),
+      utf16_1 c,
+      utf16_2 c,
+      cut_lone,
+      cut_pair,
+      utf16_cut list taken left (λ i. b (suc (suc i))),
+      utf16_cut (v ∷ list) taken left (λ i. b (suc i)),
+    )
 
 -- what a call left of a whole text
 pub utf8_read : (text taken left : List ℕ) (read : ℕ) → IsUtf8 text → chars text ≡ taken ++ left →
@@ -294,11 +287,7 @@ ascii_past (x ∷ xs) ys a u =
 -- ASCII units are their own scalars
 unit_scalars-ascii : (xs ys : List ℕ) → IsAscii xs → unit_scalars (xs ++ ys) ≡ xs ++ unit_scalars ys
 unit_scalars-ascii [] ys a = refl
-unit_scalars-ascii (x ∷ xs) ys a =
-    let low : x < 128 = a 0 in
-    ap (map replaced) (utf16_chars_lone x (xs ++ ys) (λ p. omega (arith, p.0)))
-    ∙ ap (λ o. replaced o ∷ unit_scalars (xs ++ ys)) (lone_unit_char_low x (omega arith))
-    ∙ ap (λ l. x ∷ l) (unit_scalars-ascii xs ys (λ i. a (suc i)))
+unit_scalars-ascii (x ∷ xs) ys a = grind (arith, a 0, scalars_one, lone_unit_char_low, unit_scalars-ascii xs ys (λ i. a (suc i)))
 
 -- The first n of the scalars that are left are these, and the others come after them.
 pub record IsFront (all front others : List ℕ) (n : ℕ) : Type 0 where
@@ -360,17 +349,11 @@ none_left (x ∷ xs) e = cc
 pub utf8_pass : (text : List ℕ) (place n : ℕ) → place ≤ length text → is_utf8 (drop place text) ≡ true → 0 < length (chars (drop place text))
     → n ≡ unit_count Utf8 (get_or (chars (drop place text)) 0 0) →
     (place + n ≤ length text) × (is_utf8 (drop (place + n) text) ≡ true) × (chars (drop (place + n) text) ≡ drop 1 (chars (drop place text)))
-utf8_pass text place n p u some e =
-    let c : ℕ = get_or (chars (drop place text)) 0 0 in
-    let s = utf8_step text place c p u (first_some (chars (drop place text)) some) in
-    let width : n ≡ len_utf8 c = e ∙ length-encode c in
-    rw width (s.within, s.is_text, s.behind)
+utf8_pass text place n p u some e = grind (arith, utf8_step text place (get_or (chars (drop place text)) 0 0) p u (first_some _ some), length-encode)
 
 pub utf16_pass : (list : List ℕ) (place n : ℕ) → ((i : ℕ) → get_or list i 0 < 65536) → 0 < length (unit_scalars (drop place list))
     → n ≡ unit_count Utf16 (get_or (unit_scalars (drop place list)) 0 0) →
     (place + n ≤ length list) × (unit_scalars (drop (place + n) list) ≡ drop 1 (unit_scalars (drop place list)))
 utf16_pass list place n bound some e =
-    let c : ℕ = get_or (unit_scalars (drop place list)) 0 0 in
     let f = first_some (unit_scalars (drop place list)) some in
-    let s = utf16_step list place c n bound (some_within list place c f) f (λ h. e ∙ ap length (utf16_1 c h)) (λ h. e ∙ ap length (utf16_2 c h)) in
-    (s.within, s.behind)
+    grind (arith, utf16_step list place (get_or (unit_scalars (drop place list)) 0 0) n bound (some_within list place _ f) f, utf16_1, utf16_2)

@@ -35,18 +35,7 @@ last_is u small = grind (arith, common_steps, and_mask)
 pub front_is : (u : ℕ) → u < 65536
     → (((u / 2 ^ 12 + 224) % 2 ^ 16 + bit_and (u * 2 ^ 2 % 2 ^ 16) 16128) % 2 ^ 16 + cond (top 15 (cond (ltb u 2048) (2 ^ 16 - 1) 0)) 49152 32768) % 2 ^ 16
     ≡ front_bytes u
-front_is u small = go (ltb u 2048) (bit_and (u * 2 ^ 2 % 2 ^ 16) 16128) middle
-  where
-    middle : bit_and (u * 2 ^ 2 % 2 ^ 16) 16128 ≡ 256 * (u / 64 % 64)
-    middle =
-        let e : bit_and (u * 2 ^ 2 % 2 ^ 16) 16128 ≡ u * 2 ^ 2 % 2 ^ 16 / 256 % 64 * 256 = and_high (u * 2 ^ 2 % 2 ^ 16) 6 8 in
-        omega (arith, e)
-
-    go : (t : Bool) (m : ℕ) → m ≡ 256 * (u / 64 % 64)
-        → (((u / 2 ^ 12 + 224) % 2 ^ 16 + m) % 2 ^ 16 + cond (top 15 (cond t (2 ^ 16 - 1) 0)) 49152 32768) % 2 ^ 16
-        ≡ 224 + u / 4096 + 256 * (u / 64 % 64) + cond t 49152 32768
-    go true m e = omega arith
-    go false m e = omega arith
+front_is u small = grind (arith, and_high (u * 2 ^ 2 % 2 ^ 16) 6 8)
 
 -- the bytes that are written, in order
 abbrev pub chosen : Bool → Bool → ℕ → ℕ → ℕ → List ℕ
@@ -164,12 +153,7 @@ flags_long (u ∷ v) = let e = flags_long v in omega arith
 
 mask_append : (xs ys : List Bool) → mask_l (xs ++ ys) ≡ mask_l xs + 2 ^ length xs * mask_l ys
 mask_append [] ys = omega arith
-mask_append (x ∷ xs) ys =
-    let e = mask_append xs ys in
-    let n = 2 ^ length xs in
-    let q : 2 ^ suc (length xs) ≡ 2 * n = omega arith in
-    let p : 2 ^ suc (length xs) * mask_l ys ≡ 2 * (n * mask_l ys) = ap (λ k. k * mask_l ys) q ∙ mul_assoc 2 n (mask_l ys) in
-    omega arith
+mask_append (x ∷ xs) ys = grind (arith, nat_tests, mask_append xs ys, mul_assoc)
 
 flags_append : (us vs : List ℕ) → flags (us ++ vs) ≡ flags us ++ flags vs
 flags_append [] vs = refl
@@ -235,11 +219,7 @@ count_most r h = leb-true _ _ (and_parts _ _ (and_parts _ _ (all_rows r h)).1).1
 -- a shuffle of sixteen bytes by places within them
 pub shuffled : (xs : List ℕ) (i : ℕ) (js : List ℕ) → i + length js ≤ 16 → Each1 (λ j. j < 16) js → swz_l w8 16 xs i js ≡ map (λ j. get_or xs j 0) js
 shuffled xs i [] room s = refl
-shuffled xs i (j ∷ js) room s =
-    let low : j < 16 = s.0 in
-    let here : leb 128 j ≡ false = lt-leb 128 j (omega arith) in
-    let at : 16 * (i / 16) + j ≡ j = omega arith in
-    (λ t. cond (here t) 0 (get_or xs (at t) 0) ∷ swz_l w8 16 xs (suc i) js) ∙ ap (λ (l : List ℕ). get_or xs j 0 ∷ l) (shuffled xs (suc i) js (omega arith) s.1)
+shuffled xs i (j ∷ js) room s = grind (arith, nat_tests, s.0, shuffled xs (suc i) js)
 
 row_begins : (r : ℕ) → r < 256 → take (length (places 0 4 r)) (row r) ≡ places 0 4 r
 unfolding row
