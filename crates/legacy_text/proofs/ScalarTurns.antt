@@ -1,9 +1,9 @@
 -- Bits that say where scalars begin, and the scalars of one and three bytes of UTF-8 between them.
 use Rattle.std.proofs.{lemmas.Bool.Decides.nat_tests, Common.{◌≡◌, ◌↔◌, ◌∙◌, ℕ, zero, suc, ◌+◌, ◌-◌, ◌*◌, ◌/◌, ◌%◌, ◌^◌, ◌≤◌, ◌<◌, List, [], ◌∷◌, ◌++◌, length}}
-use Rattle.std.proofs.Common.{get_or, true, false, cond, leb, map, max, take, drop, replicate, refl, sym, ap, subst, arith, append_assoc, append-nil}
-use Rattle.std.proofs.{Common.{length-append, add-zero, slice_set, inl, inr, w8, w32, Fits, bit_and, bit_or}, Math.ListN.get_or-map, Math.Nat.{mod-lt, pow-suc}}
+use Rattle.std.proofs.Common.{get_or, true, false, cond, leb, map, max, take, drop, replicate, refl, sym, ap, ap₂, subst, arith, append_assoc, append-nil}
+use Rattle.std.proofs.{Common.{length-append, add-zero, slice_set, w8, w32, Fits, bit_and, bit_or}, Math.ListN.get_or-map, Math.Nat.{mod-lt, pow-suc}}
 use Rattle.std.proofs.{lemmas.Bool.cases_lt, lemmas.List.{get_or-set_same, get_or-set_other, get_or_past, length-drop, get_or_append_left, get_or-append-add}}
-use Rattle.std.proofs.{lemmas.List.{get_or-drop, get_or-take, length-map, length-replicate}, lemmas.Nat.{pow_pos, and_mask}, lemmas.Nat.Bits.bit_at-trailing_zeros}
+use Rattle.std.proofs.{lemmas.List.{get_or-drop, get_or-take, length-map, length-take-le}, lemmas.Nat.{pow_pos}, lemmas.Nat.Bits.bit_at-trailing_zeros}
 use Rattle.std.proofs.lemmas.Nat.Bits.{bit_at-pow_same, bit_at-pow_other, bit_at_and, bit_at_or, bit_at_not, bit_at_ones_above, bit_at_cat_low, bit_at_cat_high}
 use Rattle.std.proofs.{lemmas.Nat.Bits.{same_from_bits_below, bit_at-lt}, lemmas.Simd.{bit_mask_l, mask_l-lt, get_or_wider, Each1-from_get_or, Each1-get_or}}
 use Rattle.std.proofs.lemmas.Simd.{below_from_Fits, get_or-put_chunk_below, get_or-put_chunk_at, length-put_chunk, get_or-zip2, get_or-replicate}
@@ -37,15 +37,15 @@ module _ (n : ℕ) (some : 0 < n) (fits : n < 2 ^ 32) where
   low_is : n % 2 ^ (trailing_zeros w32 n + 1) ≡ 2 ^ trailing_zeros w32 n
   low_is = same_from_bits_below (T + 1) (n % 2 ^ (T + 1)) (2 ^ T) (mod-lt n (pow_pos (T + 1))) (omega (arith, twice, pow_pos T)) low_bits
 
-  less_is : n - 1 ≡ n / 2 ^ (trailing_zeros w32 n + 1) * 2 ^ (trailing_zeros w32 n + 1) + (2 ^ trailing_zeros w32 n - 1)
+  less_is : (n + 4294967295) % 4294967296 ≡ n / 2 ^ (trailing_zeros w32 n + 1) * 2 ^ (trailing_zeros w32 n + 1) + (2 ^ trailing_zeros w32 n - 1)
   less_is = omega (arith, cut, low_is, pow_pos T)
 
   -- without the lowest bit, no bit up to it is set
-  pub lowest_gone : (k : ℕ) → k ≤ trailing_zeros w32 n → bit_at (bit_and n (n - 1)) k ≡ 0
+  pub lowest_gone : (k : ℕ) → k ≤ trailing_zeros w32 n → bit_at (bit_and n ((n + 4294967295) % 4294967296)) k ≡ 0
   lowest_gone k le = grind (arith, nat_tests, bit_at_and, at_lowest, less_is, bit_at_cat_low, bit_at_ones_above)
 
   -- all bits above it are unchanged
-  pub others_stay : (k : ℕ) → trailing_zeros w32 n < k → bit_at (bit_and n (n - 1)) k ≡ bit_at n k
+  pub others_stay : (k : ℕ) → trailing_zeros w32 n < k → bit_at (bit_and n ((n + 4294967295) % 4294967296)) k ≡ bit_at n k
   others_stay k l = grind (arith, nat_tests, twice, pow_pos, less_is, bit_at_cat_high, cut, mod-lt, bit_at_and)
 
 -- ---- the bits of starts
@@ -69,11 +69,22 @@ starts_from : (byte p l r : ℕ) → ((p ≡ 1) ↔ (128 ≤ byte)) → ((l ≡ 
 starts_from byte p l r past leads few few_leads is = grind arith
 
 -- a bit that is not set for a byte of at least 128, or set for one of at least 192
-pub starts_bit : (v : List ℕ) → length v ≡ 32 → (k : ℕ) → k < 32
+starts_bit : (v : List ℕ) → length v ≡ 32 → (k : ℕ) → k < 32
     → (bit_at (bit_or (bit_not w32 (mask_from 128 32 v)) (mask_from 192 32 v)) k ≡ 1) ↔ IsStart (get_or v k 0)
 starts_bit v long k h =
     starts_from (get_or v k 0) _ _ _ (mask_bit 128 refl v long k) (mask_bit 192 refl v long k) (bit_at-lt _ k) (bit_at-lt _ k)
     (bit_at_or _ _ k ∙ ap (λ n. max n (bit_at (mask_from 192 32 v) k)) (bit_at_not w32 (mask_from 128 32 v) k (mask_from-lt 128 v long) h))
+
+pub block_long : (bytes : List ℕ) (place : ℕ) → place + 32 ≤ length bytes → length (take 32 (drop place bytes)) ≡ 32
+block_long bytes place h = length-take-le 32 (drop place bytes) (omega (arith, length-drop place bytes))
+
+-- the same of the next 32 bytes
+pub starts_here : (bytes : List ℕ) (place : ℕ) → place + 32 ≤ length bytes → (k : ℕ) → k < 32
+    → (bit_at (bit_or (bit_not w32 (mask_from 128 32 (take 32 (drop place bytes)))) (mask_from 192 32 (take 32 (drop place bytes)))) k ≡ 1)
+    ↔ IsStart (get_or bytes (place + k) 0)
+starts_here bytes place within k h =
+    let same : get_or (take 32 (drop place bytes)) k 0 ≡ get_or bytes (place + k) 0 = get_or-take 32 (drop place bytes) k 0 h ∙ get_or-drop place bytes k 0 in
+    rw same at (starts_bit (take 32 (drop place bytes)) (block_long bytes place within) k h)
 
 -- ---- lanes of two bytes
 
@@ -94,20 +105,13 @@ pub filled : (P : ℕ → ℕ → Type 0) (lows highs : List ℕ) (k low high : 
     → P k (low + 256 * high) → (j : ℕ) → j < k + 1 → P j (get_or (slice_set lows k low) j 0 + 256 * get_or (slice_set highs k high) j 0)
 filled P lows highs k low high a b before here j h = grind (arith, nat_tests, get_or-set_other, get_or-set_same)
 
--- a byte of sixteen
-pub sixteenth : (bytes : List ℕ) (place k : ℕ) → k < 16 → get_or (take 16 (drop place bytes)) k 0 ≡ get_or bytes (place + k) 0
-sixteenth bytes place k h = get_or-take 16 (drop place bytes) k 0 h ∙ get_or-drop place bytes k 0
-
--- sixteen bytes with inverted highest bits
-pub turned_is : (v : List ℕ) → length v ≡ 16 → (k : ℕ) → k < 16 → get_or (zip2 (λ a b. (a + b) % 256) v (replicate 16 128)) k 0 ≡ (get_or v k 0 + 128) % 256
-turned_is v long k h = grind (arith, get_or-zip2 (λ a b. (a + b) % 256) v (replicate 16 128) k 0 0 0, get_or-replicate, length-replicate)
-
--- the low six bits of sixteen bytes
-pub tails_is : (v : List ℕ) → length v ≡ 16 → (k : ℕ) → k < 16 → get_or (zip2 bit_and v (replicate 16 63)) k 0 ≡ get_or v k 0 % 64
-tails_is v long k h =
-    let count : length (replicate {A = ℕ} 16 63) ≡ 16 = refl in
-    get_or-zip2 bit_and v (replicate 16 63) k 0 0 0 (omega (arith, long)) (omega (arith, count))
-    ∙ ap (λ b. bit_and (get_or v k 0) b) (get_or-replicate 16 k 63 0 h) ∙ and_mask (get_or v k 0) 6
+-- sixteen bytes, each joined with the same number
+pub each_sixteenth : (f : ℕ → ℕ → ℕ) (x : ℕ) (bytes : List ℕ) (place : ℕ) → place + 16 ≤ length bytes → (k : ℕ) → k < 16
+    → get_or (zip2 f (take 16 (drop place bytes)) (replicate 16 x)) k 0 ≡ f (get_or bytes (place + k) 0) x
+each_sixteenth f x bytes place within k h =
+    let long : length (take 16 (drop place bytes)) ≡ 16 = length-take-le 16 (drop place bytes) (omega (arith, length-drop place bytes)) in
+    get_or-zip2 f (take 16 (drop place bytes)) (replicate 16 x) k 0 0 0 (omega (arith, long)) h
+    ∙ ap₂ f (get_or-take 16 (drop place bytes) k 0 h ∙ get_or-drop place bytes k 0) (get_or-replicate 16 k x 0 h)
 
 -- a code unit depends only on these bits
 pub of_tails : (first second third unit : ℕ) → IsUnitOf first (second % 64) (third % 64) unit → IsUnitOf first second third unit
@@ -168,11 +172,6 @@ pub stored_at : (P : ℕ → ℕ → Type 0) (all front back : List ℕ) (at : �
     → ((k : ℕ) → k < 8 → P k (get_or front k 0)) → ((k : ℕ) → k < 8 → P (8 + k) (get_or back k 0))
     → (k : ℕ) → k < 16 → P k (get_or (put_chunk (at + 8) (put_chunk at all front) back) (at + k) 0)
 stored_at P all front back at long long_back room first others k h = grind (arith, nat_tests, get_or-put_chunk_below, get_or-put_chunk_at, length-put_chunk)
-
--- sixteen entries, and sixteen after them
-pub both_halves : (P : ℕ → ℕ → Type 0) (front all : List ℕ) → ((k : ℕ) → k < 16 → get_or all k 0 ≡ get_or front k 0) →
-    ((k : ℕ) → k < 16 → P k (get_or front (0 + k) 0)) → ((k : ℕ) → k < 16 → P (16 + k) (get_or all (16 + k) 0)) → (k : ℕ) → k < 32 → P k (get_or all k 0)
-both_halves P front all same first others k h = grind (arith, nat_tests, first k, same k, others (k - 16))
 
 -- ---- scalars
 

@@ -1,5 +1,5 @@
 -- Runs of scalars that were written as one byte each, and the scalars of one and two bytes of UTF-8.
-use Rattle.std.proofs.{lemmas.Bool.Decides.nat_tests, lemmas.Grind.common_steps, Common.{◌≡◌, ◌∙◌, ℕ, ◌+◌, ◌-◌, ◌*◌, ◌/◌, ◌%◌, ◌≤◌, ◌<◌, List, [], ◌∷◌, ◌++◌}}
+use Rattle.std.proofs.{lemmas.Bool.Decides.nat_tests, lemmas.Grind.common_steps, Common.{◌≡◌, ◌∙◌, ℕ, ◌+◌, ◌-◌, ◌*◌, ◌≤◌, ◌<◌, List, [], ◌∷◌, ◌++◌}}
 use Rattle.std.proofs.Common.{length, get_or, Bool, true, ◌&&◌, take, drop, sym, ap, arith, append_assoc, append-nil, length-append, length-drop, add-zero}
 use Rattle.std.proofs.{lemmas.List.{get_or_append_left, get_or-append-add, get_or-drop, drop-drop}, lemmas.Str.{encodes-chars, IsUtf8-from_is_utf8}}
 use Rattle.std.proofs.Math.Seq.{take-add}

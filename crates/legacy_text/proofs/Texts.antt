@@ -1,7 +1,7 @@
 -- The scalars of texts, one by one from the front, and the places between them.
 use Rattle.std.proofs.{lemmas.Bool.Decides.nat_tests, Common.{◌≡◌, ◌∙◌, ℕ, suc, ◌+◌, ◌-◌, ◌≤◌, ◌<◌, List, [], ◌∷◌, ◌++◌, length, take, drop, get_or, refl, sym}}
-use Rattle.std.proofs.Common.{◌*◌, ◌%◌, add-zero, ap, subst, arith, length-append, length-drop, Some, None, Option, true, false, ◌⊎◌, inl, inr, ◌&&◌, map}
-use Rattle.std.proofs.{Common.{slice_get, IsAscii}, lemmas.Bool.and_parts, lemmas.List.{drop-drop, take-append-drop, length-take-le, take_all, get_or-drop}}
+use Rattle.std.proofs.Common.{◌*◌, ◌%◌, add-zero, ap, subst, arith, length-append, length-drop, Some, None, Option, true, false, ◌⊎◌, ◌&&◌, map}
+use Rattle.std.proofs.{Common.{slice_get, IsAscii}, lemmas.List.{drop-drop, take-append-drop, length-take-le, take_all, get_or-drop}}
 use Rattle.std.proofs.{Math.Seq.{drop-append_seam, take-append_seam}, lemmas.Str.{IsUtf8-from_is_utf8, is_utf8-from_IsUtf8, encodes-chars, chars_past_char}}
 use Rattle.std.proofs.lemmas.Str.{IsUtf8-past_char, drop_past_char, length-encode, utf16_chars-nil, len_utf8_bounds, utf16_chars_lone, utf16_chars_pair}
 use Rattle.std.proofs.lemmas.Str.{encodes-append, scalars-chars, chars-encodes, IsCharBoundary-at_seam, chars-append, chars-IsAscii, IsUtf8-from_ascii}

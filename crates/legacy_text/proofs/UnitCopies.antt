@@ -1,10 +1,10 @@
 -- The bytes written for blocks of code units.
-use Rattle.std.proofs.{lemmas.Bool.Decides.nat_tests, Common.{◌≡◌, ◌∙◌, ℕ, suc, ◌+◌, ◌-◌, ◌≤◌, ◌<◌, List, [], ◌∷◌, ◌++◌, length, get_or, take, drop, map, refl}}
-use Rattle.std.proofs.{Common.{sym, ap, subst, arith, append_assoc, append-nil, length-append, length-drop, IsAscii, inl, inr}, lemmas.Bool.cases_lt}
+use Rattle.std.proofs.{lemmas.Bool.Decides.nat_tests, Common.{◌≡◌, ◌∙◌, ℕ, suc, ◌+◌, ◌-◌, ◌≤◌, ◌<◌, List, [], ◌∷◌, ◌++◌, length, get_or, take, drop, refl}}
+use Rattle.std.proofs.{Common.{sym, ap, subst, arith, append_assoc, append-nil, length-append, length-drop, IsAscii}}
 use Rattle.std.proofs.lemmas.List.{get_or_append_left, get_or-append-add, get_or-drop, length-take-le, get_or-take, take_all, take-append-drop, drop-drop}
-use Rattle.std.proofs.{str.Utf16.{lone_unit_char_low, lone_unit_char_high}, lemmas.Str.utf16_chars_lone}
-use Rattle.legacy_text.specs.{EncodingForm.{Utf16, code_units, all_code_units, total_unit_count}, Texts.unit_scalars, UnitCodes.{IsNoSurrogate, WritesCodes}}
-use Rattle.legacy_text.proofs.{CodeUnits.utf16_1, Texts.{IsFront, front_of, replaced, scalars_one}}
+use Rattle.std.proofs.{str.Utf16.{lone_unit_char_low, lone_unit_char_high}}
+use Rattle.legacy_text.specs.{EncodingForm.{Utf16, total_unit_count}, Texts.unit_scalars, UnitCodes.{IsNoSurrogate, WritesCodes}}
+use Rattle.legacy_text.proofs.{CodeUnits.utf16_1, Texts.{IsFront, front_of, scalars_one}}
 
 -- ---- blocks
 

@@ -1,7 +1,7 @@
 -- Vectors lane by lane: a vector is written out as the list of its lanes.
-use Rattle.std.proofs.Common.{◌≡◌, ℕ, zero, suc, ◌+◌, ◌-◌, ◌*◌, ◌/◌, ◌%◌, ◌^◌, ◌<◌, ◌≤◌, Bool, true, false, cond, ltb, leb, eqb, List, [], ◌∷◌, ◌++◌, length}
+use Rattle.std.proofs.Common.{◌≡◌, ℕ, zero, suc, ◌+◌, ◌-◌, ◌*◌, ◌/◌, ◌%◌, ◌^◌, ◌<◌, ◌≤◌, Bool, true, cond, ltb, leb, eqb, List, [], ◌∷◌, ◌++◌, length}
 use Rattle.std.proofs.Common.{get_or, map, take, drop, replicate, bit_and, refl, sym, ap, ap₂, ◌∙◌, arith, w8, w16, Fits, ◌&&◌, mod-lt, zero-lt-suc, mul_assoc}
-use Rattle.std.proofs.{Common.length-append, lemmas.Bool.{ltb-true, leb-true, eqb-true, lt-leb, and_parts, agree_below_at}, lemmas.List.map-append}
+use Rattle.std.proofs.{Common.length-append, lemmas.Bool.{ltb-true, leb-true, eqb-true, and_parts, agree_below_at}, lemmas.List.map-append}
 use Rattle.std.proofs.lemmas.List.{append_assoc, length-replicate, length-take-le, length-drop, take-take, take-append-drop, take-append-le, take-map}
 use Rattle.std.proofs.{Math.Seq.{take-append_seam, take-append-add}, lemmas.Nat.and_mask, lemmas.Nat.Bits.and_high, lemmas.Simd.{mask_l-lt, mask_l-mod, swz_l}}
 use Rattle.std.proofs.{lemmas.Simd.put_chunk_is, lemmas.Grind.{flat_map-append, common_steps}, lemmas.Bool.Decides.nat_tests}

@@ -1,4 +1,4 @@
-use Rattle.std.proofs.{lemmas.Grind.common_steps, Common.{◌≡◌, ◌∙◌, ◌+◌, ◌<◌, length, take, ap, add-zero, arith, slice_set}, lemmas.Bool.ltb-true}
+use Rattle.std.proofs.{Common.{◌≡◌, ◌∙◌, ◌+◌, ◌<◌, length, take, ap, add-zero, arith, slice_set}, lemmas.Bool.ltb-true}
 use Rattle.std.proofs.lemmas.List.{take-set-le, take_more_set}
 use Rattle.legacy_text.proofs.ShortScalars.{all_set, scalars_none, scalars_one, scalars_append}
 use Rattle.legacy_text.proofs.short_scalars.put_turn.Goals as goal
