@@ -11,7 +11,7 @@ use Rattle.std.proofs.lemmas.Str.{length-encode, len_utf8_bounds}
 use Rattle.std.specs.{Int.{bit_at, bit_not, trailing_zeros}, Simd.Lanes.{zip2, mask_l, number_l, digits_l, put_chunk, Each1}, Str.{chars, is_utf8}}
 use lib.Utf8.{encode}
 use Rattle.legacy_text.specs.{EncodingForm.{Utf8, code_units, unit_count, total_unit_count}, NextScalars.StandsAt, ShortScalars.ReadsScalar}
-use Rattle.legacy_text.specs.{ScalarTurns.{IsStart, IsUnitOf, IsUnitAt, ReadsUnits}, UnitCodes.IsNoSurrogate, UnitTurns.AreNoSurrogates}
+use Rattle.legacy_text.specs.{ScalarTurns.{IsStart, IsUnitAt, ReadsUnits}, UnitCodes.IsNoSurrogate, UnitTurns.AreNoSurrogates}
 use Rattle.legacy_text.proofs.{Ascii.{mask_from, mask_from-is, bit_tells}, CodeUnits.{encode_1, encode_2, encode_3, encode_4, total_unit_count-append}}
 use Rattle.legacy_text.proofs.{Texts.{made_of_three, first_some, first_cons, utf8_pass, utf8_stands}, ShortScalars.{some_left, reads_ascii}}
 
@@ -112,10 +112,6 @@ each_sixteenth f x bytes place within k h =
     let long : length (take 16 (drop place bytes)) ≡ 16 = length-take-le 16 (drop place bytes) (omega (arith, length-drop place bytes)) in
     get_or-zip2 f (take 16 (drop place bytes)) (replicate 16 x) k 0 0 0 (omega (arith, long)) h
     ∙ ap₂ f (get_or-take 16 (drop place bytes) k 0 h ∙ get_or-drop place bytes k 0) (get_or-replicate 16 k x 0 h)
-
--- a code unit depends only on these bits
-pub of_tails : (first second third unit : ℕ) → IsUnitOf first (second % 64) (third % 64) unit → IsUnitOf first second third unit
-of_tails first second third unit h = grind arith
 
 -- the lanes of a vector of bytes
 pub below_256 : (v : List ℕ) → Each1 (Fits w8) v → (i : ℕ) → get_or v i 0 < 256
@@ -294,3 +290,5 @@ stands_more text start units bits rest unit long some fits some_rest fits_rest g
           (unit_is text (start + p) inside s.reads.is_text (omega (arith, at.0, long)) unit (made p at.0 refl)));
       starts = λ k l h. grind (arith, others k, s.starts k);
     }
+
+pub ruleset lowest_steps = (lowest_gone, others_stay)

@@ -9,6 +9,7 @@ use Rattle.std.proofs.str.Utf16.{IsPair, lone_unit_char_low, lone_unit_char_high
 use Rattle.std.proofs.str.Utf16.{utf16_chars-drop_all}
 use Rattle.std.specs.{Str.{chars, is_utf8, IsUtf8, IsCharBoundary}, Char.len_utf8, Char.Utf16.{lone_unit_char, surrogate_pair_char, is_high_surrogate}}
 use Rattle.std.specs.{Char.Utf16.is_low_surrogate, Option.unwrap_or}
+use Rattle.std.proofs.{lemmas.Str.IsCharBoundary-from_drop, lemmas.Grind.common_steps}
 use lib.{ListN.get_or-eq_default, Utf8.{encode, encodes, scalar, scalars}}
 use Rattle.legacy_text.specs.{EncodingForm.{EncodingForm, Utf8, Utf16, unit_count, all_code_units}, declared.text_cursor.Next.Next, NextScalars.StandsAt}
 use Rattle.legacy_text.specs.{NextScalars.{IsSized, IsNext}, Texts.{unit_scalars, IsUnitBoundary}}
@@ -357,3 +358,11 @@ pub utf16_pass : (list : List ℕ) (place n : ℕ) → ((i : ℕ) → get_or lis
 utf16_pass list place n bound some e =
     let f = first_some (unit_scalars (drop place list)) some in
     grind (arith, utf16_step list place (get_or (unit_scalars (drop place list)) 0 0) n bound (some_within list place _ f) f, utf16_1, utf16_2)
+
+pub ruleset unit_steps = (common_steps, first_none, first_unpaired, first_low, first_high, first_pair)
+
+pub ruleset next_steps = (is_next, first_cons, none_left, utf8_inside, utf8_stands)
+
+pub ruleset boundary_steps = (IsCharBoundary-from_drop, IsUtf8-from_is_utf8)
+
+pub ruleset whole_text = (is_utf8-from_IsUtf8)

@@ -3,6 +3,7 @@ use Rattle.std.proofs.{lemmas.Bool.Decides.nat_tests, Common.{◌≡◌, ◌∙�
 use Rattle.std.proofs.{Common.{sym, ap, subst, arith, append_assoc, append-nil, length-append, length-drop, IsAscii}}
 use Rattle.std.proofs.lemmas.List.{get_or_append_left, get_or-append-add, get_or-drop, length-take-le, get_or-take, take_all, take-append-drop, drop-drop}
 use Rattle.std.proofs.{str.Utf16.{lone_unit_char_low, lone_unit_char_high}}
+use Rattle.std.proofs.Common.{add-zero}
 use Rattle.legacy_text.specs.{EncodingForm.{Utf16, total_unit_count}, Texts.unit_scalars, UnitCodes.{IsNoSurrogate, WritesCodes}}
 use Rattle.legacy_text.proofs.{CodeUnits.utf16_1, Texts.{IsFront, front_of, scalars_one}}
 
@@ -79,3 +80,5 @@ module _ (gives : ℕ → ℕ → Type 0) (list : List ℕ) (place n : ℕ) (sta
 
   pub bmp_writes : (old new : List ℕ) → WritesCodes gives (take (length list - place) Rest) n old new → WritesCodes gives (unit_scalars Rest) n old new
   bmp_writes old new w = grind (arith, nat_tests, get_or-take, bmp_front, at_front, whole)
+
+pub ruleset none_steps = (writes_none, add-zero)

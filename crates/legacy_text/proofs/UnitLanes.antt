@@ -330,3 +330,5 @@ first_stored at end n old new us within room e =
       sym (take-take (end - n) end new (omega arith)) ∙ ap (take (end - n)) text ∙ ap (λ k. take k (front ++ replicate n 0)) cut
           ∙ take-append_seam front (replicate n 0),
     )
+
+pub ruleset lane_steps = (ap₂, digits_l, number_l, pick_l, vector_lanes)

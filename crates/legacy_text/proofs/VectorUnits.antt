@@ -1,6 +1,7 @@
 -- Eight code units that a destination writes at once, none of them a surrogate.
 use Rattle.std.proofs.{lemmas.Bool.Decides.nat_tests, Common.{◌≡◌, ◌∙◌, ℕ, zero, suc, ◌+◌, ◌-◌, ◌≤◌, ◌<◌, List, [], ◌∷◌, ◌++◌, length, take, get_or, refl, ap}}
 use Rattle.std.proofs.{Common.{ap₂, arith, append-nil, length-append, w16, Fits}, lemmas.List.{length-take-le, flat_map_more}, Math.Seq.take-suc}
+use Rattle.std.proofs.{lemmas.Grind.common_steps, lemmas.List.take_all}
 use lib.Lanes.{Each1}
 use Rattle.legacy_text.specs.EncodingForm.{EncodingForm, Utf16, code_units, all_code_units, unit_count, total_unit_count}
 use Rattle.legacy_text.proofs.CodeUnits.{utf16_1, length-code_units-bmp, total_unit_count-append}
@@ -40,3 +41,11 @@ pub unit-below : (units : List ℕ) (k : ℕ) → Each1 (Fits w16) units → get
 unit-below [] k fits = omega arith
 unit-below (u ∷ units) zero fits = fits.0.fits
 unit-below (u ∷ units) (suc k) fits = unit-below units k fits.1
+
+pub ruleset own_steps = (common_steps, own-units, length-take-le)
+
+pub ruleset room_steps = (common_steps, free-after)
+
+pub ruleset eight_steps = (common_steps, take_all)
+
+pub ruleset first_steps = (common_steps, append-nil, few-units, unit-below, one-more, more-units)

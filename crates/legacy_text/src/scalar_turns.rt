@@ -125,6 +125,7 @@ fn starts_at(bytes: &[u8], place: usize) -> u32
 
 /// Returns the bits without the lowest one that is set.
 #[inline(always)]
+#[tactic(auto, using(crate::proofs::ScalarTurns::lowest_steps))]
 fn without_lowest(bits: u32) -> u32
     ensures none { bits ≡ 0 → result ≡ 0 }
     ensures lowest { 0 < bits → (k : ℕ) → k ≤ trailing_zeros w32 bits → bit_at result k ≡ 0 }
