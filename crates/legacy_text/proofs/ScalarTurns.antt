@@ -1,18 +1,18 @@
 -- Bits that say where scalars begin, and the scalars of one and three bytes of UTF-8 between them.
 use Rattle.std.proofs.{lemmas.Bool.Decides.nat_tests, Common.{◌≡◌, ◌↔◌, ◌∙◌, ℕ, zero, suc, ◌+◌, ◌-◌, ◌*◌, ◌/◌, ◌%◌, ◌^◌, ◌≤◌, ◌<◌, List, [], ◌∷◌, ◌++◌, length}}
-use Rattle.std.proofs.Common.{get_or, true, false, cond, leb, map, max, take, drop, replicate, refl, sym, ap, ap₂, subst, arith, append_assoc, append-nil}
-use Rattle.std.proofs.{Common.{length-append, add-zero, slice_set, w8, w32, Fits, bit_and, bit_or}, Math.ListN.get_or-map, Math.Nat.{mod-lt, pow-suc}}
+use Rattle.std.proofs.Common.{get_or, true, max, take, drop, replicate, refl, sym, ap, ap₂, subst, arith, append_assoc, append-nil}
+use Rattle.std.proofs.{Common.{length-append, add-zero, slice_set, w8, w32, Fits, bit_and, bit_or}, Math.Nat.{mod-lt, pow-suc}}
 use Rattle.std.proofs.{lemmas.Bool.cases_lt, lemmas.List.{get_or-set_same, get_or-set_other, get_or_past, length-drop, get_or_append_left, get_or-append-add}}
 use Rattle.std.proofs.{lemmas.List.{get_or-drop, get_or-take, length-map, length-take-le}, lemmas.Nat.{pow_pos}, lemmas.Nat.Bits.bit_at-trailing_zeros}
 use Rattle.std.proofs.lemmas.Nat.Bits.{bit_at-pow_same, bit_at-pow_other, bit_at_and, bit_at_or, bit_at_not, bit_at_ones_above, bit_at_cat_low, bit_at_cat_high}
-use Rattle.std.proofs.{lemmas.Nat.Bits.{same_from_bits_below, bit_at-lt}, lemmas.Simd.{bit_mask_l, mask_l-lt, get_or_wider, Each1-from_get_or, Each1-get_or}}
+use Rattle.std.proofs.{lemmas.Nat.Bits.{same_from_bits_below, bit_at-lt}, lemmas.Simd.{mask_l-lt, get_or_wider, Each1-from_get_or, Each1-get_or}}
 use Rattle.std.proofs.lemmas.Simd.{below_from_Fits, get_or-put_chunk_below, get_or-put_chunk_at, length-put_chunk, get_or-zip2, get_or-replicate}
 use Rattle.std.proofs.lemmas.Str.{length-encode, len_utf8_bounds}
-use Rattle.std.specs.{Int.{bit_at, bit_not, trailing_zeros}, Simd.Lanes.{zip2, mask_l, number_l, digits_l, put_chunk, Each1}, Str.{chars, is_utf8}}
+use Rattle.std.specs.{Int.{bit_at, bit_not, trailing_zeros}, Simd.Lanes.{zip2, number_l, digits_l, put_chunk, Each1}, Str.{chars, is_utf8}}
 use lib.Utf8.{encode}
 use Rattle.legacy_text.specs.{EncodingForm.{Utf8, code_units, unit_count, total_unit_count}, NextScalars.StandsAt, ShortScalars.ReadsScalar}
 use Rattle.legacy_text.specs.{ScalarTurns.{IsStart, IsUnitAt, ReadsUnits}, UnitCodes.IsNoSurrogate, UnitTurns.AreNoSurrogates}
-use Rattle.legacy_text.proofs.{Ascii.{mask_from, mask_from-is, bit_tells}, CodeUnits.{encode_1, encode_2, encode_3, encode_4, total_unit_count-append}}
+use Rattle.legacy_text.proofs.{Ascii.{mask_from, mask_from-is, mask_bit}, CodeUnits.{encode_1, encode_2, encode_3, encode_4, total_unit_count-append}}
 use Rattle.legacy_text.proofs.{Texts.{made_of_three, first_some, first_cons, utf8_pass, utf8_stands}, ShortScalars.{some_left, reads_ascii}}
 
 -- ---- the lowest bit
@@ -50,20 +50,8 @@ module _ (n : ℕ) (some : 0 < n) (fits : n < 2 ^ 32) where
 
 -- ---- the bits of starts
 
-pub mask_from-lt : (x : ℕ) (v : List ℕ) → length v ≡ 32 → mask_from x 32 v < 2 ^ 32
-mask_from-lt x v long =
-    let below = mask_l-lt (map (leb x) v) in
-    let count : length (map (leb x) v) ≡ 32 = length-map v (leb x) ∙ long in
-    rw (mask_from-is x 32 v (omega arith) long) (subst (λ n. mask_l (map (leb x) v) < 2 ^ n) count below)
-
-mask_bit : (x : ℕ) → leb x 0 ≡ false → (v : List ℕ) → length v ≡ 32 → (k : ℕ) → (bit_at (mask_from x 32 v) k ≡ 1) ↔ (x ≤ get_or v k 0)
-mask_bit x some v long k =
-    let lane : get_or (map (leb x) v) k false ≡ leb x (get_or v k 0) =
-    subst (λ d. get_or (map (leb x) v) k d ≡ leb x (get_or v k 0)) some (get_or-map (leb x) v k 0) in
-    let e : bit_at (mask_from x 32 v) k ≡ cond (leb x (get_or v k 0)) 1 0 =
-    ap (λ m. bit_at m k) (mask_from-is x 32 v (omega arith) long) ∙ bit_mask_l (map (leb x) v) k ∙ ap (λ b. cond b 1 0) lane in
-    let t = bit_tells x (get_or v k 0) _ refl in
-    (λ s. t.0 (sym e ∙ s), λ s. e ∙ t.1 s)
+pub mask_from-lt : (x lanes : ℕ) (v : List ℕ) → lanes ≤ 64 → length v ≡ lanes → mask_from x lanes v < 2 ^ lanes
+mask_from-lt x lanes v few long = grind (arith, mask_from-is, mask_l-lt, length-map)
 
 starts_from : (byte p l r : ℕ) → ((p ≡ 1) ↔ (128 ≤ byte)) → ((l ≡ 1) ↔ (192 ≤ byte)) → p < 2 → l < 2 → r ≡ max (1 - p) l → (r ≡ 1) ↔ IsStart byte
 starts_from byte p l r past leads few few_leads is = grind arith
@@ -72,8 +60,8 @@ starts_from byte p l r past leads few few_leads is = grind arith
 starts_bit : (v : List ℕ) → length v ≡ 32 → (k : ℕ) → k < 32
     → (bit_at (bit_or (bit_not w32 (mask_from 128 32 v)) (mask_from 192 32 v)) k ≡ 1) ↔ IsStart (get_or v k 0)
 starts_bit v long k h =
-    starts_from (get_or v k 0) _ _ _ (mask_bit 128 refl v long k) (mask_bit 192 refl v long k) (bit_at-lt _ k) (bit_at-lt _ k)
-    (bit_at_or _ _ k ∙ ap (λ n. max n (bit_at (mask_from 192 32 v) k)) (bit_at_not w32 (mask_from 128 32 v) k (mask_from-lt 128 v long) h))
+    starts_from (get_or v k 0) _ _ _ (mask_bit 128 refl 32 v (omega arith) long k) (mask_bit 192 refl 32 v (omega arith) long k) (bit_at-lt _ k) (bit_at-lt _ k)
+    (bit_at_or _ _ k ∙ ap (λ n. max n (bit_at (mask_from 192 32 v) k)) (bit_at_not w32 (mask_from 128 32 v) k (mask_from-lt 128 32 v (omega arith) long) h))
 
 pub block_long : (bytes : List ℕ) (place : ℕ) → place + 32 ≤ length bytes → length (take 32 (drop place bytes)) ≡ 32
 block_long bytes place h = length-take-le 32 (drop place bytes) (omega (arith, length-drop place bytes))
@@ -171,18 +159,13 @@ stored_at P all front back at long long_back room first others k h = grind (arit
 
 -- ---- scalars
 
--- bytes that are not the first of a scalar
-abbrev AreTails : List ℕ → Type 0
-AreTails [] = Unit {0}
-AreTails (x ∷ xs) = (128 ≤ x) × (x < 192) × AreTails xs
-
-tail_at : (xs : List ℕ) → AreTails xs → (k : ℕ) → k < length xs → (128 ≤ get_or xs k 0) × (get_or xs k 0 < 192)
-tail_at [] t k h = absurd (omega arith)
-tail_at (x ∷ xs) t zero h = (t.0, t.1)
-tail_at (x ∷ xs) t (suc k) h = tail_at xs t.2 k (omega arith)
-
-encode_tails : (c : ℕ) → AreTails (drop 1 (encode c))
-encode_tails c = grind (arith, nat_tests, encode_1, encode_2, encode_3, encode_4)
+-- a byte that is not the first of a scalar
+tail_at : (c k : ℕ) → 0 < k → k < unit_count Utf8 c → (128 ≤ get_or (encode c) k 0) × (get_or (encode c) k 0 < 192)
+tail_at c zero some few = absurd (omega arith)
+tail_at c (suc zero) some few = grind (arith, nat_tests, encode_1, encode_2, encode_3, encode_4)
+tail_at c (suc (suc zero)) some few = grind (arith, nat_tests, encode_1, encode_2, encode_3, encode_4)
+tail_at c (suc (suc (suc zero))) some few = grind (arith, nat_tests, encode_1, encode_2, encode_3, encode_4)
+tail_at c (suc (suc (suc (suc k)))) some few = grind (arith, nat_tests, encode_1, encode_2, encode_3, encode_4)
 
 module _ (text : List ℕ) (place : ℕ) (inside : place < length text) (u : is_utf8 (drop place text) ≡ true) where
   abbrev C : ℕ
@@ -203,17 +186,13 @@ module _ (text : List ℕ) (place : ℕ) (inside : place < length text) (u : is_
   pub some_units : 0 < unit_count Utf8 (get_or (chars (drop place text)) 0 0)
   some_units = let l = (len_utf8_bounds C).0 in omega (arith, length-encode C, l)
 
-  first_byte : get_or text place 0 ≡ get_or (encode (get_or (chars (drop place text)) 0 0) ++ stands.rest) 0 0
-  first_byte = ap (λ n. get_or text n 0) (sym (add-zero place)) ∙ byte_at 0
-
   -- a scalar begins with such a byte
   pub start_here : IsStart (get_or text place 0)
-  start_here = grind (arith, nat_tests, first_byte, stands, encode_1, encode_2, encode_3, encode_4)
+  start_here = grind (arith, nat_tests, byte_at 0, stands, encode_1, encode_2, encode_3, encode_4)
 
   -- no other byte of the scalar is such a byte
   pub no_start : (k : ℕ) → 0 < k → k < unit_count Utf8 (get_or (chars (drop place text)) 0 0) → IsStart (get_or text (place + k) 0) → ⊥
-  no_start k some_k few start =
-      grind (arith, byte_at, get_or_append_left, get_or-drop, tail_at (drop 1 (encode C)) (encode_tails C) (k - 1), length-drop 1 (encode C))
+  no_start k some_k few start = grind (arith, byte_at, get_or_append_left, tail_at)
 
   -- the code unit at the beginning of a scalar is this scalar, if it is not a surrogate
   pub unit_is : place + 2 ≤ length text → (unit : ℕ) → IsUnitAt text place unit → IsNoSurrogate unit → unit ≡ get_or (chars (drop place text)) 0 0

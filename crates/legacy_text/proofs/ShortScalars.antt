@@ -7,7 +7,7 @@ use Rattle.std.specs.Str.{chars, is_utf8}
 use lib.Utf8.{encode, encodes}
 use Rattle.legacy_text.specs.{EncodingForm.{Utf8, code_units, unit_count, total_unit_count}, ShortScalars.{ReadsScalar, WritesScalars}, UnitCodes.WritesCodes}
 use Rattle.legacy_text.proofs.{CodeUnits.{encode_1, encode_2, total_unit_count-append, one_below, two_above, two_below}, Texts.{TellsCount, first_some}}
-use Rattle.legacy_text.proofs.{Texts.{first_cons, utf8_pass, utf8_bytes, utf8_tells}, UnitCopies.writes_none}
+use Rattle.legacy_text.proofs.{Texts.{first_cons, utf8_pass, utf8_bytes, utf8_stands, stands_tells}, UnitCopies.writes_none}
 
 -- ---- runs
 
@@ -66,7 +66,7 @@ module _ (text : List ℕ) (place : ℕ) (within : place + 2 ≤ length text) (u
   reads n e = grind (arith, utf8_pass text place n, first_cons, first_some Left some)
 
   tells : TellsCount (get_or (chars (drop place text)) 0 0) (get_or text place 0)
-  tells = utf8_tells text place C u (first_some Left some)
+  tells = stands_tells text place C (utf8_stands text place C u (first_some Left some))
 
   -- ASCII is its own scalar
   pub reads_ascii : get_or text place 0 < 128 → ReadsScalar text place (get_or text place 0) (place + 1)

@@ -21,6 +21,12 @@ first_cons xs x h = grind arith
 
 -- ---- UTF-8
 
+-- the bytes of the scalar c are at the place of the text
+pub utf8_bytes : (text : List ℕ) (place c : ℕ) → is_utf8 (drop place text) ≡ true → Some c ≡ slice_get (chars (drop place text)) 0
+    → drop place text ≡ encode c ++ encodes (drop 1 (chars (drop place text)))
+utf8_bytes text place c u e =
+    sym (encodes-chars (drop place text) (IsUtf8-from_is_utf8 (drop place text) u)) ∙ ap encodes (first_cons (chars (drop place text)) c e)
+
 -- the scalar c is at the place of the text
 pub record Utf8Step (text : List ℕ) (place c : ℕ) : Type 0 where
   pub within : place + len_utf8 c ≤ length text
@@ -33,28 +39,23 @@ pub utf8_step : (text : List ℕ) (place c : ℕ) → place ≤ length text → 
 utf8_step text place c p u e =
     let bs = drop place text in
     let is = IsUtf8-from_is_utf8 bs u in
-    let cons = first_cons (chars bs) c e in
     let rest = encodes (drop 1 (chars bs)) in
-    let split : bs ≡ encode c ++ rest = sym (encodes-chars bs is) ∙ ap encodes cons in
-    let past : drop (place + len_utf8 c) text ≡ rest = drop_past_char text rest place c split in
-    let all : chars bs ≡ c ∷ chars rest = chars_past_char bs rest c is split in
-    record {
-      within = omega (arith, length-encode c, ap length split, length-append (encode c) rest, length-drop place text);
-      is_text = rw past (is_utf8-from_IsUtf8 rest (IsUtf8-past_char bs rest c is split));
-      behind = ap chars past ∙ sym (ap (drop 1) all);
-      first = ap (λ l. get_or l 0 0) all;
-    }
+    let split : bs ≡ encode c ++ rest = utf8_bytes text place c u e in
+    let is_text = is_utf8-from_IsUtf8 rest (IsUtf8-past_char bs rest c is split) in
+    grind (
+      arith,
+      drop_past_char text rest place c split,
+      chars_past_char bs rest c is split,
+      length-encode c,
+      ap length split,
+      length-append (encode c) rest,
+      length-drop place text,
+    )
 
 -- the place is not the end
 pub utf8_inside : (text : List ℕ) (place c : ℕ) → place ≤ length text → is_utf8 (drop place text) ≡ true → Some c ≡ slice_get (chars (drop place text)) 0 →
     place < length text
 utf8_inside text place c p u e = let some = (len_utf8_bounds c).0 in omega (arith, some, (utf8_step text place c p u e).within)
-
--- its bytes are there
-pub utf8_bytes : (text : List ℕ) (place c : ℕ) → is_utf8 (drop place text) ≡ true → Some c ≡ slice_get (chars (drop place text)) 0
-    → drop place text ≡ encode c ++ encodes (drop 1 (chars (drop place text)))
-utf8_bytes text place c u e =
-    sym (encodes-chars (drop place text) (IsUtf8-from_is_utf8 (drop place text) u)) ∙ ap encodes (first_cons (chars (drop place text)) c e)
 
 -- the first byte of the scalar c in UTF-8 gives its number of bytes
 pub record TellsCount (c first : ℕ) : Type 0 where
@@ -65,12 +66,6 @@ pub record TellsCount (c first : ℕ) : Type 0 where
 
 first_tells : (c first : ℕ) (rest : List ℕ) → get_or (encode c ++ rest) 0 0 ≡ first → TellsCount c first
 first_tells c first rest h = grind (arith, nat_tests, encode_1, encode_2, encode_3, encode_4)
-
-pub utf8_tells : (text : List ℕ) (place c : ℕ) → is_utf8 (drop place text) ≡ true → Some c ≡ slice_get (chars (drop place text)) 0 →
-    TellsCount c (get_or text place 0)
-utf8_tells text place c u e =
-    first_tells c (get_or text place 0) (encodes (drop 1 (chars (drop place text))))
-    (ap (λ l. get_or l 0 0) (sym (utf8_bytes text place c u e)) ∙ get_or-drop place text 0 0 ∙ ap (λ n. get_or text n 0) (add-zero place))
 
 -- ---- scalars of two and of three bytes, made of these
 
@@ -86,18 +81,12 @@ scalar_byte {text} {place} {c} s is at k e = ap (λ n. get_or text n 0) e ∙ st
 pub utf8_stands : (text : List ℕ) (place c : ℕ) → is_utf8 (drop place text) ≡ true → Some c ≡ slice_get (chars (drop place text)) 0 → StandsAt text place c
 utf8_stands text place c u e = record { rest = encodes (drop 1 (chars (drop place text))); is = utf8_bytes text place c u e }
 
-stands_tells : (text : List ℕ) (place c : ℕ) → StandsAt text place c → TellsCount c (get_or text place 0)
+pub stands_tells : (text : List ℕ) (place c : ℕ) → StandsAt text place c → TellsCount c (get_or text place 0)
 stands_tells text place c s = first_tells c (get_or text place 0) s.rest (sym (stands_byte text place c s 0) ∙ ap (λ n. get_or text n 0) (add-zero place))
 
 stands_within : (text : List ℕ) (place c : ℕ) → StandsAt text place c → place + unit_count Utf8 c ≤ length text
 stands_within text place c s =
     omega (arith, (len_utf8_bounds c).0, length-encode c, ap length s.is, length-append (encode c) s.rest, length-drop place text)
-
-pub stands_one : {text : List ℕ} {place c : ℕ} → StandsAt text place c → get_or text place 0 < 0x80 → unit_count Utf8 c ≡ 1
-stands_one {text} {place} {c} s h = (stands_tells text place c s).one h
-
-pub stands_four : {text : List ℕ} {place c : ℕ} → StandsAt text place c → 0xF0 ≤ get_or text place 0 → unit_count Utf8 c ≡ 4
-stands_four {text} {place} {c} s h = (stands_tells text place c s).four h
 
 pub record MadeOfTwo (text : List ℕ) (place c : ℕ) : Type 0 where
   pub within : place + 2 ≤ length text
@@ -108,8 +97,7 @@ pub made_of_two : {text : List ℕ} {place c : ℕ} → StandsAt text place c �
 made_of_two {text} {place} {c} s low high =
     let count = (stands_tells text place c s).two low high in
     let byte = scalar_byte s (encode_2 c (two_above c count) (two_below c count)) in
-    let first = byte place 0 (omega arith) in
-    record { within = omega (arith, count, stands_within text place c s); count = count; made = rw (first, byte (place + 1) 1 refl) (omega arith) }
+    grind (arith, byte place 0, byte (place + 1) 1 refl, stands_within text place c s)
 
 pub record MadeOfThree (text : List ℕ) (place c : ℕ) : Type 0 where
   pub within : place + 3 ≤ length text
@@ -120,12 +108,7 @@ pub made_of_three : {text : List ℕ} {place c : ℕ} → StandsAt text place c 
 made_of_three {text} {place} {c} s low high =
     let count = (stands_tells text place c s).three low high in
     let byte = scalar_byte s (encode_3 c (three_above c count) (three_below c count)) in
-    let first = byte place 0 (omega arith) in
-    record {
-      within = omega (arith, count, stands_within text place c s);
-      count = count;
-      made = rw (first, byte (place + 1) 1 refl, byte (place + 2) 2 refl) (omega arith);
-    }
+    grind (arith, byte place 0, byte (place + 1) 1 refl, byte (place + 2) 2 refl, stands_within text place c s)
 
 -- ---- UTF-16
 
@@ -216,12 +199,13 @@ pub utf8_cut : (text taken left : List ℕ) (place : ℕ) → IsUtf8 text → ch
 utf8_cut text taken left place u e p =
     let all : text ≡ encodes taken ++ encodes left = sym (encodes-chars text u) ∙ ap encodes e ∙ encodes-append taken left in
     let good : scalars left ≡ true = scalars-right taken left (ap scalars (sym e) ∙ scalars-chars text u) in
-    let here : place ≡ length (encodes taken) = p ∙ sym (ap length (encodes-code_units taken)) in
-    let rest : drop place text ≡ encodes left = rw (here, all) (drop-append_seam (encodes taken) (encodes left)) in
-    record {
-      left_is = ap chars rest ∙ chars-encodes left good;
-      boundary = rw here (IsCharBoundary-at_seam text (encodes taken) (encodes left) all (left, (good, refl)));
-    }
+    grind (
+      arith,
+      encodes-code_units taken,
+      drop-append_seam (encodes taken) (encodes left),
+      chars-encodes left good,
+      IsCharBoundary-at_seam text (encodes taken) (encodes left) all (left, (good, refl)),
+    )
 
 -- how many units were passed
 pub passed_is : (form : EncodingForm) (all taken left : List ℕ) (place : ℕ) → all ≡ taken ++ left →
@@ -324,14 +308,25 @@ module _ (list : List ℕ) (place n : ℕ) (within : n ≤ length (drop place li
 
   pub utf8_ascii : IsFront (chars Rest) (take n Rest) (chars (drop (place + n) list)) n
   utf8_ascii =
-      front_of (chars Rest) (take n Rest) (chars (drop (place + n) list)) n (length-take-le n Rest within)
-      (ap chars parts ∙ chars-append (take n Rest) (drop (place + n) list) (IsUtf8-from_ascii (take n Rest) ascii)
-      ∙ ap (λ l. l ++ chars (drop (place + n) list)) (chars-IsAscii (take n Rest) ascii))
+      let split = chars-append (take n Rest) (drop (place + n) list) (IsUtf8-from_ascii (take n Rest) ascii) in
+      grind (
+        arith,
+        front_of (chars Rest) (take n Rest) (chars (drop (place + n) list)) n,
+        length-take-le n Rest within,
+        ap chars parts,
+        split,
+        chars-IsAscii (take n Rest) ascii,
+      )
 
   pub utf16_ascii : IsFront (unit_scalars Rest) (take n Rest) (unit_scalars (drop (place + n) list)) n
   utf16_ascii =
-      front_of (unit_scalars Rest) (take n Rest) (unit_scalars (drop (place + n) list)) n (length-take-le n Rest within)
-      (ap unit_scalars parts ∙ unit_scalars-ascii (take n Rest) (drop (place + n) list) ascii)
+      grind (
+        arith,
+        front_of (unit_scalars Rest) (take n Rest) (unit_scalars (drop (place + n) list)) n,
+        length-take-le n Rest within,
+        ap unit_scalars parts,
+        unit_scalars-ascii (take n Rest) (drop (place + n) list) ascii,
+      )
 
 -- ---- the next scalar
 

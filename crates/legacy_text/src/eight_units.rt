@@ -85,7 +85,7 @@ fn count_of(counts: &[u8; 256], pattern: usize) -> usize
 
 /// Stores a vector from the place `at` on.
 #[inline(always)]
-#[tactic(auto, using(crate::proofs::UnitLanes::stored))]
+#[tactic(auto, using(crate::proofs::Ascii::put_front))]
 pub(crate) fn store(dst: &mut [u8], at: usize, block: u8x16)
     requires { at + 16 ≤ length dst.old }
     ensures { (k : ℕ) → k ≤ 16 → take (at + k) dst.new ≡ take at dst.old ++ take k block }

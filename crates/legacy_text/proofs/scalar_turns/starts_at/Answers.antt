@@ -1,3 +1,4 @@
+use Rattle.std.proofs.Common.{arith}
 use Rattle.legacy_text.proofs.ScalarTurns.{mask_from-lt, block_long, starts_here}
 use Rattle.legacy_text.proofs.scalar_turns.starts_at.Goals as goal
 
@@ -5,7 +6,7 @@ pub returns : goal.returns
 returns c = λ k h. starts_here c.args.bytes.now c.args.place c.requires k h
 
 pub overflow_cast-past : goal.overflow_cast-past
-overflow_cast-past c = record { fits = mask_from-lt 128 _ (block_long c.args.bytes.now c.args.place c.requires) }
+overflow_cast-past c = record { fits = mask_from-lt 128 32 _ (omega arith) (block_long c.args.bytes.now c.args.place c.requires) }
 
 pub overflow_cast-leads : goal.overflow_cast-leads
-overflow_cast-leads c = record { fits = mask_from-lt 192 _ (block_long c.args.bytes.now c.args.place c.requires) }
+overflow_cast-leads c = record { fits = mask_from-lt 192 32 _ (omega arith) (block_long c.args.bytes.now c.args.place c.requires) }

@@ -1,4 +1,4 @@
-use Rattle.std.proofs.{lemmas.Grind.common_steps, Common.{◌≡◌, ◌+◌, add-zero, arith}}
+use Rattle.std.proofs.{lemmas.Grind.common_steps, Common.{add-zero, arith}}
 use Rattle.legacy_text.proofs.ShortScalars.{scalars_none, scalars_append}
 use Rattle.legacy_text.proofs.short_scalars.copy_short_scalars.Goals as goal
 
@@ -6,15 +6,7 @@ pub loop-place-init : goal.loop-place-init
 loop-place-init g c = grind (arith, common_steps, scalars_none, add-zero)
 
 pub returns-then-is_ascii-clause-writes : goal.returns-then-is_ascii-clause-writes
-returns-then-is_ascii-clause-writes g c =
-    let place : c.args.at + (c.loop-place.copied + 8) ≡ c.args.at + c.loop-place.copied + 8 = omega arith in
-    let turn = c.in-Some.ensures.turn in
-    rw place (scalars_append _ _ _ _ _ _ _ _ _ _ c.loop-place.invariant.1 turn)
+returns-then-is_ascii-clause-writes g c = grind (arith, scalars_append _ _ _ _ _ _ _ _ _ _ c.loop-place.invariant.1 c.in-Some.ensures.turn)
 
 pub loop-place-preserved : goal.loop-place-preserved
-loop-place-preserved g c =
-    let place : c.args.at + (c.loop-place.copied + 8) ≡ c.args.at + c.loop-place.copied + 8 = omega arith in
-    let turn = c.in-Some.ensures.turn in (
-      omega (arith, c.if-dst-at-ge8.true, c.loop-place.invariant.0, c.put_turn.auto.dst),
-      rw place (scalars_append _ _ _ _ _ _ _ _ _ _ c.loop-place.invariant.1 turn),
-    )
+loop-place-preserved g c = grind (arith, scalars_append _ _ _ _ _ _ _ _ _ _ c.loop-place.invariant.1 c.in-Some.ensures.turn)

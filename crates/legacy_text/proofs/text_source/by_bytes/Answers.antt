@@ -1,5 +1,5 @@
 use Rattle.std.proofs.{Common.{arith}}
-use Rattle.legacy_text.proofs.Texts.{stands_one, stands_four, made_of_two, made_of_three}
+use Rattle.legacy_text.proofs.Texts.{stands_tells, made_of_two, made_of_three}
 use Rattle.legacy_text.proofs.text_source.by_bytes.Goals as goal
 
 pub bounds-bytes-place-then-first-lt224 : goal.bounds-bytes-place-then-first-lt224
@@ -18,7 +18,7 @@ pub scalar_of-requires-then-first-lt240 : goal.scalar_of-requires-then-first-lt2
 scalar_of-requires-then-first-lt240 c = grind (arith, made_of_three c.requires.stands)
 
 pub returns-then-first-lt128 : goal.returns-then-first-lt128
-returns-then-first-lt128 c = grind (arith, stands_one c.requires.stands)
+returns-then-first-lt128 c = grind (arith, stands_tells _ _ _ c.requires.stands)
 
 pub returns-then-first-lt224 : goal.returns-then-first-lt224
 returns-then-first-lt224 c = grind (arith, made_of_two c.requires.stands)
@@ -27,4 +27,4 @@ pub returns-then-first-lt240 : goal.returns-then-first-lt240
 returns-then-first-lt240 c = grind (arith, made_of_three c.requires.stands)
 
 pub returns-else-first-lt240 : goal.returns-else-first-lt240
-returns-else-first-lt240 c = grind (arith, stands_four c.requires.stands)
+returns-else-first-lt240 c = grind (arith, stands_tells _ _ _ c.requires.stands)
