@@ -203,15 +203,9 @@ next_is : (text : List ℕ) (start p q : ℕ) → start + 32 ≤ length text →
     IsStart (get_or text (start + q) 0)
     → ((j : ℕ) → p < j → j < q → IsStart (get_or text (start + j) 0) → ⊥) → start + q ≡ start + p + unit_count Utf8 (get_or (chars (drop (start + p) text)) 0 0)
 next_is text start p q long more few u at_q none =
-    grind (
-      arith,
-      nat_tests,
-      reads_here text (start + p),
-      no_start text (start + p) (omega arith) u (q - p),
-      some_units,
-      start_here,
-      none (p + unit_count Utf8 (get_or (chars (drop (start + p) text)) 0 0)),
-    )
+    let n = unit_count Utf8 (get_or (chars (drop (start + p) text)) 0 0) in
+    let apart = no_start text (start + p) (omega arith) u (q - p) in
+    grind (arith, nat_tests, reads_here text (start + p), some_units, start_here, none (p + n))
 
 -- ---- turns
 

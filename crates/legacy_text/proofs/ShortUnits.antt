@@ -71,16 +71,10 @@ pub short_written : (xs : List ℕ) (r : ℕ) → r < 256 →
     take (length (short_places 0 8 r)) (swz_l w8 16 xs 0 (short_row r)) ≡ map (λ j. get_or xs j 0) (short_places 0 8 r)
 unfolding short_row
 short_written xs r h =
-    grind (
-      arith,
-      shuffled xs 0 (short_row r),
-      short_row_long r,
-      short_row_within r,
-      take-map (λ j. get_or xs j 0) (length (short_places 0 8 r)) (short_row r),
-      take-take (length (short_places 0 8 r)) 16 (short_places 0 8 r ++ replicate 16 0),
-      short_places_most r,
-      take-append_seam (short_places 0 8 r) (replicate 16 0),
-    )
+    let n = length (short_places 0 8 r) in
+    let front = take-append_seam (short_places 0 8 r) (replicate 16 0) in
+    let cut = take-take n 16 (short_places 0 8 r ++ replicate 16 0) (short_places_most r h) in
+    grind (arith, shuffled xs 0 (short_row r), short_row_long r, short_row_within r, take-map (λ j. get_or xs j 0) n (short_row r))
 
 -- ---- the bytes that are written are the text
 
@@ -100,14 +94,9 @@ short_text : (f : ℕ → ℕ) (base : ℕ) (us : List ℕ) → All (λ u. u < 2
 unfolding short_places short_pattern
 short_text f base [] small reads = refl
 short_text f base (u ∷ us) small reads =
-    grind (
-      arith,
-      digit (ltb u 128) (short_pattern us),
-      map-append,
-      short_unit u (f base) (f (base + 1)),
-      small 0 0,
-      short_text f (base + 2) us (λ k d' h. small (suc k) d' (omega arith)) reads.2,
-    )
+    let d = digit (ltb u 128) (short_pattern us) in
+    let rest = short_text f (base + 2) us (λ k d' h. small (suc k) d' (omega arith)) reads.2 in
+    grind (arith, map-append, short_unit u (f base) (f (base + 1)), small 0 0)
 
 pub short_text_of_eight : (v : List ℕ) → length v ≡ 8 → Each1 (Fits w16) v → AreShort v →
     map (λ k. get_or (short_lanes v) k 0) (short_places 0 8 (short_pattern v)) ≡ utf8_bytes v

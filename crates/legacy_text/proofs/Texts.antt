@@ -42,15 +42,9 @@ utf8_step text place c p u e =
     let rest = encodes (drop 1 (chars bs)) in
     let split : bs ≡ encode c ++ rest = utf8_bytes text place c u e in
     let is_text = is_utf8-from_IsUtf8 rest (IsUtf8-past_char bs rest c is split) in
-    grind (
-      arith,
-      drop_past_char text rest place c split,
-      chars_past_char bs rest c is split,
-      length-encode c,
-      ap length split,
-      length-append (encode c) rest,
-      length-drop place text,
-    )
+    let past = drop_past_char text rest place c split in
+    let all = chars_past_char bs rest c is split in
+    grind (arith, length-encode c, ap length split, length-append (encode c) rest, length-drop place text)
 
 -- the place is not the end
 pub utf8_inside : (text : List ℕ) (place c : ℕ) → place ≤ length text → is_utf8 (drop place text) ≡ true → Some c ≡ slice_get (chars (drop place text)) 0 →
@@ -199,13 +193,8 @@ pub utf8_cut : (text taken left : List ℕ) (place : ℕ) → IsUtf8 text → ch
 utf8_cut text taken left place u e p =
     let all : text ≡ encodes taken ++ encodes left = sym (encodes-chars text u) ∙ ap encodes e ∙ encodes-append taken left in
     let good : scalars left ≡ true = scalars-right taken left (ap scalars (sym e) ∙ scalars-chars text u) in
-    grind (
-      arith,
-      encodes-code_units taken,
-      drop-append_seam (encodes taken) (encodes left),
-      chars-encodes left good,
-      IsCharBoundary-at_seam text (encodes taken) (encodes left) all (left, (good, refl)),
-    )
+    let boundary = IsCharBoundary-at_seam text (encodes taken) (encodes left) all (left, (good, refl)) in
+    grind (arith, encodes-code_units taken, drop-append_seam (encodes taken) (encodes left), chars-encodes left good)
 
 -- how many units were passed
 pub passed_is : (form : EncodingForm) (all taken left : List ℕ) (place : ℕ) → all ≡ taken ++ left →
@@ -234,19 +223,9 @@ utf16_cut [] (c ∷ taken) left b e = let n : unit_scalars [] ≡ [] = ap (map r
 utf16_cut (u ∷ []) (c ∷ taken) left b e =
     grind (arith, scalars_one u [], unpaired_bound u (b 0), utf16_1 c, cut_lone u [] left, utf16_cut [] taken left (λ i. b (suc i)))
 utf16_cut (u ∷ v ∷ list) (c ∷ taken) left b e =
-    grind (
-      arith,
-      pair_or_not u v,
-      scalars_one,
-      scalars_two,
-      unpaired_bound u (b 0),
-      utf16_1 c,
-      utf16_2 c,
-      cut_lone,
-      cut_pair,
-      utf16_cut list taken left (λ i. b (suc (suc i))),
-      utf16_cut (v ∷ list) taken left (λ i. b (suc i)),
-    )
+    let pair = utf16_cut list taken left (λ i. b (suc (suc i))) in
+    let lone = utf16_cut (v ∷ list) taken left (λ i. b (suc i)) in
+    grind (arith, pair_or_not u v, scalars_one, scalars_two, unpaired_bound u (b 0), utf16_1 c, utf16_2 c, cut_lone, cut_pair)
 
 -- what a call left of a whole text
 pub utf8_read : (text taken left : List ℕ) (read : ℕ) → IsUtf8 text → chars text ≡ taken ++ left →
@@ -309,24 +288,13 @@ module _ (list : List ℕ) (place n : ℕ) (within : n ≤ length (drop place li
   pub utf8_ascii : IsFront (chars Rest) (take n Rest) (chars (drop (place + n) list)) n
   utf8_ascii =
       let split = chars-append (take n Rest) (drop (place + n) list) (IsUtf8-from_ascii (take n Rest) ascii) in
-      grind (
-        arith,
-        front_of (chars Rest) (take n Rest) (chars (drop (place + n) list)) n,
-        length-take-le n Rest within,
-        ap chars parts,
-        split,
-        chars-IsAscii (take n Rest) ascii,
-      )
+      let front = front_of (chars Rest) (take n Rest) (chars (drop (place + n) list)) n in
+      grind (arith, length-take-le n Rest within, ap chars parts, chars-IsAscii (take n Rest) ascii)
 
   pub utf16_ascii : IsFront (unit_scalars Rest) (take n Rest) (unit_scalars (drop (place + n) list)) n
   utf16_ascii =
-      grind (
-        arith,
-        front_of (unit_scalars Rest) (take n Rest) (unit_scalars (drop (place + n) list)) n,
-        length-take-le n Rest within,
-        ap unit_scalars parts,
-        unit_scalars-ascii (take n Rest) (drop (place + n) list) ascii,
-      )
+      let front = front_of (unit_scalars Rest) (take n Rest) (unit_scalars (drop (place + n) list)) n in
+      grind (arith, length-take-le n Rest within, ap unit_scalars parts, unit_scalars-ascii (take n Rest) (drop (place + n) list) ascii)
 
 -- ---- the next scalar
 

@@ -5,7 +5,7 @@ use Rattle.std.proofs.lemmas.List.{get_or_append_left, get_or-append-add, get_or
 use Rattle.std.proofs.{str.Utf16.{lone_unit_char_low, lone_unit_char_high}}
 use Rattle.std.proofs.Common.{add-zero}
 use Rattle.legacy_text.specs.{EncodingForm.{Utf16, total_unit_count}, Texts.unit_scalars, UnitCodes.{IsNoSurrogate, WritesCodes}}
-use Rattle.legacy_text.proofs.{CodeUnits.utf16_1, Texts.{IsFront, front_of, scalars_one}}
+use Rattle.legacy_text.proofs.{Ascii.all_behind, CodeUnits.utf16_1, Texts.{IsFront, front_of, scalars_one}}
 
 -- ---- blocks
 
@@ -55,17 +55,11 @@ module _ (gives : ℕ → ℕ → Type 0) (list : List ℕ) (place n : ℕ) (sta
   abbrev Rest : List ℕ
   Rest = drop place list
 
-  whole : take (length list - place) Rest ≡ Rest
-  whole = take_all (length list - place) Rest (omega (arith, length-drop place list))
-
   few : n ≤ length Rest
-  few = rw whole at within
+  few = rw (all_behind place list) at within
 
   front_long : length (take n Rest) ≡ n
   front_long = length-take-le n Rest few
-
-  at_front : (k : ℕ) → k < n → get_or (take n Rest) k 0 ≡ get_or Rest k 0
-  at_front k h = get_or-take n Rest k 0 h
 
   pub bmp_front : IsFront (unit_scalars Rest) (take n Rest) (unit_scalars (drop (place + n) list)) n
   bmp_front =
@@ -73,12 +67,12 @@ module _ (gives : ℕ → ℕ → Type 0) (list : List ℕ) (place n : ℕ) (sta
       front_of (unit_scalars Rest) (take n Rest) (unit_scalars (drop (place + n) list)) n front_long
       (ap unit_scalars parts ∙ bmp_scalars (take n Rest) (drop (place + n) list) (λ k h.
       let below : k < n = omega (arith, h, front_long) in
-      subst IsNoSurrogate (ap (λ l. get_or l k 0) whole ∙ sym (at_front k below)) (bmp k below)))
+      subst IsNoSurrogate (ap (λ l. get_or l k 0) (all_behind place list) ∙ sym (get_or-take n Rest k 0 below)) (bmp k below)))
 
   pub bmp_count : total_unit_count Utf16 (take n (unit_scalars Rest)) ≡ n
-  bmp_count = grind (arith, nat_tests, bmp_front, narrow_units, front_long, at_front, get_or-drop)
+  bmp_count = grind (arith, nat_tests, bmp_front, narrow_units, front_long, get_or-take, get_or-drop)
 
   pub bmp_writes : (old new : List ℕ) → WritesCodes gives (take (length list - place) Rest) n old new → WritesCodes gives (unit_scalars Rest) n old new
-  bmp_writes old new w = grind (arith, nat_tests, get_or-take, bmp_front, at_front, whole)
+  bmp_writes old new w = grind (arith, nat_tests, get_or-take, bmp_front, all_behind)
 
 pub ruleset none_steps = (writes_none, add-zero)

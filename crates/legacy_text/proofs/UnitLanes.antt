@@ -168,16 +168,9 @@ module _ (v : List ℕ) (long : length v ≡ 8) (fits : Each1 (Fits w16) v) wher
   bits_split : vector_bits v ≡ pattern (take 4 v) + 256 * pattern (drop 4 v)
   unfolding pattern
   bits_split =
-      grind (
-        arith,
-        bits_are v long fits,
-        mask_l-mod (flags v) 64,
-        flags_long,
-        take-append-drop 4 v,
-        flags_append (take 4 v) (drop 4 v),
-        mask_append (flags (take 4 v)) (flags (drop 4 v)),
-        four_long,
-      )
+      let split = flags_append (take 4 v) (drop 4 v) in
+      let joined = mask_append (flags (take 4 v)) (flags (drop 4 v)) in
+      grind (arith, bits_are v long fits, mask_l-mod (flags v) 64, flags_long, take-append-drop 4 v, four_long)
 
   pub first_pattern : vector_bits v % 256 ≡ pattern (take 4 v)
   first_pattern = omega (arith, bits_split, first_lt)
@@ -245,14 +238,9 @@ pub text_written : (f : ℕ → ℕ) (base : ℕ) (us : List ℕ) → Each1 (λ 
 unfolding places pattern
 text_written f base [] small reads = refl
 text_written f base (u ∷ us) small reads =
-    grind (
-      arith,
-      digit (ltb u 128) (ltb u 2048) (mask_l (flags us)),
-      map-append,
-      lane_chosen f base (ltb u 128) (ltb u 2048),
-      unit_is u small.0,
-      text_written f (base + 4) us small.1 reads.3,
-    )
+    let d = digit (ltb u 128) (ltb u 2048) (mask_l (flags us)) in
+    let rest = text_written f (base + 4) us small.1 reads.3 in
+    grind (arith, map-append, lane_chosen f base (ltb u 128) (ltb u 2048), unit_is u small.0)
 
 pub reads_lanes : (a b c d : ℕ) → Reads (λ k. get_or (lanes (a ∷ b ∷ c ∷ d ∷ [])) k 0) 0 (a ∷ b ∷ c ∷ d ∷ [])
 reads_lanes a b c d = (refl, refl, refl, (refl, refl, refl, (refl, refl, refl, (refl, refl, refl, tt))))
@@ -275,11 +263,9 @@ pub both_stored : (old old_front : List ℕ) (front back : List ℕ) (p q : ℕ)
     → old_front ≡ old ++ map (λ k. get_or front k 0) (places 0 4 p) → new ≡ old_front ++ map (λ k. get_or back k 0) (places 0 4 q) → new ≡ old ++ utf8_bytes v
 both_stored old old_front front back p q v new long fits fe be pe qe first second =
     let t = text_of_eight v long fits in
-    second ∙ ap (λ (l : List ℕ). l ++ map (λ k. get_or back k 0) (places 0 4 q)) first
-    ∙ append_assoc old (map (λ k. get_or front k 0) (places 0 4 p)) (map (λ k. get_or back k 0) (places 0 4 q))
-    ∙ ap (λ (l : List ℕ). old ++ l)
-    (ap₂ (λ (x y : List ℕ). x ++ y) ((λ i. map (λ k. get_or (fe i) k 0) (places 0 4 (pe i))) ∙ t.0)
-    ((λ i. map (λ k. get_or (be i) k 0) (places 0 4 (qe i))) ∙ t.1) ∙ joined_text v)
+    let a : map (λ k. get_or front k 0) (places 0 4 p) ≡ utf8_bytes (take 4 v) = rw (fe, pe) t.0 in
+    let b : map (λ k. get_or back k 0) (places 0 4 q) ≡ utf8_bytes (drop 4 v) = rw (be, qe) t.1 in
+    rw (second, first, append_assoc, a, b) (ap (λ (l : List ℕ). old ++ l) (joined_text v))
 
 -- ---- the first code units, with U+0000 for the others
 
@@ -315,15 +301,7 @@ pub first_stored : (at end n : ℕ) (old new us : List ℕ) → at ≤ length ol
 first_stored at end n old new us within room e =
     let text : take end new ≡ (take at old ++ utf8_bytes us) ++ replicate n 0 =
     grind (arith, flat_map-append encode_utf8 us (replicate n 0), zeros_text n, append_assoc) in
-    grind (
-      arith,
-      nat_tests,
-      ap length text,
-      length-take-le,
-      length-append,
-      length-replicate,
-      take-take (end - n) end new,
-      take-append_seam (take at old ++ utf8_bytes us) (replicate n 0),
-    )
+    let seam = take-append_seam (take at old ++ utf8_bytes us) (replicate n 0) in
+    grind (arith, nat_tests, ap length text, length-take-le, length-append, length-replicate, take-take (end - n) end new)
 
 pub ruleset lane_steps = (ap₂, digits_l, number_l, pick_l, vector_lanes)
