@@ -1,6 +1,6 @@
 -- Bits that say where scalars begin, and the scalars of one and three bytes of UTF-8 between them.
 use Rattle.std.proofs.{lemmas.Bool.Decides.nat_tests, Common.{◌≡◌, ◌↔◌, ◌∙◌, ℕ, zero, suc, ◌+◌, ◌-◌, ◌*◌, ◌/◌, ◌%◌, ◌^◌, ◌≤◌, ◌<◌, List, [], ◌∷◌, ◌++◌, length}}
-use Rattle.std.proofs.Common.{get_or, true, max, take, drop, replicate, refl, sym, ap, ap₂, subst, arith, append_assoc, append-nil}
+use Rattle.std.proofs.Common.{get_or, true, max, take, drop, replicate, refl, sym, ap, ap₂, subst, arith, append_assoc}
 use Rattle.std.proofs.{Common.{length-append, add-zero, slice_set, w8, w32, Fits, bit_and, bit_or}, Math.Nat.{mod-lt, pow-suc}}
 use Rattle.std.proofs.{lemmas.Bool.cases_lt, lemmas.List.{get_or-set_same, get_or-set_other, get_or_past, length-drop, get_or_append_left, get_or-append-add}}
 use Rattle.std.proofs.{lemmas.List.{get_or-drop, get_or-take, length-map, length-take-le}, lemmas.Nat.{pow_pos}, lemmas.Nat.Bits.bit_at-trailing_zeros}
@@ -10,10 +10,10 @@ use Rattle.std.proofs.lemmas.Simd.{below_from_Fits, get_or-put_chunk_below, get_
 use Rattle.std.proofs.lemmas.Str.{length-encode, len_utf8_bounds}
 use Rattle.std.specs.{Int.{bit_at, bit_not, trailing_zeros}, Simd.Lanes.{zip2, number_l, digits_l, put_chunk, Each1}, Str.{chars, is_utf8}}
 use lib.Utf8.{encode}
-use Rattle.legacy_text.specs.{EncodingForm.{Utf8, code_units, unit_count, total_unit_count}, NextScalars.StandsAt, ShortScalars.ReadsScalar}
+use Rattle.legacy_text.specs.{EncodingForm.{Utf8, unit_count}, NextScalars.StandsAt, ShortScalars.ReadsScalar}
 use Rattle.legacy_text.specs.{ScalarTurns.{IsStart, IsUnitAt, ReadsUnits}, UnitCodes.IsNoSurrogate, UnitTurns.AreNoSurrogates}
 use Rattle.legacy_text.proofs.{Ascii.{mask_from, mask_from-is, mask_bit}, CodeUnits.{encode_1, encode_2, encode_3, encode_4, total_unit_count-append}}
-use Rattle.legacy_text.proofs.{Texts.{made_of_three, first_some, first_cons, utf8_pass, utf8_stands}, ShortScalars.{some_left, reads_ascii}}
+use Rattle.legacy_text.proofs.{Texts.{made_of_three, first_some, first_cons, utf8_pass, utf8_stands}, ShortScalars.{some_left, reads_ascii, one_count}}
 
 -- ---- the lowest bit
 
@@ -209,13 +209,6 @@ next_is text start p q long more few u at_q none =
 
 -- ---- turns
 
-one_count : (c : ℕ) → total_unit_count Utf8 (c ∷ []) ≡ unit_count Utf8 c
-one_count c = ap length (append-nil (code_units Utf8 c))
-
--- no code units were read yet
-units_none : (text : List ℕ) (start : ℕ) → start ≤ length text → is_utf8 (drop start text) ≡ true → ReadsUnits text start [] start
-units_none text start within u = record { is_text = u; within = within; front = λ _. refl; passed = λ _. sym (add-zero start) }
-
 -- one more code unit
 units_more : (text : List ℕ) (start : ℕ) (units : List ℕ) (place c behind unit : ℕ) → ReadsUnits text start units place → ReadsScalar text place c behind
     → (IsNoSurrogate unit → unit ≡ c) → ReadsUnits text start (units ++ unit ∷ []) behind
@@ -240,7 +233,7 @@ pub record StandsBehind (text : List ℕ) (start : ℕ) (units : List ℕ) (bits
 pub stands_first : (text : List ℕ) (start bits : ℕ) → start + 34 ≤ length text → is_utf8 (drop start text) ≡ true
     → ((k : ℕ) → k < 32 → (bit_at bits k ≡ 1) ↔ IsStart (get_or text (start + k) 0)) → bits < 2 ^ 32 → 0 < bits → StandsBehind text start [] bits
 stands_first text start bits long u starts fits some =
-    grind (arith, nat_tests, bit_at-trailing_zeros w32 bits some fits, starts 0, start_here text start (omega arith) u, units_none)
+    grind (arith, nat_tests, bit_at-trailing_zeros w32 bits some fits, starts 0, start_here text start (omega arith) u, add-zero)
 
 pub stands_more : (text : List ℕ) (start : ℕ) (units : List ℕ) (bits rest unit : ℕ) → start + 34 ≤ length text → 0 < bits → bits < 2 ^ 32 → 0 < rest →
     rest < 2 ^ 32 → ((k : ℕ) → k ≤ trailing_zeros w32 bits → bit_at rest k ≡ 0) → ((k : ℕ) → trailing_zeros w32 bits < k → bit_at rest k ≡ bit_at bits k)

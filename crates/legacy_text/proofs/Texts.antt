@@ -64,7 +64,7 @@ first_tells c first rest h = grind (arith, nat_tests, encode_1, encode_2, encode
 -- ---- scalars of two and of three bytes, made of these
 
 -- the bytes at a place are those of the scalar
-stands_byte : (text : List ℕ) (place c : ℕ) → (s : StandsAt text place c) → (k : ℕ) → get_or text (place + k) 0 ≡ get_or (encode c ++ s.rest) k 0
+pub stands_byte : (text : List ℕ) (place c : ℕ) → (s : StandsAt text place c) → (k : ℕ) → get_or text (place + k) 0 ≡ get_or (encode c ++ s.rest) k 0
 stands_byte text place c s k = sym (get_or-drop place text k 0) ∙ ap (λ l. get_or l k 0) s.is
 
 -- the same, by the bytes of the scalar
@@ -125,23 +125,6 @@ scalars_pair units at h p = ap (map replaced) (utf16_chars-drop_pair units at h 
 
 pub scalars_end : (units : List ℕ) (at : ℕ) → length units ≤ at → unit_scalars (drop at units) ≡ []
 scalars_end units at h = ap (map replaced) (utf16_chars-drop_all units at h)
-
--- the unit at the place, as a scalar
-pub first_low : (units : List ℕ) (at : ℕ) → at < length units → get_or units at 0 < 0xD800 →
-    Some (get_or units at 0) ≡ slice_get (unit_scalars (drop at units)) 0
-first_low units at h l = grind (arith, scalars_lone, lone_unit_char_low)
-
-pub first_high : (units : List ℕ) (at : ℕ) → at < length units → 0xE000 ≤ get_or units at 0 →
-    Some (get_or units at 0) ≡ slice_get (unit_scalars (drop at units)) 0
-first_high units at h l = grind (arith, scalars_lone, lone_unit_char_high)
-
-pub first_unpaired : (units : List ℕ) (at : ℕ) → at < length units → 0xD800 ≤ get_or units at 0 → get_or units at 0 < 0xE000 →
-    (IsPair (get_or units at 0) (get_or units (at + 1) 0) → ⊥) → Some 0xFFFD ≡ slice_get (unit_scalars (drop at units)) 0
-first_unpaired units at h l m n = grind (arith, scalars_lone, lone_unit_char_surrogate)
-
-pub first_pair : (units : List ℕ) (at : ℕ) → at + 1 < length units → IsPair (get_or units at 0) (get_or units (at + 1) 0) →
-    Some (surrogate_pair_char (get_or units at 0) (get_or units (at + 1) 0)) ≡ slice_get (unit_scalars (drop at units)) 0
-first_pair units at h p = let e = scalars_pair units at h p in rw e refl
 
 pub first_none : (units : List ℕ) (at : ℕ) → length units ≤ at → slice_get (unit_scalars (drop at units)) 0 ≡ None
 first_none units at h = ap (λ l. slice_get l 0) (scalars_end units at h)
@@ -322,7 +305,7 @@ utf16_pass list place n bound some e =
     let f = first_some (unit_scalars (drop place list)) some in
     grind (arith, utf16_step list place (get_or (unit_scalars (drop place list)) 0 0) n bound (some_within list place _ f) f, utf16_1, utf16_2)
 
-pub ruleset unit_steps = (common_steps, first_none, first_unpaired, first_low, first_high, first_pair)
+pub ruleset unit_steps = (common_steps, scalars_lone, scalars_pair, scalars_end, lone_unit_char_low, lone_unit_char_high, lone_unit_char_surrogate)
 
 pub ruleset next_steps = (is_next, first_cons, none_left, utf8_inside, utf8_stands)
 

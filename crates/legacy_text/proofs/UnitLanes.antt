@@ -7,7 +7,7 @@ use Rattle.std.proofs.{Math.Seq.{take-append_seam}, lemmas.Nat.and_mask, lemmas.
 use Rattle.std.proofs.{lemmas.Grind.{flat_map-append, common_steps}, lemmas.Bool.Decides.nat_tests}
 use Rattle.std.specs.{Char.encode_utf8, List.range_with_len}
 use lib.Lanes.{Each1, zip2, sel_l, mask_l, top, number_l, digits_l, pick_l, all_below}
-use Rattle.legacy_text.specs.{declared.unit_rows.TheConstants.{WRITTEN, COUNTS}, UnitBytes.{last_byte, front_bytes, lanes, flags, pattern, lane_places, places}}
+use Rattle.legacy_text.specs.{declared.unit_rows.TheConstants.{WRITTEN, COUNTS}, UnitBytes.{last_byte, front_bytes, lanes, flags, pattern, places}}
 use Rattle.legacy_text.specs.UnitBytes.{row, utf8_bytes}
 
 -- ---- eight lanes
@@ -230,9 +230,6 @@ Reads f base (u ∷ us) = (f base ≡ last_byte u % 256) × (f (base + 2) ≡ fr
 digit : (s t : Bool) (m : ℕ) → ((cond s 1 0 + 2 * (cond t 1 0 + 2 * m)) % 4 ≡ cond s 1 0 + 2 * cond t 1 0) × ((cond s 1 0 + 2 * (cond t 1 0 + 2 * m)) / 4 ≡ m)
 digit s t m = (grind arith, grind arith)
 
-lane_chosen : (f : ℕ → ℕ) (base : ℕ) (s t : Bool) → map f (lane_places base (cond s 1 0 + 2 * cond t 1 0)) ≡ chosen s t (f base) (f (base + 2)) (f (base + 3))
-lane_chosen f base s t = grind arith
-
 pub text_written : (f : ℕ → ℕ) (base : ℕ) (us : List ℕ) → Each1 (λ u. u < 65536) us → Reads f base us →
     map f (places base (length us) (pattern us)) ≡ utf8_bytes us
 unfolding places pattern
@@ -240,7 +237,7 @@ text_written f base [] small reads = refl
 text_written f base (u ∷ us) small reads =
     let d = digit (ltb u 128) (ltb u 2048) (mask_l (flags us)) in
     let rest = text_written f (base + 4) us small.1 reads.3 in
-    grind (arith, map-append, lane_chosen f base (ltb u 128) (ltb u 2048), unit_is u small.0)
+    grind (arith, map-append, unit_is u small.0)
 
 pub reads_lanes : (a b c d : ℕ) → Reads (λ k. get_or (lanes (a ∷ b ∷ c ∷ d ∷ [])) k 0) 0 (a ∷ b ∷ c ∷ d ∷ [])
 reads_lanes a b c d = (refl, refl, refl, (refl, refl, refl, (refl, refl, refl, (refl, refl, refl, tt))))

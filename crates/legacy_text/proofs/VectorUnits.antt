@@ -9,11 +9,7 @@ use Rattle.legacy_text.proofs.CodeUnits.{utf16_1, length-code_units-bmp, total_u
 -- the free code units after some were written up to a place
 pub free-after : (at result : ℕ) (old new units : List ℕ) → length new ≡ length old → at ≤ length old → result ≤ length old
     → take result new ≡ take at old ++ units → length new - result + length units ≡ length old - at
-free-after at result old new units same before after written =
-    let a : length (take result new) ≡ result = length-take-le result new (omega arith) in
-    let b : length (take at old) ≡ at = length-take-le at old before in
-    let c : length (take result new) ≡ length (take at old) + length units = ap length written ∙ length-append (take at old) units in
-    omega arith
+free-after at result old new units same before after written = grind (arith, length-take-le, length-append, ap length written)
 
 -- the first code units of 16 bits are their own code units in UTF-16
 pub own-units : (n : ℕ) (units : List ℕ) → Each1 (Fits w16) units → all_code_units Utf16 (take n units) ≡ take n units

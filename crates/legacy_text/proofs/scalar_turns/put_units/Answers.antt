@@ -1,10 +1,7 @@
 use Rattle.std.proofs.Common.{◌+◌, arith}
 use Rattle.legacy_text.specs.ScalarTurns.{IsUnitAt}
-use Rattle.legacy_text.proofs.ScalarTurns.{stored_before, stored_at}
+use Rattle.legacy_text.proofs.ScalarTurns.{stored_at}
 use Rattle.legacy_text.proofs.scalar_turns.put_units.Goals as goal
-
-pub returns-clause-before : goal.returns-clause-before
-returns-clause-before c = grind (arith, stored_before)
 
 pub returns-clause-units : goal.returns-clause-units
 returns-clause-units c =
