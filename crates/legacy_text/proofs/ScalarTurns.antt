@@ -1,6 +1,6 @@
 -- Bits that say where scalars begin, and the scalars of one and three bytes of UTF-8 between them.
 use Rattle.std.proofs.{lemmas.Bool.Decides.nat_tests, Common.{◌≡◌, ◌↔◌, ◌∙◌, ℕ, zero, suc, ◌+◌, ◌-◌, ◌*◌, ◌/◌, ◌%◌, ◌^◌, ◌≤◌, ◌<◌, List, [], ◌∷◌, ◌++◌, length}}
-use Rattle.std.proofs.Common.{get_or, true, max, take, drop, replicate, refl, sym, ap, ap₂, subst, arith, append_assoc}
+use Rattle.std.proofs.Common.{get_or, true, max, take, drop, replicate, refl, ap, ap₂, subst, arith, append_assoc}
 use Rattle.std.proofs.{Common.{length-append, add-zero, slice_set, w8, w32, Fits, bit_and, bit_or}, Math.Nat.{mod-lt, pow-suc}}
 use Rattle.std.proofs.{lemmas.Bool.cases_lt, lemmas.List.{get_or-set_same, get_or-set_other, get_or_past, length-drop, get_or_append_left, get_or-append-add}}
 use Rattle.std.proofs.{lemmas.List.{get_or-drop, get_or-take, length-map, length-take-le}, lemmas.Nat.{pow_pos}, lemmas.Nat.Bits.bit_at-trailing_zeros}
@@ -13,7 +13,8 @@ use lib.Utf8.{encode}
 use Rattle.legacy_text.specs.{EncodingForm.{Utf8, unit_count}, NextScalars.StandsAt, ShortScalars.ReadsScalar}
 use Rattle.legacy_text.specs.{ScalarTurns.{IsStart, IsUnitAt, ReadsUnits}, UnitCodes.IsNoSurrogate, UnitTurns.AreNoSurrogates}
 use Rattle.legacy_text.proofs.{Ascii.{mask_from, mask_from-is, mask_bit}, CodeUnits.{encode_1, encode_2, encode_3, encode_4, total_unit_count-append}}
-use Rattle.legacy_text.proofs.{Texts.{made_of_three, first_some, first_cons, utf8_pass, utf8_stands}, ShortScalars.{some_left, reads_ascii, one_count}}
+use Rattle.legacy_text.proofs.Texts.{made_of_three, first_some, first_cons, utf8_pass, utf8_stands, stands_byte}
+use Rattle.legacy_text.proofs.ShortScalars.{some_left, reads_ascii, one_count}
 
 -- ---- the lowest bit
 
@@ -177,9 +178,6 @@ module _ (text : List ℕ) (place : ℕ) (inside : place < length text) (u : is_
   stands : StandsAt text place (get_or (chars (drop place text)) 0 0)
   stands = utf8_stands text place C u (first_some (chars (drop place text)) some)
 
-  byte_at : (k : ℕ) → get_or text (place + k) 0 ≡ get_or (encode (get_or (chars (drop place text)) 0 0) ++ stands.rest) k 0
-  byte_at k = sym (get_or-drop place text k 0) ∙ ap (λ l. get_or l k 0) stands.is
-
   pub reads_here : ReadsScalar text place (get_or (chars (drop place text)) 0 0) (place + unit_count Utf8 (get_or (chars (drop place text)) 0 0))
   reads_here = grind (arith, utf8_pass text place (unit_count Utf8 C), first_cons, first_some (chars (drop place text)) some)
 
@@ -188,11 +186,11 @@ module _ (text : List ℕ) (place : ℕ) (inside : place < length text) (u : is_
 
   -- a scalar begins with such a byte
   pub start_here : IsStart (get_or text place 0)
-  start_here = grind (arith, nat_tests, byte_at 0, stands, encode_1, encode_2, encode_3, encode_4)
+  start_here = grind (arith, nat_tests, stands_byte text place C stands 0, stands, encode_1, encode_2, encode_3, encode_4)
 
   -- no other byte of the scalar is such a byte
   pub no_start : (k : ℕ) → 0 < k → k < unit_count Utf8 (get_or (chars (drop place text)) 0 0) → IsStart (get_or text (place + k) 0) → ⊥
-  no_start k some_k few start = grind (arith, byte_at, get_or_append_left, tail_at)
+  no_start k some_k few start = grind (arith, stands_byte text place C stands k, get_or_append_left, tail_at)
 
   -- the code unit at the beginning of a scalar is this scalar, if it is not a surrogate
   pub unit_is : place + 2 ≤ length text → (unit : ℕ) → IsUnitAt text place unit → IsNoSurrogate unit → unit ≡ get_or (chars (drop place text)) 0 0

@@ -5,7 +5,8 @@ use Rattle.std.proofs.{lemmas.List.{get_or_append_left, get_or-append-add, get_o
 use Rattle.std.proofs.Math.Seq.{take-add}
 use Rattle.std.specs.Str.{chars, is_utf8}
 use lib.Utf8.{encodes}
-use Rattle.legacy_text.specs.{NextScalars.StandsAt, EncodingForm.{Utf8, code_units, unit_count, total_unit_count}, ShortScalars.{ReadsScalar, WritesScalars}, UnitCodes.WritesCodes}
+use Rattle.legacy_text.specs.{EncodingForm.{Utf8, code_units, unit_count, total_unit_count}, ShortScalars.{ReadsScalar, WritesScalars}, UnitCodes.WritesCodes}
+use Rattle.legacy_text.specs.NextScalars.{StandsAt}
 use Rattle.legacy_text.proofs.{CodeUnits.{encode_1, encode_2, total_unit_count-append, one_below, two_above, two_below}, Texts.{first_some}}
 use Rattle.legacy_text.proofs.{Texts.{first_cons, utf8_pass, utf8_stands, stands_byte, stands_tells}, UnitCopies.writes_none}
 

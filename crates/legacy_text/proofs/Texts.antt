@@ -1,6 +1,6 @@
 -- The scalars of texts, one by one from the front, and the places between them.
 use Rattle.std.proofs.{lemmas.Bool.Decides.nat_tests, Common.{◌≡◌, ◌∙◌, ℕ, suc, ◌+◌, ◌-◌, ◌≤◌, ◌<◌, List, [], ◌∷◌, ◌++◌, length, take, drop, get_or, refl, sym}}
-use Rattle.std.proofs.Common.{◌*◌, ◌%◌, add-zero, ap, subst, arith, length-append, length-drop, Some, None, Option, true, false, ◌⊎◌, ◌&&◌, map}
+use Rattle.std.proofs.Common.{◌*◌, ◌%◌, ap, subst, arith, length-append, length-drop, Some, None, Option, true, false, ◌⊎◌, ◌&&◌, map}
 use Rattle.std.proofs.{Common.{slice_get, IsAscii}, lemmas.List.{drop-drop, take-append-drop, length-take-le, take_all, get_or-drop}}
 use Rattle.std.proofs.{Math.Seq.{drop-append_seam, take-append_seam}, lemmas.Str.{IsUtf8-from_is_utf8, is_utf8-from_IsUtf8, encodes-chars, chars_past_char}}
 use Rattle.std.proofs.lemmas.Str.{IsUtf8-past_char, drop_past_char, length-encode, utf16_chars-nil, len_utf8_bounds, utf16_chars_lone, utf16_chars_pair}
@@ -12,6 +12,7 @@ use Rattle.std.specs.{Char.Utf16.is_low_surrogate, Option.unwrap_or}
 use Rattle.std.proofs.{lemmas.Str.IsCharBoundary-from_drop, lemmas.Grind.common_steps}
 use lib.{ListN.get_or-eq_default, Utf8.{encode, encodes, scalar, scalars}}
 use Rattle.legacy_text.specs.{EncodingForm.{EncodingForm, Utf8, Utf16, unit_count, all_code_units}, declared.text_cursor.Next.Next, NextScalars.StandsAt}
+use Rattle.legacy_text.specs.UnitCodes.{IsNoSurrogate}
 use Rattle.legacy_text.specs.{NextScalars.{IsSized, IsNext}, Texts.{unit_scalars, IsUnitBoundary}}
 use Rattle.legacy_text.proofs.CodeUnits.{encode_1, encode_2, encode_3, encode_4, two_above, two_below, three_above, three_below, utf16_1, utf16_2}
 use Rattle.legacy_text.proofs.CodeUnits.{total_unit_count-append}
@@ -58,25 +59,17 @@ pub record TellsCount (c first : ℕ) : Type 0 where
   pub three : 0xE0 ≤ first → first < 0xF0 → unit_count Utf8 c ≡ 3
   pub four : 0xF0 ≤ first → unit_count Utf8 c ≡ 4
 
-first_tells : (c first : ℕ) (rest : List ℕ) → get_or (encode c ++ rest) 0 0 ≡ first → TellsCount c first
-first_tells c first rest h = grind (arith, nat_tests, encode_1, encode_2, encode_3, encode_4)
-
 -- ---- scalars of two and of three bytes, made of these
 
 -- the bytes at a place are those of the scalar
 pub stands_byte : (text : List ℕ) (place c : ℕ) → (s : StandsAt text place c) → (k : ℕ) → get_or text (place + k) 0 ≡ get_or (encode c ++ s.rest) k 0
 stands_byte text place c s k = sym (get_or-drop place text k 0) ∙ ap (λ l. get_or l k 0) s.is
 
--- the same, by the bytes of the scalar
-scalar_byte : {text : List ℕ} {place c : ℕ} (s : StandsAt text place c) {bytes : List ℕ} → encode c ≡ bytes → (at k : ℕ) → at ≡ place + k
-    → get_or text at 0 ≡ get_or (bytes ++ s.rest) k 0
-scalar_byte {text} {place} {c} s is at k e = ap (λ n. get_or text n 0) e ∙ stands_byte text place c s k ∙ ap (λ l. get_or (l ++ s.rest) k 0) is
-
 pub utf8_stands : (text : List ℕ) (place c : ℕ) → is_utf8 (drop place text) ≡ true → Some c ≡ slice_get (chars (drop place text)) 0 → StandsAt text place c
 utf8_stands text place c u e = record { rest = encodes (drop 1 (chars (drop place text))); is = utf8_bytes text place c u e }
 
 pub stands_tells : (text : List ℕ) (place c : ℕ) → StandsAt text place c → TellsCount c (get_or text place 0)
-stands_tells text place c s = first_tells c (get_or text place 0) s.rest (sym (stands_byte text place c s 0) ∙ ap (λ n. get_or text n 0) (add-zero place))
+stands_tells text place c s = grind (arith, nat_tests, stands_byte text place c s 0, encode_1, encode_2, encode_3, encode_4)
 
 stands_within : (text : List ℕ) (place c : ℕ) → StandsAt text place c → place + unit_count Utf8 c ≤ length text
 stands_within text place c s =
@@ -89,9 +82,8 @@ pub record MadeOfTwo (text : List ℕ) (place c : ℕ) : Type 0 where
 
 pub made_of_two : {text : List ℕ} {place c : ℕ} → StandsAt text place c → 0x80 ≤ get_or text place 0 → get_or text place 0 < 0xE0 → MadeOfTwo text place c
 made_of_two {text} {place} {c} s low high =
-    let count = (stands_tells text place c s).two low high in
-    let byte = scalar_byte s (encode_2 c (two_above c count) (two_below c count)) in
-    grind (arith, byte place 0, byte (place + 1) 1 refl, stands_within text place c s)
+    let byte = stands_byte text place c s in
+    grind (arith, stands_tells text place c s, byte 0, byte 1, encode_2, two_above, two_below, stands_within text place c s)
 
 pub record MadeOfThree (text : List ℕ) (place c : ℕ) : Type 0 where
   pub within : place + 3 ≤ length text
@@ -100,9 +92,8 @@ pub record MadeOfThree (text : List ℕ) (place c : ℕ) : Type 0 where
 
 pub made_of_three : {text : List ℕ} {place c : ℕ} → StandsAt text place c → 0xE0 ≤ get_or text place 0 → get_or text place 0 < 0xF0 → MadeOfThree text place c
 made_of_three {text} {place} {c} s low high =
-    let count = (stands_tells text place c s).three low high in
-    let byte = scalar_byte s (encode_3 c (three_above c count) (three_below c count)) in
-    grind (arith, byte place 0, byte (place + 1) 1 refl, byte (place + 2) 2 refl, stands_within text place c s)
+    let byte = stands_byte text place c s in
+    grind (arith, stands_tells text place c s, byte 0, byte 1, byte 2, encode_3, three_above, three_below, stands_within text place c s)
 
 -- ---- UTF-16
 
@@ -231,10 +222,12 @@ ascii_past [] ys a u = u
 ascii_past (x ∷ xs) ys a u =
     ascii_past xs ys (λ i. a (suc i)) (IsUtf8-past_char (x ∷ (xs ++ ys)) (xs ++ ys) x u (sym (ap (λ l. l ++ (xs ++ ys)) (encode_1 x (a 0)))))
 
--- ASCII units are their own scalars
-unit_scalars-ascii : (xs ys : List ℕ) → IsAscii xs → unit_scalars (xs ++ ys) ≡ xs ++ unit_scalars ys
-unit_scalars-ascii [] ys a = refl
-unit_scalars-ascii (x ∷ xs) ys a = grind (arith, a 0, scalars_one, lone_unit_char_low, unit_scalars-ascii xs ys (λ i. a (suc i)))
+-- code units that are not surrogates are their own scalars
+pub bmp_scalars : (front others : List ℕ) → ((k : ℕ) → k < length front → IsNoSurrogate (get_or front k 0)) →
+    unit_scalars (front ++ others) ≡ front ++ unit_scalars others
+bmp_scalars [] others bmp = refl
+bmp_scalars (u ∷ front) others bmp =
+    grind (arith, nat_tests, bmp 0, scalars_one, lone_unit_char_low, lone_unit_char_high, bmp_scalars front others (λ k h. bmp (suc k) (omega arith)))
 
 -- The first n of the scalars that are left are these, and the others come after them.
 pub record IsFront (all front others : List ℕ) (n : ℕ) : Type 0 where
@@ -276,8 +269,9 @@ module _ (list : List ℕ) (place n : ℕ) (within : n ≤ length (drop place li
 
   pub utf16_ascii : IsFront (unit_scalars Rest) (take n Rest) (unit_scalars (drop (place + n) list)) n
   utf16_ascii =
+      let own = bmp_scalars (take n Rest) (drop (place + n) list) (λ k h. let low = ascii k in omega arith) in
       let front = front_of (unit_scalars Rest) (take n Rest) (unit_scalars (drop (place + n) list)) n in
-      grind (arith, length-take-le n Rest within, ap unit_scalars parts, unit_scalars-ascii (take n Rest) (drop (place + n) list) ascii)
+      grind (arith, length-take-le n Rest within, ap unit_scalars parts, own)
 
 -- ---- the next scalar
 

@@ -2,10 +2,9 @@
 use Rattle.std.proofs.{lemmas.Bool.Decides.nat_tests, Common.{◌≡◌, ◌∙◌, ℕ, suc, ◌+◌, ◌-◌, ◌≤◌, ◌<◌, List, [], ◌∷◌, ◌++◌, length, get_or, take, drop, refl}}
 use Rattle.std.proofs.{Common.{sym, ap, subst, arith, append_assoc, append-nil, length-append, length-drop, IsAscii}}
 use Rattle.std.proofs.lemmas.List.{get_or_append_left, get_or-append-add, get_or-drop, length-take-le, get_or-take, take_all, take-append-drop, drop-drop}
-use Rattle.std.proofs.{str.Utf16.{lone_unit_char_low, lone_unit_char_high}}
 use Rattle.std.proofs.Common.{add-zero}
 use Rattle.legacy_text.specs.{EncodingForm.{Utf16, total_unit_count}, Texts.unit_scalars, UnitCodes.{IsNoSurrogate, WritesCodes}}
-use Rattle.legacy_text.proofs.{Ascii.all_behind, CodeUnits.utf16_1, Texts.{IsFront, front_of, scalars_one}}
+use Rattle.legacy_text.proofs.{Ascii.all_behind, CodeUnits.utf16_1, Texts.{IsFront, front_of, bmp_scalars}}
 
 -- ---- blocks
 
@@ -36,13 +35,6 @@ pub writes_none : (gives : ℕ → ℕ → Type 0) (units old new : List ℕ) �
 writes_none gives units old new e = record { bytes = []; new_is = e ∙ sym (append-nil old); count = refl; each = λ k h. absurd (omega arith) }
 
 -- ---- code units that are not surrogates
-
--- each of them is its own scalar
-bmp_scalars : (front others : List ℕ) → ((k : ℕ) → k < length front → IsNoSurrogate (get_or front k 0)) →
-    unit_scalars (front ++ others) ≡ front ++ unit_scalars others
-bmp_scalars [] others bmp = refl
-bmp_scalars (u ∷ front) others bmp =
-    grind (arith, nat_tests, bmp 0, scalars_one, lone_unit_char_low, lone_unit_char_high, bmp_scalars front others (λ k h. bmp (suc k) (omega arith)))
 
 -- a scalar of 16 bits is one code unit
 narrow_units : (front : List ℕ) → ((k : ℕ) → k < length front → get_or front k 0 < 65536) → total_unit_count Utf16 front ≡ length front
