@@ -188,6 +188,7 @@ impl Source for Utf8Source<'_> {
     }
 
     #[inline]
+    #[tactic(auto, using(crate::proofs::Texts::utf8_step))]
     fn advance(&mut self) {
         if let Some(c) = scalar_at(self.text, self.place) {
             self.place += c.len_utf8();
@@ -223,6 +224,7 @@ impl TextCursor for Utf8Source<'_> {
     }
 
     #[inline(always)]
+    #[tactic(auto, using(crate::proofs::Texts::utf8_pass))]
     fn pass(&mut self, count: usize) {
         self.place = place_behind(self.text, self.place, count);
     }
@@ -397,6 +399,7 @@ impl TextCursor for Utf16Source<'_> {
     }
 
     #[inline(always)]
+    #[tactic(auto, using(crate::proofs::Texts::utf16_pass))]
     fn pass(&mut self, count: usize) {
         self.place += count;
     }

@@ -4,6 +4,3 @@ use Rattle.legacy_text.proofs.text_source.Utf16SourceTextCursor.pass.Goals as go
 
 pub invariant_of-self : goal.invariant_of-self
 invariant_of-self c = let s = c.args.self.now in grind (arith, utf16_pass s.units.now s.place c.args.count)
-
-pub returns-clause-left : goal.returns-clause-left
-returns-clause-left c = grind (arith, utf16_pass)

@@ -4,6 +4,3 @@ use Rattle.legacy_text.proofs.text_source.Utf8SourceSource.advance.Goals as goal
 
 pub invariant_of-self : goal.invariant_of-self
 invariant_of-self c = let s = c.args.self.now in grind (arith, utf8_step s.text.now s.place c.in-Some.c)
-
-pub returns-in-Some : goal.returns-in-Some
-returns-in-Some c = grind (arith, utf8_step)

@@ -1,4 +1,4 @@
-use Rattle.std.proofs.{lemmas.Grind.common_steps, Common.arith}
+use Rattle.std.proofs.{Common.arith}
 use Rattle.legacy_text.proofs.Texts.{utf8_pass}
 use Rattle.legacy_text.proofs.text_source.Utf8SourceTextCursor.pass.Goals as goal
 
@@ -7,6 +7,3 @@ place_behind-self-requires c = let s = c.args.self.now in grind (arith, utf8_pas
 
 pub invariant_of-self : goal.invariant_of-self
 invariant_of-self c = let s = c.args.self.now in grind (arith, utf8_pass s.text.now s.place c.args.count)
-
-pub returns-clause-left : goal.returns-clause-left
-returns-clause-left c = grind (arith, common_steps, utf8_pass)
