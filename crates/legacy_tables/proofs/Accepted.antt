@@ -1,28 +1,26 @@
 -- Facts about indexes and single-byte tables that passed their check.
-use Rattle.std.proofs.Common.{◌≡◌, ◌≢◌, ◌∙◌, ◌⊎◌, ℕ, zero, suc, ◌+◌, ◌-◌, ◌≤◌, ◌<◌, List, [], ◌∷◌, length, get_or, add-one, refl, inl, inr, sym, arith, Some}
-use Rattle.std.proofs.{Common.{None, Option, true, false, Bool, not, cond, eq-eqb, nat_le, nat_lt, subst, ◌==◌}, lemmas.Bool.{and_parts, cases_eq, ne_eqb}}
-use Rattle.std.proofs.{lemmas.Bool.{eqb-false, not-false}, lemmas.Option.{cond_some, same_Some}, lemmas.Bool.Decides.nat_tests, lemmas.List.Elements.All-nil}
-use Rattle.std.proofs.{lemmas.List.Elements.All-cons, lemmas.List.Sorted.IsNonDecreasingBy-from_all_adjacent}
+use Rattle.std.proofs.Common.{◌≡◌, ◌≢◌, ◌⊎◌, ℕ, zero, suc, ◌+◌, ◌-◌, ◌≤◌, ◌<◌, List, [], ◌∷◌, length, get_or, add-one, refl, arith, Some}
+use Rattle.std.proofs.{Common.{None, Option, true, false, Bool, ◌&&◌, not, cond, nat_le, subst, ◌==◌}, lemmas.Bool.{and_parts}}
+use Rattle.std.proofs.{lemmas.Bool.Decides.nat_tests, lemmas.List.get_or_default}
+use Rattle.std.proofs.lemmas.List.Sorted.{IsNonDecreasingBy-from_all_adjacent}
 use Rattle.std.specs.{List.{All, AllAdjacentBelow}, Char.IsScalar, Option.option_or, Int.is_in_range, List.Sorted.IsNonDecreasingBy}
 use borrow.Author.Tests.{ltb-false, ltb-true, leb-true, leb-false, le-leb, lt-leb}
 use Rattle.legacy_tables.specs.{declared.tables.IndexName.IndexName, declared.tables.TableError.TableError, declared.tables.TableError.TheVariants.TooLong}
-use Rattle.legacy_tables.specs.declared.tables.TableError.TheVariants.{BadEntry, NotEmpty, KatakanaLength, RangeOrder, RangeValue}
+use Rattle.legacy_tables.specs.declared.tables.TableError.TheVariants.{BadEntry, RangeOrder, RangeValue}
 use Rattle.legacy_tables.specs.{declared.tables.packed.PackedPart.PackedPart, Indexes.{FlatIndexes, entry_scalar, idx, range, last_range_scalar}}
 use Rattle.legacy_tables.specs.{Walks.order_index, Unicode.AreScalars, Tables.{index_list, is_narrow_index}, TableChecks.{is_entry, must_be_empty, entry_fault}}
 use Rattle.legacy_tables.specs.TableChecks.{entries_fault, index_fault, katakana_fault, range_order_fault, AreAccepted, next_pointer, has_range_scalars}
-use Rattle.legacy_tables.specs.TableChecks.{range_value_fault, rows_fault, table_fault}
-use Rattle.legacy_tables.proofs.FirstPlaces.{taken}
+use Rattle.legacy_tables.specs.TableChecks.{follows_range, range_value_fault, rows_fault, table_fault}
+use Rattle.legacy_tables.proofs.FirstPlaces.{taken, each-fine}
 use Rattle.legacy_tables.specs.declared.tables.IndexName.TheVariants as names
 
 -- ---- no fault of two parts, and of a test
 
 pub or_none : {A : Type 0} (a b : Option A) → option_or a b ≡ None → (a ≡ None) × (b ≡ None)
-or_none None b e = (refl, e)
-or_none (Some x) b e = cc
+or_none a b e = grind arith
 
 pub untaken : {A : Type 0} (t : Bool) (fault : A) (a : Option A) → cond t (Some fault) a ≡ None → (t ≡ false) × (a ≡ None)
-untaken true fault a e = cc
-untaken false fault a e = (refl, e)
+untaken t fault a e = grind arith
 
 -- ---- the parts of the check
 
@@ -45,27 +43,7 @@ pub record Parts (flat : FlatIndexes) : Type 0 where
 
 pub parts : (flat : FlatIndexes) → AreAccepted flat → Parts flat
 unfolding table_fault
-parts flat e =
-    let a = or_none (index_fault names.Big5 19782 flat.big5) _ e in
-    let b = or_none (index_fault names.EucKr 23940 flat.euc_kr) _ a.1 in
-    let c = or_none (index_fault names.Jis0208 11280 flat.jis0208) _ b.1 in
-    let d = or_none (index_fault names.Jis0212 8836 flat.jis0212) _ c.1 in
-    let f = or_none (index_fault names.Gb18030 23940 flat.gb18030) _ d.1 in
-    let g = or_none (katakana_fault flat.katakana) _ f.1 in
-    let h = or_none (range_order_fault 0 None flat.ranges) _ g.1 in
-    let i = or_none (range_value_fault 0 flat.ranges) _ h.1 in
-    record {
-      big5 = index_parts names.Big5 19782 _ a.0;
-      euc_kr = index_parts names.EucKr 23940 _ b.0;
-      jis0208 = index_parts names.Jis0208 11280 _ c.0;
-      jis0212 = index_parts names.Jis0212 8836 _ d.0;
-      gb18030 = index_parts names.Gb18030 23940 _ f.0;
-      katakana_whole = g.0;
-      katakana = (taken _ KatakanaLength (entries_fault names.Katakana 0 flat.katakana) g.0).1;
-      ordered = h.0;
-      valued = i.0;
-      private_use = i.1;
-    }
+parts flat e = grind (arith, or_none, index_parts, nat_tests)
 
 -- no index of pairs is longer than 23940 entries
 pub order_index-short : (flat : FlatIndexes) → AreAccepted flat → (part : PackedPart) → length (order_index flat part) ≤ 23940
@@ -78,33 +56,20 @@ order_index-short flat accepted part =
 -- an entry that is 0, or passes its test
 pub entry_has : (P : ℕ → Type 0) (entry : ℕ) (test : Bool) (fault : TableError) (other : Option TableError) → P 0
     → (test ≡ true → P entry) → cond (entry == 0) None (cond (not test) (Some fault) other) ≡ None → P entry
-entry_has P entry test fault other at_zero good e = elim (cases_eq entry 0) [
-  | inl zero_there ↦ subst P (sym zero_there) at_zero
-  | inr some ↦ good (not-false test (untaken (not test) fault other (rw (ne_eqb entry 0 some) at e)).0)
-]
-
-pub all_entries : (P : ℕ → Type 0) (name : IndexName) → P 0 → ((e : ℕ) → is_entry name e ≡ true → P e) → (place : ℕ) (index : List ℕ)
-    → entries_fault name place index ≡ None → All P index
-unfolding entries_fault
-all_entries P name at_zero good place [] e = All-nil P
-all_entries P name at_zero good place (x ∷ xs) e =
-    let h = or_none (entry_fault name place x) _ e in
-    All-cons P x xs (entry_has P x (is_entry name x) (BadEntry name place) _ at_zero (good x) h.0)
-    (all_entries P name at_zero good (place + 1) xs h.1)
+entry_has P entry test fault other at_zero good e = grind arith
 
 -- each of the entries without a fault has none, and 0 has none
 pub entry_at : (name : IndexName) (place : ℕ) (index : List ℕ) → entries_fault name place index ≡ None → (k : ℕ)
     → entry_fault name (place + k) (get_or index k 0) ≡ None
 unfolding entries_fault
 entry_at name place [] e k = refl
-entry_at name place (x ∷ xs) e zero =
-    let h = or_none (entry_fault name place x) _ e in
-    let same : place + 0 ≡ place = omega arith in
-    rw same h.0
-entry_at name place (x ∷ xs) e (suc k) =
-    let h = or_none (entry_fault name place x) _ e in
-    let same : (place + 1) + k ≡ place + suc k = omega arith in
-    rw same at (entry_at name (place + 1) xs h.1 k)
+entry_at name place (x ∷ xs) e zero = grind (arith, or_none)
+entry_at name place (x ∷ xs) e (suc k) = grind (arith, or_none, entry_at name (place + 1) xs)
+
+pub all_entries : (P : ℕ → Type 0) (name : IndexName) → P 0 → ((e : ℕ) → is_entry name e ≡ true → P e) → (place : ℕ) (index : List ℕ)
+    → entries_fault name place index ≡ None → All P index
+all_entries P name at_zero good place index e = λ k d h.
+    rw (get_or_default index k d 0 h) (entry_has P _ (is_entry name _) (BadEntry name _) _ at_zero (good _) (entry_at name place index e k))
 
 allowed-scalar : (name : IndexName) (e : ℕ) → is_entry name e ≡ true → IsScalar e
 allowed-scalar name e h = grind (arith, nat_tests)
@@ -149,9 +114,6 @@ module _ (flat : FlatIndexes) (accepted : AreAccepted flat) where
   pub gb18030-scalars : AreScalars flat.gb18030
   gb18030-scalars = index-scalars names.Gb18030
 
-  pub katakana-scalars : AreScalars flat.katakana
-  katakana-scalars = index-scalars names.Katakana
-
   pub euc_kr-below : All (λ c. c < 0x1_0000) flat.euc_kr
   euc_kr-below = (narrow_index names.EucKr refl).0
 
@@ -166,16 +128,7 @@ module _ (flat : FlatIndexes) (accepted : AreAccepted flat) where
 
   -- a pointer of an index that has a scalar has no other rule
   pub entry-used : (name : IndexName) (p c : ℕ) → Some c ≡ idx (index_list flat name) p → must_be_empty name p ≡ false
-  entry-used name p c e =
-      let index = index_list flat name in
-      let same : 0 + p ≡ p = omega arith in
-      let fine = rw same at (entry_at name 0 index (entries-fine name) p) in
-      elim (cases_eq (get_or index p 0) 0) [
-        | inl none ↦ let no = rw (eq-eqb (get_or index p 0) 0 none) at e in cc
-        | inr some ↦
-            (untaken _ (NotEmpty name p) None
-            (untaken _ (BadEntry name p) _ (rw (ne_eqb (get_or index p 0) 0 some) at fine)).1).0
-      ]
+  entry-used name p c e = grind (arith, entry_at name 0 (index_list flat name) (entries-fine name) p)
 
   pub length-big5 : length flat.big5 ≤ 19782
   length-big5 = (parts flat accepted).big5.0
@@ -191,39 +144,32 @@ module _ (flat : FlatIndexes) (accepted : AreAccepted flat) where
 
 -- ---- accepted ranges
 
--- pointers and scalars rise together, and pointers do not rise by more
-pub climb : (place : ℕ) (before : Option (ℕ × ℕ)) (ranges : List (ℕ × ℕ)) → range_order_fault place before ranges ≡ None →
-    AllAdjacentBelow (λ r s. (r.0 < s.0) × (r.1 + (s.0 - r.0) ≤ s.1)) ranges (length ranges)
+range_step : (place : ℕ) (before : Option (ℕ × ℕ)) (r : ℕ × ℕ) (ranges : List (ℕ × ℕ)) → range_order_fault place before (r ∷ ranges) ≡ None
+    → ((nat_le r.0 39419 && follows_range before r) ≡ true) × (range_order_fault (place + 1) (Some r) ranges ≡ None)
 unfolding range_order_fault
-climb place before [] e k d h = absurd (omega arith)
-climb place before (r ∷ []) e k d h = absurd (omega arith)
-climb place before (r ∷ s ∷ ranges) e zero d h =
-    let t = taken _ (RangeOrder place) (range_order_fault (place + 1) (Some r) (s ∷ ranges)) e in
-    let next = taken _ (RangeOrder (place + 1)) (range_order_fault (place + 1 + 1) (Some s) ranges) t.1 in
-    let b = and_parts (nat_lt r.0 s.0) _ (and_parts _ _ next.0).1 in
-    (ltb-true r.0 s.0 b.0, leb-true _ s.1 b.1)
-climb place before (r ∷ s ∷ ranges) e (suc k) d h =
-    let t = taken _ (RangeOrder place) (range_order_fault (place + 1) (Some r) (s ∷ ranges)) e in
-    rw (add-one (suc k)) (rw (add-one k) at (climb (place + 1) (Some r) (s ∷ ranges) t.1 k d (omega arith)))
-
--- each range starts at 39419 or before
-pub started_by : (place : ℕ) (before : Option (ℕ × ℕ)) (ranges : List (ℕ × ℕ)) → range_order_fault place before ranges ≡ None
-    → (k : ℕ) → k < length ranges → (get_or ranges k (0, 0)).0 ≤ 39419
-unfolding range_order_fault
-started_by place before [] e k h = absurd (omega arith)
-started_by place before (r ∷ ranges) e zero h =
-    leb-true r.0 39419 (and_parts _ _ (taken _ (RangeOrder place) (range_order_fault (place + 1) (Some r) ranges) e).0).0
-started_by place before (r ∷ ranges) e (suc k) h =
-    started_by (place + 1) (Some r) ranges (taken _ (RangeOrder place) (range_order_fault (place + 1) (Some r) ranges) e).1 k (omega arith)
+range_step place before r ranges e = taken _ (RangeOrder place) _ e
 
 module _ (ranges : List (ℕ × ℕ)) (ordered : range_order_fault 0 None ranges ≡ None) where
+  -- each range starts at 39419 or before
+  pub started_by : (k : ℕ) → k < length ranges → (get_or ranges k (0, 0)).0 ≤ 39419
+  started_by k h =
+      leb-true _ 39419 (and_parts _ _ (each-fine range_order_fault (λ before r. (nat_le r.0 39419 && follows_range before r) ≡ true) (λ r. Some r)
+      range_step 0 None ranges ordered k (0, 0) h)).0
+
+  -- pointers and scalars rise together, and pointers do not rise by more
+  pub climb : AllAdjacentBelow (λ r s. (r.0 < s.0) × (r.1 + (s.0 - r.0) ≤ s.1)) ranges (length ranges)
+  climb k d h =
+      let fine = each-fine range_order_fault (λ before r. (nat_le r.0 39419 && follows_range before r) ≡ true) (λ r. Some r)
+      range_step 0 None ranges ordered (suc k) d (omega arith) in
+      let b = and_parts _ _ (and_parts _ _ fine).1 in
+      rw (add-one k) (ltb-true _ _ b.0, leb-true _ _ b.1)
+
   pub rising : IsNonDecreasingBy (λ r. r.0) ranges
-  rising = IsNonDecreasingBy-from_all_adjacent (λ r. r.0) ranges (λ k d h. let up = (climb 0 None ranges ordered k d h).0 in omega arith)
+  rising = IsNonDecreasingBy-from_all_adjacent (λ r. r.0) ranges (λ k d h. let up = (climb k d h).0 in omega arith)
 
   pub rising_scalars : IsNonDecreasingBy (λ r. r.1) ranges
   rising_scalars =
-      IsNonDecreasingBy-from_all_adjacent (λ r. r.1) ranges
-      (λ k d h. let low = (climb 0 None ranges ordered k d h).0 in let high = (climb 0 None ranges ordered k d h).1 in omega arith)
+      IsNonDecreasingBy-from_all_adjacent (λ r. r.1) ranges (λ k d h. let low = (climb k d h).0 in let high = (climb k d h).1 in omega arith)
 
 -- the last range that starts at or before p, at place n
 pub record IsGiven (ranges : List (ℕ × ℕ)) (p n : ℕ) : Type 0 where
@@ -261,12 +207,7 @@ next-above (r ∷ ranges) p h e = none-ahead (r ∷ ranges) p e 0 (omega arith)
 -- a range gives p its scalar, or is the last that starts at or before p
 pub last-cases : (r : ℕ × ℕ) (ranges : List (ℕ × ℕ)) (p c : ℕ) → last_range_scalar (r ∷ ranges) p ≡ Some c
     → (last_range_scalar ranges p ≡ Some c) ⊎ ((last_range_scalar ranges p ≡ None) × (r.0 ≤ p) × (r.1 + (p - r.0) ≡ c))
-last-cases r ranges p c e = go (last_range_scalar ranges p) e
-  where
-    go : (o : Option ℕ) → option_or o (cond (nat_le r.0 p) (Some (r.1 + (p - r.0))) None) ≡ Some c
-        → (o ≡ Some c) ⊎ ((o ≡ None) × (r.0 ≤ p) × (r.1 + (p - r.0) ≡ c))
-    go (Some x) z = inl z
-    go None z = let t = cond_some _ _ c z in inr (refl, leb-true r.0 p t.0, t.1)
+last-cases r ranges p c e = grind (arith, nat_tests)
 
 in_range : (r0 r1 end p : ℕ) → has_range_scalars (r0, r1) end ≡ true → r0 ≤ p → p < end → IsScalar (r1 + (p - r0)) × (r1 + (p - r0) < 0x1_0000)
 in_range r0 r1 end p h l g = (grind (arith, nat_tests), grind (arith, nat_tests))
@@ -278,21 +219,13 @@ unfolding range_value_fault
 last_range-narrow place [] e p c h is = cc
 last_range-narrow place (r ∷ ranges) e p c h is =
     let t = taken _ (RangeValue place) (range_value_fault (place + 1) ranges) e in
-    elim (last-cases r ranges p c is) [
-      | inl later ↦ last_range-narrow (place + 1) ranges t.1 p c h later
-      | inr here ↦
-          let high = next-above ranges p h here.0 in
-          rw (← here.2) (in_range r.0 r.1 _ p t.0 here.1 high)
-    ]
+    grind (arith, last-cases r ranges p c is, last_range-narrow (place + 1) ranges t.1 p c h, next-above ranges p h, in_range r.0 r.1 _ p t.0)
 
 -- ---- look-ups
 
 -- the scalar of an entry is the entry, which is not 0
 pub entry_scalar-is : (e c : ℕ) → entry_scalar e ≡ Some c → (c ≢ 0) × (e ≡ c)
-entry_scalar-is e c h = elim (cases_eq e 0) [
-  | inl none ↦ let no = rw (eq-eqb e 0 none) at h in cc
-  | inr some ↦ let same = same_Some e c (rw (ne_eqb e 0 some) at h) in (λ n. some (same ∙ n), same)
-]
+entry_scalar-is e c h = grind arith
 
 -- a property of all entries of an index holds for the scalar of each pointer
 pub idx-all : (P : ℕ → Type 0) (index : List ℕ) → All P index → (p c : ℕ) → idx index p ≡ Some c → P c
@@ -308,23 +241,9 @@ pub range-cases : (ranges : List (ℕ × ℕ)) (p c : ℕ) → range ranges p �
     ⊎ (((is_in_range 189000 1237575 p ≡ true) × (0x1_0000 + (p - 189000) ≡ c))
     ⊎ ((p ≢ 7457) × (p ≤ 39419) × (last_range_scalar ranges p ≡ Some c)))
 unfolding range
-range-cases ranges p c e = go (p == 7457) (is_in_range 189000 1237575 p) (nat_le p 39419) refl refl e
-  where
-    go : (a b t : Bool) → (p == 7457) ≡ a → nat_le p 39419 ≡ t
-        → cond a (Some 0xE7C7) (cond b (Some (0x1_0000 + (p - 189000))) (cond t (last_range_scalar ranges p) None)) ≡ Some c
-        → (c ≡ 0xE7C7) ⊎ (((b ≡ true) × (0x1_0000 + (p - 189000) ≡ c))
-        ⊎ ((p ≢ 7457) × (p ≤ 39419) × (last_range_scalar ranges p ≡ Some c)))
-    go true b t q s z = inl (sym (same_Some 0xE7C7 c z))
-    go false true t q s z = inr (inl (refl, same_Some _ c z))
-    go false false true q s z = inr (inr (eqb-false p 7457 q, leb-true p 39419 s, z))
-    go false false false q s z = cc
+range-cases ranges p c e = grind (arith, nat_tests)
 
 -- `range` gives only scalars for accepted ranges
 pub range-scalar : (flat : FlatIndexes) → AreAccepted flat → (p c : ℕ) → range flat.ranges p ≡ Some c → IsScalar c
-range-scalar flat accepted p c e = elim (range-cases flat.ranges p c e) [
-  | inl fixed ↦ rw fixed refl
-  | inr other ↦ elim other [
-    | inl wide ↦ rw (← wide.1) (wide-scalar p wide.0)
-    | inr g ↦ (last_range-narrow 0 flat.ranges (parts flat accepted).valued p c g.1 g.2).0
-  ]
-]
+range-scalar flat accepted p c e =
+    grind (arith, range-cases flat.ranges p c e, wide-scalar p, last_range-narrow 0 flat.ranges (parts flat accepted).valued p c)

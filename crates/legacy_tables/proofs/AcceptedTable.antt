@@ -1,23 +1,22 @@
 -- Facts about single-byte tables that passed their check.
-use Rattle.std.proofs.Common.{◌≡◌, ◌≢◌, ◌∙◌, ℕ, zero, suc, ◌+◌, ◌<◌, List, [], ◌∷◌, length, get_or, refl, sym, one-add, arith, Some, None, true, false, ◌↔◌}
-use Rattle.std.proofs.{Common.{eqb, eq-eqb, ◌==◌, position, inl, inr}, lemmas.Bool.{eqb-true, ne_eqb, or_parts, cases_lt, lt-ltb}}
+use Rattle.std.proofs.Common.{◌≡◌, ◌≢◌, ℕ, zero, suc, ◌+◌, ◌<◌, List, [], ◌∷◌, length, get_or, refl, sym, arith, Some, None, true, false, ◌↔◌}
+use Rattle.std.proofs.{Common.{eqb, eq-eqb, ◌==◌, position}, lemmas.Bool.{or_parts}}
 use Rattle.std.proofs.{lemmas.Bool.Decides.nat_tests, lemmas.List.get_or_past, lemmas.List.Elements.{All-nil, All-cons}, lemmas.List.Quantifiers.position-Some}
 use Rattle.std.specs.{List.{All, list_any, position_or_len}, Char.IsScalar}
-use Rattle.legacy_tables.specs.{declared.tables.TableError.TheVariants.{BadByteEntry, Repeated}, Indexes.idx, Unicode.AreScalars, TableChecks.is_byte_entry}
+use Rattle.legacy_tables.specs.{declared.tables.TableError.TheVariants.{BadByteEntry}, Indexes.idx, Unicode.AreScalars, TableChecks.is_byte_entry}
 use Rattle.legacy_tables.specs.TableChecks.{byte_entry_fault, byte_entries_fault, IsAcceptedTable}
-use Rattle.legacy_tables.proofs.Accepted.{or_none, untaken, entry_has, entry_scalar-is}
+use Rattle.legacy_tables.proofs.Accepted.{or_none, entry_has, entry_scalar-is}
 
 -- an accepted entry that is not 0 is not among the entries before it
 once : (place : ℕ) (before : List ℕ) (c : ℕ) → byte_entry_fault place before c ≡ None → c ≢ 0 → list_any (λ x. eqb x c) before ≡ false
-once place before c f n = (untaken _ (Repeated place) None (untaken _ (BadByteEntry place) _ (rw (ne_eqb c 0 n) at f)).1).0
+once place before c f n = grind arith
 
 apart : (place : ℕ) (before entries : List ℕ) (k c : ℕ) → byte_entries_fault place before entries ≡ None → get_or entries k 0 ≡ c → c ≢ 0
     → list_any (λ x. eqb x c) before ≡ false
 unfolding byte_entries_fault
 apart place before [] k c f e n = absurd (n (sym e))
-apart place before (x ∷ xs) zero c f e n = once place before c (rw e at (or_none (byte_entry_fault place before x) _ f).0) n
-apart place before (x ∷ xs) (suc k) c f e n =
-    (or_parts (eqb x c) _ (apart (place + 1) (x ∷ before) xs k c (or_none (byte_entry_fault place before x) _ f).1 e n)).1
+apart place before (x ∷ xs) zero c f e n = grind (arith, or_none, once)
+apart place before (x ∷ xs) (suc k) c f e n = grind (arith, or_none, or_parts, apart (place + 1) (x ∷ before) xs k c)
 
 -- the place of a scalar is its first place
 first_place : (place : ℕ) (before entries : List ℕ) (k c : ℕ) → byte_entries_fault place before entries ≡ None → get_or entries k 0 ≡ c
@@ -27,8 +26,7 @@ unfolding byte_entries_fault
 first_place place before [] k c f e n = absurd (n (sym e))
 first_place place before (x ∷ xs) zero c f e n = rw (e, eq-eqb c c refl) refl
 first_place place before (x ∷ xs) (suc k) c f e n =
-    let rest = (or_none (byte_entry_fault place before x) _ f).1 in
-    rw ((or_parts (eqb x c) _ (apart (place + 1) (x ∷ before) xs k c rest e n)).0, first_place (place + 1) (x ∷ before) xs k c rest e n) (one-add k)
+    grind (arith, or_none, or_parts, apart (place + 1) (x ∷ before) xs k c, first_place (place + 1) (x ∷ before) xs k c)
 
 byte-scalar : (e : ℕ) → is_byte_entry e ≡ true → IsScalar e
 byte-scalar e h = grind (arith, nat_tests)
@@ -54,18 +52,10 @@ module _ (table : List ℕ) (accepted : IsAcceptedTable table) where
   table-below = all_bytes _ (omega arith) byte-below 0 [] table accepted
 
   pub within : (place c : ℕ) → get_or table place 0 ≡ c → c ≢ 0 → place < length table
-  within place c e n = elim (cases_lt place (length table)) [ inl h ↦ h | inr h ↦ absurd (n (sym e ∙ get_or_past table place 0 h)) ]
+  within place c e n = grind (arith, nat_tests, get_or_past)
 
   -- the first place of a scalar is the place that has it
   pub position-idx : (c : ℕ) → (c ≡ 0 → ⊥) → (place : ℕ) → (position (λ e. e == c) table ≡ Some place) ↔ (idx table place ≡ Some c)
-  position-idx c n place = (there, here)
-    where
-      there : position (λ e. e == c) table ≡ Some place → idx table place ≡ Some c
-      there e = let is = eqb-true (get_or table place 0) c (position-Some (λ x. x == c) table place 0 e).1 in rw (is, ne_eqb c 0 n) refl
-
-      here : idx table place ≡ Some c → position (λ e. e == c) table ≡ Some place
-      here e =
-          let h = entry_scalar-is (get_or table place 0) c e in
-          rw (first_place 0 [] table place c accepted h.1 h.0, lt-ltb place (length table) (within place c h.1 h.0)) refl
+  position-idx c n place = grind (arith, nat_tests, position-Some, entry_scalar-is, first_place, within)
 
 pub ruleset accepted_table = (table-scalars)

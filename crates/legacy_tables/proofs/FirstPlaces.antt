@@ -1,6 +1,7 @@
 -- The first and the last number of a range of numbers that passes a test.
-use Rattle.std.proofs.Common.{◌≡◌, ◌∙◌, ℕ, zero, suc, ◌+◌, ◌-◌, ◌≤◌, ◌<◌, List, length, get_or, Option, Some, None, true, false, Bool, ◌||◌, cond, arith, refl}
-use Rattle.std.proofs.{Common.{sym, ap, inl, inr, find, subst}, lemmas.Bool.{cases_lt, false_from_ne_true}, lemmas.List.Folds.find_at}
+use Rattle.std.proofs.Common.{◌≡◌, ◌∙◌, ℕ, zero, suc, ◌+◌, ◌-◌, ◌≤◌, ◌<◌, List, [], ◌∷◌, length, get_or, Option, Some, None, true, false, Bool, ◌||◌, cond}
+use Rattle.std.proofs.lemmas.Bool.Decides.{nat_tests}
+use Rattle.std.proofs.{Common.{arith, refl, sym, ap, inl, inr, find, subst}, lemmas.Bool.{cases_lt, false_from_ne_true}, lemmas.List.Folds.find_at}
 use Rattle.std.proofs.{lemmas.List.FromFn.{get_or-range_with_len, length-range_with_len}, lemmas.List.Sums.{position_or_len_is, fails_before_first}}
 use Rattle.std.proofs.{lemmas.List.Sums.passes_at_first, lemmas.Option.{slice_get-get_or, slice_get_past, slice_get_within, get_or_from_slice_get}}
 use Rattle.std.specs.{List.{range_with_len, slice_get, position_or_len}, Option.option_or}
@@ -8,16 +9,29 @@ use Rattle.legacy_tables.specs.Pointers.{last_below}
 
 -- a check without a fault has passed its test
 pub taken : {A : Type 0} (t : Bool) (fault : A) (a : Option A) → cond t a (Some fault) ≡ None → (t ≡ true) × (a ≡ None)
-taken true fault a e = (refl, e)
-taken false fault a e = cc
+taken t fault a e = grind arith
+
+-- ---- a check of a list that compares each item with a value made of the one before it
+
+module _ {A S Y : Type 0} (fault : ℕ → S → List A → Option Y) (Fine : S → A → Type 0) (next : A → S)
+    (step : (place : ℕ) (s : S) (x : A) (xs : List A) → fault place s (x ∷ xs) ≡ None → Fine s x × (fault (place + 1) (next x) xs ≡ None)) where
+  -- the value with which the item at a place is compared
+  abbrev pub carried : S → List A → ℕ → A → S
+  carried s xs zero d = s
+  carried s xs (suc k) d = next (get_or xs k d)
+
+  pub each-fine : (place : ℕ) (s : S) (xs : List A) → fault place s xs ≡ None → (k : ℕ) (d : A) → k < length xs → Fine (carried s xs k d) (get_or xs k d)
+  each-fine place s [] e k d h = absurd (omega arith)
+  each-fine place s (x ∷ xs) e zero d h = (step place s x xs e).0
+  each-fine place s (x ∷ xs) e (suc zero) d h = each-fine (place + 1) (next x) xs (step place s x xs e).1 zero d (omega arith)
+  each-fine place s (x ∷ xs) e (suc (suc k)) d h = each-fine (place + 1) (next x) xs (step place s x xs e).1 (suc k) d (omega arith)
 
 -- ---- the first item of a list that passes a test
 
 module _ {A : Type 0} (test : A → Bool) (d : A) (xs : List A) where
   pub find-at : (n : ℕ) → n < length xs → test (get_or xs n d) ≡ true → ((k : ℕ) → k < n → test (get_or xs k d) ≡ false)
       → find test xs ≡ Some (get_or xs n d)
-  find-at n h is before =
-      find_at test xs ∙ ap (slice_get xs) (position_or_len_is test xs n d (omega arith) before (λ _. is)) ∙ slice_get-get_or xs n d h
+  find-at n h is before = grind (arith, find_at, position_or_len_is, slice_get-get_or)
 
   pub find-absent : ((k : ℕ) → k < length xs → test (get_or xs k d) ≡ false) → find test xs ≡ None
   find-absent all =
@@ -89,15 +103,12 @@ module _ (test : ℕ → Bool) where
   pub last-some : (n p : ℕ) → p < n → test p ≡ true → ((k : ℕ) → p < k → k < n → test k ≡ false) → last_below test n ≡ Some p
   unfolding last_below
   last-some zero p h is after = absurd (omega arith)
-  last-some (suc n) p h is after = elim (cases_lt p n) [
-    | inl l ↦ rw (after n l (omega arith)) (last-some n p l is (λ k m g. after k m (omega arith)))
-    | inr l ↦ let same : p ≡ n = omega arith in rw (subst (λ q. test q ≡ true) same is, same) refl
-  ]
+  last-some (suc n) p h is after = grind (arith, nat_tests, last-some n p)
 
   pub last-none : (n : ℕ) → ((k : ℕ) → k < n → test k ≡ false) → last_below test n ≡ None
   unfolding last_below
   last-none zero all = refl
-  last-none (suc n) all = rw (all n (omega arith)) (last-none n (λ k h. all k (omega arith)))
+  last-none (suc n) all = grind (arith, last-none n)
 
   -- what was found passes, and if nothing was found, nothing passes
   pub record IsLast (n : ℕ) (o : Option ℕ) : Type 0 where
@@ -107,14 +118,7 @@ module _ (test : ℕ → Bool) where
   pub last-is : (n : ℕ) → IsLast n (last_below test n)
   unfolding last_below
   last-is zero = record { passes = λ p e. cc; none = λ e k h. absurd (omega arith) }
-  last-is (suc n) = go (test n) refl (last-is n)
-    where
-      go : (t : Bool) → test n ≡ t → IsLast n (last_below test n) → IsLast (suc n) (cond t (Some n) (last_below test n))
-      go true e before = record { passes = λ p is. let same : n ≡ p = cc in subst (λ q. test q ≡ true) same e; none = λ is. cc }
-      go false e before = record {
-        passes = before.passes;
-        none = λ is k h. elim (cases_lt k n) [ inl l ↦ before.none is k l | inr l ↦ let same : k ≡ n = omega arith in rw same e ];
-      }
+  last-is (suc n) = grind (arith, nat_tests, last-is n)
 
 -- ---- two tests
 

@@ -1,13 +1,14 @@
 -- Orders of pointers that passed their check, and look-ups in them.
 use Rattle.std.proofs.Common.{◌≡◌, ◌≢◌, ◌∙◌, ℕ, zero, suc, ◌+◌, ◌≤◌, ◌<◌, List, [], ◌∷◌, length, get_or, slice_index, refl, sym, ap, subst, arith, Some, None}
-use Rattle.std.proofs.{Common.{Option, true, false, find, Bool, cond, eq-eqb, ◌==◌, nat_lt, not, inl, inr, drop, drop-cons, add-one}, lemmas.Bool.cases_lt}
-use Rattle.std.proofs.{lemmas.Bool.{cases_eq, ne_eqb, eqb-true, and_parts, not-false, not_from_false, false_from_ne_true}, lemmas.List.get_or_default}
-use Rattle.std.proofs.{lemmas.List.Folds.{list_any_at, Any-from_list_any}, lemmas.Option.same_Some, Math.ListN.drop_of_length-le}
+use Rattle.std.proofs.{Common.{Option, true, false, find, Bool, cond, eq-eqb, ◌==◌, nat_lt, inl, inr, drop, drop-cons, add-one}, lemmas.Bool.cases_lt}
+use Rattle.std.proofs.{lemmas.Bool.{eqb-true}, lemmas.List.get_or_default}
+use Rattle.std.proofs.{lemmas.List.Folds.{list_any_at, Any-from_list_any}, Math.ListN.drop_of_length-le}
+use Rattle.std.proofs.lemmas.List.Sorted.{IsNonDecreasingBy-from_all_adjacent}
 use Rattle.std.specs.{List.list_any, List.Sorted.IsNonDecreasingBy}
-use borrow.Author.Tests.{ltb-true, ltb-false}
+use Rattle.std.proofs.lemmas.Bool.Decides.{nat_tests}
 use Rattle.legacy_tables.specs.{declared.tables.packed.PackedPart.PackedPart, Orders.{IsLookup, IsOrder, RisesBy, order_pointer}, Packed.{may_use, pointer_of}}
 use Rattle.legacy_tables.specs.Packed.{takes_last, is_pointer_in_order, order_fault_from, order_fault, is_lacking, order_difference}
-use Rattle.legacy_tables.proofs.{FirstPlaces.{taken, find-at, find-absent, find-place, find-none-at}, Pointers.{first-least, taken-within}}
+use Rattle.legacy_tables.proofs.{FirstPlaces.{carried, each-fine, find-at, find-absent, find-place, find-none-at}, Pointers.{first-least, taken-within}}
 use Rattle.legacy_tables.proofs.PackedPointers.{pointer-taken, pointer-same}
 
 -- ---- the order, as a loop reads it
@@ -30,31 +31,10 @@ module _ (part : PackedPart) (index : List ℕ) where
   abbrev IsAbove : ℕ → ℕ → Type 0
   IsAbove above q = (may_use part q ≡ true) × (above < slice_index index q)
 
-  in_order : (above p : ℕ) → is_pointer_in_order part index above p ≡ true → IsAbove above p
-  in_order above p e = let b = and_parts (may_use part p) _ e in (b.0, ltb-true above (slice_index index p) b.1)
-
-  each_above : (place above : ℕ) (order : List ℕ) → order_fault_from part index place above order ≡ None
-      → (i : ℕ) → i < length order → IsAbove above (get_or order i 0)
+  step : (place above p : ℕ) (order : List ℕ) → order_fault_from part index place above (p ∷ order) ≡ None
+      → IsAbove above p × (order_fault_from part index (place + 1) (slice_index index p) order ≡ None)
   unfolding order_fault_from
-  each_above place above [] e i h = absurd (omega arith)
-  each_above place above (p ∷ order) e zero h =
-      in_order above p (taken _ place (order_fault_from part index (place + 1) (slice_index index p) order) e).0
-  each_above place above (p ∷ order) e (suc i) h =
-      let t = taken (is_pointer_in_order part index above p) place (order_fault_from part index (place + 1) (slice_index index p) order) e in
-      let next = each_above (place + 1) (slice_index index p) order t.1 i (omega arith) in
-      (next.0, let low = (in_order above p t.0).1 in let high = next.1 in omega arith)
-
-  rising_from : (place above : ℕ) (order : List ℕ) → order_fault_from part index place above order ≡ None → (i j : ℕ) → i < j → j < length order
-      → slice_index index (get_or order i 0) < slice_index index (get_or order j 0)
-  unfolding order_fault_from
-  rising_from place above [] e i j h l = absurd (omega arith)
-  rising_from place above (p ∷ order) e i zero h l = absurd (omega arith)
-  rising_from place above (p ∷ order) e zero (suc j) h l =
-      (each_above (place + 1) (slice_index index p) order (taken _ place (order_fault_from part index (place + 1) (slice_index index p) order) e).1
-      j (omega arith)).1
-  rising_from place above (p ∷ order) e (suc i) (suc j) h l =
-      rising_from (place + 1) (slice_index index p) order (taken _ place (order_fault_from part index (place + 1) (slice_index index p) order) e).1
-      i j (omega arith) (omega arith)
+  step place above p order e = grind (arith, nat_tests)
 
 -- the place of a pointer that the order contains
 place_of : (order : List ℕ) (q : ℕ) → list_any (λ r. q == r) order ≡ true → (i : ℕ) × (i < length order) × (get_or order i 0 ≡ q)
@@ -77,9 +57,7 @@ module _ (index order : List ℕ) (rises : RisesBy index order) (c : ℕ) where
   -- at the one place that has the scalar
   pub order-at : (n : ℕ) → n < length order → slice_index index (slice_index order n) ≡ c → order_pointer index order c ≡ Some (slice_index order n)
   unfolding order_pointer
-  order-at n h is =
-      find-at (λ p. slice_index index p == c) 0 order n h (eq-eqb (slice_index index (slice_index order n)) c is)
-      (λ k l. let above = rises.above k n l h in ne_eqb (slice_index index (slice_index order k)) c (λ e. absurd (omega arith)))
+  order-at n h is = grind (arith, nat_tests, find-at (λ p. slice_index index p == c) 0 order n, rises.above)
 
   -- if no place has the scalar
   pub order-absent : (n : ℕ) → ((k : ℕ) → k < n → slice_index index (slice_index order k) < c)
@@ -87,22 +65,30 @@ module _ (index order : List ℕ) (rises : RisesBy index order) (c : ℕ) where
       → (n < length order → slice_index index (slice_index order n) ≢ c) → order_pointer index order c ≡ None
   unfolding order_pointer
   order-absent n below from other =
-      find-absent (λ p. slice_index index p == c) 0 order
-      (λ k h. ne_eqb (slice_index index (slice_index order k)) c (λ e. elim (cases_lt k n) [
-        | inl l ↦ let b = below k l in absurd (omega arith)
-        | inr l ↦ elim (cases_lt n k) [
-          | inl m ↦ let a = rises.above n k m h in let f = from n (omega arith) (omega arith) in absurd (omega arith)
-          | inr m ↦ let same : k ≡ n = omega arith in other (omega arith) (ap (λ i. slice_index index (slice_index order i)) (sym same) ∙ e)
-        ]
-      ]))
+      find-absent (λ p. slice_index index p == c) 0 order (λ k h. grind (arith, nat_tests, below, rises.above, from))
 
 module _ (part : PackedPart) (index order : List ℕ) (none : order_fault part index order ≡ None) where
+  fine : (k d : ℕ) → k < length order → IsAbove part index (carried (order_fault_from part index) (IsAbove part index) (slice_index index) (step part index)
+      0 order k d) (get_or order k d)
+  fine = each-fine (order_fault_from part index) (IsAbove part index) (slice_index index) (step part index) 0 0 order none
+
   -- an order without a fault rises
   pub order-rises : RisesBy index order
-  order-rises = record { above = rising_from part index 0 0 order none }
+  order-rises = record {
+    above = λ i j h l.
+        let first = (fine (suc i) 0 (omega arith)).1 in
+        let rest = IsNonDecreasingBy-from_all_adjacent (λ p. slice_index index p) order (λ k d m.
+        let up = (fine (suc k) d (omega arith)).1 in
+        rw (add-one k) (omega arith)) (suc i) j 0 (omega arith) l in
+        omega arith;
+  }
+
+  each_above : (k : ℕ) → k < length order → IsAbove part index 0 (get_or order k 0)
+  each_above zero h = fine zero 0 h
+  each_above (suc k) h = let f = fine (suc k) 0 h in let low = f.1 in (f.0, omega arith)
 
   member : (q : ℕ) → list_any (λ r. q == r) order ≡ true → IsAbove part index 0 q
-  member q h = let at = place_of order q h in subst (IsAbove part index 0) at.2 (each_above part index 0 0 order none at.0 at.1)
+  member q h = let at = place_of order q h in subst (IsAbove part index 0) at.2 (each_above at.0 at.1)
 
   -- a look-up in it returns its pointers
   pub order-lookup : IsLookup part index order (order_pointer index order)
@@ -123,10 +109,7 @@ module _ (part : PackedPart) (index order : List ℕ) (none : order_fault part i
 module _ (part : PackedPart) (index order : List ℕ) (lookup : ℕ → Option ℕ) (is : IsLookup part index order lookup) where
   -- if the scalar of the pointer used is not missing, the look-up returns the pointer
   held : (c s : ℕ) → pointer_of part index c ≡ Some s → is_lacking part index order s ≡ false → lookup c ≡ Some s
-  held c s e there =
-      let used = (pointer-taken part index c).chosen s e in
-      let shown = rw (used.1, ne_eqb c 0 used.2, used.0, e) at there in
-      is.only c s (not-false _ shown) used.1
+  held c s e there = let used = (pointer-taken part index c).chosen s e in grind (arith, is.only c s)
 
   module _ (p c : ℕ) (at : c ≡ slice_index index p) (mapped : c ≢ 0) (usable : may_use part p ≡ true) where
     -- the pointer used
@@ -143,42 +126,27 @@ module _ (part : PackedPart) (index order : List ℕ) (lookup : ℕ → Option �
     -- the scalar is missing unless the look-up returns the pointer used
     lacks : (t : Bool) → (t ≡ false → lookup c ≡ Some some.0) → (t ≡ true → lookup c ≡ Some some.0 → ⊥)
         → t ≡ is_lacking part index order p
-    lacks t same other = rw (← at, ne_eqb c 0 mapped, usable, some.1) (go t same other)
-      where
-        go : (t : Bool) → (t ≡ false → lookup c ≡ Some some.0) → (t ≡ true → lookup c ≡ Some some.0 → ⊥)
-            → t ≡ not (list_any (λ r. some.0 == r) order)
-        go false same other = sym (ap not (is.found c some.0 (same refl)).0)
-        go true same other = sym (not_from_false _ (false_from_ne_true _ (λ h. other refl (is.only c some.0 h stands))))
+    lacks t same other = grind (arith, is.found, is.only, stands)
 
     pub lacks-none : lookup (slice_index index p) ≡ None → true ≡ is_lacking part index order p
-    lacks-none e = lacks true (λ f. cc) (λ f z. let no = sym z ∙ ap lookup at ∙ e in cc)
+    lacks-none e = grind (arith, lacks true)
 
     module _ (q : ℕ) (found : lookup (slice_index index p) ≡ Some q) where
       pub lacks-last : (t : Bool) → (t ≡ false → pointer_of part index c ≡ Some q) → (t ≡ true → pointer_of part index c ≡ Some q → ⊥)
           → t ≡ is_lacking part index order p
-      lacks-last t same other =
-          lacks t (λ f. ap lookup at ∙ found ∙ sym (same f) ∙ some.1) (λ f z. other f (some.1 ∙ sym z ∙ ap lookup at ∙ found))
+      lacks-last t same other = grind (arith, lacks t)
 
       -- the first of the scalar's pointers is used, except for the six scalars of Big5
       least : takes_last part c ≡ false → (k : ℕ) → may_use part k ≡ true → slice_index index k ≡ c → some.0 ≤ k
-      least first k u e = first-least (may_use part) index c some.0 k (rw first at some.1) u e mapped
+      least first k u e = grind (arith, first-least)
 
       pub lacks-first : takes_last part c ≡ false → ((k : ℕ) → k < p → is_lacking part index order k ≡ false)
           → nat_lt p q ≡ is_lacking part index order p
-      lacks-first first passed = lacks (nat_lt p q)
-          (λ f.
+      lacks-first first passed =
           let there = is.found c q (ap lookup at ∙ found) in
           let low = least first q (is.usable q there.0) there.1 in
-          let high = ltb-false p q f in
-          elim (cases_eq some.0 q) [
-            | inl same ↦ ap lookup at ∙ found ∙ ap Some (sym same)
-            | inr other ↦ held c some.0 some.1 (passed some.0 (omega arith))
-          ])
-          (λ f z.
-          let same = same_Some some.0 q (sym z ∙ ap lookup at ∙ found) in
-          let low = least first p usable (sym at) in
-          let high = ltb-true p q f in
-          absurd (omega arith))
+          let own = least first p usable (sym at) in
+          lacks (nat_lt p q) (λ f. grind (arith, nat_tests, held c some.0 some.1, passed some.0)) (λ f z. grind (arith, nat_tests))
 
   -- if no scalar is missing, the look-up returns the pointers that are used
   pub order-answers : order_difference part index order ≡ None → (c : ℕ) → lookup c ≡ pointer_of part index c

@@ -1,6 +1,6 @@
 -- Runs with the scalars of accepted indexes are accepted indexes too.
-use Rattle.std.proofs.Common.{◌≡◌, ◌∙◌, ℕ, suc, ◌+◌, ◌≤◌, ◌<◌, All, List, [], ◌∷◌, length, get_or, refl, sym, ap, arith, Some, None, Option, false, not, ◌==◌}
-use Rattle.std.proofs.{Common.{inl, inr}, lemmas.Bool.{cases_lt, cases_eq, ne_eqb, eqb-true, not-false}, lemmas.Bool.Decides.nat_tests, lemmas.List.get_or_past}
+use Rattle.std.proofs.Common.{◌≡◌, ◌∙◌, ℕ, suc, ◌+◌, ◌≤◌, ◌<◌, All, List, [], ◌∷◌, length, get_or, refl, sym, ap, arith, None, Option, false, not, ◌==◌}
+use Rattle.std.proofs.{Common.{inl, inr}, lemmas.Bool.{cases_lt}, lemmas.Bool.Decides.nat_tests, lemmas.List.get_or_past}
 use Rattle.std.proofs.lemmas.List.Elements.{All-get_or}
 use Rattle.std.specs.{Char.IsScalar, Option.{option_eq, option_map_or}}
 use borrow.Author.Tests.{le-ltb}
@@ -18,10 +18,7 @@ use Rattle.legacy_tables.specs.declared.tables.packed.PackedPart.TheVariants as 
 -- ---- each entry is a scalar, also 0 past the end
 
 pub entry_all : (P : ℕ → Type 0) (xs : List ℕ) → P 0 → All P xs → (p : ℕ) → P (get_or xs p 0)
-entry_all P xs at_zero all p = elim (cases_lt p (length xs)) [
-  | inl h ↦ All-get_or P xs p 0 h all
-  | inr h ↦ rw (get_or_past xs p 0 h) at_zero
-]
+entry_all P xs at_zero all p = grind (arith, nat_tests, All-get_or, get_or_past)
 
 pub entry-scalar : (xs : List ℕ) → AreScalars xs → (p : ℕ) → IsScalar (get_or xs p 0)
 entry-scalar xs all p = entry_all IsScalar xs refl all p
@@ -36,18 +33,13 @@ entry-narrow xs all p = entry_all (λ c. c < 0x1_0000) xs (omega arith) all p
 -- ---- one index
 
 same_options : (a b : Option ℕ) → not (option_eq (λ x y. x == y) a b) ≡ false → a ≡ b
-same_options None None e = refl
-same_options None (Some b) e = cc
-same_options (Some a) None e = cc
-same_options (Some a) (Some b) e = ap Some (eqb-true a b (not-false (a == b) e))
+same_options a b e = grind arith
 
 entry-back : (e : ℕ) → option_map_or (λ c. c) (entry_scalar e) 0 ≡ e
-entry-back e = elim (cases_eq e 0) [ inl z ↦ rw z refl | inr n ↦ rw (ne_eqb e 0 n) refl ]
+entry-back e = grind arith
 
 part-none : (part : PackedPart) (a b : Option ℕ) → part_fault part a b ≡ None → (a ≡ None) × (b ≡ None)
-part-none part None None e = (refl, refl)
-part-none part None (Some b) e = cc
-part-none part (Some a) b e = cc
+part-none part a b e = grind arith
 
 no_entries_fault : (name : IndexName) (place : ℕ) (index : List ℕ)
     → ((k : ℕ) → k < length index → entry_fault name (place + k) (get_or index k 0) ≡ None)
@@ -122,19 +114,7 @@ module _ (flat : FlatIndexes) (packed : Packed) (accepted : AreAccepted flat) (n
 
   pub packed-accepted : AreAccepted (packed_lists flat packed)
   unfolding table_fault
-  packed-accepted =
-      let p = parts flat accepted in
-      let a = all_agree in
-      rw (
-        a.big5.accepted,
-        a.euc_kr.accepted,
-        a.jis0208.accepted,
-        a.jis0212.accepted,
-        a.gb18030.accepted,
-        p.katakana_whole,
-        p.ordered,
-        p.valued,
-      ) p.private_use
+  packed-accepted = let p = parts flat accepted in let a = all_agree in grind arith
 
   -- the tables of those lists
   pub packed-tables : all_orders_fault flat packed ≡ None → ArePackedTables flat packed (packed_lists flat packed)

@@ -1,12 +1,13 @@
 -- Runs in order, and the scalars that they give.
-use Rattle.std.proofs.Common.{◌≡◌, ◌∙◌, ℕ, zero, suc, ◌+◌, ◌-◌, ◌≤◌, ◌<◌, List, [], ◌∷◌, length, get_or, drop, drop-cons, add-one, refl, sym, ap, arith, Some}
-use Rattle.std.proofs.{Common.{None, true, cond, nat_le, inl, inr}, Math.Bool.and-false, Math.ListN.drop_of_length-le, lemmas.Bool.{and_parts, cases_lt}}
+use Rattle.std.proofs.Common.{◌≡◌, ℕ, zero, suc, ◌+◌, ◌-◌, ◌≤◌, ◌<◌, List, [], ◌∷◌, length, get_or, drop, drop-cons, add-one, refl, arith, Some}
+use Rattle.std.proofs.{Common.{None, true, cond}, Math.ListN.drop_of_length-le}
 use Rattle.std.proofs.{lemmas.List.get_or_past, lemmas.List.FromFn.{get_or-map-range_with_len, length-map-range_with_len}}
-use Rattle.std.specs.{List.Sorted.IsNonDecreasingBy, Option.option_map_or}
-use borrow.Author.Tests.{ltb-true, leb-true, le-leb, lt-leb, lt-ltb, le-ltb}
+use Rattle.std.proofs.lemmas.List.Sorted.{IsNonDecreasingBy-from_all_adjacent}
+use Rattle.std.specs.{List.Sorted.IsNonDecreasingBy}
+use Rattle.std.proofs.lemmas.Bool.Decides.{nat_tests}
 use Rattle.legacy_tables.specs.{declared.tables.packed.Run.Run, Runs.{run_at, HasPointer, run_end, run_scalar, runs_scalar, runs_entry, runs_end, runs_list}}
 use Rattle.legacy_tables.specs.Runs.{is_run_in_order, run_fault_from, run_fault, AreInOrder, IsFirstBehind}
-use Rattle.legacy_tables.proofs.FirstPlaces.{taken}
+use Rattle.legacy_tables.proofs.FirstPlaces.{taken, each-fine}
 
 -- a run without pointers
 abbrev pub no_run : Run
@@ -35,58 +36,43 @@ pub record IsBehind (before limit : ℕ) (run : Run) : Type 0 where
   pub scalars : run.scalar + run.length ≤ 0x11_0000
 
 pub in_order : (before limit : ℕ) (run : Run) → is_run_in_order before limit run ≡ true → IsBehind before limit run
-in_order before limit run e =
-    let a = and_parts _ _ e in
-    let b = and_parts _ _ a.0 in
-    let c = and_parts _ _ a.1 in
-    record { full = ltb-true 0 _ b.0; behind = leb-true before _ b.1; reach = leb-true (run_end run) limit c.0; scalars = leb-true _ 0x11_0000 c.1 }
+in_order before limit run e = grind (arith, nat_tests)
 
-behind_all : (place before limit : ℕ) (runs : List Run) → run_fault_from place before limit runs ≡ None
-    → (i : ℕ) (d : Run) → i < length runs → IsBehind before limit (get_or runs i d)
+step : (limit place before : ℕ) (run : Run) (runs : List Run) → run_fault_from place before limit (run ∷ runs) ≡ None
+    → IsBehind before limit run × (run_fault_from (place + 1) (run_end run) limit runs ≡ None)
 unfolding run_fault_from
-behind_all place before limit [] e i d h = absurd (omega arith)
-behind_all place before limit (run ∷ runs) e zero d h =
-    in_order before limit run (taken _ place (run_fault_from (place + 1) (run_end run) limit runs) e).0
-behind_all place before limit (run ∷ runs) e (suc i) d h =
-    let t = taken (is_run_in_order before limit run) place (run_fault_from (place + 1) (run_end run) limit runs) e in
-    let first = (in_order before limit run t.0).behind in
-    let next = behind_all (place + 1) (run_end run) limit runs t.1 i d (omega arith) in
-    record { full = next.full; behind = let later = next.behind in omega arith; reach = next.reach; scalars = next.scalars }
-
-rising_ends : (place before limit : ℕ) (runs : List Run) → run_fault_from place before limit runs ≡ None
-    → (i j : ℕ) (d : Run) → i < j → j < length runs → run_end (get_or runs i d) ≤ (get_or runs j d).pointer
-unfolding run_fault_from
-rising_ends place before limit [] e i j d h l = absurd (omega arith)
-rising_ends place before limit (run ∷ runs) e i zero d h l = absurd (omega arith)
-rising_ends place before limit (run ∷ runs) e zero (suc j) d h l =
-    (behind_all (place + 1) (run_end run) limit runs (taken _ place (run_fault_from (place + 1) (run_end run) limit runs) e).1 j d (omega arith)).behind
-rising_ends place before limit (run ∷ runs) e (suc i) (suc j) d h l =
-    rising_ends (place + 1) (run_end run) limit runs (taken _ place (run_fault_from (place + 1) (run_end run) limit runs) e).1 i j d (omega arith) (omega arith)
+step limit place before run runs e =
+    let t = taken _ place (run_fault_from (place + 1) (run_end run) limit runs) e in (in_order before limit run t.0, t.1)
 
 -- runs without a fault are in order
 pub are_in_order : (limit : ℕ) (runs : List Run) → run_fault limit runs ≡ None → AreInOrder limit runs
-are_in_order limit runs e = record {
-  full = λ i d h. (behind_all 0 0 limit runs e i d h).full;
-  reach = λ i d h. (behind_all 0 0 limit runs e i d h).reach;
-  scalars = λ i d h. (behind_all 0 0 limit runs e i d h).scalars;
-  rising = rising_ends 0 0 limit runs e;
-}
+are_in_order limit runs e =
+    let fine = each-fine (λ place before rest. run_fault_from place before limit rest) (λ before run. IsBehind before limit run) run_end
+    (step limit) 0 0 runs e in
+    record {
+      full = λ i d h. (fine i d h).full;
+      reach = λ i d h. (fine i d h).reach;
+      scalars = λ i d h. (fine i d h).scalars;
+      rising = λ i j d h l.
+          let first = (fine (suc i) d (omega arith)).behind in
+          let rest = IsNonDecreasingBy-from_all_adjacent (λ (run : Run). run.pointer) runs (λ k d m.
+          let up = (fine (suc k) d (omega arith)).behind in
+          rw (add-one k) (omega arith)) (suc i) j d (omega arith) l in
+          omega arith;
+    }
 
 -- ---- the first pointers of runs rise
 
 pub starts-rise : {limit : ℕ} (runs : List Run) → AreInOrder limit runs → IsNonDecreasingBy (λ (run : Run). run.pointer) runs
-starts-rise runs ordered = λ i j d h l. elim (cases_lt i j) [
-  | inl m ↦ let r = ordered.rising i j d m l in omega arith
-  | inr m ↦ let same : i ≡ j = omega arith in rw same (omega arith)
-]
+starts-rise runs ordered = grind (arith, ordered.rising)
 
 -- ---- the scalar that runs give a pointer
 
 pub outside-before : (run : Run) (p : ℕ) → p < run.pointer → run_scalar run p ≡ None
-outside-before run p h = rw (lt-leb run.pointer p h) refl
+outside-before run p h = grind (arith, nat_tests)
 
 pub outside-behind : (run : Run) (p : ℕ) → run_end run ≤ p → run_scalar run p ≡ None
-outside-behind run p h = rw (le-ltb p (run_end run) h, and-false (nat_le run.pointer p)) refl
+outside-behind run p h = grind (arith, nat_tests)
 
 pub scalar-none : (runs : List Run) (p : ℕ) → ((k : ℕ) → k < length runs → run_scalar (run_at runs k) p ≡ None) → runs_scalar runs p ≡ None
 scalar-none [] p all = refl
@@ -102,20 +88,12 @@ scalar-some (run ∷ runs) p (suc n) c h is before =
 module _ {limit : ℕ} (runs : List Run) (ordered : AreInOrder limit runs) (p : ℕ) where
   -- a run that has the pointer gives its scalar
   pub scalar-had : (n : ℕ) → HasPointer runs n p → runs_scalar runs p ≡ Some ((run_at runs n).scalar + (p - (run_at runs n).pointer))
-  scalar-had n has =
-      scalar-some runs p n _ has.within (rw (le-leb (run_at runs n).pointer p has.from, lt-ltb p (run_end (run_at runs n)) has.before) refl)
-      (λ k h. let end = ordered.rising k n no_run h has.within in let from = has.from in outside-behind (run_at runs k) p (omega arith))
+  scalar-had n has = grind (arith, nat_tests, scalar-some runs p n, outside-behind, ordered.rising)
 
   -- no run has a pointer after the last run that starts at or before it
   pub none-has : (n : ℕ) → ((k : ℕ) → n ≤ k → k < length runs → p < (run_at runs k).pointer)
       → (0 < n → run_end (run_at runs (n - 1)) ≤ p) → n ≤ length runs → runs_scalar runs p ≡ None
-  none-has n ahead behind within = scalar-none runs p (λ k l. elim (cases_lt k n) [
-    | inl h ↦ outside-behind (run_at runs k) p (elim (cases_lt k (n - 1)) [
-      | inl m ↦ let last = behind (omega arith) in let end = ordered.rising k (n - 1) no_run m (omega arith) in omega arith
-      | inr m ↦ let same : k ≡ n - 1 = omega arith in rw same (behind (omega arith))
-    ])
-    | inr h ↦ outside-before (run_at runs k) p (ahead k h l)
-  ])
+  none-has n ahead behind within = scalar-none runs p (λ k l. grind (arith, nat_tests, outside-behind, outside-before, ordered.rising k (n - 1) no_run))
 
 -- ---- the first run that ends after a pointer
 
@@ -128,20 +106,14 @@ module _ {limit : ℕ} (runs : List Run) (ordered : AreInOrder limit runs) where
   module _ (n p : ℕ) (first : IsFirstBehind runs n p) where
     -- a pointer before it has no scalar
     pub scalar-before : (n < length runs → p < (run_at runs n).pointer) → runs_scalar runs p ≡ None
-    scalar-before before = scalar-none runs p (λ k h. elim (cases_lt k n) [
-      | inl l ↦ outside-behind (run_at runs k) p (first.ended k l)
-      | inr l ↦ elim (cases_lt n k) [
-        | inl m ↦ let low = before (omega arith) in let up = ordered.rising n k no_run m h in outside-before (run_at runs k) p (omega arith)
-        | inr m ↦ let same : k ≡ n = omega arith in outside-before (run_at runs k) p (rw same (before (omega arith)))
-      ]
-    ])
+    scalar-before before = scalar-none runs p (λ k h. grind (arith, nat_tests, outside-behind, outside-before, ordered.rising n k no_run))
 
 -- ---- the flat list of runs
 
 pub end_most : (runs : List Run) (k : ℕ) → k < length runs → run_end (run_at runs k) ≤ runs_end runs
 end_most [] k h = absurd (omega arith)
 end_most (run ∷ runs) zero h = omega arith
-end_most (run ∷ runs) (suc k) h = let m = end_most runs k (omega arith) in omega arith
+end_most (run ∷ runs) (suc k) h = omega (arith, end_most runs k)
 
 pub runs_end-within : (limit : ℕ) (runs : List Run) → ((k : ℕ) → k < length runs → run_end (run_at runs k) ≤ limit) → runs_end runs ≤ limit
 runs_end-within limit [] all = omega arith
@@ -156,9 +128,7 @@ runs_list-length runs = length-map-range_with_len (runs_entry runs) 0 (runs_end 
 
 -- no run has a pointer past the flat list
 pub scalar-past_list : (runs : List Run) (p : ℕ) → length (runs_list runs) ≤ p → runs_scalar runs p ≡ None
-scalar-past_list runs p h =
-    let past : runs_end runs ≤ p = rw (← runs_list-length runs) h in
-    scalar-none runs p (λ k l. let m = end_most runs k l in outside-behind (run_at runs k) p (omega arith))
+scalar-past_list runs p h = grind (arith, scalar-none runs p, runs_list-length, end_most, outside-behind)
 
 list_entry : (runs : List Run) (p : ℕ) → p < runs_end runs → get_or (runs_list runs) p 0 ≡ runs_entry runs p
 unfolding runs_list
@@ -166,23 +136,13 @@ list_entry runs p h = get_or-map-range_with_len (runs_entry runs) 0 (runs_end ru
 
 -- the flat list has the entry that the runs give each pointer
 pub runs_list-entry : (runs : List Run) (p : ℕ) → get_or (runs_list runs) p 0 ≡ runs_entry runs p
-runs_list-entry runs p = elim (cases_lt p (length (runs_list runs))) [
-  | inl h ↦ list_entry runs p (rw runs_list-length at h)
-  | inr h ↦ get_or_past (runs_list runs) p 0 h ∙ sym (ap (λ o. option_map_or (λ c. c) o 0) (scalar-past_list runs p h))
-]
+runs_list-entry runs p = grind (arith, nat_tests, list_entry, runs_list-length, get_or_past, scalar-past_list)
 
 -- the flat list ends with the last run, and is empty if there are no runs
 pub runs_end-last : {limit : ℕ} (runs : List Run) → AreInOrder limit runs → (n : ℕ) → n + 1 ≡ length runs
     → run_end (run_at runs n) ≡ length (runs_list runs)
 runs_end-last runs ordered n last =
-    let most = end_most runs n (omega arith) in
-    let least = runs_end-within (run_end (run_at runs n)) runs (λ k h. elim (cases_lt k n) [
-      | inl m ↦ let end = ordered.rising k n no_run m (omega arith) in omega arith
-      | inr m ↦ let same : k ≡ n = omega arith in rw same (omega arith)
-    ]) in
-    rw (runs_list-length runs) (omega arith)
+    grind (arith, nat_tests, end_most, runs_end-within (run_end (run_at runs n)) runs, ordered.rising, runs_list-length)
 
 pub runs_end-none : (runs : List Run) → length runs ≡ 0 → 0 ≡ length (runs_list runs)
-runs_end-none runs none =
-    let least = runs_end-within 0 runs (λ k h. absurd (omega arith)) in
-    rw (runs_list-length runs) (omega arith)
+runs_end-none runs none = grind (arith, runs_end-within 0 runs, runs_list-length)

@@ -31,3 +31,5 @@ module _ (c : ℕ) where
 
   pub range-bound : (ranges : List (ℕ × ℕ)) → IfSome (range_pointer_of ranges c) (λ p. p < 1237576)
   range-bound ranges = if_some (range_pointer_of ranges c) _ (λ p e. (range-taken ranges c p e).1)
+
+pub ruleset bounds = (euc-jp-bound, range-bound)

@@ -1,41 +1,37 @@
 -- The pointer that an encoder uses: a usable pointer of the scalar, either the first or the last one.
 use Rattle.std.proofs.Common.{◌≡◌, ◌≢◌, ◌∙◌, ℕ, ◌≤◌, ◌<◌, List, length, slice_index, refl, sym, ap, arith, Some, None, Option, true, false, Bool, ◌&&◌, ◌||◌}
-use Rattle.std.proofs.{Common.{cond, min, nat_le, nat_lt, eq-eqb, ◌==◌, inl, inr}, lemmas.Bool.{cases_lt, cases_eq, ne_eqb, eqb-true, true≢false, and_parts}}
-use Rattle.std.proofs.{lemmas.Bool.{cond_both, false_from_ne_true}, lemmas.Bool.Decides.nat_tests, lemmas.List.get_or_past, lemmas.Option.same_Some}
+use Rattle.std.proofs.{Common.{cond, min, nat_le, nat_lt, eq-eqb, ◌==◌, inl, inr}, lemmas.Bool.{cases_eq, ne_eqb, and_parts}}
+use Rattle.std.proofs.{lemmas.Bool.Decides.nat_tests, lemmas.List.get_or_past}
 use Rattle.std.specs.Option.{IfSome, option_map_or, option_or}
 use borrow.Author.Tests.{ltb-true, leb-true, lt-ltb, le-leb}
 use Rattle.legacy_tables.specs.{Indexes.range, Pointers.{is_shift_jis_pointer, is_pointer_of, first_pointer, last_pointer, big5_pointer_of}}
-use Rattle.legacy_tables.specs.Pointers.{takes_last_big5_pointer, is_big5_pointer, is_range_pointer_of, first_range_pointer, range_pointer_of}
+use Rattle.legacy_tables.specs.Pointers.{is_big5_pointer, is_range_pointer_of, first_range_pointer, range_pointer_of}
 use Rattle.legacy_tables.proofs.FirstPlaces.{find-some, find-none, find-none-at, find-first, last-some, last-none, last-is, find-same, find-either}
 
 module _ (may : ℕ → Bool) (index : List ℕ) (c : ℕ) where
   hits : (p : ℕ) → may p ≡ true → slice_index index p ≡ c → is_pointer_of may index c p ≡ true
-  hits p u e = rw (u, eq-eqb (slice_index index p) c e) refl
+  hits p u e = grind arith
 
   -- a pointer that is not the scalar's or is not usable
   not_hit : (k : ℕ) → (may k ≡ true → slice_index index k ≢ c) → is_pointer_of may index c k ≡ false
-  not_hit k n = false_from_ne_true _ (λ e. let b = and_parts (may k) _ e in n b.0 (eqb-true (slice_index index k) c b.1))
+  not_hit k n = grind arith
 
   -- a pointer of a scalar that is not 0 is within the index
   within : (p : ℕ) → c ≢ 0 → slice_index index p ≡ c → p < length index
-  within p n e = elim (cases_lt p (length index)) [
-    | inl h ↦ h
-    | inr h ↦ absurd (n (sym e ∙ get_or_past index p 0 h))
-  ]
+  within p n e = grind (arith, nat_tests, get_or_past)
 
   pub first-is : c ≢ 0 → (p : ℕ) → p < length index → may p ≡ true → slice_index index p ≡ c
       → ((k : ℕ) → k < p → is_pointer_of may index c k ≡ false) → first_pointer may index c ≡ Some p
   unfolding first_pointer
-  first-is n p h u e before =
-      rw (ne_eqb c 0 n) (find-some (is_pointer_of may index c) 0 (length index) p (omega arith) (omega arith) (hits p u e) (λ k l m. before k m))
+  first-is n p h u e before = grind (arith, find-some (is_pointer_of may index c) 0 (length index) p, hits)
 
   pub first-none : ((k : ℕ) → k < length index → is_pointer_of may index c k ≡ false) → first_pointer may index c ≡ None
   unfolding first_pointer
-  first-none all = grind (arith, find-none (is_pointer_of may index c) 0 (length index) (λ k l m. all k (omega arith)))
+  first-none all = grind (arith, find-none (is_pointer_of may index c) 0 (length index))
 
   pub last-is-none : ((k : ℕ) → k < length index → is_pointer_of may index c k ≡ false) → last_pointer may index c ≡ None
   unfolding last_pointer
-  last-is-none all = grind (arith, last-none (is_pointer_of may index c) (length index) all)
+  last-is-none all = grind (arith, last-none)
 
   -- the pointer used is a usable pointer of the scalar; if none is used, there is none
   pub record IsTaken (o : Option ℕ) : Type 0 where
@@ -44,13 +40,7 @@ module _ (may : ℕ → Bool) (index : List ℕ) (c : ℕ) where
 
   taken_by : (o : Option ℕ) → ((p : ℕ) → o ≡ Some p → is_pointer_of may index c p ≡ true)
       → (o ≡ None → (p : ℕ) → p < length index → is_pointer_of may index c p ≡ false) → IsTaken (cond (c == 0) None o)
-  taken_by o some none = elim (cases_eq c 0) [
-    | inl e ↦ rw (eq-eqb c 0 e) (record { chosen = λ p z. cc; missing = λ z p u is n. n e })
-    | inr n ↦ rw (ne_eqb c 0 n) (record {
-      chosen = λ p z. let b = and_parts (may p) _ (some p z) in (b.0, eqb-true (slice_index index p) c b.1, n);
-      missing = λ z p u is m. true≢false (sym (hits p u is) ∙ none z p (within p m is));
-    })
-  ]
+  taken_by o some none = grind (arith, within)
 
   pub first-taken : IsTaken (first_pointer may index c)
   unfolding first_pointer
@@ -65,12 +55,7 @@ module _ (may : ℕ → Bool) (index : List ℕ) (c : ℕ) where
   -- the first pointer is the least
   pub first-least : (s p : ℕ) → first_pointer may index c ≡ Some s → may p ≡ true → slice_index index p ≡ c → c ≢ 0 → s ≤ p
   unfolding first_pointer
-  first-least s p e u is n = elim (cases_lt p s) [
-    | inl h ↦
-        let f = find-first (is_pointer_of may index c) 0 (length index) s (rw (ne_eqb c 0 n) at e) in
-        absurd (true≢false (sym (hits p u is) ∙ f.first p (omega arith) h))
-    | inr h ↦ h
-  ]
+  first-least s p e u is n = grind (arith, nat_tests, find-first, hits)
 
 -- only the usable pointers within the index matter
 module _ (may other : ℕ → Bool) (index : List ℕ) (c : ℕ) where
@@ -110,9 +95,7 @@ module _ (start end : ℕ) (index : List ℕ) (c : ℕ) where
       (λ k m. not_hit Between index c k (λ u. before k (leb-true start k (and_parts _ _ u).0) m)))
 
   pub none-between : ((k : ℕ) → start ≤ k → k < end → slice_index index k ≢ c) → None ≡ first_pointer Between index c
-  none-between all =
-      sym (first-none Between index c (λ k h. not_hit Between index c k
-      (λ u. let b = and_parts _ _ u in all k (leb-true start k b.0) (ltb-true k end b.1))))
+  none-between all = grind (arith, nat_tests, first-none Between index c, not_hit)
 
 module _ (start : ℕ) (index : List ℕ) (c : ℕ) where
   -- the first pointer found from the end down to another
@@ -124,7 +107,7 @@ module _ (start : ℕ) (index : List ℕ) (c : ℕ) where
       (hits (nat_le start) index c p (le-leb start p l) e) (λ k m g. not_hit (nat_le start) index c k (λ u. after k m g))))
 
   pub none-from : ((k : ℕ) → start ≤ k → k < length index → slice_index index k ≢ c) → None ≡ last_pointer (nat_le start) index c
-  none-from all = sym (last-is-none (nat_le start) index c (λ k h. not_hit (nat_le start) index c k (λ u. all k (leb-true start k u) h)))
+  none-from all = grind (arith, nat_tests, last-is-none (nat_le start) index c, not_hit)
 
 pub below_both : (a b k : ℕ) → k < a → (nat_le 0 k && nat_lt k (min a b)) ≡ nat_lt k b
 below_both a b k h = grind (arith, nat_tests)
@@ -148,13 +131,10 @@ shift-jis-first index c =
 
 -- the pointer that Big5 uses
 pub big5-taken : (index : List ℕ) (c : ℕ) → IsTaken is_big5_pointer index c (big5_pointer_of index c)
-big5-taken index c =
-    cond_both (takes_last_big5_pointer c) _ _ (IsTaken is_big5_pointer index c)
-    (λ e. last-taken is_big5_pointer index c) (λ e. first-taken is_big5_pointer index c)
+big5-taken index c = grind (arith, last-taken, first-taken)
 
 pub if_some : (o : Option ℕ) (P : ℕ → Type 0) → ((p : ℕ) → o ≡ Some p → P p) → IfSome o P
-if_some None P all = tt
-if_some (Some p) P all = all p refl
+if_some o P all = grind arith
 
 -- the pointer used is within the index
 pub taken-within : (may : ℕ → Bool) (index : List ℕ) (c : ℕ) (o : Option ℕ) → IsTaken may index c o → IfSome o (λ p. p < length index)
@@ -164,18 +144,16 @@ taken-within may index c o t = if_some o _ (λ p e. let is = t.chosen p e in wit
 
 module _ (ranges : List (ℕ × ℕ)) (c : ℕ) where
   of_is : (o : Option ℕ) → option_map_or (λ s. s == c) o false ≡ true → o ≡ Some c
-  of_is None e = cc
-  of_is (Some s) e = ap Some (eqb-true s c e)
+  of_is o e = grind arith
 
   not_of : (p : ℕ) → (range ranges p ≡ Some c → ⊥) → is_range_pointer_of ranges c p ≡ false
-  not_of p n = false_from_ne_true _ (λ e. n (of_is (range ranges p) e))
+  not_of p n = grind (arith, of_is)
 
   -- the least pointer of the scalar below n, or none
   least_is : (n p : ℕ) → p < n → range ranges p ≡ Some c → ((k : ℕ) → k < p → range ranges k ≡ Some c → ⊥)
       → first_range_pointer ranges c n ≡ Some p
   unfolding first_range_pointer
-  least_is n p h e before =
-      find-some (is_range_pointer_of ranges c) 0 n p (omega arith) (omega arith) (rw e (eq-eqb c c refl)) (λ k l m. not_of k (before k m))
+  least_is n p h e before = grind (arith, find-some (is_range_pointer_of ranges c) 0 n p, not_of)
 
   least_none : (n : ℕ) → ((p : ℕ) → range ranges p ≡ Some c → ⊥) → first_range_pointer ranges c n ≡ None
   unfolding first_range_pointer
@@ -183,13 +161,13 @@ module _ (ranges : List (ℕ × ℕ)) (c : ℕ) where
 
   least_taken : (n p : ℕ) → first_range_pointer ranges c n ≡ Some p → (range ranges p ≡ Some c) × (p < n)
   unfolding first_range_pointer
-  least_taken n p e = let f = find-first (is_range_pointer_of ranges c) 0 n p e in let w = f.within in (of_is (range ranges p) f.passes, omega arith)
+  least_taken n p e = grind (arith, of_is, find-first)
 
   -- the least pointer of the scalar
   pub range-first : c ≢ 0xE7C7 → (p : ℕ) → p < 1237576 → range ranges p ≡ Some c → ((k : ℕ) → k < p → range ranges k ≡ Some c → ⊥)
       → range_pointer_of ranges c ≡ Some p
   unfolding range_pointer_of
-  range-first n p h e before = rw (ne_eqb c 0xE7C7 n) (least_is 1237576 p h e before)
+  range-first n p h e before = grind (arith, least_is)
 
   -- no pointer of the scalar
   pub range-none : c ≢ 0xE7C7 → ((p : ℕ) → range ranges p ≡ Some c → ⊥) → range_pointer_of ranges c ≡ None
@@ -207,9 +185,4 @@ module _ (ranges : List (ℕ × ℕ)) (c : ℕ) where
   -- the scalar of the pointer used is c
   pub range-taken : (p : ℕ) → range_pointer_of ranges c ≡ Some p → (range ranges p ≡ Some c) × (p < 1237576)
   unfolding range_pointer_of
-  range-taken p e = elim (cases_eq c 0xE7C7) [
-    | inl is ↦
-        let same = same_Some 7457 p (sym (range-fixed is) ∙ e) in
-        rw (is, ← same) (at_7457, omega arith)
-    | inr n ↦ least_taken 1237576 p (rw (ne_eqb c 0xE7C7 n) at e)
-  ]
+  range-taken p e = grind (arith, least_taken 1237576 p, range-fixed, at_7457)

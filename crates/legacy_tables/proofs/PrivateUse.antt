@@ -1,59 +1,45 @@
 -- Private-use rows that passed their check, and the search in them.
-use Rattle.std.proofs.Common.{◌≡◌, ◌≢◌, inl, inr, ℕ, zero, suc, ◌+◌, ◌≤◌, ◌<◌, List, [], ◌∷◌, length, ◌∙◌, sym, ap, get_or, add-one, refl, arith, Some, None}
-use Rattle.std.proofs.{Common.{Option, true, false, not, eq-eqb, ◌==◌}, lemmas.Bool.{and_parts, not-false, ne_eqb, cases_lt, true≢false}}
+use Rattle.std.proofs.Common.{◌≡◌, ◌≢◌, inl, inr, ℕ, suc, ◌+◌, ◌≤◌, ◌<◌, List, ◌∷◌, length, get_or, add-one, refl, arith, Some, None}
+use Rattle.std.proofs.lemmas.Bool.Decides.{nat_tests}
+use Rattle.std.proofs.{Common.{Option, true, false, ◌==◌}, lemmas.Bool.{ne_eqb, cases_lt}}
 use Rattle.std.proofs.lemmas.List.Sorted.{IsNonDecreasingBy-from_all_adjacent}
-use Rattle.std.specs.{Int.is_in_range, List.AllAdjacentBelow, List.Sorted.IsNonDecreasingBy}
+use Rattle.std.specs.{Int.is_in_range, List.Sorted.IsNonDecreasingBy}
 use borrow.Author.Tests.{ltb-true}
-use Rattle.legacy_tables.specs.{declared.tables.TableError.TheVariants.{PuaOrder, PuaScalar}, Indexes.gb18030_pua_of, TableChecks.follows_scalar}
-use Rattle.legacy_tables.specs.TableChecks.{is_row_scalar, row_fault, rows_fault}
-use Rattle.legacy_tables.proofs.{Accepted.{or_none, untaken}, FirstPlaces.{find-at, find-absent}}
+use Rattle.legacy_tables.specs.{Indexes.gb18030_pua_of, TableChecks.follows_scalar}
+use Rattle.legacy_tables.specs.TableChecks.{rows_fault}
+use Rattle.legacy_tables.proofs.{FirstPlaces.{each-fine, find-at, find-absent}}
 
 -- a row without a fault follows the row before it, and its scalar is for private use
-fine : (place : ℕ) (before : Option ℕ) (r : ℕ × ℕ × ℕ) → row_fault place before r ≡ None
-    → (follows_scalar before r.0 ≡ true) × (is_in_range 0xE000 0xF8FF r.0 ≡ true)
-fine place before r e =
-    let t = untaken (not (follows_scalar before r.0)) (PuaOrder place) _ e in
-    (not-false _ t.0, (and_parts _ _ (not-false _ (untaken (not (is_row_scalar r.0)) (PuaScalar place) _ t.1).0)).0)
+abbrev IsFine : Option ℕ → ℕ × ℕ × ℕ → Type 0
+IsFine before r = (follows_scalar before r.0 ≡ true) × (is_in_range 0xE000 0xF8FF r.0 ≡ true)
 
-adjacent : (place : ℕ) (before : Option ℕ) (rows : List (ℕ × ℕ × ℕ)) → rows_fault place before rows ≡ None
-    → AllAdjacentBelow (λ r s. r.0 ≤ s.0) rows (length rows)
+row_step : (place : ℕ) (before : Option ℕ) (r : ℕ × ℕ × ℕ) (rows : List (ℕ × ℕ × ℕ)) → rows_fault place before (r ∷ rows) ≡ None
+    → IsFine before r × (rows_fault (place + 1) (Some r.0) rows ≡ None)
 unfolding rows_fault
-adjacent place before [] e k d h = absurd (omega arith)
-adjacent place before (r ∷ []) e k d h = absurd (omega arith)
-adjacent place before (r ∷ s ∷ rows) e zero d h =
-    let rest = (or_none (row_fault place before r) _ e).1 in
-    let up = ltb-true r.0 s.0 (fine (place + 1) (Some r.0) s (or_none (row_fault (place + 1) (Some r.0) s) _ rest).0).0 in
-    omega arith
-adjacent place before (r ∷ s ∷ rows) e (suc k) d h =
-    let rest = (or_none (row_fault place before r) _ e).1 in
-    rw (add-one (suc k)) (rw (add-one k) at (adjacent (place + 1) (Some r.0) (s ∷ rows) rest k d (omega arith)))
+row_step place before r rows e = grind (arith, nat_tests)
 
 pub rows-rising : (rows : List (ℕ × ℕ × ℕ)) → rows_fault 0 None rows ≡ None → IsNonDecreasingBy (λ r. r.0) rows
-rows-rising rows e = IsNonDecreasingBy-from_all_adjacent (λ r. r.0) rows (adjacent 0 None rows e)
-
-all_private : (place : ℕ) (before : Option ℕ) (rows : List (ℕ × ℕ × ℕ)) → rows_fault place before rows ≡ None → (k : ℕ) → k < length rows
-    → is_in_range 0xE000 0xF8FF (get_or rows k (0, 0, 0)).0 ≡ true
-unfolding rows_fault
-all_private place before [] e k h = absurd (omega arith)
-all_private place before (r ∷ rows) e zero h = (fine place before r (or_none (row_fault place before r) _ e).0).1
-all_private place before (r ∷ rows) e (suc k) h =
-    all_private (place + 1) (Some r.0) rows (or_none (row_fault place before r) _ e).1 k (omega arith)
+rows-rising rows e =
+    IsNonDecreasingBy-from_all_adjacent (λ r. r.0) rows (λ k d h.
+    let up = ltb-true _ _ (each-fine rows_fault IsFine (λ r. Some r.0) row_step 0 None rows e (suc k) d (omega arith)).0 in
+    rw (add-one k) (omega arith))
 
 module _ (c : ℕ) where
   -- no row has a scalar outside of private use
   pub row-outside : (rows : List (ℕ × ℕ × ℕ)) → rows_fault 0 None rows ≡ None → is_in_range 0xE000 0xF8FF c ≡ false
       → None ≡ gb18030_pua_of rows c
   row-outside rows none outside =
-      rw (find-absent (λ r. r.0 == c) (0, 0, 0) rows (λ k h. ne_eqb _ c (λ e.
-      true≢false (sym (all_private 0 None rows none k h) ∙ ap (is_in_range 0xE000 0xF8FF) e ∙ outside)))) refl
+      rw (find-absent (λ r. r.0 == c) (0, 0, 0) rows (λ k h.
+      let private = (each-fine rows_fault IsFine (λ r. Some r.0) row_step 0 None rows none k (0, 0, 0) h).1 in
+      grind arith)) refl
 
   -- the first `count` rows have lower scalars
   module _ (rows : List (ℕ × ℕ × ℕ)) (count : ℕ) (below : (k : ℕ) → k < count → (get_or rows k (0, 0, 0)).0 < c) where
     lower : (k : ℕ) → k < count → ((get_or rows k (0, 0, 0)).0 == c) ≡ false
-    lower k h = ne_eqb _ c (λ e. let low = below k h in absurd (omega arith))
+    lower k h = grind (arith, nat_tests)
 
     pub row-end : length rows ≤ count → None ≡ gb18030_pua_of rows c
-    row-end h = rw (find-absent (λ r. r.0 == c) (0, 0, 0) rows (λ k l. lower k (omega arith))) refl
+    row-end h = grind (arith, find-absent (λ r. r.0 == c) (0, 0, 0) rows, lower)
 
     pub row-other : rows_fault 0 None rows ≡ None → (ahead : (k : ℕ) → count ≤ k → k < length rows → c ≤ (get_or rows k (0, 0, 0)).0)
         → count < length rows → (get_or rows count (0, 0, 0)).0 ≢ c → None ≡ gb18030_pua_of rows c
@@ -67,4 +53,4 @@ module _ (c : ℕ) where
 
     pub row-found : count < length rows → (get_or rows count (0, 0, 0)).0 ≡ c
         → Some ((get_or rows count (0, 0, 0)).1, (get_or rows count (0, 0, 0)).2) ≡ gb18030_pua_of rows c
-    row-found h e = rw (find-at (λ r. r.0 == c) (0, 0, 0) rows count h (eq-eqb _ c e) lower) refl
+    row-found h e = grind (arith, find-at (λ r. r.0 == c) (0, 0, 0) rows count h, lower)

@@ -1,9 +1,8 @@
 -- The pointer of four bytes that has a scalar. Ranges in order give each scalar of the Basic Multilingual Plane at most
 -- one pointer.
 use Rattle.std.proofs.Common.{◌≡◌, ◌≢◌, ◌∙◌, ℕ, zero, suc, ◌+◌, ◌-◌, ◌≤◌, ◌<◌, List, [], ◌∷◌, length, get_or, drop, drop-cons, refl, sym, ap, subst, arith}
-use Rattle.std.proofs.{Common.{Some, None, inl, inr}, lemmas.Bool.{cases_lt, ne_eqb}, lemmas.Bool.Decides.nat_tests, Math.ListN.drop_of_length-le}
+use Rattle.std.proofs.{Common.{Some, None, inl, inr}, lemmas.Bool.{cases_lt}, lemmas.Bool.Decides.nat_tests, Math.ListN.drop_of_length-le}
 use Rattle.std.specs.Char.{IsScalar}
-use borrow.Author.Tests.{le-leb, lt-leb}
 use Rattle.legacy_tables.specs.{declared.tables.ranges.RangePart.RangePart, Indexes.{range, last_range_scalar}, Pointers.range_pointer_of}
 use Rattle.legacy_tables.specs.{RangeParts.IsRangePart, TableChecks.{next_pointer, range_order_fault, range_value_fault}}
 use Rattle.legacy_tables.proofs.Accepted.{climb, rising, rising_scalars, started_by, IsGiven, last-at, none-ahead, last-cases, last_range-narrow, range-cases}
@@ -48,29 +47,18 @@ module _ (ranges : List (ℕ × ℕ)) where
   -- if a pointer has a scalar of the Basic Multilingual Plane other than U+E7C7, a range gives it
   narrow_given : (p c : ℕ) → range ranges p ≡ Some c → c < 0x1_0000 → c ≢ 0xE7C7
       → (p ≢ 7457) × (p ≤ 39419) × (last_range_scalar ranges p ≡ Some c)
-  narrow_given p c e h n = elim (range-cases ranges p c e) [
-    | inl fixed ↦ absurd (n fixed)
-    | inr other ↦ elim other [ inl wide ↦ let is = wide.1 in absurd (omega arith) | inr g ↦ g ]
-  ]
+  narrow_given p c e h n = grind (arith, range-cases)
 
   gives : (p c : ℕ) → p ≢ 7457 → p ≤ 39419 → last_range_scalar ranges p ≡ Some c → range ranges p ≡ Some c
   unfolding range
-  gives p c n h e = rw (ne_eqb p 7457 n, lt-leb 189000 p (omega arith), le-leb p 39419 h) e
+  gives p c n h e = grind (arith, nat_tests)
 
   wide_gives : (c p : ℕ) → p ≡ 189000 + (c - 0x1_0000) → 0x1_0000 ≤ c → c < 0x11_0000 → range ranges p ≡ Some c
   unfolding range
-  wide_gives c p is l h =
-      let same : 0x1_0000 + (p - 189000) ≡ c = omega arith in
-      rw (ne_eqb p 7457 (λ e. absurd (omega arith)), le-leb 189000 p (omega arith), le-leb p 1237575 (omega arith), same) refl
+  wide_gives c p is l h = grind (arith, nat_tests)
 
   wide_least : range_value_fault 0 ranges ≡ None → (p c : ℕ) → range ranges p ≡ Some c → 0x1_0000 ≤ c → p < 189000 + (c - 0x1_0000) → ⊥
-  wide_least valued p c e l h = elim (range-cases ranges p c e) [
-    | inl fixed ↦ absurd (omega arith)
-    | inr other ↦ elim other [
-      | inl wide ↦ let within = wide.0 in let is = wide.1 in grind (arith, nat_tests)
-      | inr g ↦ let narrow = (last_range-narrow 0 ranges valued p c g.1 g.2).1 in absurd (omega arith)
-    ]
-  ]
+  wide_least valued p c e l h = grind (arith, nat_tests, range-cases ranges p c e, last_range-narrow 0 ranges valued p c)
 
   -- ---- the results of the look-up
 
@@ -92,26 +80,16 @@ module _ (ranges : List (ℕ × ℕ)) (ordered : range_order_fault 0 None ranges
   ends : Ends (next_pointer (drop (place + 1) ranges))
   ends = elim (cases_lt (place + 1) (length ranges)) [
     | inl l ↦ rw (drop-cons ranges (place + 1) (0, 0) l)
-        (record { most = let h = started_by 0 None ranges ordered (place + 1) l in omega arith; next = λ h. refl; last = λ h. absurd (omega arith) })
+        (record { most = let h = started_by ranges ordered (place + 1) l in omega arith; next = λ h. refl; last = λ h. absurd (omega arith) })
     | inr l ↦ rw (drop_of_length-le ranges l) (record { most = omega arith; next = λ h. absurd (omega arith); last = λ h. refl })
   ]
 
   -- a range starts before it ends
   pub starts-before : place < length ranges → (range_at ranges place).0 < next_pointer (drop (place + 1) ranges)
-  starts-before within = elim (cases_lt (place + 1) (length ranges)) [
-    | inl l ↦ let next = ends.next l in let up = (climb 0 None ranges ordered place (0, 0) l).0 in omega arith
-    | inr l ↦ let end = ends.last l in let last = started_by 0 None ranges ordered place within in omega arith
-  ]
+  starts-before within = grind (arith, nat_tests, ends, climb, started_by)
 
   is_given : place < length ranges → (p : ℕ) → (range_at ranges place).0 ≤ p → p < next_pointer (drop (place + 1) ranges) → IsGiven ranges p place
-  is_given within p from before = record {
-    within = within;
-    started = from;
-    ahead = λ k l h.
-        let next = ends.next (omega arith) in
-        let up = rising ranges ordered (place + 1) k (0, 0) (omega arith) h in
-        omega arith;
-  }
+  is_given within p from before = grind (arith, nat_tests, ends, rising)
 
   -- the scalar that the range gives one of its pointers
   record IsInRange (p : ℕ) : Type 0 where
@@ -131,11 +109,7 @@ module _ (ranges : List (ℕ × ℕ)) (ordered : range_order_fault 0 None ranges
   begun_ahead : (c : ℕ) → (range_at ranges place).1 ≤ c
       → (range_at ranges place).0 + (c - (range_at ranges place).1) < next_pointer (drop (place + 1) ranges)
       → (k : ℕ) → place < k → k < length ranges → c < (range_at ranges k).1
-  begun_ahead c reached before k l h =
-      let next = ends.next (omega arith) in
-      let high = (climb 0 None ranges ordered place (0, 0) (omega arith)).1 in
-      let above = rising_scalars ranges ordered (place + 1) k (0, 0) (omega arith) h in
-      omega arith
+  begun_ahead c reached before k l h = grind (arith, nat_tests, ends, climb, rising_scalars)
 
 module _ (ranges : List (ℕ × ℕ)) (ordered : range_order_fault 0 None ranges ≡ None) (c : ℕ) (narrow : c < 0x1_0000) (free : c ≢ 0xE7C7) where
   -- the scalar is before those of all ranges
@@ -150,18 +124,7 @@ module _ (ranges : List (ℕ × ℕ)) (ordered : range_order_fault 0 None ranges
   module _ (place : ℕ) (within : place < length ranges) (reached : (range_at ranges place).1 ≤ c)
       (ahead : (k : ℕ) → place < k → k < length ranges → c < (range_at ranges k).1) where
     same_place : (q j : ℕ) → IsGiven ranges q j → scalar_of ranges j q ≡ c → j ≡ place
-    same_place q j g is = elim (cases_lt j place) [
-      | inl l ↦
-          let high = (climb 0 None ranges ordered j (0, 0) (omega arith)).1 in
-          let before = g.ahead (j + 1) (omega arith) (omega arith) in
-          let started = g.started in
-          let above = rising_scalars ranges ordered (j + 1) place (0, 0) (omega arith) within in
-          absurd (omega arith)
-      | inr l ↦ elim (cases_lt place j) [
-        | inl m ↦ let past = ahead j m g.within in absurd (omega arith)
-        | inr m ↦ omega arith
-      ]
-    ]
+    same_place q j g is = grind (arith, nat_tests, climb, rising_scalars)
 
     -- a pointer that has the scalar is this one, and is before the next range
     record IsOnly (q : ℕ) : Type 0 where
@@ -190,10 +153,10 @@ module _ (ranges : List (ℕ × ℕ)) (ordered : range_order_fault 0 None ranges
     module _ (p : ℕ) (is : p ≡ (range_at ranges place).0 + (c - (range_at ranges place).1)) where
       -- that pointer is past the range, or is that of U+E7C7
       pub pointer-past : next_pointer (drop (place + 1) ranges) ≤ p → None ≡ range_pointer_of ranges c
-      pointer-past past = sym (range-none ranges c free (λ q e. let o = only q e in let same = o.is in let before = o.before in absurd (omega arith)))
+      pointer-past past = grind (arith, range-none, only)
 
       pub pointer-fixed : p ≡ 7457 → None ≡ range_pointer_of ranges c
-      pointer-fixed fixed = sym (range-none ranges c free (λ q e. let o = only q e in o.other (o.is ∙ sym is ∙ fixed)))
+      pointer-fixed fixed = grind (arith, range-none, only)
 
       -- or it has the scalar
       pub pointer-found : p < next_pointer (drop (place + 1) ranges) → p ≢ 7457 → Some p ≡ range_pointer_of ranges c

@@ -1,25 +1,20 @@
 -- A walk over runs: the scalars of the next run, and pointers without scalars before it.
-use Rattle.std.proofs.{Common.{◌≡◌, ◌∙◌, ℕ, ◌+◌, ◌-◌, ◌≤◌, ◌<◌, List, length, get_or, ap, arith, inl, inr}, lemmas.Bool.cases_lt}
+use Rattle.std.proofs.lemmas.Bool.Decides.{nat_tests}
+use Rattle.std.proofs.{Common.{◌≡◌, ◌∙◌, ℕ, ◌+◌, ◌≤◌, ◌<◌, List, length, get_or, ap, arith, inl, inr}, lemmas.Bool.cases_lt}
 use Rattle.std.specs.Option.{option_map_or}
-use Rattle.legacy_tables.specs.{declared.tables.packed.Run.Run, Runs.{run_at, HasPointer, IsBetween, run_end, runs_list, AreInOrder}}
+use Rattle.legacy_tables.specs.{declared.tables.packed.Run.Run, Runs.{run_at, IsBetween, run_end, runs_list, AreInOrder}}
 use Rattle.legacy_tables.proofs.PackedRuns.{no_run, outside-before, outside-behind, scalar-none, scalar-had, runs_list-entry, runs_list-length, runs_end-within}
 use Rattle.legacy_tables.proofs.PackedRuns.{end_most}
 
 module _ {limit : ℕ} (runs : List Run) (ordered : AreInOrder limit runs) (n p : ℕ) (at : IsBetween runs n p) where
   -- a walk that has not come to the end of the list has a next run
   pub row-there : p < length (runs_list runs) → n < length runs
-  row-there h = elim (cases_lt n (length runs)) [
-    | inl l ↦ l
-    | inr l ↦ let most = runs_end-within p runs (λ k m. at.ended k (omega arith) m) in absurd (let e = runs_list-length runs in omega arith)
-  ]
+  row-there h = grind (arith, nat_tests, runs_end-within p runs, at.ended, runs_list-length)
 
   module _ (h : n < length runs) where
     -- no later run starts before it
     starts-first : (k : ℕ) → n ≤ k → k < length runs → (run_at runs n).pointer ≤ (run_at runs k).pointer
-    starts-first k l w = elim (cases_lt n k) [
-      | inl b ↦ let s = ordered.rising n k no_run b w in omega arith
-      | inr a ↦ let same : k ≡ n = omega arith in rw same (omega arith)
-    ]
+    starts-first k l w = grind (arith, nat_tests, ordered.rising n k no_run)
 
     -- pointers before its start have no scalar
     pub row-gap : (k : ℕ) → p ≤ k → k < (run_at runs n).pointer → get_or (runs_list runs) k 0 ≡ 0
@@ -30,21 +25,11 @@ module _ {limit : ℕ} (runs : List Run) (ordered : AreInOrder limit runs) (n p 
 
     -- its pointers have its scalars
     pub row-numbers : (k : ℕ) → k < (run_at runs n).length → get_or (runs_list runs) ((run_at runs n).pointer + k) 0 ≡ (run_at runs n).scalar + k
-    row-numbers k l =
-        let q = (run_at runs n).pointer + k in
-        let has : HasPointer runs n q = record { within = h; from = omega arith; before = omega arith } in
-        let is : (run_at runs n).scalar + (q - (run_at runs n).pointer) ≡ (run_at runs n).scalar + k = omega arith in
-        runs_list-entry runs q ∙ ap (λ o. option_map_or (λ (c : ℕ). c) o 0) (scalar-had runs ordered q n has) ∙ is
+    row-numbers k l = grind (arith, runs_list-entry, scalar-had)
 
     pub row-within : run_end (run_at runs n) ≤ length (runs_list runs)
-    row-within = let most = end_most runs n h in rw (runs_list-length runs) most
+    row-within = grind (arith, end_most, runs_list-length)
 
     -- its end is before the next run
     pub row-next : IsBetween runs (n + 1) (run_end (run_at runs n))
-    row-next = record {
-      ended = λ k l w. elim (cases_lt k n) [
-        | inl b ↦ let s = ordered.rising k n no_run b h in omega arith
-        | inr a ↦ let same : k ≡ n = omega arith in rw same (omega arith)
-      ];
-      ahead = λ k l w. ordered.rising n k no_run (omega arith) w;
-    }
+    row-next = grind (arith, nat_tests, ordered.rising)

@@ -1,19 +1,20 @@
 -- Bits that say where scalars begin, and the scalars of one and three bytes of UTF-8 between them.
 use Rattle.std.proofs.{lemmas.Bool.Decides.nat_tests, Common.{◌≡◌, ◌↔◌, ◌∙◌, ℕ, zero, suc, ◌+◌, ◌-◌, ◌*◌, ◌/◌, ◌%◌, ◌^◌, ◌≤◌, ◌<◌, List, [], ◌∷◌, ◌++◌, length}}
-use Rattle.std.proofs.Common.{get_or, true, false, cond, leb, map, max, take, drop, replicate, refl, sym, ap, subst, arith, append_assoc, append-nil}
-use Rattle.std.proofs.{Common.{length-append, add-zero, slice_set, inl, inr, w8, w32, Fits, bit_and, bit_or}, Math.ListN.get_or-map, Math.Nat.{mod-lt, pow-suc}}
+use Rattle.std.proofs.Common.{get_or, true, max, take, drop, replicate, refl, ap, ap₂, subst, arith, append_assoc}
+use Rattle.std.proofs.{Common.{length-append, add-zero, slice_set, w8, w32, Fits, bit_and, bit_or}, Math.Nat.{mod-lt, pow-suc}}
 use Rattle.std.proofs.{lemmas.Bool.cases_lt, lemmas.List.{get_or-set_same, get_or-set_other, get_or_past, length-drop, get_or_append_left, get_or-append-add}}
-use Rattle.std.proofs.{lemmas.List.{get_or-drop, get_or-take, length-map}, lemmas.Nat.{pow_pos, and_mask}, lemmas.Nat.Bits.bit_at-trailing_zeros}
+use Rattle.std.proofs.{lemmas.List.{get_or-drop, get_or-take, length-map, length-take-le}, lemmas.Nat.{pow_pos}, lemmas.Nat.Bits.bit_at-trailing_zeros}
 use Rattle.std.proofs.lemmas.Nat.Bits.{bit_at-pow_same, bit_at-pow_other, bit_at_and, bit_at_or, bit_at_not, bit_at_ones_above, bit_at_cat_low, bit_at_cat_high}
-use Rattle.std.proofs.{lemmas.Nat.Bits.{same_from_bits_below, bit_at-lt}, lemmas.Simd.{bit_mask_l, mask_l-lt, get_or_wider, Each1-from_get_or, Each1-get_or}}
+use Rattle.std.proofs.{lemmas.Nat.Bits.{same_from_bits_below, bit_at-lt}, lemmas.Simd.{mask_l-lt, get_or_wider, Each1-from_get_or, Each1-get_or}}
 use Rattle.std.proofs.lemmas.Simd.{below_from_Fits, get_or-put_chunk_below, get_or-put_chunk_at, length-put_chunk, get_or-zip2, get_or-replicate}
 use Rattle.std.proofs.lemmas.Str.{length-encode, len_utf8_bounds}
-use Rattle.std.specs.{Int.{bit_at, bit_not, trailing_zeros}, Simd.Lanes.{zip2, mask_l, number_l, digits_l, put_chunk, Each1}, Str.{chars, is_utf8}}
+use Rattle.std.specs.{Int.{bit_at, bit_not, trailing_zeros}, Simd.Lanes.{zip2, number_l, digits_l, put_chunk, Each1}, Str.{chars, is_utf8}}
 use lib.Utf8.{encode}
-use Rattle.legacy_text.specs.{EncodingForm.{Utf8, code_units, unit_count, total_unit_count}, NextScalars.StandsAt, ShortScalars.ReadsScalar}
-use Rattle.legacy_text.specs.{ScalarTurns.{IsStart, IsUnitOf, IsUnitAt, ReadsUnits}, UnitCodes.IsNoSurrogate, UnitTurns.AreNoSurrogates}
-use Rattle.legacy_text.proofs.{Ascii.{mask_from, mask_from-is, bit_tells}, CodeUnits.{encode_1, encode_2, encode_3, encode_4, total_unit_count-append}}
-use Rattle.legacy_text.proofs.{Texts.{made_of_three, first_some, first_cons, utf8_pass, utf8_stands}, ShortScalars.{some_left, reads_ascii}}
+use Rattle.legacy_text.specs.{EncodingForm.{Utf8, unit_count}, NextScalars.StandsAt, ShortScalars.ReadsScalar}
+use Rattle.legacy_text.specs.{ScalarTurns.{IsStart, IsUnitAt, ReadsUnits}, UnitCodes.IsNoSurrogate, UnitTurns.AreNoSurrogates}
+use Rattle.legacy_text.proofs.{Ascii.{mask_from, mask_from-is, mask_bit}, CodeUnits.{encode_1, encode_2, encode_3, encode_4, total_unit_count-append}}
+use Rattle.legacy_text.proofs.Texts.{made_of_three, first_some, first_cons, utf8_pass, utf8_stands, stands_byte}
+use Rattle.legacy_text.proofs.ShortScalars.{some_left, reads_ascii, one_count}
 
 -- ---- the lowest bit
 
@@ -37,47 +38,42 @@ module _ (n : ℕ) (some : 0 < n) (fits : n < 2 ^ 32) where
   low_is : n % 2 ^ (trailing_zeros w32 n + 1) ≡ 2 ^ trailing_zeros w32 n
   low_is = same_from_bits_below (T + 1) (n % 2 ^ (T + 1)) (2 ^ T) (mod-lt n (pow_pos (T + 1))) (omega (arith, twice, pow_pos T)) low_bits
 
-  less_is : n - 1 ≡ n / 2 ^ (trailing_zeros w32 n + 1) * 2 ^ (trailing_zeros w32 n + 1) + (2 ^ trailing_zeros w32 n - 1)
+  less_is : (n + 4294967295) % 4294967296 ≡ n / 2 ^ (trailing_zeros w32 n + 1) * 2 ^ (trailing_zeros w32 n + 1) + (2 ^ trailing_zeros w32 n - 1)
   less_is = omega (arith, cut, low_is, pow_pos T)
 
   -- without the lowest bit, no bit up to it is set
-  pub lowest_gone : (k : ℕ) → k ≤ trailing_zeros w32 n → bit_at (bit_and n (n - 1)) k ≡ 0
+  pub lowest_gone : (k : ℕ) → k ≤ trailing_zeros w32 n → bit_at (bit_and n ((n + 4294967295) % 4294967296)) k ≡ 0
   lowest_gone k le = grind (arith, nat_tests, bit_at_and, at_lowest, less_is, bit_at_cat_low, bit_at_ones_above)
 
   -- all bits above it are unchanged
-  pub others_stay : (k : ℕ) → trailing_zeros w32 n < k → bit_at (bit_and n (n - 1)) k ≡ bit_at n k
+  pub others_stay : (k : ℕ) → trailing_zeros w32 n < k → bit_at (bit_and n ((n + 4294967295) % 4294967296)) k ≡ bit_at n k
   others_stay k l = grind (arith, nat_tests, twice, pow_pos, less_is, bit_at_cat_high, cut, mod-lt, bit_at_and)
 
 -- ---- the bits of starts
 
-pub mask_from-lt : (x : ℕ) (v : List ℕ) → length v ≡ 32 → mask_from x 32 v < 2 ^ 32
-mask_from-lt x v long =
-    let below = mask_l-lt (map (leb x) v) in
-    let count : length (map (leb x) v) ≡ 32 = length-map v (leb x) ∙ long in
-    rw (mask_from-is x 32 v (omega arith) long) (subst (λ n. mask_l (map (leb x) v) < 2 ^ n) count below)
-
-mask_bit : (x : ℕ) → leb x 0 ≡ false → (v : List ℕ) → length v ≡ 32 → (k : ℕ) → (bit_at (mask_from x 32 v) k ≡ 1) ↔ (x ≤ get_or v k 0)
-mask_bit x some v long k =
-    let lane : get_or (map (leb x) v) k false ≡ leb x (get_or v k 0) =
-    subst (λ d. get_or (map (leb x) v) k d ≡ leb x (get_or v k 0)) some (get_or-map (leb x) v k 0) in
-    let e : bit_at (mask_from x 32 v) k ≡ cond (leb x (get_or v k 0)) 1 0 =
-    ap (λ m. bit_at m k) (mask_from-is x 32 v (omega arith) long) ∙ bit_mask_l (map (leb x) v) k ∙ ap (λ b. cond b 1 0) lane in
-    let t = bit_tells x (get_or v k 0) _ refl in
-    (λ s. t.0 (sym e ∙ s), λ s. e ∙ t.1 s)
+pub mask_from-lt : (x lanes : ℕ) (v : List ℕ) → lanes ≤ 64 → length v ≡ lanes → mask_from x lanes v < 2 ^ lanes
+mask_from-lt x lanes v few long = grind (arith, mask_from-is, mask_l-lt, length-map)
 
 starts_from : (byte p l r : ℕ) → ((p ≡ 1) ↔ (128 ≤ byte)) → ((l ≡ 1) ↔ (192 ≤ byte)) → p < 2 → l < 2 → r ≡ max (1 - p) l → (r ≡ 1) ↔ IsStart byte
 starts_from byte p l r past leads few few_leads is = grind arith
 
 -- a bit that is not set for a byte of at least 128, or set for one of at least 192
-pub starts_bit : (v : List ℕ) → length v ≡ 32 → (k : ℕ) → k < 32
+starts_bit : (v : List ℕ) → length v ≡ 32 → (k : ℕ) → k < 32
     → (bit_at (bit_or (bit_not w32 (mask_from 128 32 v)) (mask_from 192 32 v)) k ≡ 1) ↔ IsStart (get_or v k 0)
 starts_bit v long k h =
-    let none = bit_at_not w32 (mask_from 128 32 v) k (mask_from-lt 128 v long) h in
-    let either = bit_at_or (bit_not w32 (mask_from 128 32 v)) (mask_from 192 32 v) k in
-    starts_from (get_or v k 0) (bit_at (mask_from 128 32 v) k) (bit_at (mask_from 192 32 v) k)
-    (bit_at (bit_or (bit_not w32 (mask_from 128 32 v)) (mask_from 192 32 v)) k)
-    (mask_bit 128 refl v long k) (mask_bit 192 refl v long k) (bit_at-lt (mask_from 128 32 v) k) (bit_at-lt (mask_from 192 32 v) k)
-    (either ∙ ap (λ n. max n (bit_at (mask_from 192 32 v) k)) none)
+    starts_from (get_or v k 0) _ _ _ (mask_bit 128 refl 32 v (omega arith) long k) (mask_bit 192 refl 32 v (omega arith) long k) (bit_at-lt _ k) (bit_at-lt _ k)
+    (bit_at_or _ _ k ∙ ap (λ n. max n (bit_at (mask_from 192 32 v) k)) (bit_at_not w32 (mask_from 128 32 v) k (mask_from-lt 128 32 v (omega arith) long) h))
+
+pub block_long : (bytes : List ℕ) (place : ℕ) → place + 32 ≤ length bytes → length (take 32 (drop place bytes)) ≡ 32
+block_long bytes place h = length-take-le 32 (drop place bytes) (omega (arith, length-drop place bytes))
+
+-- the same of the next 32 bytes
+pub starts_here : (bytes : List ℕ) (place : ℕ) → place + 32 ≤ length bytes → (k : ℕ) → k < 32
+    → (bit_at (bit_or (bit_not w32 (mask_from 128 32 (take 32 (drop place bytes)))) (mask_from 192 32 (take 32 (drop place bytes)))) k ≡ 1)
+    ↔ IsStart (get_or bytes (place + k) 0)
+starts_here bytes place within k h =
+    let same : get_or (take 32 (drop place bytes)) k 0 ≡ get_or bytes (place + k) 0 = get_or-take 32 (drop place bytes) k 0 h ∙ get_or-drop place bytes k 0 in
+    rw same at (starts_bit (take 32 (drop place bytes)) (block_long bytes place within) k h)
 
 -- ---- lanes of two bytes
 
@@ -89,12 +85,8 @@ pair bytes h = grind arith
 pub lane : (n : ℕ) (bytes : List ℕ) (k : ℕ) → ((i : ℕ) → i < 2 * n → get_or bytes i 0 < 256) → length bytes ≡ 2 * n → k < n
     → get_or (digits_l 65536 n (number_l 256 bytes)) k 0 ≡ get_or bytes (2 * k) 0 + 256 * get_or bytes (2 * k + 1) 0
 lane n bytes k are long h =
-    let rest : 2 ≤ length (drop (2 * k) bytes) = omega (arith, length-drop (2 * k) bytes) in
-    let high = get_or-drop (2 * k) bytes 1 0 in
-    let low = get_or-drop (2 * k) bytes 0 0 in
-    let same : 2 * k + 0 ≡ 2 * k = omega arith in
-    get_or_wider 256 2 65536 n bytes k refl (Each1-from_get_or (λ x. x < 256) bytes 0 (λ i l. are i (omega arith))) h
-    ∙ pair (drop (2 * k) bytes) rest ∙ rw (high, low, same) refl
+    let each = Each1-from_get_or (λ x. x < 256) bytes 0 (λ i l. are i (omega arith)) in
+    grind (arith, nat_tests, length-drop, get_or-drop, get_or_wider 256 2 65536 n bytes k refl each, pair)
 
 -- one more lane of two lists of bytes
 pub filled : (P : ℕ → ℕ → Type 0) (lows highs : List ℕ) (k low high : ℕ) → k < length lows → k < length highs →
@@ -102,27 +94,13 @@ pub filled : (P : ℕ → ℕ → Type 0) (lows highs : List ℕ) (k low high : 
     → P k (low + 256 * high) → (j : ℕ) → j < k + 1 → P j (get_or (slice_set lows k low) j 0 + 256 * get_or (slice_set highs k high) j 0)
 filled P lows highs k low high a b before here j h = grind (arith, nat_tests, get_or-set_other, get_or-set_same)
 
--- a byte of sixteen
-pub sixteenth : (bytes : List ℕ) (place k : ℕ) → k < 16 → get_or (take 16 (drop place bytes)) k 0 ≡ get_or bytes (place + k) 0
-sixteenth bytes place k h = get_or-take 16 (drop place bytes) k 0 h ∙ get_or-drop place bytes k 0
-
--- sixteen bytes with inverted highest bits
-pub turned_is : (v : List ℕ) → length v ≡ 16 → (k : ℕ) → k < 16 → get_or (zip2 (λ a b. (a + b) % 256) v (replicate 16 128)) k 0 ≡ (get_or v k 0 + 128) % 256
-turned_is v long k h =
-    let count : length (replicate {A = ℕ} 16 128) ≡ 16 = refl in
-    get_or-zip2 (λ a b. (a + b) % 256) v (replicate 16 128) k 0 0 0 (omega (arith, long)) (omega (arith, count))
-    ∙ ap (λ b. (get_or v k 0 + b) % 256) (get_or-replicate 16 k 128 0 h)
-
--- the low six bits of sixteen bytes
-pub tails_is : (v : List ℕ) → length v ≡ 16 → (k : ℕ) → k < 16 → get_or (zip2 bit_and v (replicate 16 63)) k 0 ≡ get_or v k 0 % 64
-tails_is v long k h =
-    let count : length (replicate {A = ℕ} 16 63) ≡ 16 = refl in
-    get_or-zip2 bit_and v (replicate 16 63) k 0 0 0 (omega (arith, long)) (omega (arith, count))
-    ∙ ap (λ b. bit_and (get_or v k 0) b) (get_or-replicate 16 k 63 0 h) ∙ and_mask (get_or v k 0) 6
-
--- a code unit depends only on these bits
-pub of_tails : (first second third unit : ℕ) → IsUnitOf first (second % 64) (third % 64) unit → IsUnitOf first second third unit
-of_tails first second third unit h = grind arith
+-- sixteen bytes, each joined with the same number
+pub each_sixteenth : (f : ℕ → ℕ → ℕ) (x : ℕ) (bytes : List ℕ) (place : ℕ) → place + 16 ≤ length bytes → (k : ℕ) → k < 16
+    → get_or (zip2 f (take 16 (drop place bytes)) (replicate 16 x)) k 0 ≡ f (get_or bytes (place + k) 0) x
+each_sixteenth f x bytes place within k h =
+    let long : length (take 16 (drop place bytes)) ≡ 16 = length-take-le 16 (drop place bytes) (omega (arith, length-drop place bytes)) in
+    get_or-zip2 f (take 16 (drop place bytes)) (replicate 16 x) k 0 0 0 (omega (arith, long)) h
+    ∙ ap₂ f (get_or-take 16 (drop place bytes) k 0 h ∙ get_or-drop place bytes k 0) (get_or-replicate 16 k x 0 h)
 
 -- the lanes of a vector of bytes
 pub below_256 : (v : List ℕ) → Each1 (Fits w8) v → (i : ℕ) → get_or v i 0 < 256
@@ -136,12 +114,8 @@ woven (suc n) a xs = get_or xs a 0 ∷ get_or xs (a + 16) 0 ∷ woven n (suc a) 
 woven_at : (n a : ℕ) (xs : List ℕ) (k : ℕ) → k < n
     → (get_or (woven n a xs) (2 * k) 0 ≡ get_or xs (a + k) 0) × (get_or (woven n a xs) (2 * k + 1) 0 ≡ get_or xs (a + k + 16) 0)
 woven_at zero a xs k h = absurd (omega arith)
-woven_at (suc n) a xs zero h = let e : a + 0 ≡ a = omega arith in rw e (refl, refl)
-woven_at (suc n) a xs (suc k) h =
-    let low : 2 * suc k ≡ suc (suc (2 * k)) = omega arith in
-    let high : 2 * suc k + 1 ≡ suc (suc (2 * k + 1)) = omega arith in
-    let e : a + suc k ≡ suc a + k = omega arith in
-    rw (high, low, e) (woven_at n (suc a) xs k (omega arith))
+woven_at (suc n) a xs zero h = grind arith
+woven_at (suc n) a xs (suc k) h = grind (arith, woven_at n (suc a) xs k)
 
 woven_below : (n a : ℕ) (xs : List ℕ) → ((i : ℕ) → get_or xs i 0 < 256) → (i : ℕ) → get_or (woven n a xs) i 0 < 256
 woven_below zero a xs are i = omega arith
@@ -155,16 +129,13 @@ woven_length (suc n) a xs = omega (arith, woven_length n (suc a) xs)
 
 module _ (lows highs : List ℕ) (count : length lows ≡ 16) (are_low : (i : ℕ) → get_or lows i 0 < 256) (are_high : (i : ℕ) → get_or highs i 0 < 256) where
   low_at : (i : ℕ) → i < 16 → get_or (lows ++ highs) i 0 ≡ get_or lows i 0
-  low_at i h = get_or_append_left lows highs 0 i (omega (arith, count))
+  low_at i h = grind (arith, get_or_append_left)
 
   high_at : (i : ℕ) → get_or (lows ++ highs) (i + 16) 0 ≡ get_or highs i 0
-  high_at i = let e : i + 16 ≡ length lows + i = omega (arith, count) in rw e (get_or-append-add lows highs i 0)
+  high_at i = grind (arith, get_or-append-add)
 
   are : (i : ℕ) → get_or (lows ++ highs) i 0 < 256
-  are i = elim (cases_lt i 16) [
-    | inl l ↦ rw (low_at i l) (are_low i)
-    | inr l ↦ let e : i ≡ i - 16 + 16 = omega arith in rw e (rw (high_at (i - 16)) (are_high (i - 16)))
-  ]
+  are i = grind (arith, nat_tests, low_at, high_at (i - 16))
 
   -- a lane of eight of them, from one on
   pub joined_lane : (a k : ℕ) → a + k < 16 → k < 8
@@ -175,10 +146,7 @@ module _ (lows highs : List ℕ) (count : length lows ≡ 16) (are_low : (i : �
       ∙ rw (at.0, at.1, low_at (a + k) within, high_at (a + k)) refl
 
   pub joined_front : (k : ℕ) → k < 8 → get_or (digits_l 65536 8 (number_l 256 (woven 8 0 (lows ++ highs)))) k 0 ≡ get_or lows k 0 + 256 * get_or highs k 0
-  joined_front k h =
-      let e : 0 + k ≡ k = omega arith in
-      subst (λ i. get_or (digits_l 65536 8 (number_l 256 (woven 8 0 (lows ++ highs)))) k 0 ≡ get_or lows i 0 + 256 * get_or highs i 0) e
-      (joined_lane 0 k (omega arith) h)
+  joined_front k h = grind (arith, joined_lane 0 k)
 
 -- two vectors that are stored from a place on change nothing before it
 pub stored_before : (all front back : List ℕ) (at k : ℕ) → k < at → get_or (put_chunk (at + 8) (put_chunk at all front) back) k 0 ≡ get_or all k 0
@@ -190,28 +158,15 @@ pub stored_at : (P : ℕ → ℕ → Type 0) (all front back : List ℕ) (at : �
     → (k : ℕ) → k < 16 → P k (get_or (put_chunk (at + 8) (put_chunk at all front) back) (at + k) 0)
 stored_at P all front back at long long_back room first others k h = grind (arith, nat_tests, get_or-put_chunk_below, get_or-put_chunk_at, length-put_chunk)
 
--- sixteen entries, and sixteen after them
-pub both_halves : (P : ℕ → ℕ → Type 0) (front all : List ℕ) → ((k : ℕ) → k < 16 → get_or all k 0 ≡ get_or front k 0) →
-    ((k : ℕ) → k < 16 → P k (get_or front (0 + k) 0)) → ((k : ℕ) → k < 16 → P (16 + k) (get_or all (16 + k) 0)) → (k : ℕ) → k < 32 → P k (get_or all k 0)
-both_halves P front all same first others k h = elim (cases_lt k 16) [
-  | inl l ↦ let e : 0 + k ≡ k = omega arith in rw (same k l) (subst (λ i. P k (get_or front i 0)) e (first k l))
-  | inr l ↦ let e : 16 + (k - 16) ≡ k = omega arith in subst (λ i. P i (get_or all i 0)) e (others (k - 16) (omega arith))
-]
-
 -- ---- scalars
 
--- bytes that are not the first of a scalar
-abbrev AreTails : List ℕ → Type 0
-AreTails [] = Unit {0}
-AreTails (x ∷ xs) = (128 ≤ x) × (x < 192) × AreTails xs
-
-tail_at : (xs : List ℕ) → AreTails xs → (k : ℕ) → k < length xs → (128 ≤ get_or xs k 0) × (get_or xs k 0 < 192)
-tail_at [] t k h = absurd (omega arith)
-tail_at (x ∷ xs) t zero h = (t.0, t.1)
-tail_at (x ∷ xs) t (suc k) h = tail_at xs t.2 k (omega arith)
-
-encode_tails : (c : ℕ) → AreTails (drop 1 (encode c))
-encode_tails c = grind (arith, nat_tests, encode_1, encode_2, encode_3, encode_4)
+-- a byte that is not the first of a scalar
+tail_at : (c k : ℕ) → 0 < k → k < unit_count Utf8 c → (128 ≤ get_or (encode c) k 0) × (get_or (encode c) k 0 < 192)
+tail_at c zero some few = absurd (omega arith)
+tail_at c (suc zero) some few = grind (arith, nat_tests, encode_1, encode_2, encode_3, encode_4)
+tail_at c (suc (suc zero)) some few = grind (arith, nat_tests, encode_1, encode_2, encode_3, encode_4)
+tail_at c (suc (suc (suc zero))) some few = grind (arith, nat_tests, encode_1, encode_2, encode_3, encode_4)
+tail_at c (suc (suc (suc (suc k)))) some few = grind (arith, nat_tests, encode_1, encode_2, encode_3, encode_4)
 
 module _ (text : List ℕ) (place : ℕ) (inside : place < length text) (u : is_utf8 (drop place text) ≡ true) where
   abbrev C : ℕ
@@ -223,78 +178,34 @@ module _ (text : List ℕ) (place : ℕ) (inside : place < length text) (u : is_
   stands : StandsAt text place (get_or (chars (drop place text)) 0 0)
   stands = utf8_stands text place C u (first_some (chars (drop place text)) some)
 
-  byte_at : (k : ℕ) → get_or text (place + k) 0 ≡ get_or (encode (get_or (chars (drop place text)) 0 0) ++ stands.rest) k 0
-  byte_at k = sym (get_or-drop place text k 0) ∙ ap (λ l. get_or l k 0) stands.is
-
   pub reads_here : ReadsScalar text place (get_or (chars (drop place text)) 0 0) (place + unit_count Utf8 (get_or (chars (drop place text)) 0 0))
-  reads_here =
-      let p = utf8_pass text place (unit_count Utf8 C) (omega arith) u some refl in
-      record {
-        left = first_cons (chars (drop place text)) C (first_some (chars (drop place text)) some) ∙ ap (λ l. C ∷ l) (sym p.2);
-        is_text = p.1;
-        within = p.0;
-        passed = refl;
-      }
+  reads_here = grind (arith, utf8_pass text place (unit_count Utf8 C), first_cons, first_some (chars (drop place text)) some)
 
   pub some_units : 0 < unit_count Utf8 (get_or (chars (drop place text)) 0 0)
   some_units = let l = (len_utf8_bounds C).0 in omega (arith, length-encode C, l)
 
-  first_byte : get_or text place 0 ≡ get_or (encode (get_or (chars (drop place text)) 0 0) ++ stands.rest) 0 0
-  first_byte = ap (λ n. get_or text n 0) (sym (add-zero place)) ∙ byte_at 0
-
   -- a scalar begins with such a byte
   pub start_here : IsStart (get_or text place 0)
-  start_here = grind (arith, nat_tests, first_byte, stands, encode_1, encode_2, encode_3, encode_4)
+  start_here = grind (arith, nat_tests, stands_byte text place C stands 0, stands, encode_1, encode_2, encode_3, encode_4)
 
   -- no other byte of the scalar is such a byte
   pub no_start : (k : ℕ) → 0 < k → k < unit_count Utf8 (get_or (chars (drop place text)) 0 0) → IsStart (get_or text (place + k) 0) → ⊥
-  no_start k some_k few start =
-      let after : 1 + (k - 1) ≡ k = omega arith in
-      let tail = tail_at (drop 1 (encode C)) (encode_tails C) (k - 1) (omega (arith, length-drop 1 (encode C))) in
-      let is : get_or text (place + k) 0 ≡ get_or (drop 1 (encode C)) (k - 1) 0 =
-      byte_at k ∙ get_or_append_left (encode C) stands.rest 0 k few ∙ sym (get_or-drop 1 (encode C) (k - 1) 0 ∙ ap (λ n. get_or (encode C) n 0) after) in
-      omega (arith, is, tail, start (omega (arith, is, tail)))
+  no_start k some_k few start = grind (arith, stands_byte text place C stands k, get_or_append_left, tail_at)
 
   -- the code unit at the beginning of a scalar is this scalar, if it is not a surrogate
   pub unit_is : place + 2 ≤ length text → (unit : ℕ) → IsUnitAt text place unit → IsNoSurrogate unit → unit ≡ get_or (chars (drop place text)) 0 0
-  unit_is two unit made bmp = elim (made bmp) [
-    | inl one ↦
-        let r = reads_ascii text place two u (omega (arith, one.0)) one.0 in
-        one.1 ∙ sym (ap (λ l. get_or l 0 0) r.left)
-    | inr three ↦
-        let m = made_of_three stands three.0 three.1 in
-        three.2 ∙ m.made
-  ]
+  unit_is two unit made bmp = grind (arith, reads_ascii text place two u, made_of_three stands)
 
 -- the next place at which a scalar begins is the one after the scalar
 next_is : (text : List ℕ) (start p q : ℕ) → start + 32 ≤ length text → p < q → q < 32 → is_utf8 (drop (start + p) text) ≡ true →
     IsStart (get_or text (start + q) 0)
     → ((j : ℕ) → p < j → j < q → IsStart (get_or text (start + j) 0) → ⊥) → start + q ≡ start + p + unit_count Utf8 (get_or (chars (drop (start + p) text)) 0 0)
 next_is text start p q long more few u at_q none =
-    let inside : start + p < length text = omega arith in
     let n = unit_count Utf8 (get_or (chars (drop (start + p) text)) 0 0) in
-    let r = reads_here text (start + p) inside u in
-    elim (cases_lt q (p + n)) as (λ _. start + q ≡ start + p + n) [
-      | inl l ↦
-          let place : start + q ≡ start + p + (q - p) = omega arith in
-          absurd (no_start text (start + p) inside u (q - p) (omega arith) (omega arith) (rw place at at_q))
-      | inr l ↦ elim (cases_lt (p + n) q) [
-        | inl m ↦
-            let place : start + p + n ≡ start + (p + n) = omega arith in
-            let some_n : 0 < n = some_units text (start + p) inside u in
-            absurd (none (p + n) (omega arith) m (rw place at (start_here text (start + p + n) (omega arith) r.is_text)))
-        | inr m ↦ omega arith
-      ]
-    ]
+    let apart = no_start text (start + p) (omega arith) u (q - p) in
+    grind (arith, nat_tests, reads_here text (start + p), some_units, start_here, none (p + n))
 
 -- ---- turns
-
-one_count : (c : ℕ) → total_unit_count Utf8 (c ∷ []) ≡ unit_count Utf8 c
-one_count c = ap length (append-nil (code_units Utf8 c))
-
--- no code units were read yet
-units_none : (text : List ℕ) (start : ℕ) → start ≤ length text → is_utf8 (drop start text) ≡ true → ReadsUnits text start [] start
-units_none text start within u = record { is_text = u; within = within; front = λ _. refl; passed = λ _. sym (add-zero start) }
 
 -- one more code unit
 units_more : (text : List ℕ) (start : ℕ) (units : List ℕ) (place c behind unit : ℕ) → ReadsUnits text start units place → ReadsScalar text place c behind
@@ -302,22 +213,15 @@ units_more : (text : List ℕ) (start : ℕ) (units : List ℕ) (place c behind 
 units_more text start units place c behind unit before r is = record {
   is_text = r.is_text;
   within = r.within;
-  front = λ bmp.
-      let same = is (last bmp) in
-      before.front (firsts bmp) ∙ ap (λ l. units ++ l) r.left ∙ rw same (sym (append_assoc units (c ∷ []) (chars (drop behind text))));
-  passed = λ bmp.
-      let same = is (last bmp) in
-      omega (arith, before.passed (firsts bmp), r.passed, total_unit_count-append Utf8 units (unit ∷ []), one_count unit, ap (unit_count Utf8) same);
+  front = λ bmp. grind (arith, is (last bmp), before.front (firsts bmp), r.left, append_assoc);
+  passed = λ bmp. grind (arith, is (last bmp), before.passed (firsts bmp), r.passed, total_unit_count-append, one_count);
 }
   where
-    long : length (units ++ unit ∷ []) ≡ length units + 1
-    long = length-append units (unit ∷ [])
-
     firsts : AreNoSurrogates (units ++ unit ∷ []) → AreNoSurrogates units
-    firsts bmp k h = subst IsNoSurrogate (get_or_append_left units (unit ∷ []) 0 k h) (bmp k (omega (arith, long)))
+    firsts bmp k h = grind (arith, get_or_append_left, bmp k, length-append)
 
     last : AreNoSurrogates (units ++ unit ∷ []) → IsNoSurrogate unit
-    last bmp = subst IsNoSurrogate (get_or-append-add units (unit ∷ []) 0 0) (bmp (length units + 0) (omega (arith, long)))
+    last bmp = subst IsNoSurrogate (get_or-append-add units (unit ∷ []) 0 0) (bmp (length units + 0) (omega (arith, length-append units (unit ∷ []))))
 
 -- code units were read up to the lowest bit, and the bits from there on say where scalars begin
 pub record StandsBehind (text : List ℕ) (start : ℕ) (units : List ℕ) (bits : ℕ) : Type 0 where
@@ -327,13 +231,7 @@ pub record StandsBehind (text : List ℕ) (start : ℕ) (units : List ℕ) (bits
 pub stands_first : (text : List ℕ) (start bits : ℕ) → start + 34 ≤ length text → is_utf8 (drop start text) ≡ true
     → ((k : ℕ) → k < 32 → (bit_at bits k ≡ 1) ↔ IsStart (get_or text (start + k) 0)) → bits < 2 ^ 32 → 0 < bits → StandsBehind text start [] bits
 stands_first text start bits long u starts fits some =
-    let h = bit_at-trailing_zeros w32 bits some fits in
-    let first : bit_at bits 0 ≡ 1 = (starts 0 (omega arith)).1 (rw (add-zero start) (start_here text start (omega arith) u)) in
-    let zero_is : trailing_zeros w32 bits ≡ 0 = elim (cases_lt 0 (trailing_zeros w32 bits)) [
-      | inl l ↦ omega (arith, first, h.2 0 l)
-      | inr l ↦ omega arith
-    ] in
-    record { reads = rw (zero_is, add-zero start) (units_none text start (omega arith) u); starts = λ k _ l. starts k l }
+    grind (arith, nat_tests, bit_at-trailing_zeros w32 bits some fits, starts 0, start_here text start (omega arith) u, add-zero)
 
 pub stands_more : (text : List ℕ) (start : ℕ) (units : List ℕ) (bits rest unit : ℕ) → start + 34 ≤ length text → 0 < bits → bits < 2 ^ 32 → 0 < rest →
     rest < 2 ^ 32 → ((k : ℕ) → k ≤ trailing_zeros w32 bits → bit_at rest k ≡ 0) → ((k : ℕ) → trailing_zeros w32 bits < k → bit_at rest k ≡ bit_at bits k)
@@ -344,19 +242,17 @@ stands_more text start units bits rest unit long some fits some_rest fits_rest g
     let q = trailing_zeros w32 rest in
     let at = bit_at-trailing_zeros w32 bits some fits in
     let next = bit_at-trailing_zeros w32 rest some_rest fits_rest in
-    let more : p < q = elim (cases_lt p q) as (λ _. p < q) [
-      | inl l ↦ l
-      | inr l ↦ absurd (omega (arith, gone q l, next.1))
-    ] in
-    let begins : IsStart (get_or text (start + q) 0) = (s.starts q (omega (arith, more)) next.0).0 (sym (others q more) ∙ next.1) in
+    let more : p < q = grind (arith, nat_tests, gone q) in
+    let begins : IsStart (get_or text (start + q) 0) = grind (arith, s.starts q, others q) in
     let inside : start + p < length text = omega (arith, at.0, long) in
     let place = next_is text start p q (omega (arith, long)) more next.0 s.reads.is_text begins
     (λ j l m start_j. omega (arith, others j l, next.2 j m, (s.starts j (omega (arith, l)) (omega (arith, m, next.0))).1 start_j)) in
     record {
       reads =
-          rw place (units_more text start units (start + p) (get_or (chars (drop (start + p) text)) 0 0)
-          (start + p + unit_count Utf8 (get_or (chars (drop (start + p) text)) 0 0)) unit s.reads
+          rw place (units_more text start units (start + p) _ _ unit s.reads
           (reads_here text (start + p) inside s.reads.is_text)
           (unit_is text (start + p) inside s.reads.is_text (omega (arith, at.0, long)) unit (made p at.0 refl)));
-      starts = λ k l h. rw (others k (omega (arith, more, l))) (s.starts k (omega (arith, more, l)) h);
+      starts = λ k l h. grind (arith, others k, s.starts k);
     }
+
+pub ruleset lowest_steps = (lowest_gone, others_stay)

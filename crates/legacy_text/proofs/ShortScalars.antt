@@ -1,13 +1,14 @@
 -- Runs of scalars that were written as one byte each, and the scalars of one and two bytes of UTF-8.
-use Rattle.std.proofs.{lemmas.Bool.Decides.nat_tests, lemmas.Grind.common_steps, Common.{◌≡◌, ◌∙◌, ℕ, ◌+◌, ◌-◌, ◌*◌, ◌/◌, ◌%◌, ◌≤◌, ◌<◌, List, [], ◌∷◌, ◌++◌}}
-use Rattle.std.proofs.Common.{length, get_or, Bool, true, ◌&&◌, take, drop, sym, ap, arith, append_assoc, append-nil, length-append, length-drop, add-zero}
+use Rattle.std.proofs.{lemmas.Bool.Decides.nat_tests, lemmas.Grind.common_steps, Common.{◌≡◌, ℕ, ◌+◌, ◌-◌, ◌*◌, ◌≤◌, ◌<◌, List, [], ◌∷◌, ◌++◌}}
+use Rattle.std.proofs.Common.{length, get_or, Bool, true, ◌&&◌, drop, sym, ap, arith, append_assoc, append-nil, length-append, length-drop, add-zero}
 use Rattle.std.proofs.{lemmas.List.{get_or_append_left, get_or-append-add, get_or-drop, drop-drop}, lemmas.Str.{encodes-chars, IsUtf8-from_is_utf8}}
 use Rattle.std.proofs.Math.Seq.{take-add}
 use Rattle.std.specs.Str.{chars, is_utf8}
-use lib.Utf8.{encode, encodes}
+use lib.Utf8.{encodes}
 use Rattle.legacy_text.specs.{EncodingForm.{Utf8, code_units, unit_count, total_unit_count}, ShortScalars.{ReadsScalar, WritesScalars}, UnitCodes.WritesCodes}
-use Rattle.legacy_text.proofs.{CodeUnits.{encode_1, encode_2, total_unit_count-append, one_below, two_above, two_below}, Texts.{TellsCount, first_some}}
-use Rattle.legacy_text.proofs.{Texts.{first_cons, utf8_pass, utf8_bytes, utf8_tells}, UnitCopies.writes_none}
+use Rattle.legacy_text.specs.NextScalars.{StandsAt}
+use Rattle.legacy_text.proofs.{CodeUnits.{encode_1, encode_2, total_unit_count-append, one_below, two_above, two_below}, Texts.{first_some}}
+use Rattle.legacy_text.proofs.{Texts.{first_cons, utf8_pass, utf8_stands, stands_byte, stands_tells}, UnitCopies.writes_none}
 
 -- ---- runs
 
@@ -22,8 +23,8 @@ pub scalars_none : (gives : ℕ → ℕ → Type 0) (text : List ℕ) (place : �
     → WritesScalars gives text place 0 place old new
 scalars_none gives text place old new p u e = grind (arith, nat_tests, add-zero, writes_none)
 
-one_count : (c : ℕ) (rest : List ℕ) → total_unit_count Utf8 (take 1 (c ∷ rest)) ≡ unit_count Utf8 c
-one_count c rest = ap length (append-nil (code_units Utf8 c))
+pub one_count : (c : ℕ) → total_unit_count Utf8 (c ∷ []) ≡ unit_count Utf8 c
+one_count c = ap length (append-nil (code_units Utf8 c))
 
 -- one scalar
 pub scalars_one : (gives : ℕ → ℕ → Type 0) (text : List ℕ) (place scalar behind byte : ℕ) (old new : List ℕ) → ReadsScalar text place scalar behind
@@ -56,41 +57,23 @@ module _ (text : List ℕ) (place : ℕ) (within : place + 2 ≤ length text) (u
   some : 0 < length (chars (drop place text))
   some = some_left text place (omega arith) u
 
-  bytes : drop place text ≡ encode (get_or (chars (drop place text)) 0 0) ++ encodes (drop 1 (chars (drop place text)))
-  bytes = utf8_bytes text place C u (first_some Left some)
-
-  byte_at : (k : ℕ) → get_or text (place + k) 0 ≡ get_or (encode (get_or (chars (drop place text)) 0 0) ++ encodes (drop 1 (chars (drop place text)))) k 0
-  byte_at k = sym (get_or-drop place text k 0) ∙ ap (λ l. get_or l k 0) bytes
+  stands : StandsAt text place (get_or (chars (drop place text)) 0 0)
+  stands = utf8_stands text place C u (first_some Left some)
 
   reads : (n : ℕ) → n ≡ unit_count Utf8 (get_or (chars (drop place text)) 0 0) → ReadsScalar text place (get_or (chars (drop place text)) 0 0) (place + n)
-  reads n e =
-      let p = utf8_pass text place n (omega arith) u some e in
-      record { left = first_cons Left C (first_some Left some) ∙ ap (λ l. C ∷ l) (sym p.2); is_text = p.1; within = p.0; passed = ap (λ m. place + m) e }
-
-  tells : TellsCount (get_or (chars (drop place text)) 0 0) (get_or text place 0)
-  tells = utf8_tells text place C u (first_some Left some)
+  reads n e = grind (arith, utf8_pass text place n, first_cons, first_some Left some)
 
   -- ASCII is its own scalar
   pub reads_ascii : get_or text place 0 < 128 → ReadsScalar text place (get_or text place 0) (place + 1)
-  reads_ascii h =
-      let one = tells.one h in
-      let same : get_or text place 0 ≡ C =
-      ap (λ n. get_or text n 0) (sym (add-zero place)) ∙ byte_at 0 ∙ ap (λ l. get_or (l ++ encodes (drop 1 Left)) 0 0) (encode_1 C (one_below C one)) in
-      rw same (reads 1 (sym one))
+  reads_ascii h = grind (arith, stands_tells text place C stands, stands_byte text place C stands 0, encode_1, one_below, reads 1)
 
   -- two bytes contain the eleven bits of a scalar
   pub reads_pair : 128 ≤ get_or text place 0
       → (0x3080 ≤ get_or text place 0 * 64 + get_or text (place + 1) 0) × ReadsScalar text place (get_or text place 0 * 64 + get_or text (place + 1) 0 - 0x3080)
       (place + 2)
   reads_pair h =
-      let two = tells.two h short in
-      let above = two_above C two in
-      let below = two_below C two in
-      let first : get_or text place 0 ≡ 192 + C / 64 =
-      ap (λ n. get_or text n 0) (sym (add-zero place)) ∙ byte_at 0 ∙ ap (λ l. get_or (l ++ encodes (drop 1 Left)) 0 0) (encode_2 C above below) in
-      let second : get_or text (place + 1) 0 ≡ 128 + C % 64 = byte_at 1 ∙ ap (λ l. get_or (l ++ encodes (drop 1 Left)) 1 0) (encode_2 C above below) in
-      let same : get_or text place 0 * 64 + get_or text (place + 1) 0 - 0x3080 ≡ C = rw (first, second) (omega arith) in
-      (rw (first, second) (omega arith), rw same (reads 2 (sym two)))
+      let byte = stands_byte text place C stands in
+      grind (arith, stands_tells text place C stands, byte 0, byte 1, encode_2, two_above, two_below, reads 2)
 
 -- ---- turns
 

@@ -1,6 +1,6 @@
 -- Code units below 0x800.
 use Rattle.std.proofs.Common.{◌≡◌, ℕ, zero, suc, ◌+◌, ◌-◌, ◌*◌, ◌/◌, ◌%◌, ◌^◌, ◌<◌, ◌≤◌, Bool, true, false, cond, ltb, leb, eqb, List, [], ◌∷◌, ◌++◌, length}
-use Rattle.std.proofs.{Common.{get_or, map, take, replicate, bit_and, refl, ap, ap₂, ◌∙◌, arith, w8, w16, Fits, All}, lemmas.Bool.{ltb-true, lt-ltb, leb-true}}
+use Rattle.std.proofs.{Common.{get_or, map, take, replicate, bit_and, refl, ap, ◌∙◌, ◌&&◌, arith, w8, w16, Fits, All}, lemmas.Bool.{ltb-true, leb-true}}
 use Rattle.std.proofs.{lemmas.Bool.{eqb-true, agree_below_at}, lemmas.Bool.Decides.nat_tests, lemmas.Grind.common_steps, lemmas.List.{map-append, length-map}}
 use Rattle.std.proofs.{lemmas.List.{take-take, take-map}, Math.Seq.take-append_seam, lemmas.Nat.and_mask, lemmas.Simd.{bitmask_splat, mask_l-lt, swz_l}}
 use Rattle.std.specs.{Char.encode_utf8, Int.RustNames.count_ones, List.range_with_len}
@@ -60,9 +60,8 @@ short_row_long r h = eqb-true _ _ (agree_below_at (λ n. eqb (length (short_row 
 pub short_counted : (at r : ℕ) → r < 256 → at + 16 - count_ones r ≡ at + length (short_places 0 8 r)
 unfolding short_places count_ones
 short_counted at r h =
-    let count = agree_below_at (λ n. eqb (16 - count_ones n) (length (short_places 0 8 n))) (λ _. true) 256 r refl h in
-    let ones = agree_below_at (λ n. leb (count_ones n) 8) (λ _. true) 256 r refl h in
-    omega (arith, eqb-true _ _ count, leb-true _ _ ones)
+    let count = agree_below_at (λ n. eqb (16 - count_ones n) (length (short_places 0 8 n)) && leb (count_ones n) 8) (λ _. true) 256 r refl h in
+    grind (arith, nat_tests)
 
 pub short_places_most : (r : ℕ) → r < 256 → length (short_places 0 8 r) ≤ 16
 unfolding short_places
@@ -73,9 +72,9 @@ pub short_written : (xs : List ℕ) (r : ℕ) → r < 256 →
 unfolding short_row
 short_written xs r h =
     let n = length (short_places 0 8 r) in
-    ap (take n) (shuffled xs 0 (short_row r) (omega (arith, short_row_long r h)) (short_row_within r h))
-    ∙ take-map (λ j. get_or xs j 0) n (short_row r)
-    ∙ ap (map (λ j. get_or xs j 0)) (take-take n 16 _ (short_places_most r h) ∙ take-append_seam (short_places 0 8 r) (replicate 16 0))
+    let front = take-append_seam (short_places 0 8 r) (replicate 16 0) in
+    let cut = take-take n 16 (short_places 0 8 r ++ replicate 16 0) (short_places_most r h) in
+    grind (arith, shuffled xs 0 (short_row r), short_row_long r, short_row_within r, take-map (λ j. get_or xs j 0) n (short_row r))
 
 -- ---- the bytes that are written are the text
 
@@ -96,18 +95,8 @@ unfolding short_places short_pattern
 short_text f base [] small reads = refl
 short_text f base (u ∷ us) small reads =
     let d = digit (ltb u 128) (short_pattern us) in
-    let s = ltb u 128 in
-    let first : u < 2048 = small 0 0 (omega arith) in
-    let rest = short_places (base + 2) (length us) (short_pattern us) in
-    (λ i. map f (cond (d.0 i) (base ∷ []) (base ∷ (base + 1) ∷ []) ++ short_places (base + 2) (length us) (d.1 i)))
-    ∙ map-append f (cond s (base ∷ []) (base ∷ (base + 1) ∷ [])) rest
-    ∙ ap₂ (λ (x y : List ℕ). x ++ y)
-    (chosen s ∙ short_unit u (f base) (f (base + 1)) first reads.0 reads.1)
-    (short_text f (base + 2) us (λ k d' h. small (suc k) d' (omega arith)) reads.2)
-  where
-    chosen : (s : Bool) → map f (cond s (base ∷ []) (base ∷ (base + 1) ∷ [])) ≡ cond s (f base ∷ []) (f base ∷ f (base + 1) ∷ [])
-    chosen true = refl
-    chosen false = refl
+    let rest = short_text f (base + 2) us (λ k d' h. small (suc k) d' (omega arith)) reads.2 in
+    grind (arith, map-append, short_unit u (f base) (f (base + 1)), small 0 0)
 
 pub short_text_of_eight : (v : List ℕ) → length v ≡ 8 → Each1 (Fits w16) v → AreShort v →
     map (λ k. get_or (short_lanes v) k 0) (short_places 0 8 (short_pattern v)) ≡ utf8_bytes v
@@ -133,10 +122,8 @@ units_below n xs long whole = grind (arith, common_steps, bitmask_splat, length-
 pub units_all_below : (n : ℕ) (xs : List ℕ) → length xs ≡ 8 → All (λ x. x < n) xs
     → eqb (mask_l (map (top 15) (zip2 (λ a b. cond (ltb a b) (2 ^ 16 - 1) 0) xs (replicate 8 n))) % 2 ^ 64) 255 ≡ true
 units_all_below n xs long all =
-    let same : mask_l (map (top 15) (zip2 (λ a b. cond (ltb a b) (2 ^ 16 - 1) 0) xs (replicate 8 n))) % 2 ^ 64 ≡ mask_l (map (λ x. ltb x n) xs) =
-    bitmask_splat w16 ltb xs 8 n long (omega arith) in
-    ap (λ m. eqb m 255) (same ∙ ap mask_l (set xs all) ∙ ap (λ k. mask_l (replicate k true)) long)
+    grind (arith, bitmask_splat w16 ltb xs 8 n long, set xs all, ap (λ k. mask_l (replicate k true)) long)
   where
     set : (ys : List ℕ) → All (λ y. y < n) ys → map (λ x. ltb x n) ys ≡ replicate (length ys) true
     set [] h = refl
-    set (y ∷ ys) h = ap₂ (λ b bs. b ∷ bs) (lt-ltb y n (h 0 0 (omega arith))) (set ys (λ k d l. h (suc k) d (omega (arith, l))))
+    set (y ∷ ys) h = grind (arith, nat_tests, h 0 0, set ys (λ k d l. h (suc k) d (omega (arith, l))))

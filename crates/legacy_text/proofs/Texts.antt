@@ -1,7 +1,7 @@
 -- The scalars of texts, one by one from the front, and the places between them.
 use Rattle.std.proofs.{lemmas.Bool.Decides.nat_tests, Common.{◌≡◌, ◌∙◌, ℕ, suc, ◌+◌, ◌-◌, ◌≤◌, ◌<◌, List, [], ◌∷◌, ◌++◌, length, take, drop, get_or, refl, sym}}
-use Rattle.std.proofs.Common.{◌*◌, ◌%◌, add-zero, ap, subst, arith, length-append, length-drop, Some, None, Option, true, false, ◌⊎◌, inl, inr, ◌&&◌, map}
-use Rattle.std.proofs.{Common.{slice_get, IsAscii}, lemmas.Bool.and_parts, lemmas.List.{drop-drop, take-append-drop, length-take-le, take_all, get_or-drop}}
+use Rattle.std.proofs.Common.{◌*◌, ◌%◌, ap, subst, arith, length-append, length-drop, Some, None, Option, true, false, ◌⊎◌, ◌&&◌, map}
+use Rattle.std.proofs.{Common.{slice_get, IsAscii}, lemmas.List.{drop-drop, take-append-drop, length-take-le, take_all, get_or-drop}}
 use Rattle.std.proofs.{Math.Seq.{drop-append_seam, take-append_seam}, lemmas.Str.{IsUtf8-from_is_utf8, is_utf8-from_IsUtf8, encodes-chars, chars_past_char}}
 use Rattle.std.proofs.lemmas.Str.{IsUtf8-past_char, drop_past_char, length-encode, utf16_chars-nil, len_utf8_bounds, utf16_chars_lone, utf16_chars_pair}
 use Rattle.std.proofs.lemmas.Str.{encodes-append, scalars-chars, chars-encodes, IsCharBoundary-at_seam, chars-append, chars-IsAscii, IsUtf8-from_ascii}
@@ -9,8 +9,10 @@ use Rattle.std.proofs.str.Utf16.{IsPair, lone_unit_char_low, lone_unit_char_high
 use Rattle.std.proofs.str.Utf16.{utf16_chars-drop_all}
 use Rattle.std.specs.{Str.{chars, is_utf8, IsUtf8, IsCharBoundary}, Char.len_utf8, Char.Utf16.{lone_unit_char, surrogate_pair_char, is_high_surrogate}}
 use Rattle.std.specs.{Char.Utf16.is_low_surrogate, Option.unwrap_or}
+use Rattle.std.proofs.{lemmas.Str.IsCharBoundary-from_drop, lemmas.Grind.common_steps}
 use lib.{ListN.get_or-eq_default, Utf8.{encode, encodes, scalar, scalars}}
 use Rattle.legacy_text.specs.{EncodingForm.{EncodingForm, Utf8, Utf16, unit_count, all_code_units}, declared.text_cursor.Next.Next, NextScalars.StandsAt}
+use Rattle.legacy_text.specs.UnitCodes.{IsNoSurrogate}
 use Rattle.legacy_text.specs.{NextScalars.{IsSized, IsNext}, Texts.{unit_scalars, IsUnitBoundary}}
 use Rattle.legacy_text.proofs.CodeUnits.{encode_1, encode_2, encode_3, encode_4, two_above, two_below, three_above, three_below, utf16_1, utf16_2}
 use Rattle.legacy_text.proofs.CodeUnits.{total_unit_count-append}
@@ -19,6 +21,12 @@ pub first_cons : {A : Type 0} (xs : List A) (x : A) → Some x ≡ slice_get xs 
 first_cons xs x h = grind arith
 
 -- ---- UTF-8
+
+-- the bytes of the scalar c are at the place of the text
+pub utf8_bytes : (text : List ℕ) (place c : ℕ) → is_utf8 (drop place text) ≡ true → Some c ≡ slice_get (chars (drop place text)) 0
+    → drop place text ≡ encode c ++ encodes (drop 1 (chars (drop place text)))
+utf8_bytes text place c u e =
+    sym (encodes-chars (drop place text) (IsUtf8-from_is_utf8 (drop place text) u)) ∙ ap encodes (first_cons (chars (drop place text)) c e)
 
 -- the scalar c is at the place of the text
 pub record Utf8Step (text : List ℕ) (place c : ℕ) : Type 0 where
@@ -32,28 +40,17 @@ pub utf8_step : (text : List ℕ) (place c : ℕ) → place ≤ length text → 
 utf8_step text place c p u e =
     let bs = drop place text in
     let is = IsUtf8-from_is_utf8 bs u in
-    let cons = first_cons (chars bs) c e in
     let rest = encodes (drop 1 (chars bs)) in
-    let split : bs ≡ encode c ++ rest = sym (encodes-chars bs is) ∙ ap encodes cons in
-    let past : drop (place + len_utf8 c) text ≡ rest = drop_past_char text rest place c split in
-    let all : chars bs ≡ c ∷ chars rest = chars_past_char bs rest c is split in
-    record {
-      within = omega (arith, length-encode c, ap length split, length-append (encode c) rest, length-drop place text);
-      is_text = rw past (is_utf8-from_IsUtf8 rest (IsUtf8-past_char bs rest c is split));
-      behind = ap chars past ∙ sym (ap (drop 1) all);
-      first = ap (λ l. get_or l 0 0) all;
-    }
+    let split : bs ≡ encode c ++ rest = utf8_bytes text place c u e in
+    let is_text = is_utf8-from_IsUtf8 rest (IsUtf8-past_char bs rest c is split) in
+    let past = drop_past_char text rest place c split in
+    let all = chars_past_char bs rest c is split in
+    grind (arith, length-encode c, ap length split, length-append (encode c) rest, length-drop place text)
 
 -- the place is not the end
 pub utf8_inside : (text : List ℕ) (place c : ℕ) → place ≤ length text → is_utf8 (drop place text) ≡ true → Some c ≡ slice_get (chars (drop place text)) 0 →
     place < length text
 utf8_inside text place c p u e = let some = (len_utf8_bounds c).0 in omega (arith, some, (utf8_step text place c p u e).within)
-
--- its bytes are there
-pub utf8_bytes : (text : List ℕ) (place c : ℕ) → is_utf8 (drop place text) ≡ true → Some c ≡ slice_get (chars (drop place text)) 0
-    → drop place text ≡ encode c ++ encodes (drop 1 (chars (drop place text)))
-utf8_bytes text place c u e =
-    sym (encodes-chars (drop place text) (IsUtf8-from_is_utf8 (drop place text) u)) ∙ ap encodes (first_cons (chars (drop place text)) c e)
 
 -- the first byte of the scalar c in UTF-8 gives its number of bytes
 pub record TellsCount (c first : ℕ) : Type 0 where
@@ -62,43 +59,21 @@ pub record TellsCount (c first : ℕ) : Type 0 where
   pub three : 0xE0 ≤ first → first < 0xF0 → unit_count Utf8 c ≡ 3
   pub four : 0xF0 ≤ first → unit_count Utf8 c ≡ 4
 
-first_tells : (c first : ℕ) (rest : List ℕ) → get_or (encode c ++ rest) 0 0 ≡ first → TellsCount c first
-first_tells c first rest h = grind (arith, nat_tests, encode_1, encode_2, encode_3, encode_4)
-
-pub utf8_tells : (text : List ℕ) (place c : ℕ) → is_utf8 (drop place text) ≡ true → Some c ≡ slice_get (chars (drop place text)) 0 →
-    TellsCount c (get_or text place 0)
-utf8_tells text place c u e =
-    first_tells c (get_or text place 0) (encodes (drop 1 (chars (drop place text))))
-    (ap (λ l. get_or l 0 0) (sym (utf8_bytes text place c u e)) ∙ get_or-drop place text 0 0 ∙ ap (λ n. get_or text n 0) (add-zero place))
-
 -- ---- scalars of two and of three bytes, made of these
 
 -- the bytes at a place are those of the scalar
-stands_byte : (text : List ℕ) (place c : ℕ) → (s : StandsAt text place c) → (k : ℕ) → get_or text (place + k) 0 ≡ get_or (encode c ++ s.rest) k 0
+pub stands_byte : (text : List ℕ) (place c : ℕ) → (s : StandsAt text place c) → (k : ℕ) → get_or text (place + k) 0 ≡ get_or (encode c ++ s.rest) k 0
 stands_byte text place c s k = sym (get_or-drop place text k 0) ∙ ap (λ l. get_or l k 0) s.is
-
--- the same, by the bytes of the scalar
-scalar_byte : {text : List ℕ} {place c : ℕ} (s : StandsAt text place c) {bytes : List ℕ} → encode c ≡ bytes → (at k : ℕ) → at ≡ place + k
-    → get_or text at 0 ≡ get_or (bytes ++ s.rest) k 0
-scalar_byte {text} {place} {c} s is at k e = ap (λ n. get_or text n 0) e ∙ stands_byte text place c s k ∙ ap (λ l. get_or (l ++ s.rest) k 0) is
 
 pub utf8_stands : (text : List ℕ) (place c : ℕ) → is_utf8 (drop place text) ≡ true → Some c ≡ slice_get (chars (drop place text)) 0 → StandsAt text place c
 utf8_stands text place c u e = record { rest = encodes (drop 1 (chars (drop place text))); is = utf8_bytes text place c u e }
 
-stands_tells : (text : List ℕ) (place c : ℕ) → StandsAt text place c → TellsCount c (get_or text place 0)
-stands_tells text place c s = first_tells c (get_or text place 0) s.rest (sym (stands_byte text place c s 0) ∙ ap (λ n. get_or text n 0) (add-zero place))
+pub stands_tells : (text : List ℕ) (place c : ℕ) → StandsAt text place c → TellsCount c (get_or text place 0)
+stands_tells text place c s = grind (arith, nat_tests, stands_byte text place c s 0, encode_1, encode_2, encode_3, encode_4)
 
 stands_within : (text : List ℕ) (place c : ℕ) → StandsAt text place c → place + unit_count Utf8 c ≤ length text
 stands_within text place c s =
-    let some = (len_utf8_bounds c).0 in
-    let long = length-encode c in
-    omega (arith, some, long, ap length s.is, length-append (encode c) s.rest, length-drop place text)
-
-pub stands_one : {text : List ℕ} {place c : ℕ} → StandsAt text place c → get_or text place 0 < 0x80 → unit_count Utf8 c ≡ 1
-stands_one {text} {place} {c} s h = (stands_tells text place c s).one h
-
-pub stands_four : {text : List ℕ} {place c : ℕ} → StandsAt text place c → 0xF0 ≤ get_or text place 0 → unit_count Utf8 c ≡ 4
-stands_four {text} {place} {c} s h = (stands_tells text place c s).four h
+    omega (arith, (len_utf8_bounds c).0, length-encode c, ap length s.is, length-append (encode c) s.rest, length-drop place text)
 
 pub record MadeOfTwo (text : List ℕ) (place c : ℕ) : Type 0 where
   pub within : place + 2 ≤ length text
@@ -107,10 +82,8 @@ pub record MadeOfTwo (text : List ℕ) (place c : ℕ) : Type 0 where
 
 pub made_of_two : {text : List ℕ} {place c : ℕ} → StandsAt text place c → 0x80 ≤ get_or text place 0 → get_or text place 0 < 0xE0 → MadeOfTwo text place c
 made_of_two {text} {place} {c} s low high =
-    let count = (stands_tells text place c s).two low high in
-    let byte = scalar_byte s (encode_2 c (two_above c count) (two_below c count)) in
-    let first = byte place 0 (omega arith) in
-    record { within = omega (arith, count, stands_within text place c s); count = count; made = rw (first, byte (place + 1) 1 refl) (omega arith) }
+    let byte = stands_byte text place c s in
+    grind (arith, stands_tells text place c s, byte 0, byte 1, encode_2, two_above, two_below, stands_within text place c s)
 
 pub record MadeOfThree (text : List ℕ) (place c : ℕ) : Type 0 where
   pub within : place + 3 ≤ length text
@@ -119,19 +92,19 @@ pub record MadeOfThree (text : List ℕ) (place c : ℕ) : Type 0 where
 
 pub made_of_three : {text : List ℕ} {place c : ℕ} → StandsAt text place c → 0xE0 ≤ get_or text place 0 → get_or text place 0 < 0xF0 → MadeOfThree text place c
 made_of_three {text} {place} {c} s low high =
-    let count = (stands_tells text place c s).three low high in
-    let byte = scalar_byte s (encode_3 c (three_above c count) (three_below c count)) in
-    let first = byte place 0 (omega arith) in
-    record {
-      within = omega (arith, count, stands_within text place c s);
-      count = count;
-      made = rw (first, byte (place + 1) 1 refl, byte (place + 2) 2 refl) (omega arith);
-    }
+    let byte = stands_byte text place c s in
+    grind (arith, stands_tells text place c s, byte 0, byte 1, byte 2, encode_3, three_above, three_below, stands_within text place c s)
 
 -- ---- UTF-16
 
 abbrev pub replaced : Option ℕ → ℕ
 replaced o = unwrap_or o 0xFFFD
+
+pub scalars_one : (u : ℕ) (rest : List ℕ) → (IsPair u (get_or rest 0 0) → ⊥) → unit_scalars (u ∷ rest) ≡ replaced (lone_unit_char u) ∷ unit_scalars rest
+scalars_one u rest n = ap (map replaced) (utf16_chars_lone u rest n)
+
+scalars_two : (u v : ℕ) (rest : List ℕ) → IsPair u v → unit_scalars (u ∷ v ∷ rest) ≡ surrogate_pair_char u v ∷ unit_scalars rest
+scalars_two u v rest p = ap (map replaced) (utf16_chars_pair u v rest p)
 
 pub scalars_lone : (units : List ℕ) (at : ℕ) → at < length units → (IsPair (get_or units at 0) (get_or units (at + 1) 0) → ⊥) →
     unit_scalars (drop at units) ≡ unwrap_or (lone_unit_char (get_or units at 0)) 0xFFFD ∷ unit_scalars (drop (at + 1) units)
@@ -143,23 +116,6 @@ scalars_pair units at h p = ap (map replaced) (utf16_chars-drop_pair units at h 
 
 pub scalars_end : (units : List ℕ) (at : ℕ) → length units ≤ at → unit_scalars (drop at units) ≡ []
 scalars_end units at h = ap (map replaced) (utf16_chars-drop_all units at h)
-
--- the unit at the place, as a scalar
-pub first_low : (units : List ℕ) (at : ℕ) → at < length units → get_or units at 0 < 0xD800 →
-    Some (get_or units at 0) ≡ slice_get (unit_scalars (drop at units)) 0
-first_low units at h l = let e = scalars_lone units at h (λ p. omega (arith, p.0)) in rw (e, lone_unit_char_low (get_or units at 0) l) refl
-
-pub first_high : (units : List ℕ) (at : ℕ) → at < length units → 0xE000 ≤ get_or units at 0 →
-    Some (get_or units at 0) ≡ slice_get (unit_scalars (drop at units)) 0
-first_high units at h l = let e = scalars_lone units at h (λ p. omega (arith, p.1)) in rw (e, lone_unit_char_high (get_or units at 0) l) refl
-
-pub first_unpaired : (units : List ℕ) (at : ℕ) → at < length units → 0xD800 ≤ get_or units at 0 → get_or units at 0 < 0xE000 →
-    (IsPair (get_or units at 0) (get_or units (at + 1) 0) → ⊥) → Some 0xFFFD ≡ slice_get (unit_scalars (drop at units)) 0
-first_unpaired units at h l m n = let e = scalars_lone units at h n in rw (e, lone_unit_char_surrogate (get_or units at 0) l m) refl
-
-pub first_pair : (units : List ℕ) (at : ℕ) → at + 1 < length units → IsPair (get_or units at 0) (get_or units (at + 1) 0) →
-    Some (surrogate_pair_char (get_or units at 0) (get_or units (at + 1) 0)) ≡ slice_get (unit_scalars (drop at units)) 0
-first_pair units at h p = let e = scalars_pair units at h p in rw e refl
 
 pub first_none : (units : List ℕ) (at : ℕ) → length units ≤ at → slice_get (unit_scalars (drop at units)) 0 ≡ None
 first_none units at h = ap (λ l. slice_get l 0) (scalars_end units at h)
@@ -180,10 +136,7 @@ unpaired_bound u h = grind arith
 -- by the scalar at the place and its number of units
 step_of : (list : List ℕ) (place c n s k : ℕ) → unit_scalars (drop place list) ≡ s ∷ unit_scalars (drop (place + k) list) →
     Some c ≡ slice_get (unit_scalars (drop place list)) 0 → n ≡ k → k ≡ unit_count Utf16 s → place + k ≤ length list → Utf16Step list place c n
-step_of list place c n s k all e same width within =
-    let f : Some c ≡ Some s = e ∙ ap (λ l. slice_get l 0) all in
-    let is : c ≡ s = cc in
-    record { width = rw (same, is) width; within = omega arith; behind = rw same (sym (ap (drop 1) all)); first = ap (λ l. get_or l 0 0) all ∙ sym is }
+step_of list place c n s k all e same width within = grind arith
 
 pub utf16_step : (list : List ℕ) (place c n : ℕ) → ((i : ℕ) → get_or list i 0 < 65536) → place < length list →
     Some c ≡ slice_get (unit_scalars (drop place list)) 0 → (c < 65536 → n ≡ 1) → (65536 ≤ c → n ≡ 2) → Utf16Step list place c n
@@ -202,7 +155,7 @@ encodes-code_units (c ∷ cs) = ap (λ l. encode c ++ l) (encodes-code_units cs)
 
 scalars-right : (xs ys : List ℕ) → scalars (xs ++ ys) ≡ true → scalars ys ≡ true
 scalars-right [] ys e = e
-scalars-right (x ∷ xs) ys e = scalars-right xs ys (and_parts (scalar x) (scalars (xs ++ ys)) e).1
+scalars-right (x ∷ xs) ys e = grind (arith, scalars-right xs ys)
 
 -- the scalars taken off a text end at a place between two of them, and those left are those from the place on
 pub record CutAt (text taken left : List ℕ) (place : ℕ) : Type 0 where
@@ -214,12 +167,8 @@ pub utf8_cut : (text taken left : List ℕ) (place : ℕ) → IsUtf8 text → ch
 utf8_cut text taken left place u e p =
     let all : text ≡ encodes taken ++ encodes left = sym (encodes-chars text u) ∙ ap encodes e ∙ encodes-append taken left in
     let good : scalars left ≡ true = scalars-right taken left (ap scalars (sym e) ∙ scalars-chars text u) in
-    let here : place ≡ length (encodes taken) = p ∙ sym (ap length (encodes-code_units taken)) in
-    let rest : drop place text ≡ encodes left = rw (here, all) (drop-append_seam (encodes taken) (encodes left)) in
-    record {
-      left_is = ap chars rest ∙ chars-encodes left good;
-      boundary = rw here (IsCharBoundary-at_seam text (encodes taken) (encodes left) all (left, (good, refl)));
-    }
+    let boundary = IsCharBoundary-at_seam text (encodes taken) (encodes left) all (left, (good, refl)) in
+    grind (arith, encodes-code_units taken, drop-append_seam (encodes taken) (encodes left), chars-encodes left good)
 
 -- how many units were passed
 pub passed_is : (form : EncodingForm) (all taken left : List ℕ) (place : ℕ) → all ≡ taken ++ left →
@@ -243,32 +192,14 @@ cut_pair : (u v : ℕ) (list left : List ℕ) (place n : ℕ) → IsPair u v →
 cut_pair u v list left place n p e h = grind arith
 
 pub utf16_cut : (list taken left : List ℕ) → Bounded list → unit_scalars list ≡ taken ++ left → CutUnits list left (length (all_code_units Utf16 taken))
-utf16_cut list [] left b e = record { left_is = e; within = omega arith; apart = λ k f. absurd (omega arith) }
+utf16_cut list [] left b e = grind arith
 utf16_cut [] (c ∷ taken) left b e = let n : unit_scalars [] ≡ [] = ap (map replaced) utf16_chars-nil in let f : [] ≡ c ∷ (taken ++ left) = sym n ∙ e in cc
-utf16_cut (u ∷ []) (c ∷ taken) left b e = let p : IsPair u 0 → ⊥ = λ q. omega (arith, q.2) in
-    let all : unit_scalars (u ∷ []) ≡ replaced (lone_unit_char u) ∷ unit_scalars [] = ap (map replaced) (utf16_chars_lone u [] p) in
-    let f : replaced (lone_unit_char u) ∷ unit_scalars [] ≡ c ∷ (taken ++ left) = sym all ∙ e in
-    let is : c ≡ replaced (lone_unit_char u) = cc in
-    let rest : unit_scalars [] ≡ taken ++ left = cc in
-    let narrow : c < 65536 = rw is (unpaired_bound u (b 0)) in
-    cut_lone u [] left _ _ p (ap (λ l. length (l ++ all_code_units Utf16 taken)) (utf16_1 c narrow)) (utf16_cut [] taken left (λ i. b (suc i)) rest)
-utf16_cut (u ∷ v ∷ list) (c ∷ taken) left b e = elim (pair_or_not u v) [
-  | inl p ↦
-      let all : unit_scalars (u ∷ v ∷ list) ≡ surrogate_pair_char u v ∷ unit_scalars list = ap (map replaced) (utf16_chars_pair u v list p) in
-      let f : surrogate_pair_char u v ∷ unit_scalars list ≡ c ∷ (taken ++ left) = sym all ∙ e in
-      let is : c ≡ surrogate_pair_char u v = cc in
-      let rest : unit_scalars list ≡ taken ++ left = cc in
-      let wide : 65536 ≤ c = omega (arith, p.2) in
-      cut_pair u v list left _ _ p (ap (λ l. length (l ++ all_code_units Utf16 taken)) (utf16_2 c wide)) (utf16_cut list taken left (λ i. b (suc (suc i))) rest)
-  | inr p ↦
-      let all : unit_scalars (u ∷ v ∷ list) ≡ replaced (lone_unit_char u) ∷ unit_scalars (v ∷ list) = ap (map replaced) (utf16_chars_lone u (v ∷ list) p) in
-      let f : replaced (lone_unit_char u) ∷ unit_scalars (v ∷ list) ≡ c ∷ (taken ++ left) = sym all ∙ e in
-      let is : c ≡ replaced (lone_unit_char u) = cc in
-      let rest : unit_scalars (v ∷ list) ≡ taken ++ left = cc in
-      let narrow : c < 65536 = rw is (unpaired_bound u (b 0)) in
-      cut_lone u (v ∷ list) left _ _ p (ap (λ l. length (l ++ all_code_units Utf16 taken)) (utf16_1 c narrow))
-      (utf16_cut (v ∷ list) taken left (λ i. b (suc i)) rest)
-]
+utf16_cut (u ∷ []) (c ∷ taken) left b e =
+    grind (arith, scalars_one u [], unpaired_bound u (b 0), utf16_1 c, cut_lone u [] left, utf16_cut [] taken left (λ i. b (suc i)))
+utf16_cut (u ∷ v ∷ list) (c ∷ taken) left b e =
+    let pair = utf16_cut list taken left (λ i. b (suc (suc i))) in
+    let lone = utf16_cut (v ∷ list) taken left (λ i. b (suc i)) in
+    grind (arith, pair_or_not u v, scalars_one, scalars_two, unpaired_bound u (b 0), utf16_1 c, utf16_2 c, cut_lone, cut_pair)
 
 -- what a call left of a whole text
 pub utf8_read : (text taken left : List ℕ) (read : ℕ) → IsUtf8 text → chars text ≡ taken ++ left →
@@ -291,14 +222,12 @@ ascii_past [] ys a u = u
 ascii_past (x ∷ xs) ys a u =
     ascii_past xs ys (λ i. a (suc i)) (IsUtf8-past_char (x ∷ (xs ++ ys)) (xs ++ ys) x u (sym (ap (λ l. l ++ (xs ++ ys)) (encode_1 x (a 0)))))
 
--- ASCII units are their own scalars
-unit_scalars-ascii : (xs ys : List ℕ) → IsAscii xs → unit_scalars (xs ++ ys) ≡ xs ++ unit_scalars ys
-unit_scalars-ascii [] ys a = refl
-unit_scalars-ascii (x ∷ xs) ys a =
-    let low : x < 128 = a 0 in
-    ap (map replaced) (utf16_chars_lone x (xs ++ ys) (λ p. omega (arith, p.0)))
-    ∙ ap (λ o. replaced o ∷ unit_scalars (xs ++ ys)) (lone_unit_char_low x (omega arith))
-    ∙ ap (λ l. x ∷ l) (unit_scalars-ascii xs ys (λ i. a (suc i)))
+-- code units that are not surrogates are their own scalars
+pub bmp_scalars : (front others : List ℕ) → ((k : ℕ) → k < length front → IsNoSurrogate (get_or front k 0)) →
+    unit_scalars (front ++ others) ≡ front ++ unit_scalars others
+bmp_scalars [] others bmp = refl
+bmp_scalars (u ∷ front) others bmp =
+    grind (arith, nat_tests, bmp 0, scalars_one, lone_unit_char_low, lone_unit_char_high, bmp_scalars front others (λ k h. bmp (suc k) (omega arith)))
 
 -- The first n of the scalars that are left are these, and the others come after them.
 pub record IsFront (all front others : List ℕ) (n : ℕ) : Type 0 where
@@ -334,14 +263,15 @@ module _ (list : List ℕ) (place n : ℕ) (within : n ≤ length (drop place li
 
   pub utf8_ascii : IsFront (chars Rest) (take n Rest) (chars (drop (place + n) list)) n
   utf8_ascii =
-      front_of (chars Rest) (take n Rest) (chars (drop (place + n) list)) n (length-take-le n Rest within)
-      (ap chars parts ∙ chars-append (take n Rest) (drop (place + n) list) (IsUtf8-from_ascii (take n Rest) ascii)
-      ∙ ap (λ l. l ++ chars (drop (place + n) list)) (chars-IsAscii (take n Rest) ascii))
+      let split = chars-append (take n Rest) (drop (place + n) list) (IsUtf8-from_ascii (take n Rest) ascii) in
+      let front = front_of (chars Rest) (take n Rest) (chars (drop (place + n) list)) n in
+      grind (arith, length-take-le n Rest within, ap chars parts, chars-IsAscii (take n Rest) ascii)
 
   pub utf16_ascii : IsFront (unit_scalars Rest) (take n Rest) (unit_scalars (drop (place + n) list)) n
   utf16_ascii =
-      front_of (unit_scalars Rest) (take n Rest) (unit_scalars (drop (place + n) list)) n (length-take-le n Rest within)
-      (ap unit_scalars parts ∙ unit_scalars-ascii (take n Rest) (drop (place + n) list) ascii)
+      let own = bmp_scalars (take n Rest) (drop (place + n) list) (λ k h. let low = ascii k in omega arith) in
+      let front = front_of (unit_scalars Rest) (take n Rest) (unit_scalars (drop (place + n) list)) n in
+      grind (arith, length-take-le n Rest within, ap unit_scalars parts, own)
 
 -- ---- the next scalar
 
@@ -360,17 +290,19 @@ none_left (x ∷ xs) e = cc
 pub utf8_pass : (text : List ℕ) (place n : ℕ) → place ≤ length text → is_utf8 (drop place text) ≡ true → 0 < length (chars (drop place text))
     → n ≡ unit_count Utf8 (get_or (chars (drop place text)) 0 0) →
     (place + n ≤ length text) × (is_utf8 (drop (place + n) text) ≡ true) × (chars (drop (place + n) text) ≡ drop 1 (chars (drop place text)))
-utf8_pass text place n p u some e =
-    let c : ℕ = get_or (chars (drop place text)) 0 0 in
-    let s = utf8_step text place c p u (first_some (chars (drop place text)) some) in
-    let width : n ≡ len_utf8 c = e ∙ length-encode c in
-    rw width (s.within, s.is_text, s.behind)
+utf8_pass text place n p u some e = grind (arith, utf8_step text place (get_or (chars (drop place text)) 0 0) p u (first_some _ some), length-encode)
 
 pub utf16_pass : (list : List ℕ) (place n : ℕ) → ((i : ℕ) → get_or list i 0 < 65536) → 0 < length (unit_scalars (drop place list))
     → n ≡ unit_count Utf16 (get_or (unit_scalars (drop place list)) 0 0) →
     (place + n ≤ length list) × (unit_scalars (drop (place + n) list) ≡ drop 1 (unit_scalars (drop place list)))
 utf16_pass list place n bound some e =
-    let c : ℕ = get_or (unit_scalars (drop place list)) 0 0 in
     let f = first_some (unit_scalars (drop place list)) some in
-    let s = utf16_step list place c n bound (some_within list place c f) f (λ h. e ∙ ap length (utf16_1 c h)) (λ h. e ∙ ap length (utf16_2 c h)) in
-    (s.within, s.behind)
+    grind (arith, utf16_step list place (get_or (unit_scalars (drop place list)) 0 0) n bound (some_within list place _ f) f, utf16_1, utf16_2)
+
+pub ruleset unit_steps = (common_steps, scalars_lone, scalars_pair, scalars_end, lone_unit_char_low, lone_unit_char_high, lone_unit_char_surrogate)
+
+pub ruleset next_steps = (is_next, first_cons, none_left, utf8_inside, utf8_stands)
+
+pub ruleset boundary_steps = (IsCharBoundary-from_drop, IsUtf8-from_is_utf8)
+
+pub ruleset whole_text = (is_utf8-from_IsUtf8)

@@ -1,13 +1,13 @@
 -- Vectors lane by lane: a vector is written out as the list of its lanes.
-use Rattle.std.proofs.Common.{◌≡◌, ℕ, zero, suc, ◌+◌, ◌-◌, ◌*◌, ◌/◌, ◌%◌, ◌^◌, ◌<◌, ◌≤◌, Bool, true, false, cond, ltb, leb, eqb, List, [], ◌∷◌, ◌++◌, length}
+use Rattle.std.proofs.Common.{◌≡◌, ℕ, zero, suc, ◌+◌, ◌-◌, ◌*◌, ◌/◌, ◌%◌, ◌^◌, ◌<◌, ◌≤◌, Bool, true, cond, ltb, leb, eqb, List, [], ◌∷◌, ◌++◌, length}
 use Rattle.std.proofs.Common.{get_or, map, take, drop, replicate, bit_and, refl, sym, ap, ap₂, ◌∙◌, arith, w8, w16, Fits, ◌&&◌, mod-lt, zero-lt-suc, mul_assoc}
-use Rattle.std.proofs.{Common.length-append, lemmas.Bool.{ltb-true, leb-true, eqb-true, lt-leb, and_parts, agree_below_at}, lemmas.List.map-append}
-use Rattle.std.proofs.lemmas.List.{append_assoc, length-replicate, length-take-le, length-drop, take-take, take-append-drop, take-append-le, take-map}
-use Rattle.std.proofs.{Math.Seq.{take-append_seam, take-append-add}, lemmas.Nat.and_mask, lemmas.Nat.Bits.and_high, lemmas.Simd.{mask_l-lt, mask_l-mod, swz_l}}
-use Rattle.std.proofs.{lemmas.Simd.put_chunk_is, lemmas.Grind.{flat_map-append, common_steps}, lemmas.Bool.Decides.nat_tests}
+use Rattle.std.proofs.{Common.length-append, lemmas.Bool.{leb-true, eqb-true, and_parts, agree_below_at}, lemmas.List.map-append}
+use Rattle.std.proofs.lemmas.List.{append_assoc, length-replicate, length-take-le, length-drop, take-take, take-append-drop, take-map}
+use Rattle.std.proofs.{Math.Seq.{take-append_seam}, lemmas.Nat.and_mask, lemmas.Nat.Bits.and_high, lemmas.Simd.{mask_l-lt, mask_l-mod, swz_l}}
+use Rattle.std.proofs.{lemmas.Grind.{flat_map-append, common_steps}, lemmas.Bool.Decides.nat_tests}
 use Rattle.std.specs.{Char.encode_utf8, List.range_with_len}
-use lib.Lanes.{Each1, zip2, sel_l, mask_l, top, number_l, digits_l, pick_l, all_below, put_chunk}
-use Rattle.legacy_text.specs.{declared.unit_rows.TheConstants.{WRITTEN, COUNTS}, UnitBytes.{last_byte, front_bytes, lanes, flags, pattern, lane_places, places}}
+use lib.Lanes.{Each1, zip2, sel_l, mask_l, top, number_l, digits_l, pick_l, all_below}
+use Rattle.legacy_text.specs.{declared.unit_rows.TheConstants.{WRITTEN, COUNTS}, UnitBytes.{last_byte, front_bytes, lanes, flags, pattern, places}}
 use Rattle.legacy_text.specs.UnitBytes.{row, utf8_bytes}
 
 -- ---- eight lanes
@@ -35,18 +35,7 @@ last_is u small = grind (arith, common_steps, and_mask)
 pub front_is : (u : ℕ) → u < 65536
     → (((u / 2 ^ 12 + 224) % 2 ^ 16 + bit_and (u * 2 ^ 2 % 2 ^ 16) 16128) % 2 ^ 16 + cond (top 15 (cond (ltb u 2048) (2 ^ 16 - 1) 0)) 49152 32768) % 2 ^ 16
     ≡ front_bytes u
-front_is u small = go (ltb u 2048) (bit_and (u * 2 ^ 2 % 2 ^ 16) 16128) middle
-  where
-    middle : bit_and (u * 2 ^ 2 % 2 ^ 16) 16128 ≡ 256 * (u / 64 % 64)
-    middle =
-        let e : bit_and (u * 2 ^ 2 % 2 ^ 16) 16128 ≡ u * 2 ^ 2 % 2 ^ 16 / 256 % 64 * 256 = and_high (u * 2 ^ 2 % 2 ^ 16) 6 8 in
-        omega (arith, e)
-
-    go : (t : Bool) (m : ℕ) → m ≡ 256 * (u / 64 % 64)
-        → (((u / 2 ^ 12 + 224) % 2 ^ 16 + m) % 2 ^ 16 + cond (top 15 (cond t (2 ^ 16 - 1) 0)) 49152 32768) % 2 ^ 16
-        ≡ 224 + u / 4096 + 256 * (u / 64 % 64) + cond t 49152 32768
-    go true m e = omega arith
-    go false m e = omega arith
+front_is u small = grind (arith, and_high (u * 2 ^ 2 % 2 ^ 16) 6 8)
 
 -- the bytes that are written, in order
 abbrev pub chosen : Bool → Bool → ℕ → ℕ → ℕ → List ℕ
@@ -68,13 +57,7 @@ halves (x ∷ xs) = x % 256 ∷ x / 256 ∷ halves xs
 
 pub le_bytes : (xs : List ℕ) → Each1 (λ x. x < 65536) xs → digits_l 256 (doubled xs) (number_l 65536 xs) ≡ halves xs
 le_bytes [] s = refl
-le_bytes (x ∷ xs) s =
-    let n = number_l 65536 xs in
-    let low : x < 65536 = s.0 in
-    let a : (x + 65536 * n) % 256 ≡ x % 256 = omega arith in
-    let b : (x + 65536 * n) / 256 % 256 ≡ x / 256 = omega arith in
-    let r : (x + 65536 * n) / 256 / 256 ≡ n = omega arith in
-    (λ t. a t ∷ b t ∷ digits_l 256 (doubled xs) (r t)) ∙ ap (λ (l : List ℕ). x % 256 ∷ x / 256 ∷ l) (le_bytes xs s.1)
+le_bytes (x ∷ xs) s = grind (arith, s.0, le_bytes xs s.1)
 
 pub le_bytes_map : (f : ℕ → ℕ) → ((u : ℕ) → u < 65536 → f u < 65536) → (us : List ℕ) → Each1 (λ u. u < 65536) us →
     digits_l 256 (doubled (map f us)) (number_l 65536 (map f us)) ≡ halves (map f us)
@@ -160,16 +143,11 @@ bits_are = of_eight _ (λ a b c d e f g h sa sb sc sd se sf sg sh.
 
 flags_long : (v : List ℕ) → length (flags v) ≡ 2 * length v
 flags_long [] = refl
-flags_long (u ∷ v) = let e = flags_long v in omega arith
+flags_long (u ∷ v) = omega (arith, flags_long v)
 
 mask_append : (xs ys : List Bool) → mask_l (xs ++ ys) ≡ mask_l xs + 2 ^ length xs * mask_l ys
 mask_append [] ys = omega arith
-mask_append (x ∷ xs) ys =
-    let e = mask_append xs ys in
-    let n = 2 ^ length xs in
-    let q : 2 ^ suc (length xs) ≡ 2 * n = omega arith in
-    let p : 2 ^ suc (length xs) * mask_l ys ≡ 2 * (n * mask_l ys) = ap (λ k. k * mask_l ys) q ∙ mul_assoc 2 n (mask_l ys) in
-    omega arith
+mask_append (x ∷ xs) ys = grind (arith, nat_tests, mask_append xs ys, mul_assoc)
 
 flags_append : (us vs : List ℕ) → flags (us ++ vs) ≡ flags us ++ flags vs
 flags_append [] vs = refl
@@ -190,11 +168,9 @@ module _ (v : List ℕ) (long : length v ≡ 8) (fits : Each1 (Fits w16) v) wher
   bits_split : vector_bits v ≡ pattern (take 4 v) + 256 * pattern (drop 4 v)
   unfolding pattern
   bits_split =
-      let n : length (flags (take 4 v)) ≡ 8 = omega (arith, flags_long (take 4 v), four_long) in
-      let e : 2 ^ length (flags (take 4 v)) ≡ 256 = ap (λ k. 2 ^ k) n in
-      bits_are v long fits ∙ mask_l-mod (flags v) 64 (omega (arith, flags_long v, long))
-      ∙ ap (λ l. mask_l (flags l)) (sym (take-append-drop 4 v)) ∙ ap mask_l (flags_append (take 4 v) (drop 4 v))
-      ∙ mask_append (flags (take 4 v)) (flags (drop 4 v)) ∙ ap (λ n. mask_l (flags (take 4 v)) + n * mask_l (flags (drop 4 v))) e
+      let split = flags_append (take 4 v) (drop 4 v) in
+      let joined = mask_append (flags (take 4 v)) (flags (drop 4 v)) in
+      grind (arith, bits_are v long fits, mask_l-mod (flags v) 64, flags_long, take-append-drop 4 v, four_long)
 
   pub first_pattern : vector_bits v % 256 ≡ pattern (take 4 v)
   first_pattern = omega (arith, bits_split, first_lt)
@@ -221,7 +197,7 @@ counts_are = refl
 
 pub each_below : (n : ℕ) (js : List ℕ) → all_below n js ≡ true → Each1 (λ j. j < n) js
 each_below n [] e = tt
-each_below n (j ∷ js) e = let p = and_parts _ _ e in (ltb-true _ _ p.0, each_below n js p.1)
+each_below n (j ∷ js) e = grind (arith, nat_tests, each_below n js)
 
 pub row_within : (r : ℕ) → r < 256 → Each1 (λ j. j < 16) (row r)
 row_within r h = each_below 16 (row r) (and_parts _ _ (all_rows r h)).0
@@ -235,11 +211,7 @@ count_most r h = leb-true _ _ (and_parts _ _ (and_parts _ _ (all_rows r h)).1).1
 -- a shuffle of sixteen bytes by places within them
 pub shuffled : (xs : List ℕ) (i : ℕ) (js : List ℕ) → i + length js ≤ 16 → Each1 (λ j. j < 16) js → swz_l w8 16 xs i js ≡ map (λ j. get_or xs j 0) js
 shuffled xs i [] room s = refl
-shuffled xs i (j ∷ js) room s =
-    let low : j < 16 = s.0 in
-    let here : leb 128 j ≡ false = lt-leb 128 j (omega arith) in
-    let at : 16 * (i / 16) + j ≡ j = omega arith in
-    (λ t. cond (here t) 0 (get_or xs (at t) 0) ∷ swz_l w8 16 xs (suc i) js) ∙ ap (λ (l : List ℕ). get_or xs j 0 ∷ l) (shuffled xs (suc i) js (omega arith) s.1)
+shuffled xs i (j ∷ js) room s = grind (arith, nat_tests, s.0, shuffled xs (suc i) js)
 
 row_begins : (r : ℕ) → r < 256 → take (length (places 0 4 r)) (row r) ≡ places 0 4 r
 unfolding row
@@ -247,11 +219,6 @@ row_begins r h = take-take (length (places 0 4 r)) 16 _ (omega (arith, count_mos
 
 pub written_places : (xs : List ℕ) (r : ℕ) → r < 256 → take (length (places 0 4 r)) (swz_l w8 16 xs 0 (row r)) ≡ map (λ j. get_or xs j 0) (places 0 4 r)
 written_places xs r h = grind (arith, nat_tests, shuffled, row_long, row_within, take-map, row_begins)
-
--- a vector that is stored at a place: the contents up to a place within it
-pub stored : (at k : ℕ) (xs block : List ℕ) → length block ≡ 16 → k ≤ 16 → at + 16 ≤ length xs →
-    take (at + k) (put_chunk at xs block) ≡ take at xs ++ take k block
-stored at k xs block long h room = grind (arith, nat_tests, length-take-le, put_chunk_is, take-append-add, take-append-le)
 
 -- ---- the bytes that are written are the text
 
@@ -263,22 +230,14 @@ Reads f base (u ∷ us) = (f base ≡ last_byte u % 256) × (f (base + 2) ≡ fr
 digit : (s t : Bool) (m : ℕ) → ((cond s 1 0 + 2 * (cond t 1 0 + 2 * m)) % 4 ≡ cond s 1 0 + 2 * cond t 1 0) × ((cond s 1 0 + 2 * (cond t 1 0 + 2 * m)) / 4 ≡ m)
 digit s t m = (grind arith, grind arith)
 
-lane_chosen : (f : ℕ → ℕ) (base : ℕ) (s t : Bool) → map f (lane_places base (cond s 1 0 + 2 * cond t 1 0)) ≡ chosen s t (f base) (f (base + 2)) (f (base + 3))
-lane_chosen f base s t = grind arith
-
 pub text_written : (f : ℕ → ℕ) (base : ℕ) (us : List ℕ) → Each1 (λ u. u < 65536) us → Reads f base us →
     map f (places base (length us) (pattern us)) ≡ utf8_bytes us
 unfolding places pattern
 text_written f base [] small reads = refl
 text_written f base (u ∷ us) small reads =
     let d = digit (ltb u 128) (ltb u 2048) (mask_l (flags us)) in
-    let s = ltb u 128 in
-    let t = ltb u 2048 in
-    (λ i. map f (lane_places base (d.0 i) ++ places (base + 4) (length us) (d.1 i)))
-    ∙ map-append f (lane_places base (cond s 1 0 + 2 * cond t 1 0)) (places (base + 4) (length us) (mask_l (flags us)))
-    ∙ ap₂ (λ (x y : List ℕ). x ++ y)
-    (lane_chosen f base s t ∙ (λ i. chosen s t (reads.0 i) (reads.1 i) (reads.2 i)) ∙ unit_is u small.0)
-    (text_written f (base + 4) us small.1 reads.3)
+    let rest = text_written f (base + 4) us small.1 reads.3 in
+    grind (arith, map-append, unit_is u small.0)
 
 pub reads_lanes : (a b c d : ℕ) → Reads (λ k. get_or (lanes (a ∷ b ∷ c ∷ d ∷ [])) k 0) 0 (a ∷ b ∷ c ∷ d ∷ [])
 reads_lanes a b c d = (refl, refl, refl, (refl, refl, refl, (refl, refl, refl, (refl, refl, refl, tt))))
@@ -301,11 +260,9 @@ pub both_stored : (old old_front : List ℕ) (front back : List ℕ) (p q : ℕ)
     → old_front ≡ old ++ map (λ k. get_or front k 0) (places 0 4 p) → new ≡ old_front ++ map (λ k. get_or back k 0) (places 0 4 q) → new ≡ old ++ utf8_bytes v
 both_stored old old_front front back p q v new long fits fe be pe qe first second =
     let t = text_of_eight v long fits in
-    second ∙ ap (λ (l : List ℕ). l ++ map (λ k. get_or back k 0) (places 0 4 q)) first
-    ∙ append_assoc old (map (λ k. get_or front k 0) (places 0 4 p)) (map (λ k. get_or back k 0) (places 0 4 q))
-    ∙ ap (λ (l : List ℕ). old ++ l)
-    (ap₂ (λ (x y : List ℕ). x ++ y) ((λ i. map (λ k. get_or (fe i) k 0) (places 0 4 (pe i))) ∙ t.0)
-    ((λ i. map (λ k. get_or (be i) k 0) (places 0 4 (qe i))) ∙ t.1) ∙ joined_text v)
+    let a : map (λ k. get_or front k 0) (places 0 4 p) ≡ utf8_bytes (take 4 v) = rw (fe, pe) t.0 in
+    let b : map (λ k. get_or back k 0) (places 0 4 q) ≡ utf8_bytes (drop 4 v) = rw (be, qe) t.1 in
+    rw (second, first, append_assoc, a, b) (ap (λ (l : List ℕ). old ++ l) (joined_text v))
 
 -- ---- the first code units, with U+0000 for the others
 
@@ -339,14 +296,9 @@ zeros_text (suc n) = ap (λ (l : List ℕ). 0 ∷ l) (zeros_text n)
 pub first_stored : (at end n : ℕ) (old new us : List ℕ) → at ≤ length old → end ≤ length new → take end new ≡ take at old ++ utf8_bytes (us ++ replicate n 0)
     → (n ≤ end) × (take (end - n) new ≡ take at old ++ utf8_bytes us)
 first_stored at end n old new us within room e =
-    let front = take at old ++ utf8_bytes us in
-    let text : take end new ≡ front ++ replicate n 0 =
-    e ∙ ap (λ (l : List ℕ). take at old ++ l) (flat_map-append encode_utf8 us (replicate n 0) ∙ ap (λ (l : List ℕ). utf8_bytes us ++ l) (zeros_text n))
-    ∙ sym (append_assoc (take at old) (utf8_bytes us) (replicate n 0)) in
-    let long : end ≡ length front + n =
-    omega (arith, ap length text, length-take-le end new room, length-append front (replicate n 0), length-replicate {A = ℕ} n 0) in
-    let cut : end - n ≡ length front = omega arith in (
-      omega arith,
-      sym (take-take (end - n) end new (omega arith)) ∙ ap (take (end - n)) text ∙ ap (λ k. take k (front ++ replicate n 0)) cut
-          ∙ take-append_seam front (replicate n 0),
-    )
+    let text : take end new ≡ (take at old ++ utf8_bytes us) ++ replicate n 0 =
+    grind (arith, flat_map-append encode_utf8 us (replicate n 0), zeros_text n, append_assoc) in
+    let seam = take-append_seam (take at old ++ utf8_bytes us) (replicate n 0) in
+    grind (arith, nat_tests, ap length text, length-take-le, length-append, length-replicate, take-take (end - n) end new)
+
+pub ruleset lane_steps = (ap₂, digits_l, number_l, pick_l, vector_lanes)

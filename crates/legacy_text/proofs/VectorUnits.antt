@@ -1,6 +1,7 @@
 -- Eight code units that a destination writes at once, none of them a surrogate.
 use Rattle.std.proofs.{lemmas.Bool.Decides.nat_tests, Common.{◌≡◌, ◌∙◌, ℕ, zero, suc, ◌+◌, ◌-◌, ◌≤◌, ◌<◌, List, [], ◌∷◌, ◌++◌, length, take, get_or, refl, ap}}
 use Rattle.std.proofs.{Common.{ap₂, arith, append-nil, length-append, w16, Fits}, lemmas.List.{length-take-le, flat_map_more}, Math.Seq.take-suc}
+use Rattle.std.proofs.{lemmas.Grind.common_steps, lemmas.List.take_all}
 use lib.Lanes.{Each1}
 use Rattle.legacy_text.specs.EncodingForm.{EncodingForm, Utf16, code_units, all_code_units, unit_count, total_unit_count}
 use Rattle.legacy_text.proofs.CodeUnits.{utf16_1, length-code_units-bmp, total_unit_count-append}
@@ -8,11 +9,7 @@ use Rattle.legacy_text.proofs.CodeUnits.{utf16_1, length-code_units-bmp, total_u
 -- the free code units after some were written up to a place
 pub free-after : (at result : ℕ) (old new units : List ℕ) → length new ≡ length old → at ≤ length old → result ≤ length old
     → take result new ≡ take at old ++ units → length new - result + length units ≡ length old - at
-free-after at result old new units same before after written =
-    let a : length (take result new) ≡ result = length-take-le result new (omega arith) in
-    let b : length (take at old) ≡ at = length-take-le at old before in
-    let c : length (take result new) ≡ length (take at old) + length units = ap length written ∙ length-append (take at old) units in
-    omega arith
+free-after at result old new units same before after written = grind (arith, length-take-le, length-append, ap length written)
 
 -- the first code units of 16 bits are their own code units in UTF-16
 pub own-units : (n : ℕ) (units : List ℕ) → Each1 (Fits w16) units → all_code_units Utf16 (take n units) ≡ take n units
@@ -40,3 +37,11 @@ pub unit-below : (units : List ℕ) (k : ℕ) → Each1 (Fits w16) units → get
 unit-below [] k fits = omega arith
 unit-below (u ∷ units) zero fits = fits.0.fits
 unit-below (u ∷ units) (suc k) fits = unit-below units k fits.1
+
+pub ruleset own_steps = (common_steps, own-units, length-take-le)
+
+pub ruleset room_steps = (common_steps, free-after)
+
+pub ruleset eight_steps = (common_steps, take_all)
+
+pub ruleset first_steps = (common_steps, append-nil, few-units, unit-below, one-more, more-units)

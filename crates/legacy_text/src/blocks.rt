@@ -24,6 +24,7 @@ pub(crate) fn ascii_count(block: u8x16) -> usize
 
 /// Stores a block from the place `at` on, and returns the number of ASCII bytes at its front.
 #[inline(always)]
+#[tactic(auto, using(crate::proofs::Ascii::put_front))]
 fn store_block(dst: &mut [u8], at: usize, block: u8x16) -> usize
     requires { at + 16 ≤ length dst.old }
     ensures count { result ≤ 16 }
@@ -50,6 +51,7 @@ pub(crate) fn wide_ascii_count(block: u8x64) -> usize
 
 /// Stores a wide block from the place `at` on, and returns the number of ASCII bytes at its front, but at most `most`.
 #[inline(always)]
+#[tactic(auto, using(crate::proofs::Ascii::put_front))]
 pub(crate) fn store_wide_block(dst: &mut [u8], at: usize, block: u8x64, most: usize) -> usize
     requires { at + 64 ≤ length dst.old }
     ensures most { result ≤ most }
@@ -92,6 +94,7 @@ fn store_front(bytes: &[u8], dst: &mut [u8], at: usize, is_wide: bool) -> usize
 ///
 /// Returns their number, and whether all blocks were ASCII.
 #[inline(always)]
+#[tactic(auto, using(crate::proofs::Ascii::copy_steps))]
 pub(crate) fn copy_blocks(bytes: &[u8], dst: &mut [u8], at: usize, is_wide: bool) -> (usize, bool)
     requires { at ≤ length dst.old }
     ensures read { result.0 ≤ length bytes.now }
@@ -116,6 +119,7 @@ pub(crate) fn copy_blocks(bytes: &[u8], dst: &mut [u8], at: usize, is_wide: bool
 // Wide blocks come first: in text with a letter past ASCII in most lines, it is easier to predict whether
 // the next 64 bytes have one than whether the next 16 have.
 #[inline]
+#[tactic(auto, using(crate::proofs::Ascii::copy_steps))]
 pub(crate) fn copy_ascii_bytes(bytes: &[u8], dst: &mut [u8], at: usize) -> usize
     requires { at ≤ length dst.old }
     ensures read { result ≤ length bytes.now }
@@ -152,6 +156,7 @@ fn narrow_block(units: &[u16]) -> [u8; 16]
 ///
 /// Returns their number.
 #[inline]
+#[tactic(auto, using(crate::proofs::Ascii::unit_copy_steps))]
 pub(crate) fn copy_ascii_units(units: &[u16], dst: &mut [u8], at: usize) -> usize
     requires { at ≤ length dst.old }
     ensures read { result ≤ length units.now }

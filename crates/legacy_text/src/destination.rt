@@ -100,6 +100,7 @@ pub trait Destination {
     /// At least 32 code units must be free: a destination may store the code units of all eight,
     /// and later output overwrites those that do not count.
     #[inline(always)]
+    #[tactic(auto, using(crate::proofs::VectorUnits::first_steps))]
     fn put_first(&mut self, units: u16x8, count: usize)
         requires count { count ≤ 8 }
         requires scalars { All IsScalar units }
@@ -118,6 +119,7 @@ pub trait Destination {
 
     /// Writes the code units of eight scalar values up to U+FFFF. At least 32 code units must be free.
     #[inline(always)]
+    #[tactic(auto, using(crate::proofs::VectorUnits::eight_steps))]
     fn put_eight(&mut self, units: u16x8)
         requires scalars { All IsScalar units }
         requires room { 32 ≤ room self.old }
@@ -223,16 +225,19 @@ impl Destination for Utf8Destination<'_> {
     }
 
     #[inline(always)]
+    #[tactic(auto, using(crate::proofs::VectorUnits::room_steps))]
     fn put_first(&mut self, units: u16x8, count: usize) {
         self.filled = put_first_units(self.buffer, self.filled, units, count);
     }
 
     #[inline(always)]
+    #[tactic(auto, using(crate::proofs::VectorUnits::room_steps))]
     fn put_eight(&mut self, units: u16x8) {
         self.filled = put_eight_units(self.buffer, self.filled, units);
     }
 
     #[inline(always)]
+    #[tactic(auto, using(crate::proofs::VectorUnits::room_steps))]
     fn put_eight_short(&mut self, units: u16x8) {
         self.filled = put_short_units(self.buffer, self.filled, units);
     }
@@ -241,6 +246,7 @@ impl Destination for Utf8Destination<'_> {
 /// Stores eight code units from the place `at` on.
 // It takes the output as a slice. So its address is loaded once, and not again for each code unit.
 #[inline(always)]
+#[tactic(auto, using(crate::proofs::Ascii::put_front))]
 fn store_units(dst: &mut [u16], at: usize, units: u16x8)
     requires { at + 8 ≤ length dst.old }
     ensures { (k : ℕ) → k ≤ 8 → take (at + k) dst.new ≡ take at dst.old ++ take k units }
@@ -392,6 +398,7 @@ impl Destination for Utf16Destination<'_> {
     }
 
     #[inline(always)]
+    #[tactic(auto, using(crate::proofs::VectorUnits::own_steps))]
     fn put_first(&mut self, units: u16x8, count: usize) {
         store_units(self.buffer, self.filled, units);
         self.filled += count;

@@ -11,6 +11,7 @@ use std::simd::prelude::*;
 
 /// Returns the last byte of each code unit's text.
 #[inline(always)]
+#[tactic(auto, using(crate::proofs::UnitLanes::vector_last))]
 fn last_bytes(units: u16x8) -> u16x8
     ensures { result ≡ map last_byte units }
 {
@@ -20,6 +21,7 @@ fn last_bytes(units: u16x8) -> u16x8
 
 /// Returns the bytes before the last one of each code unit's text.
 #[inline(always)]
+#[tactic(auto, using(crate::proofs::UnitLanes::vector_front))]
 fn bytes_before(units: u16x8) -> u16x8
     ensures { result ≡ map front_bytes units }
 {
@@ -32,6 +34,7 @@ fn bytes_before(units: u16x8) -> u16x8
 
 /// Returns four bytes of each code unit: of the first four code units, and of the others.
 #[inline(always)]
+#[tactic(auto, using(crate::proofs::UnitLanes::lane_steps))]
 fn unit_lanes(units: u16x8) -> (u8x16, u8x16)
     ensures front { result.0 ≡ lanes (take 4 units) }
     ensures back { result.1 ≡ lanes (drop 4 units) }
@@ -82,6 +85,7 @@ fn count_of(counts: &[u8; 256], pattern: usize) -> usize
 
 /// Stores a vector from the place `at` on.
 #[inline(always)]
+#[tactic(auto, using(crate::proofs::Ascii::put_front))]
 pub(crate) fn store(dst: &mut [u8], at: usize, block: u8x16)
     requires { at + 16 ≤ length dst.old }
     ensures { (k : ℕ) → k ≤ 16 → take (at + k) dst.new ≡ take at dst.old ++ take k block }
@@ -121,6 +125,7 @@ pub(crate) fn put_eight_units(dst: &mut [u8], at: usize, units: u16x8) -> usize
 
 /// Returns the first `count` of eight code units, and 0 in place of each of the others.
 #[inline(always)]
+#[tactic(auto, using(crate::proofs::UnitLanes::first_are))]
 pub fn first_units(units: u16x8, count: usize) -> u16x8
     requires { count ≤ 8 }
     ensures { result ≡ take count units ++ replicate (8 - count) 0 }

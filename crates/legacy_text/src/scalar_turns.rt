@@ -87,6 +87,7 @@ fn joined(lows: u8x16, highs: u8x16) -> (u16x8, u16x8)
 
 /// Puts the code units of sixteen places into a list, from the place `at` on.
 #[inline(always)]
+#[tactic(auto, using(crate::proofs::ScalarTurns::stored_before))]
 fn put_units(bytes: &[u8], place: usize, all: &mut [u16], at: usize)
     requires read { place + 18 ≤ length bytes.now }
     requires room { at + 16 ≤ length all.old }
@@ -125,6 +126,7 @@ fn starts_at(bytes: &[u8], place: usize) -> u32
 
 /// Returns the bits without the lowest one that is set.
 #[inline(always)]
+#[tactic(auto, using(crate::proofs::ScalarTurns::lowest_steps))]
 fn without_lowest(bits: u32) -> u32
     ensures none { bits ≡ 0 → result ≡ 0 }
     ensures lowest { 0 < bits → (k : ℕ) → k ≤ trailing_zeros w32 bits → bit_at result k ≡ 0 }

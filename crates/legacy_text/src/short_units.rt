@@ -11,6 +11,7 @@ use std::simd::prelude::*;
 
 /// Returns two bytes of each code unit.
 #[inline(always)]
+#[tactic(auto, using(crate::proofs::ShortUnits::vector_short_lanes))]
 fn short_unit_lanes(units: u16x8) -> u8x16
     ensures { result ≡ short_lanes units }
 {

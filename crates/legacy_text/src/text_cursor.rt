@@ -103,6 +103,7 @@ pub trait TextCursor: Copy {
     ///
     /// Writes the bytes to `dst` from the place `at` on. The bytes of `dst` after them may change.
     #[inline(always)]
+    #[tactic(auto, using(crate::proofs::UnitCopies::none_steps))]
     fn copy_codes<C: UnitCodes>(&mut self, codes: &C, dst: &mut [u8], at: usize) -> usize
         requires { at ≤ length dst.old }
         ensures read { result ≤ length (left self.old) }

@@ -74,6 +74,7 @@ pub struct Utf8Source<'a> {
 
 /// Returns the scalar at a place of a text, or `None` at its end.
 #[inline]
+#[tactic(auto, using(crate::proofs::Texts::boundary_steps))]
 fn scalar_at(text: &str, place: usize) -> Option<char>
     requires in_range { place ≤ length text.now }
     requires is_text { is_utf8 (drop place text.now) ≡ true }
@@ -147,6 +148,7 @@ fn by_bytes(bytes: &[u8], place: usize, c: char) -> Next
 
 /// Returns the scalar at a place of a text, by the number of its bytes.
 #[inline(always)]
+#[tactic(auto, using(crate::proofs::Texts::next_steps))]
 fn next_at(text: &str, place: usize) -> Next
     requires in_range { place ≤ length text.now }
     requires is_text { is_utf8 (drop place text.now) ≡ true }
@@ -162,6 +164,7 @@ impl<'a> Utf8Source<'a> {
     ghost use Rattle.legacy_text.specs.TextSources.{utf8_text, utf8_place};
 
     /// Returns a source before the first scalar of the text.
+    #[tactic(auto, using(crate::proofs::Texts::whole_text))]
     pub fn new(text: &'a str) -> Utf8Source<'a>
         ensures text { utf8_text result ≡ text.now }
         ensures place { utf8_place result ≡ 0 }
@@ -185,6 +188,7 @@ impl Source for Utf8Source<'_> {
     }
 
     #[inline]
+    #[tactic(auto, using(crate::proofs::Texts::utf8_step))]
     fn advance(&mut self) {
         if let Some(c) = scalar_at(self.text, self.place) {
             self.place += c.len_utf8();
@@ -220,6 +224,7 @@ impl TextCursor for Utf8Source<'_> {
     }
 
     #[inline(always)]
+    #[tactic(auto, using(crate::proofs::Texts::utf8_pass))]
     fn pass(&mut self, count: usize) {
         self.place = place_behind(self.text, self.place, count);
     }
@@ -273,6 +278,7 @@ pub struct Utf16Source<'a> {
 
 /// Returns the scalar at a place of the code units, or `None` at their end.
 #[inline]
+#[tactic(auto, using(crate::proofs::Texts::unit_steps))]
 fn unit_scalar_at(units: &[u16], place: usize) -> Option<char>
     requires { place ≤ length units.now }
     ensures { result ≡ slice_get (unit_scalars (drop place units.now)) 0 }
@@ -384,6 +390,7 @@ impl TextCursor for Utf16Source<'_> {
     ghost passed = { utf16_place };
 
     #[inline(always)]
+    #[tactic(auto, using(crate::proofs::Texts::next_steps))]
     fn front(&self) -> Next {
         match unit_scalar_at(self.units, self.place) {
             None => Next::End,
@@ -392,6 +399,7 @@ impl TextCursor for Utf16Source<'_> {
     }
 
     #[inline(always)]
+    #[tactic(auto, using(crate::proofs::Texts::utf16_pass))]
     fn pass(&mut self, count: usize) {
         self.place += count;
     }
@@ -415,6 +423,7 @@ impl TextCursor for Utf16Source<'_> {
     }
 
     #[inline(always)]
+    #[tactic(auto, using(crate::proofs::UnitTurns::takes_units))]
     fn take_ten(&mut self) -> Option<[u16; 10]> {
         if self.units.len() - self.place < 10 {
             return None;

@@ -52,6 +52,7 @@ fn code_block<C: UnitCodes>(codes: &C, units: &[u16]) -> ([u8; 16], [u8; 16])
 
 /// Stores a block from the place `at` on, and returns the number of ASCII marks at the front.
 #[inline(always)]
+#[tactic(auto, using(crate::proofs::Ascii::put_front))]
 fn store_marked(dst: &mut [u8], at: usize, block: u8x16, marks: u8x16) -> usize
     requires { at + 16 ≤ length dst.old }
     ensures count { result ≤ 16 }

@@ -133,6 +133,7 @@ impl<'a> EncoderTables for FlatTables<'a> {
     }
 
     #[inline(never)]
+    #[tactic(auto, using(crate::proofs::PointerBounds::bounds))]
     fn euc_jp_pointer(&self, scalar: char) -> Option<usize> {
         pointers::euc_jp_pointer(self.given.jis0208, scalar)
     }

@@ -28,6 +28,7 @@ fn is_in_order(before: usize, limit: usize, run: Run) -> bool
 }
 
 /// Returns the first place of a run that is not in order.
+#[tactic(auto, using(crate::proofs::PackedRuns::runs_next, crate::proofs::PackedRuns::runs_over, crate::proofs::PackedRuns::in_order))]
 pub(super) fn first_out_of_order(limit: usize, runs: &[Run]) -> Option<usize>
     requires { limit ≤ 65536 }
     ensures { result ≡ run_fault limit runs.now }

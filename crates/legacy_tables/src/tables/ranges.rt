@@ -77,6 +77,7 @@ impl<'a> Ranges<'a> {
 
     /// Returns what `Tables::range_pointer` does.
     #[inline]
+    #[tactic(auto, using(crate::proofs::PointerBounds::bounds))]
     pub fn pointer(&self, scalar: char) -> Option<usize>
         ensures pointer { result ≡ range_pointer_of self.now.list.now scalar }
         ensures within { IfSome result (λ p. p < 1237576) }

@@ -1,10 +1,7 @@
 use Rattle.std.proofs.Common.{◌+◌, arith}
 use Rattle.legacy_text.specs.ScalarTurns.{IsUnitAt}
-use Rattle.legacy_text.proofs.ScalarTurns.{stored_before, stored_at}
+use Rattle.legacy_text.proofs.ScalarTurns.{stored_at}
 use Rattle.legacy_text.proofs.scalar_turns.put_units.Goals as goal
-
-pub returns-clause-before : goal.returns-clause-before
-returns-clause-before c = λ k h. stored_before c.args.all.now c.joined.result.0 c.joined.result.1 c.args.at k h
 
 pub returns-clause-units : goal.returns-clause-units
 returns-clause-units c =

@@ -1,10 +1,6 @@
-use Rattle.std.proofs.{Common.{◌∙◌, ◌≡◌, ◌%◌, ap, arith, drop, length, take}, lemmas.List.{length-drop, length-take-le}}
-use Rattle.legacy_text.proofs.ScalarTurns.{sixteenth, tails_is}
+use Rattle.std.proofs.{Common.{bit_and, ◌∙◌}, lemmas.Nat.and_mask}
+use Rattle.legacy_text.proofs.ScalarTurns.{each_sixteenth}
 use Rattle.legacy_text.proofs.scalar_turns.tails_at.Goals as goal
 
 pub returns : goal.returns
-returns c = λ k h.
-    let bytes = c.args.bytes.now in
-    let place = c.args.place in
-    let long : length (take 16 (drop place bytes)) ≡ 16 = length-take-le 16 (drop place bytes) (omega (arith, length-drop place bytes, c.requires)) in
-    tails_is (take 16 (drop place bytes)) long k h ∙ ap (λ b. b % 64) (sixteenth bytes place k h)
+returns c = λ k h. each_sixteenth bit_and 63 c.args.bytes.now c.args.place c.requires k h ∙ and_mask _ 6

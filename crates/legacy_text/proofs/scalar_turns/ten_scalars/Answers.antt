@@ -1,17 +1,11 @@
-use Rattle.std.proofs.{Common.{◌≡◌, ◌∙◌, ◌<◌, length, take, get_or, refl, arith, inl, inr, w32}, lemmas.Bool.cases_lt, lemmas.List.{length-set, take_more_set}}
+use Rattle.std.proofs.lemmas.Bool.Decides.{nat_tests}
+use Rattle.std.proofs.{Common.{◌∙◌, ◌<◌, length, take, get_or, arith, w32}, lemmas.List.{length-set, take_more_set}}
 use Rattle.std.specs.Int.{trailing_zeros}
 use Rattle.legacy_text.proofs.ScalarTurns.{stands_first, stands_more}
 use Rattle.legacy_text.proofs.scalar_turns.ten_scalars.Goals as goal
 
 pub loop-k-init : goal.loop-k-init
-loop-k-init c = (
-  omega arith,
-  refl,
-  c.starts_at-bits.type_inv,
-  (λ some. stands_first c.args.bytes.now c.args.start c.starts_at-bits.result
-      (omega (arith, c.if-bytes-start-lt34.false, c.requires.place)) c.requires.text c.starts_at-bits.ensures
-      c.starts_at-bits.type_inv some),
-)
+loop-k-init c = grind (arith, stands_first c.args.bytes.now c.args.start c.starts_at-bits.result)
 
 pub loop-k-preserved : goal.loop-k-preserved
 loop-k-preserved c =
@@ -25,10 +19,7 @@ loop-k-preserved c =
       length-set c.loop-k.units k unit ∙ i.1,
       c.without_lowest-bits.type_inv,
       (λ some_rest.
-          let some : 0 < bits = elim (cases_lt 0 bits) as (λ _. 0 < bits) [
-            | inl l ↦ l
-            | inr l ↦ let none : bits ≡ 0 = omega arith in absurd (omega (arith, e.none none, some_rest))
-          ] in
+          let some : 0 < bits = grind (arith, nat_tests, e.none) in
           rw (take_more_set c.loop-k.units k unit within)
           (stands_more c.args.bytes.now c.args.start (take k c.loop-k.units) bits c.without_lowest-bits.result unit
           (omega (arith, c.if-bytes-start-lt34.false, c.requires.place))

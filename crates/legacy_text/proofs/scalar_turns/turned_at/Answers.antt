@@ -1,10 +1,6 @@
-use Rattle.std.proofs.{Common.{◌∙◌, ◌≡◌, ◌+◌, ◌%◌, ap, arith, drop, length, take}, lemmas.List.{length-drop, length-take-le}}
-use Rattle.legacy_text.proofs.ScalarTurns.{sixteenth, turned_is}
+use Rattle.std.proofs.{Common.{◌+◌, ◌%◌}}
+use Rattle.legacy_text.proofs.ScalarTurns.{each_sixteenth}
 use Rattle.legacy_text.proofs.scalar_turns.turned_at.Goals as goal
 
 pub returns : goal.returns
-returns c = λ k h.
-    let bytes = c.args.bytes.now in
-    let place = c.args.place in
-    let long : length (take 16 (drop place bytes)) ≡ 16 = length-take-le 16 (drop place bytes) (omega (arith, length-drop place bytes, c.requires)) in
-    turned_is (take 16 (drop place bytes)) long k h ∙ ap (λ b. (b + 128) % 256) (sixteenth bytes place k h)
+returns c = each_sixteenth (λ a b. (a + b) % 256) 128 c.args.bytes.now c.args.place c.requires

@@ -1,19 +1,10 @@
-use Rattle.std.proofs.{lemmas.Grind.common_steps, Common.{◌≡◌, ◌∙◌, ◌+◌, ◌<◌, length, take, ap, add-zero, arith, slice_set}, lemmas.Bool.ltb-true}
+use Rattle.std.proofs.{Common.{◌≡◌, ◌∙◌, ◌+◌, ◌<◌, length, take, ap, add-zero, arith, slice_set}, lemmas.Bool.ltb-true}
 use Rattle.std.proofs.lemmas.List.{take-set-le, take_more_set}
 use Rattle.legacy_text.proofs.ShortScalars.{all_set, scalars_none, scalars_one, scalars_append}
 use Rattle.legacy_text.proofs.short_scalars.put_turn.Goals as goal
 
 pub loop-k-init : goal.loop-k-init
 loop-k-init g c = grind (arith, scalars_none, add-zero)
-
-pub bounds-bytes-place : goal.bounds-bytes-place
-bounds-bytes-place g c = omega (arith, c.loop-k.invariant.1, c.loop-k-test.true, c.requires.read)
-
-pub short_scalar-scalar-requires : goal.short_scalar-scalar-requires
-short_scalar-scalar-requires g c = omega (arith, c.loop-k.invariant.1, c.loop-k-test.true, c.requires.read)
-
-pub overflow_add-place : goal.overflow_add-place
-overflow_add-place g c = omega (arith, c.loop-k.invariant.1, c.loop-k-test.true, c.requires.read, c.short_scalar-scalar.ensures.few)
 
 pub loop-k-preserved : goal.loop-k-preserved
 loop-k-preserved g c =
@@ -34,12 +25,3 @@ loop-k-preserved g c =
           let one = scalars_one _ c.args.bytes.now c.loop-k.place s.result.0 _ b.result.0 (take at c.loop-k.dst) _ read (b.ensures flags.2).1 stored in
           scalars_append _ c.args.bytes.now c.args.start c.loop-k.k c.loop-k.place 1 _ _ _ _ before one),
     )
-
-pub returns-then-is_known-clause-before : goal.returns-then-is_known-clause-before
-returns-then-is_known-clause-before g c = c.loop-k.invariant.2
-
-pub returns-then-is_known-clause-turn : goal.returns-then-is_known-clause-turn
-returns-then-is_known-clause-turn g c = grind (arith, common_steps)
-
-pub returns-else-is_known-clause-before : goal.returns-else-is_known-clause-before
-returns-else-is_known-clause-before g c = c.loop-k.invariant.2

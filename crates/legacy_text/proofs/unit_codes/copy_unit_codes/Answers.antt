@@ -10,12 +10,7 @@ returns-then-count-lt16 g c =
     let on =
     block_behind (g.C.UnitCodes.gives c.args.codes.now) c.args.units.now _ _ _ c.args.at c.loop-copied.copied _ _ _
     (omega (arith, c.loop-copied-test.true)) e.count b.bytes b.codes e.ascii e.stored i.2 i.3 in
-    record {
-      read = omega (arith, c.loop-copied-test.true, e.count);
-      fits = omega (arith, c.if-most-copied-ge16.true, e.count);
-      bmp = on.bmp;
-      writes = on.writes;
-    }
+    grind arith
 
 pub loop-copied-preserved : goal.loop-copied-preserved
 loop-copied-preserved g c =

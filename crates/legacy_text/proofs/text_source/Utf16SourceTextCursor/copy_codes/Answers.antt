@@ -1,4 +1,4 @@
-use Rattle.std.proofs.Common.{◌+◌, ap, sym}
+use Rattle.std.proofs.Common.{arith}
 use Rattle.legacy_text.proofs.UnitCopies.{bmp_front, bmp_count, bmp_writes}
 use Rattle.legacy_text.proofs.text_source.Utf16SourceTextCursor.copy_codes.Goals as goal
 
@@ -9,10 +9,5 @@ returns g c =
     let n = c.copy_unit_codes-count.result in
     let gives = g.C.UnitCodes.gives c.args.codes.now in
     let front = bmp_front gives s.units.now s.place n s.in_range s.are_units e.read e.bmp in
-    record {
-      read = front.within;
-      left = front.others_is;
-      passed = ap (λ n. s.place + n) (sym (bmp_count gives s.units.now s.place n s.in_range s.are_units e.read e.bmp));
-      fits = e.fits;
-      writes = bmp_writes gives s.units.now s.place n s.in_range s.are_units e.read e.bmp _ _ e.writes;
-    }
+    let count = bmp_count gives s.units.now s.place n s.in_range s.are_units e.read e.bmp in
+    grind (arith, bmp_writes gives s.units.now s.place n s.in_range s.are_units e.read e.bmp)

@@ -3,10 +3,4 @@ use Rattle.legacy_text.proofs.Texts.{utf16_pass}
 use Rattle.legacy_text.proofs.text_source.Utf16SourceTextCursor.pass.Goals as goal
 
 pub invariant_of-self : goal.invariant_of-self
-invariant_of-self c =
-    let s = c.args.self.now in
-    let p = utf16_pass s.units.now s.place c.args.count s.are_units c.requires.some c.requires.count in
-    record { are_units = s.are_units; in_range = p.0 }
-
-pub returns-clause-left : goal.returns-clause-left
-returns-clause-left c = grind (arith, utf16_pass)
+invariant_of-self c = let s = c.args.self.now in grind (arith, utf16_pass s.units.now s.place c.args.count)

@@ -3,10 +3,4 @@ use Rattle.legacy_text.proofs.Texts.{utf8_step}
 use Rattle.legacy_text.proofs.text_source.Utf8SourceSource.advance.Goals as goal
 
 pub invariant_of-self : goal.invariant_of-self
-invariant_of-self c =
-    let s = c.args.self.now in
-    let step = utf8_step s.text.now s.place c.in-Some.c s.in_range s.is_text c.in-Some.ensures in
-    record { in_range = rw c.len_utf8.ensures.value step.within; is_text = rw c.len_utf8.ensures.value step.is_text }
-
-pub returns-in-Some : goal.returns-in-Some
-returns-in-Some c = grind (arith, utf8_step)
+invariant_of-self c = let s = c.args.self.now in grind (arith, utf8_step s.text.now s.place c.in-Some.c)

@@ -1,4 +1,4 @@
-use Rattle.std.proofs.Common.{arith, ◌∙◌, ◌++◌, ap, subst, take, refl, IsAscii}
+use Rattle.std.proofs.Common.{arith}
 use Rattle.legacy_text.proofs.Texts.{ascii_at, utf8_ascii, utf8_ascii-text}
 use Rattle.legacy_text.proofs.text_source.Utf8SourceTextCursor.copy_ascii.Goals as goal
 
@@ -12,11 +12,4 @@ returns c =
     let e = rw c.as_bytes.ensures.value at c.copy_ascii_bytes-count.ensures in
     let at = ascii_at s.text.now s.place n s.in_range e.read e.ascii in
     let front = utf8_ascii s.text.now s.place n at.within at.ascii in
-    record {
-      read = front.within;
-      left = front.others_is;
-      passed = refl;
-      ascii = subst (λ l. IsAscii l) front.front_is at.ascii;
-      fits = e.fits;
-      bytes = e.stored ∙ ap (λ l. take c.args.at c.args.dst.now ++ l) (at.same ∙ front.front_is);
-    }
+    grind arith

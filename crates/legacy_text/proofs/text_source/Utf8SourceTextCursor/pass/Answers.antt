@@ -1,17 +1,9 @@
-use Rattle.std.proofs.{lemmas.Grind.common_steps, Common.arith}
+use Rattle.std.proofs.{Common.arith}
 use Rattle.legacy_text.proofs.Texts.{utf8_pass}
 use Rattle.legacy_text.proofs.text_source.Utf8SourceTextCursor.pass.Goals as goal
 
 pub place_behind-self-requires : goal.place_behind-self-requires
-place_behind-self-requires c =
-    let s = c.args.self.now in
-    (utf8_pass s.text.now s.place c.args.count s.in_range s.is_text c.requires.some c.requires.count).0
+place_behind-self-requires c = let s = c.args.self.now in grind (arith, utf8_pass s.text.now s.place c.args.count)
 
 pub invariant_of-self : goal.invariant_of-self
-invariant_of-self c =
-    let s = c.args.self.now in
-    let p = utf8_pass s.text.now s.place c.args.count s.in_range s.is_text c.requires.some c.requires.count in
-    record { in_range = rw c.place_behind-self.ensures p.0; is_text = rw c.place_behind-self.ensures p.1 }
-
-pub returns-clause-left : goal.returns-clause-left
-returns-clause-left c = grind (arith, common_steps, utf8_pass)
+invariant_of-self c = let s = c.args.self.now in grind (arith, utf8_pass s.text.now s.place c.args.count)

@@ -1,6 +1,0 @@
-use Rattle.std.proofs.{lemmas.Grind.common_steps, Common.arith}
-use Rattle.legacy_text.proofs.VectorUnits.{free-after}
-use Rattle.legacy_text.proofs.destination.Utf8DestinationDestination.put_first.Goals as goal
-
-pub returns-clause-room : goal.returns-clause-room
-returns-clause-room c = grind (arith, common_steps, free-after)
