@@ -18,17 +18,12 @@ use Rattle.legacy_chinese.proofs.{Gb18030Places.gb18030_entry, EntryScalars.scal
 use Rattle.legacy_tables.specs.declared.tables.IndexName.TheVariants as names
 use Rattle.legacy_decoder_engine.proofs.Feeding as moves
 
-lead_is : (b : ℕ) → 0x81 ≤ b → b ≤ 0xFE → (is_lead b ≡ true) × (is_ascii_digit b ≡ false) × (b < 2 ^ 8)
-lead_is b low high = (grind (arith, nat_tests), grind (arith, nat_tests), omega arith)
-
-digit_is : (b : ℕ) → 0x30 ≤ b → b ≤ 0x39 → (is_ascii_digit b ≡ true) × (is_lead b ≡ false) × (b < 2 ^ 8) × IsScalar b
-digit_is b low high = (grind (arith, nat_tests), grind (arith, nat_tests), omega arith, grind (arith, nat_tests))
-
 of_lead : (lead : Lead) → (is_lead lead.byte ≡ true) × (is_ascii_digit lead.byte ≡ false) × (lead.byte < 2 ^ 8)
-of_lead lead = lead_is lead.byte lead.low lead.high
+of_lead lead = let low = lead.low in let high = lead.high in (grind (arith, nat_tests), grind (arith, nat_tests), omega arith)
 
 of_digit : (digit : HeldDigit) → (is_ascii_digit digit.byte ≡ true) × (is_lead digit.byte ≡ false) × (digit.byte < 2 ^ 8) × IsScalar digit.byte
-of_digit digit = digit_is digit.byte digit.low digit.high
+of_digit digit =
+    let low = digit.low in let high = digit.high in (grind (arith, nat_tests), grind (arith, nat_tests), omega arith, grind (arith, nat_tests))
 
 may : (held : Held) → gb18030_may_hold (held_bytes held) ≡ true
 may held = grind (arith, of_lead, of_digit)

@@ -46,9 +46,7 @@ raw_gives {before} {after = after} {answer} {left} {written} c more ended h =
 
 raw_bytes : (written : List ℕ) (answer : EncoderResult) →
     bytes_of question_mark (map Byte written ++ reported answer) ≡ written ++ bytes_of question_mark (reported answer)
-raw_bytes written answer =
-    bytes-append question_mark (map Byte written) (reported answer)
-    ∙ ap (λ l. l ++ bytes_of question_mark (reported answer)) (bytes-of_bytes question_mark written)
+raw_bytes written answer = rw (bytes-append question_mark (map Byte written) (reported answer), bytes-of_bytes question_mark written) refl
 
 module _ {before : EncoderState} {text : List ℕ} {last : Bool} {free : ℕ} {after : EncoderState} {left written : List ℕ} where
   pub raw_empty : EncoderCall before text last free after InputEmpty left written → EncodingCall question_mark before text last free after Read left written
