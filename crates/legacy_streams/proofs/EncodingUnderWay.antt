@@ -1,10 +1,10 @@
 -- The encoding of an input in UTF-8 under way.
 use Rattle.std.proofs.Common.{◌≡◌, ◌≢◌, ◌⊎◌, ◌∙◌, ℕ, ◌+◌, ◌-◌, ◌≤◌, ◌<◌, List, [], ◌∷◌, ◌++◌, length, take, drop, take-append-drop, refl, sym, ap}
 use Rattle.std.proofs.Common.{subst, arith, append_assoc, append-nil, length-append, length-drop, Bool, true, false, Option, None, IsUtf8, inl}
-use Rattle.std.proofs.{Common.{drop-drop, take_all, is_some, zero-add}, lemmas.Str.{utf8_valid_len-IsValidUpTo, chars-nil}}
+use Rattle.std.proofs.{Common.{drop-drop, take_all, zero-add}, lemmas.Str.{utf8_valid_len-IsValidUpTo, chars-nil}}
 use Rattle.std.proofs.{KnownBytes.{Appends-nil, Appends-trans, Consumes-nil, Consumes-trans}, lemmas.Grind.flat_map-append, lemmas.Bool.cases_lt}
 use Rattle.std.proofs.{lemmas.List.{drop_at, length-take-le, length-take, drop-take, nil_from_length}, lemmas.List.Edits.take-paste, Math.Seq.paste}
-use Rattle.std.specs.{Str.{chars, IsValidUpTo, IsErrorLen}, Str.Lossy.{utf8_valid_len, utf8_error_len}, Io.KnownBytes.{Appends, Consumes, IsAtEnd}}
+use Rattle.std.specs.{Str.{chars, IsValidUpTo}, Str.Lossy.{utf8_valid_len, utf8_error_len}, Io.KnownBytes.{Appends, Consumes, IsAtEnd}}
 use Rattle.legacy_base.specs.{Encoders.{EncoderState, encoded}}
 use Rattle.legacy_base.proofs.EncoderLaws.{end-encoded}
 use Rattle.legacy_codecs.specs.{declared.results.CoderResult.CoderResult, declared.results.CoderResult.TheVariants.InputEmpty, References.event_bytes}
@@ -288,9 +288,6 @@ no_text bs valid u = valid.longest (length bs) valid.short (subst IsUtf8 (sym (t
 -- a fact about the bytes after the longest text is one about all bytes if that text is empty
 pub told_of_all : (bs : List ℕ) (n : ℕ) (o : Option ℕ) → IsValidUpTo bs 0 → n ≡ utf8_valid_len bs → o ≡ utf8_error_len (drop n bs) → o ≡ utf8_error_len bs
 told_of_all bs n o valid e t = t ∙ ap (λ k. utf8_error_len (drop k bs)) (e ∙ utf8_valid_len-IsValidUpTo bs 0 valid)
-
-pub short_of : (o : Option ℕ) (bs : List ℕ) (n : ℕ) → IsErrorLen bs n o → is_some o ≡ false → n ≡ 0 → length bs < 4
-short_of o bs n h h1 h2 = grind arith
 
 -- the text that the end leaves
 pub end_of_none : (n : ℕ) → n ≡ 0 → chars [] ≡ end_scalars n
