@@ -1,7 +1,7 @@
 -- The entry of index Big5 at the sum of a lead's place and a trail's place.
-use Rattle.std.proofs.Common.{◌≡◌, ◌≢◌, ◌∙◌, ℕ, ◌+◌, ◌≤◌, List, [], ◌∷◌, length, cond, refl, sym, ap, arith, Bool, false, ◌||◌, ◌==◌, Some}
-use Rattle.std.proofs.{Common.None, lemmas.Bool.{ne_eqb, Decides.nat_tests}}
-use Rattle.std.specs.{Prelude.option_to_list, Option.option_map_or}
+use Rattle.std.proofs.Common.{◌≡◌, ◌≢◌, ◌∙◌, ℕ, ◌+◌, ◌≤◌, List, [], ◌∷◌, length, cond, refl, sym, ap, arith, false, Some}
+use Rattle.std.proofs.{lemmas.Bool.{ne_eqb, Decides.nat_tests}}
+use Rattle.std.specs.{Prelude.option_to_list}
 use Rattle.legacy_tables.specs.{Indexes.{entry_scalar, idx}, TableChecks.must_be_empty, AcceptedTables.AcceptedIndexes, Unicode.IsByte}
 use Rattle.legacy_tables.proofs.Accepted.{length-big5, entry-used}
 use Rattle.legacy_base.specs.{Big5.big5_scalars, States.is_lead, Grammar.big5}
@@ -20,16 +20,9 @@ pub big5_trails_are : IsTableOf big5_trail_place TRAILS
 unfolding big5_trail_place
 big5_trails_are = refl
 
-by_range : (f : ℕ → List ℕ) (a b : Bool) (x y : ℕ) → cond a (f x) (cond b (f y) []) ≡ option_map_or f (cond a (Some x) (cond b (Some y) None)) []
-by_range f a b x y = grind arith
-
--- if none of four tests holds, the rest is taken
-no_test : (a b c d : Bool) (v w x y rest : List ℕ) → ((a || b) || (c || d)) ≡ false → cond a v (cond b w (cond c x (cond d y rest))) ≡ rest
-no_test a b c d v w x y rest e = grind arith
-
 -- a pointer that is not one of the four letters with a mark gives its entry
 pub entry_is : (index : List ℕ) (p : ℕ) → must_be_empty names.Big5 p ≡ false → big5_scalars index p ≡ option_to_list (idx index p)
-entry_is index p e = no_test (p == 1133) (p == 1135) (p == 1164) (p == 1166) _ _ _ _ _ e
+entry_is index p e = grind arith
 
 past : (index : List ℕ) → length index ≤ 65535 → (p : ℕ) → 65535 ≤ p → big5_scalars index p ≡ []
 past index short p h = entry_is index p (grind (arith, nat_tests)) ∙ none_past index short p h
@@ -37,7 +30,7 @@ past index short p h = entry_is index p (grind (arith, nat_tests)) ∙ none_past
 pub big5_at : (index : List ℕ) → length index ≤ 65535 → (lead trail : ℕ) →
     big5_scalars index (big5_lead_place lead + big5_trail_place trail) ≡ cond (is_lead lead) (big5_pair_scalars index lead trail) []
 unfolding big5_lead_place big5_trail_place
-big5_at index short lead trail = grind (arith, pair_entry, past, by_range)
+big5_at index short lead trail = grind (arith, pair_entry, past)
 
 -- an entry that is not 0 is a scalar
 pub some_entry : (e : ℕ) → e ≢ 0 → Some e ≡ entry_scalar e

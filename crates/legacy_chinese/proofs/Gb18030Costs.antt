@@ -1,9 +1,9 @@
 -- The output of the steps of gb18030.
 use Rattle.std.proofs.{Common.{◌≡◌, ℕ, ◌≤◌, List, [], ◌∷◌, length, true, cond, arith}, lemmas.Bool.{false≢true, ltb-true}}
 use Rattle.std.specs.Char.{is_ascii, is_ascii_digit}
-use Rattle.legacy_base.specs.{Fronts.{malformed, reads_or}, Gb18030.{gb18030_scalars, gb18030_range_pointer}, States.{is_lead, gb18030_may_hold}}
+use Rattle.legacy_base.specs.{Gb18030.{gb18030_scalars, gb18030_range_pointer}, States.{gb18030_may_hold}}
 use Rattle.legacy_tables.specs.Indexes.{range}
-use Rattle.legacy_decoder_engine.specs.{Steps.{hold, finish, leave, trail_step}, StepUnits.{units, IsWidth, Cost}}
+use Rattle.legacy_decoder_engine.specs.{Steps.{hold, trail_step}, StepUnits.{units, IsWidth, Cost}}
 use Rattle.legacy_chinese.specs.Gb18030Machine.{gb18030_first, gb18030_step}
 use Rattle.legacy_decoder_engine.proofs.{Widths.{idx_units, option_units}, TwoByteCosts.{cost_test, units_test, trail_cost}}
 
@@ -20,16 +20,7 @@ module _ (len : ℕ → ℕ) (narrow wide : ℕ) (w : IsWidth len narrow wide) w
       cost_test len narrow wide length 6 (a ∷ []) b (is_ascii_digit b) hold (trail_step 1 (gb18030_scalars index a b) b)
       (λ d. record { fits = omega arith; pays = omega arith; pays_without = omega arith })
       (λ d. trail_cost len narrow wide w wide 6 a b (gb18030_scalars index a b) (gb18030_units index a b) (omega arith) (omega arith) (omega arith))
-  gb18030_held_cost index ranges a (c ∷ []) b h =
-      cost_test len narrow wide length 6 (a ∷ c ∷ []) b (is_lead b) hold (leave 1)
-      (λ d. record { fits = omega arith; pays = omega arith; pays_without = omega arith })
-      (λ d. record { fits = omega arith; pays = omega arith; pays_without = omega arith })
+  gb18030_held_cost index ranges a (c ∷ []) b h = grind (arith, cost_test)
   gb18030_held_cost index ranges a (c ∷ d ∷ []) b h =
-      cost_test len narrow wide length 6 (a ∷ c ∷ d ∷ []) b (is_ascii_digit b) _ (leave 1)
-      (λ e. four _ (option_units len narrow wide w (range ranges (gb18030_range_pointer a c d b))))
-      (λ e. record { fits = omega arith; pays = omega arith; pays_without = omega arith })
-    where
-      four : (cs : List ℕ) → units len cs ≤ wide → Cost len narrow wide length 6 (a ∷ c ∷ d ∷ []) b (finish (reads_or 4 cs (malformed 4)))
-      four [] u = record { fits = omega arith; pays = omega arith; pays_without = omega arith }
-      four (x ∷ cs) u = record { fits = u; pays = omega arith; pays_without = omega arith }
+      let few = option_units len narrow wide w (range ranges (gb18030_range_pointer a c d b)) in grind (arith, cost_test)
   gb18030_held_cost index ranges a (c ∷ d ∷ e ∷ held) b h = absurd (false≢true h)

@@ -1,7 +1,7 @@
 -- The gb18030 decoder holds back only what its machine may hold back, and its moves are the machine's.
 use Rattle.std.proofs.Common.{◌≡◌, ◌≢◌, ◌∙◌, ℕ, ◌+◌, ◌/◌, ◌%◌, ◌^◌, ◌<◌, ◌≤◌, List, [], ◌∷◌, length, get_or, true, false, refl, sym, ap, arith, Some}
 use Rattle.std.proofs.{lemmas.Bool.Decides.nat_tests, lemmas.List.Elements.{All-nil, All-cons}}
-use Rattle.std.specs.{Prelude.option_to_list, Int.is_in_range, Char.{IsScalar, is_ascii_digit}}
+use Rattle.std.specs.{Prelude.option_to_list, Char.{IsScalar, is_ascii_digit}}
 use Rattle.legacy_tables.specs.{Unicode.{IsByte, AreBytes}, Indexes.{idx, range}, AcceptedTables.AcceptedIndexes}
 use Rattle.legacy_base.specs.{Calls.IsMalformedByte, Gb18030.{gb18030_scalars, gb18030_range_pointer}, States.{is_lead, gb18030_may_hold, is_neutral, rests}}
 use Rattle.legacy_base.specs.{States.{DecoderState, state_of}, Grammar.{Grammar, gb18030, events_of}}
@@ -18,37 +18,23 @@ use Rattle.legacy_chinese.proofs.{Gb18030Places.gb18030_entry, EntryScalars.scal
 use Rattle.legacy_tables.specs.declared.tables.IndexName.TheVariants as names
 use Rattle.legacy_decoder_engine.proofs.Feeding as moves
 
-lead_is : (b : ℕ) → 0x81 ≤ b → b ≤ 0xFE → (is_lead b ≡ true) × (is_ascii_digit b ≡ false) × (b < 2 ^ 8)
-lead_is b low high = (grind (arith, nat_tests), grind (arith, nat_tests), omega arith)
-
-digit_is : (b : ℕ) → 0x30 ≤ b → b ≤ 0x39 → (is_ascii_digit b ≡ true) × (is_lead b ≡ false) × (b < 2 ^ 8) × IsScalar b
-digit_is b low high = (grind (arith, nat_tests), grind (arith, nat_tests), omega arith, grind (arith, nat_tests))
-
 of_lead : (lead : Lead) → (is_lead lead.byte ≡ true) × (is_ascii_digit lead.byte ≡ false) × (lead.byte < 2 ^ 8)
-of_lead lead = lead_is lead.byte lead.low lead.high
+of_lead lead = let low = lead.low in let high = lead.high in (grind (arith, nat_tests), grind (arith, nat_tests), omega arith)
 
 of_digit : (digit : HeldDigit) → (is_ascii_digit digit.byte ≡ true) × (is_lead digit.byte ≡ false) × (digit.byte < 2 ^ 8) × IsScalar digit.byte
-of_digit digit = digit_is digit.byte digit.low digit.high
+of_digit digit =
+    let low = digit.low in let high = digit.high in (grind (arith, nat_tests), grind (arith, nat_tests), omega arith, grind (arith, nat_tests))
 
 may : (held : Held) → gb18030_may_hold (held_bytes held) ≡ true
 may held = grind (arith, of_lead, of_digit)
 
-one : (b : ℕ) (bytes : List ℕ) → IsByte b → AreBytes bytes → AreBytes (b ∷ bytes)
-one b bytes byte all = All-cons IsByte b bytes byte all
-
 are_bytes : (held : Held) → AreBytes (held_bytes held)
-are_bytes held = grind (arith, All-nil, one, of_lead, of_digit)
+are_bytes held = grind (arith, All-nil, All-cons, of_lead, of_digit)
 
 -- ---- pairs
 
-digit_no_trail : (b : ℕ) → is_ascii_digit b ≡ true → (is_in_range 0x40 0x7E b ≡ false) × (is_in_range 0x80 0xFE b ≡ false)
-digit_no_trail b is = (grind (arith, nat_tests), grind (arith, nat_tests))
-
 trail_not_digit : (index : List ℕ) (lead trail c : ℕ) → gb18030_scalars index lead trail ≡ c ∷ [] → is_ascii_digit trail ≡ false
-trail_not_digit index lead trail c e = grind (arith, digit_no_trail)
-
-bytes-some : (held : Held) → (held ≡ Nothing → ⊥) → held_bytes held ≢ []
-bytes-some held h = grind arith
+trail_not_digit index lead trail c e = grind (arith, nat_tests)
 
 short : (tables : AcceptedIndexes) → length tables.flat.gb18030 ≤ 65535
 short tables = let most = length-gb18030 tables.flat tables.accepted in omega arith
@@ -98,7 +84,7 @@ module _ (tables : AcceptedIndexes) where
   ends_none held e = moves.ends_empty shown (held_bytes held) (may held) (are_bytes held) e
 
   pub ends_some : (held : Held) → (held ≡ Nothing → ⊥) → events_of g (held_bytes held) ≢ []
-  ends_some held n = moves.ends_held shown (held_bytes held) (may held) (are_bytes held) (bytes-some held n)
+  ends_some held n = moves.ends_held shown (held_bytes held) (may held) (are_bytes held) (λ e. grind arith)
 
   -- ---- runs
 
@@ -131,19 +117,15 @@ module _ (tables : AcceptedIndexes) where
       (scalar, pair_at (code % 256) (code / 256) entry (omega arith) (omega arith) given)
 
   -- four bytes that give a scalar
-  pub four : (a b c d x : ℕ) → 0x81 ≤ a → a ≤ 0xFE → 0x30 ≤ b → b ≤ 0x39 → 0x81 ≤ c → c ≤ 0xFE → 0x30 ≤ d → d ≤ 0x39 →
+  pub four : (a b c d x : ℕ) → is_lead a ≡ true → is_ascii_digit b ≡ true → is_lead c ≡ true → is_ascii_digit d ≡ true →
       Some x ≡ range tables.flat.ranges (gb18030_range_pointer a b c d) → Runs g (a ∷ b ∷ c ∷ d ∷ []) (x ∷ [])
-  four a b c d x a_low a_high b_low b_high c_low c_high d_low d_high e =
-      let first = lead_is a a_low a_high in
-      let second = digit_is b b_low b_high in
-      let third = lead_is c c_low c_high in
-      let fourth = digit_is d d_low d_high in
-      let other = lead_other a first.0 in
+  four a b c d x first second third fourth e =
+      let other = lead_other a first in
       let scalar : IsScalar x = range-scalar tables.flat tables.accepted (gb18030_range_pointer a b c d) x (sym e) in
-      four_runs shown a b c d x first.2 second.2 third.2 fourth.2 scalar
-      (rw first.0 refl) (rw (first.0, second.0) refl) (rw (first.0, second.0, third.0) refl)
-      (rw first.1 refl) (rw first.1 refl) (rw first.1 refl) (λ held byte. refl)
-      (rw (other.0, other.1, first.0) refl) (rw second.0 refl) (rw third.0 refl) (rw (fourth.0, ← e) refl)
+      four_runs shown a b c d x (grind (arith, nat_tests)) (grind (arith, nat_tests)) (grind (arith, nat_tests)) (grind (arith, nat_tests)) scalar
+      (rw first refl) (rw (first, second) refl) (rw (first, second, third) refl)
+      (rw other.2 refl) (rw other.2 refl) (rw other.2 refl) (λ held byte. refl)
+      (rw (other.0, other.1, first) refl) (rw second refl) (rw third refl) (rw (fourth, ← e) refl)
 
 -- a decoder that holds nothing back is idle
 pub idle : (decoder : Gb18030Decoder) → is_neutral (gb18030_state decoder) ≡ true → IsIdle (gb18030_state decoder)

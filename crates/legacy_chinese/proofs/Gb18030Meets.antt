@@ -14,9 +14,6 @@ use Rattle.legacy_decoder_engine.proofs.FrontMoves.{HasFront, Fits, fits_test, f
 pub lead_other : (b : ℕ) → is_lead b ≡ true → (is_ascii b ≡ false) × ((b == 0x80) ≡ false) × (is_ascii_digit b ≡ false)
 lead_other b is = (grind (arith, nat_tests), grind (arith, nat_tests), grind (arith, nat_tests))
 
-digit_is_ascii : (b : ℕ) → is_ascii_digit b ≡ true → is_ascii b ≡ true
-digit_is_ascii b h = grind (arith, nat_tests)
-
 pub digit_not_lead : (b : ℕ) → is_ascii_digit b ≡ true → is_lead b ≡ false
 digit_not_lead b h = grind (arith, nat_tests)
 
@@ -87,7 +84,7 @@ module _ (index : List ℕ) (ranges : List (ℕ × ℕ)) where
 
   digit_front : (b : ℕ) (rest : List ℕ) → is_ascii_digit b ≡ true → front b rest ≡ reads 1 (b ∷ [])
   unfolding gb18030_front
-  digit_front b rest d = rw (digit_is_ascii b d)
+  digit_front b rest d = grind (arith, nat_tests)
 
   pending : (b : ℕ) (held : List ℕ) → gb18030_may_hold (b ∷ held) ≡ true → (d : Bool) → is_ascii_digit b ≡ d →
       PendingMeets g (b ∷ held) (cond d (Some (1, b)) None)

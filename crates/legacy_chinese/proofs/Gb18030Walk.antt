@@ -1,6 +1,6 @@
 -- A walk over the pointers of index gb18030 lists the codes of the scalars that have the code of their pointer. The
 -- other scalars of gb18030 and GBK are looked up one by one.
-use Rattle.std.proofs.Common.{◌≡◌, ◌∙◌, ℕ, ◌+◌, ◌/◌, ◌<◌, List, [], ◌∷◌, slice_index, Some, None, Option, Bool, true, false, find, ◌||◌, ◌==◌, refl, ap, sym}
+use Rattle.std.proofs.Common.{◌≡◌, ◌∙◌, ℕ, ◌+◌, ◌/◌, ◌<◌, List, [], ◌∷◌, slice_index, Some, None, Option, Bool, true, false, find, ◌==◌, refl, ap, sym}
 use Rattle.std.proofs.{Common.{subst, arith, option_map}, lemmas.Bool.le-ltb}
 use Rattle.std.specs.Option.{IfSome}
 use Rattle.legacy_tables.specs.{Indexes.{FlatIndexes, gb18030_pua_of}, TableChecks.AreAccepted, Pointers.{gb18030_pointer_of, range_pointer_of}}
@@ -13,15 +13,10 @@ use Rattle.legacy_tables.specs.declared.tables.packed.PackedPart.TheVariants as 
 
 find_none : (rows : List (ℕ × ℕ × ℕ)) (c : ℕ) → is_in_rows rows c ≡ false → find (λ r. r.0 == c) rows ≡ None
 find_none [] c e = refl
-find_none (r ∷ rows) c e = go (r.0 == c) refl e (find_none rows c)
-  where
-    go : (t : Bool) → (r.0 == c) ≡ t → (t || is_in_rows rows c) ≡ false
-        → (is_in_rows rows c ≡ false → find (λ r. r.0 == c) rows ≡ None) → find (λ r. r.0 == c) (r ∷ rows) ≡ None
-    go true q z later = cc
-    go false q z later = rw q (later z)
+find_none (r ∷ rows) c e = grind (arith, find_none rows c)
 
 no-row : (rows : List (ℕ × ℕ × ℕ)) (c : ℕ) → is_in_rows rows c ≡ false → gb18030_pua_of rows c ≡ None
-no-row rows c e = rw (find_none rows c e) refl
+no-row rows c e = grind (arith, find_none)
 
 module _ (flat : FlatIndexes) (accepted : AreAccepted flat) where
   paired : (c : ℕ) → GoesByPointer flat.gb18030_pua c
@@ -42,7 +37,7 @@ module _ (flat : FlatIndexes) (accepted : AreAccepted flat) where
 
   none : (c : ℕ) → GoesByPointer flat.gb18030_pua c → gb18030_pointer_of flat.gb18030 c ≡ None → (encoder_profile (gb18030_codec flat false)).code c ≡ None
   unfolding gbk_code
-  none c by e = rw (le-ltb c 128 (outside-first 0x80 c by.ascii), outside-one 0xE5E5 c by.e5e5, outside-one 0x20AC c by.euro, paired c by, e) refl
+  none c by e = grind (arith, le-ltb, outside-first, outside-one, paired)
 
   no_two : (o : Option ℕ) (lead trail : ℕ) → option_map gb18030_range_bytes o ≡ Some (lead ∷ trail ∷ []) → ⊥
   no_two o lead trail h = grind arith

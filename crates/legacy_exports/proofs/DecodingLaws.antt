@@ -16,7 +16,7 @@ use Rattle.legacy_codecs.specs.declared.results.CoderResult.{CoderResult}
 use Rattle.legacy_codecs.proofs.Replaced.{replaced-append, replaced-shift, replaced-of_scalars, has_malformed-append, has_malformed-shift, length-shift}
 use Rattle.legacy_codecs.proofs.Replacements.{reported_scalars, replacement_count}
 use Rattle.legacy_codecs.specs.declared.results.CoderResult.TheVariants as coder
-use Rattle.legacy_exports.specs.Decoding.{end_of, Decodes, IsDecoded, DecodingCall, DecodesSource}
+use Rattle.legacy_exports.specs.Decoding.{end_of, Decodes, DecodingCall, DecodesSource}
 use Rattle.legacy_exports.specs.declared.calls.CallEnd.{CallEnd}
 use Rattle.legacy_exports.specs.declared.calls.CallEnd.TheVariants.{Read, Full, Replaced}
 
@@ -53,17 +53,7 @@ found-report last seen scalars answer left h = grind (arith, has_malformed-appen
 raw_decodes : {form : EncodingForm} {before : DecoderState} {source : List ℕ} {last : Bool} {free : ℕ} {after : DecoderState} {answer : DecoderResult}
     {read : ℕ} {scalars : List ℕ} (units : List ℕ) → units ≡ all_code_units form (scalars ++ reported_scalars answer) →
     DecoderCall form before source last free after answer read scalars → Decodes form last before source after read units
-raw_decodes {form} {before} {source} {last} {after = after} {answer} {read} {scalars} units e c =
-    let seen = length before.held + read in
-    let out = out_events seen scalars answer in
-    let left = drop read source in
-    record {
-      within = c.within;
-      passed = c.passed;
-      out = out;
-      progress = at_less _ _ (found-report last seen scalars answer left) before source c.passed after left out c.progress;
-      text = e ∙ ap (all_code_units form) (sym (replaced-out seen scalars answer));
-    }
+raw_decodes units e c = grind (arith, found-report, at_less, replaced-out)
 
 -- a result that reports nothing adds no code units
 quiet : (form : EncodingForm) (scalars units : List ℕ) → units ≡ all_code_units form scalars → units ≡ all_code_units form (scalars ++ [])
@@ -153,14 +143,7 @@ module _ {form : EncodingForm} {last : Bool} {before : DecoderState} {source : L
     passed = r.passed + c.passed;
     out = out_after;
     progress = progress_after;
-    text =
-        rw (
-          replaced-append r.out (shift r.passed c.out),
-          replaced-shift r.passed c.out,
-          all_code_units-append form (replaced_scalars r.out) (replaced_scalars c.out),
-          r.text,
-          c.text,
-        ) refl;
+    text = grind (arith, replaced-append, replaced-shift, all_code_units-append, r.text, c.text);
   }
 
   -- the events of the call are so many fewer than before it
@@ -210,10 +193,7 @@ module _ {form : EncodingForm} {before : DecoderState} {source : List ℕ} {now 
 
   -- a call that read its piece is at the end of it
   pub whole_piece : answer ≡ Read → end ≤ length source → end ≤ read + count
-  whole_piece e h =
-      let ends : IsDecoded after (drop count (take (end - read) (drop read source))) last = rw e at c.ends in
-      let none = ap length ends.0 in
-      omega (arith, none, length-drop count (take (end - read) (drop read source)), length-take (end - read) (drop read source), length-drop read source)
+  whole_piece e h = grind (arith, c.ends, length-drop, length-take)
 
   -- no events are added
   pub no_more_events : length (events_of after.grammar (after.held ++ drop (read + count) source))
@@ -223,16 +203,11 @@ module _ {form : EncodingForm} {before : DecoderState} {source : List ℕ} {now 
   -- a replacement is one event less
   pub fewer_events : answer ≡ Replaced → length (events_of after.grammar (after.held ++ drop (read + count) source))
       < length (events_of now.grammar (now.held ++ drop read source))
-  fewer_events e =
-      let some : 1 ≤ length units = rw e at c.ends in
-      omega (arith, events_fewer r c.decodes (drop end source) parts none, some_event form c.decodes.out units c.decodes.text some)
+  fewer_events e = grind (arith, c.ends, events_fewer r c.decodes (drop end source) parts none, some_event form c.decodes.out units c.decodes.text)
 
   -- the end of a conversion
   pub at_end : (all : List ℕ) (total : ℕ) → all ≡ done ++ units → answer ≡ Read → IsTrue last → DecodesSource form source total before after all
-  at_end all total e f is_last =
-      let ends : IsDecoded after (drop count (take (end - read) (drop read source))) last = rw f at c.ends in
-      let left : drop (read + count) source ≡ [] = left_is r c.decodes (drop end source) parts none ∙ ap (λ l. l ++ drop end source) ends.0 ∙ none is_last in
-      record { read = read + count; decodes = after_call all e; stops = inl (left, λ _. ends.1 is_last) }
+  at_end all total e f is_last = grind (arith, c.ends, left_is r c.decodes (drop end source) parts none, after_call)
 
   pub at_full : (all : List ℕ) (total : ℕ) → all ≡ done ++ units → free ≡ total - length done → answer ≡ Full → DecodesSource form source total before after all
   at_full all total e f g =

@@ -4,15 +4,13 @@ use Rattle.std.proofs.Common.{append-nil, append_assoc, length-append, Bool, tru
 use Rattle.std.proofs.lemmas.List.Concat.{flat_map-append}
 use Rattle.legacy_base.specs.declared.results.EncodeEvent.{EncodeEvent}
 use Rattle.legacy_base.specs.declared.results.EncodeEvent.TheVariants.{Byte}
-use Rattle.legacy_base.specs.declared.results.EncodeEvent.TheVariants as event
 use Rattle.legacy_base.specs.declared.results.EncoderResult.{EncoderResult}
 use Rattle.legacy_base.specs.declared.results.EncoderResult.TheVariants.{InputEmpty, OutputFull, Unmappable}
 use Rattle.legacy_base.specs.Encoders.{EncoderState, encoded}
 use Rattle.legacy_base.specs.EncoderCalls.{EncoderCall, tells_end, reported}
 use Rattle.legacy_base.proofs.Beginnings.{begins_later}
-use Rattle.legacy_codecs.specs.References.{reference, referenced_bytes, Gives, ReplacingEncoderCall}
+use Rattle.legacy_codecs.specs.References.{referenced_bytes, Gives, ReplacingEncoderCall}
 use Rattle.legacy_codecs.specs.declared.results.CoderResult.{CoderResult}
-use Rattle.legacy_codecs.specs.declared.results.CoderResult.TheVariants as coder
 use Rattle.legacy_exports.specs.declared.calls.CallEnd.TheVariants.{Read, Full, Replaced}
 use Rattle.legacy_exports.specs.Decoding.{end_of}
 use Rattle.legacy_exports.specs.Encoding.{Replacement, question_mark, numeric_reference, bytes_of_event, bytes_of, Encodes, EncodingCall, LacksBytes}
@@ -25,12 +23,11 @@ bytes-append kind xs ys = flat_map-append (bytes_of_event kind) xs ys
 
 bytes-of_bytes : (kind : Replacement) (bs : List ℕ) → bytes_of kind (map Byte bs) ≡ bs
 bytes-of_bytes kind [] = refl
-bytes-of_bytes kind (b ∷ bs) = ap (λ (l : List ℕ). b ∷ l) (bytes-of_bytes kind bs)
+bytes-of_bytes kind (b ∷ bs) = grind (arith, bytes-of_bytes kind bs)
 
 bytes-references : (events : List EncodeEvent) → bytes_of numeric_reference events ≡ referenced_bytes events
 bytes-references [] = refl
-bytes-references (Byte b ∷ events) = ap (λ (l : List ℕ). b ∷ l) (bytes-references events)
-bytes-references (event.Unmappable c ∷ events) = ap (λ l. reference c ++ l) (bytes-references events)
+bytes-references (x ∷ events) = grind (arith, bytes-references events)
 
 -- ---- one call
 
@@ -38,16 +35,7 @@ pub replacing_call : {before : EncoderState} {text : List ℕ} {last : Bool} {fr
     {left written : List ℕ} {found : Bool} →
     ReplacingEncoderCall before text last free after answer left written found →
     EncodingCall numeric_reference before text last free after (end_of answer) left written
-replacing_call coder.InputEmpty {left} {written} c = record {
-  lost = [];
-  encodes = record { out = c.out; gives = c.gives; bytes = bytes-references c.out ∙ sym c.text ∙ sym (append-nil written) };
-  ends = (c.input_empty refl, refl);
-}
-replacing_call coder.OutputFull {left} {written} c = record {
-  lost = [];
-  encodes = record { out = c.out; gives = c.gives; bytes = bytes-references c.out ∙ sym c.text ∙ sym (append-nil written) };
-  ends = inl (refl, c.output_full refl);
-}
+replacing_call answer c = grind (arith, bytes-references, append-nil)
 
 -- the events of a raw call
 raw_gives : {before : EncoderState} {text : List ℕ} {last : Bool} {free : ℕ} {after : EncoderState} {answer : EncoderResult} {left written : List ℕ} →
@@ -58,9 +46,7 @@ raw_gives {before} {after = after} {answer} {left} {written} c more ended h =
 
 raw_bytes : (written : List ℕ) (answer : EncoderResult) →
     bytes_of question_mark (map Byte written ++ reported answer) ≡ written ++ bytes_of question_mark (reported answer)
-raw_bytes written answer =
-    bytes-append question_mark (map Byte written) (reported answer)
-    ∙ ap (λ l. l ++ bytes_of question_mark (reported answer)) (bytes-of_bytes question_mark written)
+raw_bytes written answer = rw (bytes-append question_mark (map Byte written) (reported answer), bytes-of_bytes question_mark written) refl
 
 module _ {before : EncoderState} {text : List ℕ} {last : Bool} {free : ℕ} {after : EncoderState} {left written : List ℕ} where
   pub raw_empty : EncoderCall before text last free after InputEmpty left written → EncodingCall question_mark before text last free after Read left written
@@ -133,9 +119,7 @@ module _ {kind : Replacement} {ended : Bool} {before : EncoderState} {text : Lis
 -- if a call in a piece lacks room, so does one in the rest of the text
 pub lacks_bytes_ahead : (kind : Replacement) (s : EncoderState) (xs zs : List ℕ) (last : Bool) (free : ℕ) (lost : List ℕ) → (IsTrue last → zs ≡ []) →
     LacksBytes kind s xs last free lost → LacksBytes kind s (xs ++ zs) true free lost
-lacks_bytes_ahead kind s (x ∷ xs) zs last free lost h l = l
-lacks_bytes_ahead kind s [] zs true free lost h l = rw (h refl) l
-lacks_bytes_ahead kind s [] zs false free lost h l = elim l [ inl p ↦ inl (p.0, (let q = p.1 in omega arith)) | inr q ↦ inr q ]
+lacks_bytes_ahead kind s xs zs last free lost h l = grind arith
 
 -- a call with the piece that is unread
 module _ {kind : Replacement} {before : EncoderState} {text : List ℕ} {now : EncoderState} {unread done : List ℕ} (later : List ℕ)
@@ -152,17 +136,9 @@ module _ {kind : Replacement} {before : EncoderState} {text : List ℕ} {now : E
 
   -- the end of a conversion
   pub text_encoded : (total : ℕ) → EncodingCall kind now unread true free after Read left bytes → later ≡ [] → EncodesText kind text total before after all
-  text_encoded total c none =
-      let ends = c.ends in
-      let nothing : left ++ later ≡ [] = rw (ends.0.0, none) refl in
-      let made : Encodes kind true before text after (left ++ later) all c.lost = rw e (encodes_more r c.encodes (λ _. none)) in
-      record { ended = true; left = left ++ later; lost = c.lost; encodes = made; stops = inl (refl, (nothing, ends.0.1), ends.1) }
+  text_encoded total c none = grind (arith, encodes_more r c.encodes, c.ends)
 
   pub text_full : (total : ℕ) {last : Bool} → EncodingCall kind now unread last free after Full left bytes → (IsTrue last → later ≡ []) →
       free ≡ total - length done →
       EncodesText kind text total before after all
-  text_full total {last} c none f =
-      let lacks = lacks_bytes_ahead kind after left later last (free - length bytes) c.lost none c.ends in
-      let room : total - length all ≡ free - length bytes = omega (arith, ap length e, length-append done bytes) in
-      let made : Encodes kind false before text after (left ++ later) all c.lost = rw e (encodes_more r c.encodes (λ g. no_end g)) in
-      record { ended = false; left = left ++ later; lost = c.lost; encodes = made; stops = inr (refl, rw room lacks) }
+  text_full total {last} c none f = grind (arith, lacks_bytes_ahead, c.ends, length-append, encodes_more r c.encodes)

@@ -62,44 +62,24 @@ pub unit_parts : (units : List ℕ) (place : ℕ) → place ≤ length units →
 unit_parts units place h a =
     let rest : take (length units - place) (drop place units) ≡ drop place units =
     take_all (length units - place) (drop place units) (omega (arith, length-drop place units)) in
-    let seam : IsSeam (take place units) (drop place units) = λ k e.
-    let one : place ≡ k + 1 = omega (arith, length-take place units) in
-    let front : get_or (take place units) k 0 ≡ get_or units (place - 1) 0 = grind (arith, get_or-take) in
-    let first : get_or (drop place units) 0 0 ≡ get_or units place 0 = grind (arith, get_or-drop) in
-    rw (front, first) (a (omega arith)) in
+    let seam : IsSeam (take place units) (drop place units) = λ k e. grind (arith, length-take, get_or-take, get_or-drop, a) in
     rw rest (ap unit_scalars (sym (take-append-drop place units)) ∙ unit_scalars-append (take place units) (drop place units) seam)
 
 -- ---- empty texts
 
 pub no_units : (units : List ℕ) → unit_scalars units ≡ [] → units ≡ []
 no_units [] e = refl
-no_units (u ∷ []) e =
-    let alone : IsPair u 0 → ⊥ = λ q. omega (arith, q.1) in
-    let all : unit_scalars (u ∷ []) ≡ replaced (lone_unit_char u) ∷ unit_scalars [] = ap (map replaced) (utf16_chars_lone u [] alone) in
-    let f : replaced (lone_unit_char u) ∷ unit_scalars [] ≡ [] = sym all ∙ e in cc
-no_units (u ∷ v ∷ units) e = elim (pair_or_not u v) [
-  | inl p ↦
-      let all : unit_scalars (u ∷ v ∷ units) ≡ surrogate_pair_char u v ∷ unit_scalars units = ap (map replaced) (utf16_chars_pair u v units p) in
-      let f : surrogate_pair_char u v ∷ unit_scalars units ≡ [] = sym all ∙ e in cc
-  | inr p ↦
-      let all : unit_scalars (u ∷ v ∷ units) ≡ replaced (lone_unit_char u) ∷ unit_scalars (v ∷ units) = ap (map replaced) (utf16_chars_lone u (v ∷ units) p) in
-      let f : replaced (lone_unit_char u) ∷ unit_scalars (v ∷ units) ≡ [] = sym all ∙ e in cc
-]
+no_units (u ∷ []) e = grind (arith, utf16_chars_lone)
+no_units (u ∷ v ∷ units) e = grind (arith, pair_or_not, utf16_chars_pair, utf16_chars_lone)
 
 pub units_over : (units : List ℕ) → IsTrue (nat_eq (length units) 0) ↔ (unit_scalars units ≡ [])
-units_over units = (
-  λ h. let none : units ≡ [] = grind (arith, nat_tests, nil_from_length) in ap unit_scalars none ∙ ap (map replaced) utf16_chars-nil,
-  λ e. let none = no_units units e in rw none refl,
-)
+units_over units = grind (arith, nat_tests, nil_from_length, utf16_chars-nil, no_units)
 
 pub no_bytes : (bytes : List ℕ) → IsUtf8 bytes → chars bytes ≡ [] → bytes ≡ []
 no_bytes bytes u e = sym (encodes-chars bytes u) ∙ ap encodes e
 
 pub chars_over : (bytes : List ℕ) → IsUtf8 bytes → IsTrue (nat_eq (length bytes) 0) ↔ (chars bytes ≡ [])
-chars_over bytes u = (
-  λ h. let none : bytes ≡ [] = grind (arith, nat_tests, nil_from_length) in ap chars none ∙ chars-nil,
-  λ e. let none = no_bytes bytes u e in rw none refl,
-)
+chars_over bytes u = grind (arith, nat_tests, nil_from_length, chars-nil, no_bytes)
 
 -- an empty piece is cut only off an empty text
 pub no_piece : (xs : List ℕ) (place : ℕ) → place ≤ length xs → (0 < length xs → 0 < place) → take place xs ≡ [] → xs ≡ []

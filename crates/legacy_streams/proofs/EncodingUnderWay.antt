@@ -1,15 +1,14 @@
 -- The encoding of an input in UTF-8 under way.
 use Rattle.std.proofs.Common.{◌≡◌, ◌≢◌, ◌⊎◌, ◌∙◌, ℕ, ◌+◌, ◌-◌, ◌≤◌, ◌<◌, List, [], ◌∷◌, ◌++◌, length, take, drop, take-append-drop, refl, sym, ap}
 use Rattle.std.proofs.Common.{subst, arith, append_assoc, append-nil, length-append, length-drop, Bool, true, false, Option, None, IsUtf8, inl}
-use Rattle.std.proofs.{Common.{drop-drop, map, take_all, not, is_some, zero-add}, lemmas.Str.{utf8_valid_len-IsValidUpTo, chars-nil}}
+use Rattle.std.proofs.{Common.{drop-drop, take_all, zero-add}, lemmas.Str.{utf8_valid_len-IsValidUpTo, chars-nil}}
 use Rattle.std.proofs.{KnownBytes.{Appends-nil, Appends-trans, Consumes-nil, Consumes-trans}, lemmas.Grind.flat_map-append, lemmas.Bool.cases_lt}
 use Rattle.std.proofs.{lemmas.List.{drop_at, length-take-le, length-take, drop-take, nil_from_length}, lemmas.List.Edits.take-paste, Math.Seq.paste}
-use Rattle.std.specs.{Str.{chars, IsValidUpTo, IsErrorLen}, Str.Lossy.{utf8_valid_len, utf8_error_len}, Io.KnownBytes.{Appends, Consumes, IsAtEnd}}
-use Rattle.std.specs.Option.{IfSome}
-use Rattle.legacy_base.specs.{declared.results.EncodeEvent.TheVariants.Byte, Encoders.{EncoderState, encoded}}
+use Rattle.std.specs.{Str.{chars, IsValidUpTo}, Str.Lossy.{utf8_valid_len, utf8_error_len}, Io.KnownBytes.{Appends, Consumes, IsAtEnd}}
+use Rattle.legacy_base.specs.{Encoders.{EncoderState, encoded}}
 use Rattle.legacy_base.proofs.EncoderLaws.{end-encoded}
 use Rattle.legacy_codecs.specs.{declared.results.CoderResult.CoderResult, declared.results.CoderResult.TheVariants.InputEmpty, References.event_bytes}
-use Rattle.legacy_codecs.specs.References.{referenced_bytes, ReplacingEncoderCall}
+use Rattle.legacy_codecs.specs.References.{ReplacingEncoderCall}
 use Rattle.legacy_codecs.proofs.WholeTexts.{wrote_last}
 use Rattle.legacy_streams.specs.{Utf8Texts.{utf8_text, IsChunk}, Encoding.{EncodesUpTo, EncodesText, EncodesFront, EncodesPiece, EncodesPieceFront, EncodesAll}}
 use Rattle.legacy_streams.specs.Encoding.{EncodesPartly, DecodesTo, EncodesBytes, Sends, end_scalars}
@@ -57,18 +56,13 @@ module _ {before now : EncoderState} {text rest waited waiting : List ℕ} {last
   module _ {room next : List ℕ} (w : Sends waiting [] room mid new) {free : ℕ} {after : EncoderState} {answer : CoderResult} {left bytes : List ℕ}
       {found : Bool} (c : ReplacingEncoderCall now rest last free after answer left bytes found) (e : next ≡ room ++ bytes) where
     pub text_step : EncodesUpTo before text last after left waited next old new
-    text_step =
-        let wait : Sends room (referenced_bytes c.out) next new new =
-        record { sent = []; parts = ap (λ l. room ++ l) (sym c.text) ∙ sym e; written = Appends-nil new } in
-        record {
-          events = u.events ++ c.out;
-          goes_on = record {
-            gives = λ more ended h.
-                u.goes_on.gives more ended h ∙ ap (λ l. u.events ++ l) (c.gives more ended (λ v. inl (h (wrote_last last answer v))))
-                ∙ sym (append_assoc u.events c.out (encoded after (left ++ more) ended));
-          };
-          sends = rw (flat_map-append event_bytes u.events c.out) (sends_join (sends_then u.sends w) wait);
-        }
+    text_step = record {
+      events = u.events ++ c.out;
+      goes_on = record {
+        gives = λ more ended h. u.goes_on.gives more ended h ∙ rw (c.gives more ended (λ v. inl (h (wrote_last last answer v))), append_assoc) refl;
+      };
+      sends = grind (arith, append_assoc, append-nil, flat_map-append event_bytes, Appends-trans);
+    }
 
     pub text_end : answer ≡ InputEmpty → EncodesText before text last after waited next old new
     text_end is = let done = c.input_empty is in record { done = rw (← done.0) text_step; ended = done.1 }
@@ -81,9 +75,8 @@ up_to_join {before = before} {after = after} {first} {second} {left} t k = recor
   events = t.events ++ k.events;
   goes_on = record {
     gives = λ more ended h.
-        ap (λ l. encoded before l ended) (append_assoc first second more)
-        ∙ t.goes_on.gives (second ++ more) ended (λ f. absurd (let no : false ≡ true = f in cc))
-        ∙ ap (λ l. t.events ++ l) (k.goes_on.gives more ended h) ∙ sym (append_assoc t.events k.events (encoded after (left ++ more) ended));
+        let one = t.goes_on.gives (second ++ more) ended (λ f. absurd (let no : false ≡ true = f in cc)) in
+        rw (append_assoc first second more, one, k.goes_on.gives more ended h, append_assoc) refl;
   };
   sends = rw (flat_map-append event_bytes t.events k.events) (sends_join t.sends k.sends);
 }
@@ -150,10 +143,7 @@ module _ {before : EncoderState} {piece : List ℕ} {now : EncoderState} {passed
   at_invalid = sym (drop-drop (length valid) passed piece) ∙ ap (drop (length valid)) k.parts ∙ drop_at valid (invalid ++ k.later) _ refl
 
   pub chunk_lengths : passed + (length valid + (length invalid + length k.later)) ≡ length piece
-  chunk_lengths =
-      let within = u.within in
-      let total = ap length k.parts ∙ length-append valid (invalid ++ k.later) in
-      omega (arith, within, total, length-drop passed piece, length-append invalid k.later)
+  chunk_lengths = omega (arith, u.within, ap length k.parts, length-append valid (invalid ++ k.later), length-append invalid k.later, length-drop passed piece)
 
   decodes_valid : DecodesTo (drop passed piece) (chars valid) (invalid ++ k.later)
   decodes_valid = record { text = cut_chunk k }
@@ -170,11 +160,7 @@ module _ {before : EncoderState} {piece : List ℕ} {now : EncoderState} {passed
   pub chunk_end : {after : EncoderState} {waiting : List ℕ} {new : Option (List ℕ)} (held : ℕ)
       → EncodesText now (chars valid) false after middle waiting mid new
       → length invalid ≡ held → length k.later ≡ 0 → held < 4 → utf8_text invalid ≡ end_scalars held → EncodesPiece before piece held after waiting old new
-  chunk_end held t len none short cut =
-      let l = chunk_lengths in
-      let at : length piece - held ≡ passed + length valid = omega arith in
-      let is : drop (length piece - held) piece ≡ invalid ++ k.later = rw at at_invalid in
-      record { within = omega arith; short = short; done = rw is (bytes_join u.done decodes_valid t); cut = rw (is, alone none) cut }
+  chunk_end held t len none short cut = grind (arith, chunk_lengths, at_invalid, bytes_join u.done decodes_valid, alone)
 
   -- what is malformed becomes U+FFFD
   module _ (some : 0 < length invalid) where
@@ -210,21 +196,12 @@ module _ {before : EncoderState} {piece : List ℕ} {now : EncoderState} {passed
 -- the piece is encoded
 pub piece_end : {before : EncoderState} {piece : List ℕ} {now : EncoderState} {passed : ℕ} {waiting : List ℕ} {old new : Option (List ℕ)}
     → PieceUnderWay before piece now passed waiting old new → length (drop passed piece) ≡ 0 → EncodesPiece before piece 0 now waiting old new
-piece_end {piece = piece} {passed = passed} u none =
-    let within = u.within in
-    let at : passed ≡ length piece - 0 = omega (arith, length-drop passed piece) in
-    let nothing : drop (length piece - 0) piece ≡ [] = rw (← at) (nil_from_length (drop passed piece) none) in
-    record { within = omega arith; short = omega arith; done = rw (← at) u.done; cut = rw nothing text_of_none }
+piece_end u none = grind (arith, length-drop, nil_from_length, text_of_none)
 
 -- what waits is written
 pub piece_written : {before : EncoderState} {piece : List ℕ} {held : ℕ} {after : EncoderState} {waiting : List ℕ} {old mid new : Option (List ℕ)}
     → EncodesPiece before piece held after waiting old mid → Sends waiting [] [] mid new → EncodesPiece before piece held after [] old new
-piece_written p w = record {
-  within = p.within;
-  short = p.short;
-  done = record { scalars = p.done.scalars; decodes = p.done.decodes; text = text_written p.done.text w };
-  cut = p.cut;
-}
+piece_written p w = grind (arith, text_written)
 
 -- or a front of it
 pub piece_unwritten : {before : EncoderState} {piece : List ℕ} {held : ℕ} {after : EncoderState} {waiting : List ℕ} {old mid new : Option (List ℕ)}
@@ -279,9 +256,7 @@ module _ {before now : EncoderState} {held : List ℕ} {left_old left old mid : 
 
   -- the text of all that was read
   whole_text : utf8_text u.bytes ≡ u.done.scalars ++ end_scalars (length held)
-  whole_text =
-      ap utf8_text (sym (append-nil u.bytes)) ∙ u.done.decodes.text [] ∙ ap (λ l. u.done.scalars ++ utf8_text l) (append-nil held)
-      ∙ ap (λ l. u.done.scalars ++ l) u.cut
+  whole_text = grind (arith, append-nil, u.done.decodes.text [], u.cut)
 
   module _ (left_new : Option (List ℕ)) (r : Consumes left left_new []) where
     read_all : Consumes left_old left_new u.bytes
@@ -292,29 +267,15 @@ module _ {before now : EncoderState} {held : List ℕ} {left_old left old mid : 
         → EncodesAll before after left_old left_new old new
     input_end at_end after new t =
         let whole = text_join u.done.text t in
-        let events = whole.done.events in
-        let text = u.done.scalars ++ end_scalars (length held) in
-        let nothing : encoded after [] true ≡ [] = end-encoded after ∙ ap (λ l. map Byte l) (t.ended refl) in
-        let all : encoded before (utf8_text u.bytes) true ≡ events =
-        ap (λ l. encoded before l true) (whole_text ∙ sym (append-nil text)) ∙ whole.done.goes_on.gives [] true (λ _. (refl, refl))
-        ∙ ap (λ l. events ++ l) nothing ∙ append-nil events in
-        record { bytes = u.bytes; read = read_all; at_end = at_end; written = rw all (sends_all whole.done.sends); ended = t.ended refl }
+        let ended = t.ended refl in
+        let all : encoded before (utf8_text u.bytes) true ≡ whole.done.events =
+        grind (arith, append-nil, whole_text, whole.done.goes_on.gives [] true, end-encoded after) in
+        record { bytes = u.bytes; read = read_all; at_end = at_end; written = rw all (sends_all whole.done.sends); ended = ended }
 
     -- what holds if writing the end fails
     pub input_end_partly : IsAtEnd left_new → (after : EncoderState) (new : Option (List ℕ))
         → EncodesFront now (end_scalars (length held)) true after [] mid new → EncodesPartly before after left_old left_new old new
-    input_end_partly at_end after new f =
-        let text = u.done.scalars ++ end_scalars (length held) in
-        record {
-          bytes = u.bytes;
-          read = read_all;
-          last = true;
-          at_end = λ _. at_end;
-          text = text;
-          is_text =
-              λ more h. ([], ap (λ l. utf8_text (u.bytes ++ l)) (h refl) ∙ ap utf8_text (append-nil u.bytes) ∙ whole_text ∙ sym (append-nil text), λ _. refl);
-          front = front_join u.done.text f;
-        }
+    input_end_partly at_end after new f = grind (arith, append-nil, read_all, whole_text, front_join u.done.text f)
 
 -- the text of bytes that the end cuts
 pub text_of_held : (invalid : List ℕ) → IsValidUpTo invalid 0 → utf8_error_len invalid ≡ None → utf8_text invalid ≡ end_scalars (length invalid)
@@ -327,15 +288,6 @@ no_text bs valid u = valid.longest (length bs) valid.short (subst IsUtf8 (sym (t
 -- a fact about the bytes after the longest text is one about all bytes if that text is empty
 pub told_of_all : (bs : List ℕ) (n : ℕ) (o : Option ℕ) → IsValidUpTo bs 0 → n ≡ utf8_valid_len bs → o ≡ utf8_error_len (drop n bs) → o ≡ utf8_error_len bs
 told_of_all bs n o valid e t = t ∙ ap (λ k. utf8_error_len (drop k bs)) (e ∙ utf8_valid_len-IsValidUpTo bs 0 valid)
-
-pub flipped : (a b : Bool) → a ≡ not b → b ≡ not a
-flipped a b h = grind arith
-
-pub short_of : (o : Option ℕ) (bs : List ℕ) (n : ℕ) → IsErrorLen bs n o → is_some o ≡ false → n ≡ 0 → length bs < 4
-short_of o bs n h h1 h2 = grind arith
-
-pub both_some : {X : Type 0} (r : Option X) {P Q R : X → Type 0} → IfSome r P → IfSome r Q → ((x : X) → P x → Q x → R x) → IfSome r R
-both_some r h h1 h2 = grind arith
 
 -- the text that the end leaves
 pub end_of_none : (n : ℕ) → n ≡ 0 → chars [] ≡ end_scalars n

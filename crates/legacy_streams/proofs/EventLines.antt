@@ -1,5 +1,5 @@
 -- Laws of event lines.
-use Rattle.std.proofs.Common.{◌≡◌, ◌∙◌, ℕ, zero, suc, zero-add, ◌+◌, ◌*◌, ◌-◌, ◌/◌, ◌%◌, ◌≤◌, ◌<◌, ◌^◌, List, [], ◌∷◌, ◌++◌, length, map, refl, sym, ap, arith}
+use Rattle.std.proofs.Common.{◌≡◌, ℕ, zero, suc, zero-add, ◌+◌, ◌*◌, ◌-◌, ◌/◌, ◌%◌, ◌≤◌, ◌<◌, ◌^◌, List, [], ◌∷◌, ◌++◌, length, map, refl, sym, arith}
 use Rattle.std.proofs.{Common.{append_assoc, append-nil, decimal}, lemmas.Fmt.{decimal_step, decimal_digit, length-decimal-le}}
 use Rattle.legacy_base.specs.{declared.results.DecodeEvent.DecodeEvent, declared.results.DecodeEvent.TheVariants.{Scalar, Bad}}
 use Rattle.legacy_codecs.proofs.ReferenceTexts.{length-decimal_one, length-decimal_more}
@@ -62,11 +62,11 @@ line_of_malformed o scalars read sequence back p q e f = rw (event_lines-append,
 
 pub malformed_events-append : (place m n : ℕ) → malformed_events place (m + n) ≡ malformed_events place m ++ malformed_events (place + m) n
 unfolding malformed_events
-malformed_events-append place zero n = let e : place + 0 ≡ place = omega arith in rw (zero-add n, e) refl
+malformed_events-append place zero n = grind (arith, zero-add)
 malformed_events-append place (suc m) n =
     let e : place + 1 + m ≡ place + suc m = omega arith in
     let s : suc m + n ≡ suc (m + n) = omega arith in
-    rw s (ap (λ l. Bad place 1 ∷ l) (malformed_events-append (place + 1) m n ∙ ap (λ k. malformed_events (place + 1) m ++ malformed_events k n) e))
+    rw (s, malformed_events-append (place + 1) m n, e) refl
 
 pub malformed_events-one : (place : ℕ) → malformed_events place 1 ≡ Bad place 1 ∷ []
 unfolding malformed_events

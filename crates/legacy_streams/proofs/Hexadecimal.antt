@@ -1,18 +1,12 @@
 -- The hexadecimal digits of a scalar, as the code computes them.
-use Rattle.std.proofs.Common.{◌≡◌, ◌∙◌, ℕ, zero, suc, ◌/◌, ◌%◌, ◌≤◌, ◌<◌, List, [], ◌∷◌, refl, ap, arith, Bool, true, cond, eq-eqb, inl, inr}
-use Rattle.std.proofs.lemmas.Bool.{ne_eqb, cases_lt}
+use Rattle.std.proofs.Common.{◌≡◌, ℕ, zero, suc, ◌/◌, ◌%◌, ◌≤◌, ◌<◌, List, [], ◌∷◌, refl, arith, true}
+use Rattle.std.proofs.lemmas.Bool.Decides.{nat_tests}
 use Rattle.std.specs.Fmt.{digits, digits_onto, digit_glyph}
 use Rattle.legacy_streams.specs.Lines.{hexadecimal}
 
 -- the last hexadecimal digit of a number
 abbrev pub glyph : ℕ → ℕ
 glyph n = digit_glyph true (n % 16)
-
-last_digit : (k n : ℕ) (acc : List ℕ) → n / 16 ≡ 0 → digits_onto (suc k) 16 true n acc ≡ glyph n ∷ acc
-last_digit k n acc e = ap (λ (b : Bool). cond b (glyph n ∷ acc) (digits_onto k 16 true (n / 16) (glyph n ∷ acc))) (eq-eqb (n / 16) 0 e)
-
-next_digit : (k n : ℕ) (acc : List ℕ) → (n / 16 ≡ 0 → ⊥) → digits_onto (suc k) 16 true n acc ≡ digits_onto k 16 true (n / 16) (glyph n ∷ acc)
-next_digit k n acc e = ap (λ (b : Bool). cond b (glyph n ∷ acc) (digits_onto k 16 true (n / 16) (glyph n ∷ acc))) (ne_eqb (n / 16) 0 e)
 
 -- the last `count` hexadecimal digits of a number, before `acc`
 abbrev pub glyphs : ℕ → ℕ → List ℕ → List ℕ
@@ -25,10 +19,9 @@ HasMore zero n = n < 16
 HasMore (suc count) n = (16 ≤ n) × HasMore count (n / 16)
 
 all_digits : (count k n : ℕ) (acc : List ℕ) → count ≤ k → HasMore count n → digits_onto (suc k) 16 true n acc ≡ glyphs (suc count) n acc
-all_digits zero k n acc l h = last_digit k n acc (omega arith)
+all_digits zero k n acc l h = grind (arith, nat_tests)
 all_digits (suc count) zero n acc l h = absurd (omega arith)
-all_digits (suc count) (suc k) n acc l h =
-    next_digit (suc k) n acc (λ e. let long = h.0 in omega arith) ∙ all_digits count k (n / 16) (glyph n ∷ acc) (omega arith) h.1
+all_digits (suc count) (suc k) n acc l h = grind (arith, nat_tests, all_digits count k (n / 16))
 
 digits_are : (count n : ℕ) → count ≤ 63 → HasMore count n → digits 16 true n ≡ glyphs (suc count) n []
 unfolding digits
@@ -44,34 +37,12 @@ zero_glyph n e = rw e refl
 
 pub hexadecimal_4 : (n : ℕ) → n < 0x1_0000 → hexadecimal n ≡ last_four n
 unfolding hexadecimal
-hexadecimal_4 n h = elim (cases_lt n 0x10) [
-  | inl a ↦
-      rw (digits_are 0 n (omega arith) a, zero_glyph (n / 0x1000) (omega arith), zero_glyph (n / 0x100) (omega arith), zero_glyph (n / 0x10) (omega arith)) refl
-  | inr a ↦ elim (cases_lt n 0x100) [
-    | inl b ↦ rw (digits_are 1 n (omega arith) (a, omega arith), zero_glyph (n / 0x1000) (omega arith), zero_glyph (n / 0x100) (omega arith)) refl
-    | inr b ↦ elim (cases_lt n 0x1000) [
-      | inl d ↦
-          let e : n / 16 / 16 ≡ n / 0x100 = omega arith in
-          rw (digits_are 2 n (omega arith) (omega arith, (omega arith, omega arith)), zero_glyph (n / 0x1000) (omega arith), e) refl
-      | inr d ↦ let e : n / 16 / 16 ≡ n / 0x100 = omega arith in let f : n / 16 / 16 / 16 ≡ n / 0x1000 = omega arith in
-          rw (digits_are 3 n (omega arith) (omega arith, (omega arith, (omega arith, omega arith))), f, e) refl
-    ]
-  ]
-]
+hexadecimal_4 n h = grind (arith, digits_are 0 n, digits_are 1 n, digits_are 2 n, digits_are 3 n, zero_glyph)
 
 pub hexadecimal_5 : (n : ℕ) → 0x1_0000 ≤ n → n < 0x10_0000 → hexadecimal n ≡ glyph (n / 0x1_0000) ∷ last_four n
 unfolding hexadecimal
-hexadecimal_5 n l h =
-    let e : n / 16 / 16 ≡ n / 0x100 = omega arith in
-    let f : n / 16 / 16 / 16 ≡ n / 0x1000 = omega arith in
-    let g : n / 16 / 16 / 16 / 16 ≡ n / 0x1_0000 = omega arith in
-    rw (digits_are 4 n (omega arith) (omega arith, (omega arith, (omega arith, (omega arith, omega arith)))), g, f, e) refl
+hexadecimal_5 n l h = grind (arith, digits_are 4 n)
 
 pub hexadecimal_6 : (n : ℕ) → 0x10_0000 ≤ n → n < 0x100_0000 → hexadecimal n ≡ glyph (n / 0x10_0000) ∷ glyph (n / 0x1_0000) ∷ last_four n
 unfolding hexadecimal
-hexadecimal_6 n l h =
-    let e : n / 16 / 16 ≡ n / 0x100 = omega arith in
-    let f : n / 16 / 16 / 16 ≡ n / 0x1000 = omega arith in
-    let g : n / 16 / 16 / 16 / 16 ≡ n / 0x1_0000 = omega arith in
-    let k : n / 16 / 16 / 16 / 16 / 16 ≡ n / 0x10_0000 = omega arith in
-    rw (digits_are 5 n (omega arith) (omega arith, (omega arith, (omega arith, (omega arith, (omega arith, omega arith))))), k, g, f, e) refl
+hexadecimal_6 n l h = grind (arith, digits_are 5 n)

@@ -51,10 +51,7 @@ piece_start before piece last total pending old e = record {
 placed-shift : (h passed total held : ℕ) (es : List DecodeEvent) → passed + held ≡ h + total → placed h (shift passed es) ≡ input_events total held es
 unfolding placed input_events
 placed-shift h passed total held [] e = refl
-placed-shift h passed total held (Scalar c ∷ es) e = ap (λ (l : List DecodeEvent). Scalar c ∷ l) (placed-shift h passed total held es e)
-placed-shift h passed total held (Bad p n ∷ es) e =
-    let k : passed + p - h ≡ total + p - held = omega arith in
-    ap (λ q. Bad q n ∷ placed h (shift passed es)) k ∙ ap (λ (l : List DecodeEvent). Bad (total + p - held) n ∷ l) (placed-shift h passed total held es e)
+placed-shift h passed total held (x ∷ es) e = grind (arith, placed-shift h passed total held es)
 
 pub lines_of_none : (before : DecoderState) → lines_of before [] ≡ []
 unfolding placed
@@ -78,42 +75,27 @@ module _ {before : DecoderState} {piece : List ℕ} {last : Bool} {total : ℕ} 
     {old mid : Option (List ℕ)} (u : IsUnderWay before piece last total now offset pending old mid) where
   -- if only a front of the pending lines is written, the piece was decoded in part
   pub piece_front : (new : Option (List ℕ)) (count : ℕ) → Appends mid new (take count pending) → RecodesFront before piece last total now old new
-  piece_front new count w =
-      let shown = front_after mid u.sent u.written (front_of count w) in
-      record { passed = u.passed; left = drop offset piece; events = u.events; progress = u.progress; shown = rw u.lines shown }
+  piece_front new count w = grind (arith, front_after, front_of)
 
   -- writing `sent` leaves the pending lines after it
   pub piece_sent : {kept : List ℕ} {new : Option (List ℕ)} (sent : List ℕ) → Appends mid new sent → pending ≡ sent ++ kept
       → IsUnderWay before piece last total now offset kept old new
-  piece_sent sent w e = record {
-    within = u.within;
-    passed = u.passed;
-    events = u.events;
-    progress = u.progress;
-    sent = u.sent ++ sent;
-    written = Appends-trans _ _ _ _ _ u.written w;
-    lines = u.lines ∙ ap (λ l. u.sent ++ l) e ∙ sym (append_assoc u.sent sent _);
-  }
+  piece_sent sent w e = grind (arith, append_assoc, Appends-trans)
 
   -- events more, with their lines
   more_events : (count : ℕ) → offset + count ≤ length piece → {passed : ℕ} {after : DecoderState} {given made : List DecodeEvent}
       → Progress last now (drop offset piece) passed after (drop count (drop offset piece)) given
       → input_events total (length before.held) (shift u.passed given) ≡ made → {more : List ℕ} → more ≡ pending ++ event_lines made
       → IsUnderWay before piece last total after (offset + count) more old mid
-  more_events count within {passed} {given = given} {made} way is e =
-      let h = length before.held in
-      record {
-        within = within;
-        passed = u.passed + passed;
-        events = u.events ++ shift u.passed given;
-        progress = rw (← drop-drop count offset piece) (after_that _ _ _ _ _ _ _ _ _ _ _ u.progress way);
-        sent = u.sent;
-        written = u.written;
-        lines =
-            ap event_lines (input_events-append total h u.events (shift u.passed given) ∙ ap (λ l. input_events total h u.events ++ l) is)
-            ∙ event_lines-append (input_events total h u.events) made ∙ ap (λ l. l ++ event_lines made) u.lines
-            ∙ append_assoc u.sent pending (event_lines made) ∙ ap (λ l. u.sent ++ l) (sym e);
-      }
+  more_events count within {passed} {given = given} {made} way is e = record {
+    within = within;
+    passed = u.passed + passed;
+    events = u.events ++ shift u.passed given;
+    progress = rw (← drop-drop count offset piece) (after_that _ _ _ _ _ _ _ _ _ _ _ u.progress way);
+    sent = u.sent;
+    written = u.written;
+    lines = grind (arith, input_events-append, event_lines-append, append_assoc, u.lines);
+  }
 
   module _ {after : DecoderState} {answer : DecoderResult} {read : ℕ} {scalars more : List ℕ}
       (c : DecoderCall Utf16 now (drop offset piece) last 1024 after answer read scalars)
@@ -125,22 +107,10 @@ module _ {before : DecoderState} {piece : List ℕ} {last : Bool} {total : ℕ} 
     malformed_is : (x : DecoderResult) → answer ≡ x
         → input_events total (length before.held) (shift u.passed (reported_events (length now.held + read) x)) ≡ reported_events (total + offset + read) x
     unfolding input_events placed
-    malformed_is InputEmpty e = refl
-    malformed_is OutputFull e = refl
-    malformed_is (Malformed a b) e =
-        let f = rw e at c.malformed_sequence in
-        let t = f.within in
-        let k = u.progress.counts in
-        let within = u.within in
-        let p : total + (u.passed + (length now.held + read - b - a)) - length before.held ≡ total + offset + read - b - a =
-        omega (arith, length-drop offset piece) in
-        ap (λ n. Bad n a ∷ []) p
+    malformed_is x e = grind (arith, c.malformed_sequence, u.progress.counts, u.within, length-drop)
 
     given_is : input_events total (length before.held) (shift u.passed given) ≡ map Scalar scalars ++ reported_events (total + offset + read) answer
-    given_is =
-        let reported = reported_events (length now.held + read) answer in
-        rw (shift-append u.passed (map Scalar scalars) reported, shift-scalars u.passed scalars, input_events-append, input_events-scalars)
-        (ap (λ l. map Scalar scalars ++ l) (malformed_is answer refl))
+    given_is = grind (arith, shift-append, shift-scalars, input_events-append, input_events-scalars, malformed_is)
 
     pub piece_step : IsUnderWay before piece last total after (offset + read) more old mid
     piece_step =
@@ -149,12 +119,7 @@ module _ {before : DecoderState} {piece : List ℕ} {last : Bool} {total : ℕ} 
 
     -- after the last call of a piece, all its lines are written
     pub piece_end : (new : Option (List ℕ)) → answer ≡ InputEmpty → Appends mid new more → RecodesPiece before piece last total after old new
-    piece_end new e v =
-        let s = piece_step in
-        let done = c.input_empty e in
-        let none : drop (offset + read) piece ≡ [] = drop_of_length-le piece (let l = done.0 in omega (arith, length-drop offset piece)) in
-        let shown = Appends-trans _ _ _ _ _ s.written v in
-        record { passed = s.passed; events = s.events; progress = rw (← none) s.progress; shown = rw s.lines shown; ended = done.2 }
+    piece_end new e v = grind (arith, piece_step, drop_of_length-le, length-drop, Appends-trans)
 
     some_cases : (x : DecoderResult) → answer ≡ x → (cs : List ℕ) → scalars ≡ cs → (answer ≡ InputEmpty → ⊥) → 1 ≤ length given
     some_cases InputEmpty e cs f h = absurd (h e)
@@ -198,16 +163,12 @@ module _ {before : DecoderState} {piece : List ℕ} {last : Bool} {total : ℕ} 
 shifted_malformed : (k place count : ℕ) → shift k (malformed_events place count) ≡ malformed_events (k + place) count
 unfolding malformed_events
 shifted_malformed k place zero = refl
-shifted_malformed k place (suc count) =
-    let next : k + (place + 1) ≡ k + place + 1 = omega arith in
-    ap (λ l. Bad (k + place) 1 ∷ l) (shifted_malformed k (place + 1) count ∙ ap (λ n. malformed_events n count) next)
+shifted_malformed k place (suc count) = grind (arith, shifted_malformed k (place + 1) count)
 
 placed_malformed : (h place count : ℕ) → h ≤ place → placed h (malformed_events place count) ≡ malformed_events (place - h) count
 unfolding malformed_events placed
 placed_malformed h place zero l = refl
-placed_malformed h place (suc count) l =
-    let next : place + 1 - h ≡ place - h + 1 = omega arith in
-    ap (λ l. Bad (place - h) 1 ∷ l) (placed_malformed h (place + 1) count (omega arith) ∙ ap (λ n. malformed_events n count) next)
+placed_malformed h place (suc count) l = grind (arith, placed_malformed h (place + 1) count)
 
 none_given : (total h passed place : ℕ) → input_events total h (shift passed (malformed_events 0 0)) ≡ malformed_events place 0
 unfolding malformed_events placed input_events
@@ -217,11 +178,7 @@ malformed_given : (total h passed offset count : ℕ) → (0 < count → passed 
     → input_events total h (shift passed (malformed_events 0 count)) ≡ malformed_events (total + offset) count
 unfolding input_events
 malformed_given total h passed offset zero e = none_given total h passed (total + offset)
-malformed_given total h passed offset (suc count) e =
-    let is = e (omega arith) in
-    let n = suc count in
-    let place : total + (passed + 0) - h ≡ total + offset = omega arith in
-    rw (shifted_malformed passed 0 n, shifted_malformed total (passed + 0) n, placed_malformed h (total + (passed + 0)) n (omega arith), place) refl
+malformed_given total h passed offset (suc count) e = grind (arith, shifted_malformed, placed_malformed)
 
 malformed_way : (last : Bool) (state : DecoderState) (bytes : List ℕ) (count : ℕ) → count ≤ length bytes
     → ((k : ℕ) → k < count → IsMalformedByte state (get_or bytes k 0)) → Progress last state bytes count state (drop count bytes) (malformed_events 0 count)

@@ -3,7 +3,7 @@ use Rattle.std.proofs.Common.{◌≡◌, ◌∙◌, ℕ, suc, ◌+◌, ◌*◌, 
 use Rattle.std.proofs.{Common.{inl, inr, ◌⊎◌, All, Some, slice_get, append_assoc, append-nil, take-suc, add-one, None, ◌^◌}, lemmas.Bool.cases_lt}
 use Rattle.std.proofs.{lemmas.Bool.Decides.nat_tests, lemmas.List.map-append, lemmas.Nat.le_bytes_8, lemmas.Str.{utf16_chars-nil, utf16_chars_lone}}
 use Rattle.std.proofs.{lemmas.Str.utf16_chars_pair, str.Utf16.{IsPair, lone_unit_char_low, lone_unit_char_high}}
-use Rattle.std.specs.{Char.IsScalar, Char.Utf16.{lone_unit_char, surrogate_pair_char}, Int.{w64, to_le_bytes}, List.range_with_len}
+use Rattle.std.specs.{Char.IsScalar, Char.Utf16.{lone_unit_char}, Int.{w64, to_le_bytes}, List.range_with_len}
 use Rattle.legacy_base.specs.declared.results.DecodeEvent.TheVariants.{Scalar}
 use Rattle.legacy_text.specs.{EncodingForm.{Utf16, all_code_units}, Texts.unit_scalars}
 use Rattle.legacy_text.proofs.{CodeUnits.{utf16_1, utf16_2}, Texts.{replaced, scalars_lone, scalars_end, first_cons, none_left, utf16_step}}
@@ -75,12 +75,9 @@ pub plain_more : (units : List ℕ) (at u : ℕ) → at < length units → u ≡
     → unit_scalars units ≡ take (at + 1) units ++ unit_scalars (drop (at + 1) units)
 plain_more units at u h e plain given =
     let unpaired = rw (← e) at (scalars_lone units at h) in
-    let next : unit_scalars (drop at units) ≡ u ∷ unit_scalars (drop (at + 1) units) =
-    unpaired (apart u (get_or units (at + 1) 0) plain) ∙ ap (λ c. c ∷ unit_scalars (drop (at + 1) units)) (replaced_unit u plain) in
-    let more : take (at + 1) units ≡ take at units ++ u ∷ [] =
-    ap (λ n. take n units) (add-one at) ∙ take-suc units at 0 h ∙ ap (λ c. take at units ++ c ∷ []) (sym e) in
-    given ∙ ap (λ l. take at units ++ l) next ∙ sym (append_assoc (take at units) (u ∷ []) (unit_scalars (drop (at + 1) units)))
-    ∙ ap (λ l. l ++ unit_scalars (drop (at + 1) units)) (sym more)
+    let next = rw (replaced_unit u plain) at (unpaired (apart u (get_or units (at + 1) 0) plain)) in
+    let more : take (at + 1) units ≡ take at units ++ u ∷ [] = rw (add-one at, take-suc units at 0 h, e) refl in
+    rw (more, given, next) (sym (append_assoc (take at units) (u ∷ []) _))
 
 -- the lines of one more code unit that is not a surrogate
 pub plain_line_more : (o units : List ℕ) (at u : ℕ) {a b : List ℕ} → at < length units → u ≡ get_or units at 0
@@ -134,17 +131,4 @@ scalars_of_units [] all = ap (map replaced) utf16_chars-nil
 scalars_of_units (c ∷ cs) all =
     let rest = scalars_of_units cs (λ k d l. all (suc k) d (omega arith)) in
     let is : IsScalar c = all 0 0 (omega arith) in
-    let units = all_code_units Utf16 cs in
-    elim (cases_lt c 0x1_0000) [
-      | inl short ↦
-          let plain : (c < 0xD800) ⊎ (0xE000 ≤ c) = grind (arith, nat_tests) in
-          rw (utf16_1 c short) (ap (map replaced) (utf16_chars_lone c units (apart c (get_or units 0 0) plain))
-          ∙ ap (λ d. d ∷ unit_scalars units) (replaced_unit c plain) ∙ ap (λ l. c ∷ l) rest)
-      | inr long ↦
-          let most : c < 0x11_0000 = grind (arith, nat_tests) in
-          let high = 55296 + (c - 65536) / 1024 in
-          let low = 56320 + (c - 65536) % 1024 in
-          let value : surrogate_pair_char high low ≡ c = omega arith in
-          rw (utf16_2 c long) (ap (map replaced) (utf16_chars_pair high low units (omega arith, omega arith, omega arith, omega arith))
-          ∙ ap (λ d. d ∷ unit_scalars units) value ∙ ap (λ l. c ∷ l) rest)
-    ]
+    grind (arith, nat_tests, utf16_1, utf16_2, utf16_chars_lone, utf16_chars_pair, apart, replaced_unit)

@@ -90,13 +90,10 @@ module _ {before : DecoderState} {piece : List ℕ} {last : Bool} {now : Decoder
       let t = ap length (text_is c.out written c.text) in
       some_event c.out (omega arith)
 
-  full_or_end : (x : CoderResult) → (x ≡ InputEmpty → ⊥) → x ≡ OutputFull
-  full_or_end x h = grind arith
-
   pub text_less : 4 ≤ free → (answer ≡ InputEmpty → ⊥)
       → length (events_of after.grammar (after.held ++ drop (offset + read) piece)) < length (events_of now.grammar (now.held ++ drop offset piece))
   text_less h n =
-      let some = gave_event h (full_or_end answer n) in
+      let some = gave_event h (grind arith) in
       let all = ap length (c.progress.events [] (λ _. inl refl)) in
       let counted = rw (append-nil, append-nil, drop-drop, length-append, length-shift) at all in
       omega arith

@@ -1,6 +1,6 @@
 -- The text of bytes in UTF-8 that come in pieces.
 use Rattle.std.proofs.Common.{◌≡◌, ◌≢◌, ◌⊎◌, ◌∙◌, ℕ, zero, suc, ◌+◌, ◌-◌, ◌/◌, ◌%◌, ◌<◌, ◌≤◌, true, false, List, [], ◌∷◌, ◌++◌, length, take, drop, Option}
-use Rattle.std.proofs.Common.{Some, None, IsUtf8, encode_utf8_all, refl, sym, ap, subst, arith, inl, inr, ⊎_elim, true≢false, append_assoc, append-nil}
+use Rattle.std.proofs.Common.{Some, None, IsUtf8, encode_utf8_all, refl, sym, ap, subst, arith, inl, inr, ⊎_elim, append_assoc, append-nil}
 use Rattle.std.proofs.{Common.{length-append, length-drop, take_all, drop_at, take-add, zero-add}, lemmas.Bool.{cases_Bool, cases_lt, and_parts}}
 use Rattle.std.proofs.{lemmas.Bool.Decides.nat_tests, Math.Seq.{take-append-add, drop-append-add, take-append_seam, drop-append_seam}, lemmas.List.take_at}
 use Rattle.std.proofs.{lemmas.List.{take-append-le, drop-append-le, take-take, length-take, drop_all}, lemmas.Str.{IsUtf8-from_is_utf8, is_utf8-from_IsUtf8}}
@@ -27,21 +27,14 @@ front_utf8 bs (suc m) = grind (arith, front_utf8 bs m)
 pub utf8_cases : (bs : List ℕ) → IsUtf8 bs ⊎ IsValidUpTo bs (utf8_valid_len bs)
 unfolding utf8_valid_len
 utf8_cases bs =
-    let n = utf8_valid_len bs in
     let front = front_utf8 bs (length bs) in
     elim (cases_Bool (is_utf8 bs)) [
       | inl h ↦ inl (IsUtf8-from_is_utf8 bs h)
-      | inr h ↦
-          let past : (m : ℕ) → length bs ≤ m → is_utf8 (take m bs) ≡ false = λ m l. ap is_utf8 (take_all m bs l) ∙ h in
-          inr record {
-            short = elim (cases_lt n (length bs)) [ inl l ↦ l | inr l ↦ absurd (true≢false (sym front ∙ past n l)) ];
-            front = IsUtf8-from_is_utf8 _ front;
-            longest = λ m above u.
-                let none : is_utf8 (take m bs) ≡ false = elim (cases_lt m (length bs)) [
-                  | inl l ↦ longest_front bs (length bs) m above (omega arith)
-                  | inr l ↦ past m l
-                ] in true≢false (sym (is_utf8-from_IsUtf8 _ u) ∙ none);
-          }
+      | inr h ↦ inr record {
+        short = grind (arith, take_all, front);
+        front = IsUtf8-from_is_utf8 _ front;
+        longest = λ m above u. let is = is_utf8-from_IsUtf8 _ u in grind (arith, longest_front bs (length bs) m, take_all);
+      }
     ]
 
 utf8_back : (text more : List ℕ) → IsUtf8 text → IsUtf8 (text ++ more) → IsUtf8 more
@@ -184,29 +177,23 @@ malformed_longer bad more k valid e =
 
 -- no text begins after the longest text
 pub behind_text : (bs : List ℕ) (n : ℕ) → IsValidUpTo bs n → IsValidUpTo (drop n bs) 0
-behind_text bs n valid =
-    let short = valid.short in
-    record {
-      short = omega (arith, length-drop n bs);
-      front = ([], (refl, refl));
-      longest = λ m above w.
-          let joined : take (n + m) bs ≡ take n bs ++ take m (drop n bs) = take-add n m bs in
-          valid.longest (n + m) (omega arith) (subst IsUtf8 (sym joined) (IsUtf8-append (take n bs) (take m (drop n bs)) valid.front w));
-    }
+behind_text bs n valid = record {
+  short = omega (arith, valid.short, length-drop n bs);
+  front = ([], (refl, refl));
+  longest = λ m above w. valid.longest (n + m) (omega arith) (rw (take-add n m bs) (IsUtf8-append (take n bs) (take m (drop n bs)) valid.front w));
+}
 
 -- bytes that begin with a malformed sequence, or that the end cuts
 lossy_past_none : (bs : List ℕ) → IsValidUpTo bs 0 → utf8_lossy bs ≡ replacement_bytes ++ utf8_lossy (drop (utf8_invalid_len bs) bs)
 lossy_past_none bs valid =
     let len = utf8_valid_len-IsValidUpTo bs 0 valid in
-    let short = valid.short in
-    rw (len, zero-add (utf8_invalid_len bs)) at (utf8_lossy_step bs (omega (arith, len)))
+    rw (len, zero-add (utf8_invalid_len bs)) at (utf8_lossy_step bs (omega (arith, valid.short, len)))
 
 text_past_malformed : (bad more : List ℕ) (k : ℕ) → IsValidUpTo bad 0 → utf8_error_len bad ≡ Some k → k ≤ length bad →
     utf8_text (bad ++ more) ≡ 0xFFFD ∷ utf8_text (drop k bad ++ more)
 unfolding utf8_text
 text_past_malformed bad more k valid e within =
-    let past = rw (error_len_longer bad more k e, drop-append-le k bad more within) at (lossy_past_none (bad ++ more) (malformed_longer bad more k valid e)) in
-    rw (past, chars-append replacement_bytes _ replacement_utf8, replacement_chars) refl
+    grind (arith, error_len_longer, drop-append-le, lossy_past_none, malformed_longer, chars-append replacement_bytes, replacement_utf8, replacement_chars)
 
 -- what the end of the input leaves of a character is malformed
 pub text_of_cut : (bad : List ℕ) → IsValidUpTo bad 0 → utf8_error_len bad ≡ None → utf8_text bad ≡ 0xFFFD ∷ []
@@ -244,8 +231,5 @@ module _ {rest valid invalid : List ℕ} (k : IsChunk rest valid invalid) where
         → utf8_text (rest ++ more) ≡ (chars valid ++ 0xFFFD ∷ []) ++ utf8_text (k.later ++ more)
     malformed_chunk h more =
         let e = malformed_is (utf8_error_len (invalid ++ k.later)) refl h in
-        let within : length invalid ≤ length (invalid ++ k.later) = omega (arith, length-append invalid k.later) in
-        let rest_is : drop (length invalid) (invalid ++ k.later) ≡ k.later = drop_at invalid k.later _ refl in
-        let past = text_past_malformed (invalid ++ k.later) more (length invalid) malformed_back e within in
-        cut_chunk more ∙ ap (λ l. chars valid ++ l) (past ∙ ap (λ l. 0xFFFD ∷ utf8_text (l ++ more)) rest_is)
-        ∙ sym (append_assoc (chars valid) (0xFFFD ∷ []) (utf8_text (k.later ++ more)))
+        let past = text_past_malformed (invalid ++ k.later) more (length invalid) malformed_back e (omega (arith, length-append invalid k.later)) in
+        rw (cut_chunk more, past, drop_at invalid k.later _ refl) (sym (append_assoc (chars valid) (0xFFFD ∷ []) (utf8_text (k.later ++ more))))

@@ -120,6 +120,7 @@ fn push_piece<E: RawEncoder, W: Write>(
 /// Returns the number of bytes read, which is 0 at the end of the input. With the `total` bytes
 /// before the piece it does not exceed `usize::MAX`. Returns `None` if a read fails or `total` is
 /// `usize::MAX`.
+#[tactic(auto, using(legacy_codecs::proofs::ReferenceTexts::front_of_part))]
 fn read_after<R: Read>(input: &mut R, buffer: &mut [u8], held: usize, total: usize) -> Option<usize>
     requires { held < length buffer.old }
     ensures count { IfSome result (λ n. (held + n ≤ length buffer.new) × (total + n < 2 ^ 64)) }
@@ -165,6 +166,7 @@ fn write_end<E: RawEncoder, W: Write>(
 }
 
 /// Moves the last `left` of the first `filled` bytes to the front of the buffer.
+#[tactic(auto, using(crate::proofs::EncodingUnderWay::kept_end))]
 fn keep_end(buffer: &mut [u8], filled: usize, left: usize)
     requires left { left ≤ filled }
     requires filled { filled ≤ length buffer.old }

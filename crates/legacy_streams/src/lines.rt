@@ -192,6 +192,7 @@ fn store_part(bytes: &mut [u8], at: usize, part: &[u8])
 /// line.
 // No place is read back from the array, so no line waits for an earlier store.
 #[inline(always)]
+#[tactic(auto, using(crate::proofs::EventLines::malformed_byte_line))]
 fn put_malformed_line(bytes: &mut [u8], at: usize, hundreds: &Decimal, rest: usize) -> usize
     requires room { at + MALFORMED_LINE ≤ length bytes.old }
     requires some { 1 ≤ hundreds.now.number }
@@ -378,6 +379,7 @@ impl LineBuffer {
     }
 
     /// Appends the line of a scalar.
+    #[tactic(auto, using(crate::proofs::EventLines::line_of_four, crate::proofs::EventLines::line_of_five, crate::proofs::EventLines::line_of_six))]
     pub fn push_scalar(&mut self, scalar: char)
         requires { SCALAR_LINE ≤ line_room self.old }
         ensures text { line_bytes self.new ≡ line_bytes self.old
@@ -449,7 +451,7 @@ impl LineBuffer {
 
     /// Appends the line of a malformed sequence.
     #[inline]
-    #[tactic(auto, using(crate::proofs::EventLines::decimal_lengths))]
+    #[tactic(auto, using(crate::proofs::EventLines::malformed_line, crate::proofs::EventLines::decimal_lengths))]
     pub fn push_malformed(&mut self, place: usize, length_in_bytes: usize)
         requires { MALFORMED_LINE ≤ line_room self.old }
         ensures text { line_bytes self.new ≡ line_bytes self.old
@@ -468,6 +470,7 @@ impl LineBuffer {
     /// Appends at most `most`: those whose places have the same digits except the last two. Returns
     /// their number.
     #[inline]
+    #[tactic(auto, using(crate::proofs::EventLines::one_malformed_line))]
     fn push_malformed_hundred(&mut self, place: usize, most: usize) -> usize
         requires some { 0 < most }
         requires place { place + most ≤ 2 ^ 64 }

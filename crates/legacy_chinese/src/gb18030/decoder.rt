@@ -249,11 +249,13 @@ impl DecoderMoves for Gb18030Decoder<'_> {
     }
 
     #[inline]
+    #[tactic(auto, using(crate::proofs::Gb18030Held::covered))]
     fn reading_room(&self, byte: u8) -> Room {
         room_of(self.held, byte)
     }
 
     #[inline]
+    #[tactic(auto, using(crate::proofs::Gb18030Held::covered))]
     fn release_room(&self) -> Room {
         Room::Wide
     }
@@ -274,6 +276,7 @@ impl DecoderMoves for Gb18030Decoder<'_> {
     }
 
     #[inline(always)]
+    #[tactic(auto, using(crate::proofs::Gb18030Held::feeds))]
     fn feed(&mut self, byte: u8) -> Fed {
         let (fed, held) = read(self.tables, &self.guess, self.held, byte);
         self.held = held;

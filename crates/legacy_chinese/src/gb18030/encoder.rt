@@ -120,6 +120,7 @@ fn range_bytes_of<V: EncoderTables>(tables: &V, c: char) -> Option<(u8, u8, u8, 
 }
 
 /// Returns the pointer of a scalar outside the range of `near`, and sets `near` to its range.
+#[tactic(auto, using(crate::proofs::Gb18030Pairs::pointer_bound))]
 fn far_pointer<V: EncoderTables>(tables: &V, near: &mut RangePart, c: char) -> Option<usize>
     requires { c ≢ 0xE7C7 }
     ensures pointer { result ≡ range_pointer_of (V.indexes tables.now).flat.ranges c }
@@ -136,6 +137,7 @@ fn far_pointer<V: EncoderTables>(tables: &V, near: &mut RangePart, c: char) -> O
 
 /// Returns the four bytes of a scalar's range pointer, if any, and keeps its range in `near`.
 #[inline(always)]
+#[tactic(auto, using(crate::proofs::Gb18030Pairs::pointer_bound))]
 fn near_range_bytes_of<V: EncoderTables>(
     tables: &V,
     near: &mut RangePart,
@@ -216,7 +218,7 @@ fn gb18030_code_of<V: EncoderTables>(tables: &V, c: char) -> EncoderMove
 
 /// Returns what GB18030 writes for a scalar past ASCII without a lead and trail in the index.
 #[inline(always)]
-#[tactic(auto, unfolding(legacy_base::specs::Gb18030::gb18030_code))]
+#[tactic(auto, using(crate::proofs::Gb18030Pairs::four_past_pairs), unfolding(legacy_base::specs::Gb18030::gb18030_code))]
 fn past_pairs_of<V: EncoderTables>(tables: &V, c: char) -> EncoderMove
     requires past { 0x80 ≤ c }
     requires none { (lead trail : ℕ) → gb18030_code (V.indexes tables.now).flat.gb18030

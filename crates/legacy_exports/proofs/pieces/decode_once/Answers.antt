@@ -51,8 +51,7 @@ returns-in-Full-clause-text g c =
 pub pieces-smaller : goal.pieces-smaller
 pieces-smaller g c =
     let i = c.pieces.invariant in
-    let few = fewer_events i.decodes c.decode-answer.ensures.call i.within_piece (none_later c.pieces.end c.args.reading.now.source.now) c.in-Replaced.is in
-    omega (arith, few)
+    omega (arith, fewer_events i.decodes c.decode-answer.ensures.call i.within_piece (none_later c.pieces.end c.args.reading.now.source.now) c.in-Replaced.is)
 
 pub pieces-preserved : goal.pieces-preserved
 pieces-preserved g c =

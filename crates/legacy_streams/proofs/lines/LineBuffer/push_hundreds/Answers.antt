@@ -1,8 +1,5 @@
 use Rattle.std.proofs.Common.{arith, length-take-le}
 use Rattle.legacy_streams.proofs.lines.LineBuffer.push_hundreds.Goals as goal
 
-pub returns-clause-text : goal.returns-clause-text
-returns-clause-text c = grind arith
-
 pub returns-clause-room : goal.returns-clause-room
 returns-clause-room c = grind (arith, length-take-le)

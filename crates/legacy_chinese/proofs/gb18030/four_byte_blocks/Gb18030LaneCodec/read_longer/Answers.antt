@@ -1,20 +1,10 @@
 use Rattle.std.proofs.Common.{◌+◌, ◌<◌, length, get_or, ap, arith}
-use Rattle.legacy_base.specs.Grammar.{gb18030}
 use Rattle.legacy_decoder_engine.proofs.{JoinedRuns.reads_front, WrittenRuns.{runs_byte, code_units_ascii, writes_none, writes_one, writes_four, four_fit}}
 use Rattle.legacy_chinese.proofs.{Gb18030Held.ascii, FourPlaces.four_at}
 use Rattle.legacy_chinese.proofs.gb18030.four_byte_blocks.Gb18030LaneCodec.read_longer.Goals as goal
 
 pub loop-at-init : goal.loop-at-init
-loop-at-init g c =
-    let flat = c.args.tables.now.flat in (
-      omega arith,
-      omega (arith, c.min-most.ensures),
-      omega (arith, c.min-most.ensures, c.saturating_sub.ensures, c.free.ensures),
-      omega arith,
-      writes_none g.T.Destination (gb18030 flat.gb18030 flat.ranges) c.args.dst.now,
-      c.ranges-ranges.ensures,
-      c.part_at-part.ensures.part,
-    )
+loop-at-init g c = grind (arith, writes_none)
 
 pub returns-then-src-at-lt128 : goal.returns-then-src-at-lt128
 returns-then-src-at-lt128 g c =
