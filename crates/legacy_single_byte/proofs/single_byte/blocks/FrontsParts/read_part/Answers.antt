@@ -1,12 +1,6 @@
 use Rattle.std.proofs.Common.{arith}
-use Rattle.legacy_decoder_engine.proofs.WrittenRuns.{three_fit}
 use Rattle.legacy_single_byte.proofs.SingleByteRuns.{reads_malformed}
 use Rattle.legacy_single_byte.proofs.single_byte.blocks.FrontsParts.read_part.Goals as goal
-
-pub put-requires : goal.put-requires
-put-requires g c =
-    let e = c.put_front-count.ensures in
-    three_fit g.T.Destination.form c.in-Some.scalar _ c.in-Some.ensures.0 (omega (arith, e.read, e.room, c.requires.room))
 
 pub returns-in-Some-clause-ahead : goal.returns-in-Some-clause-ahead
 returns-in-Some-clause-ahead g c =
