@@ -1,7 +1,7 @@
 -- The units of a vector of bytes.
-use Rattle.std.proofs.Common.{◌≡◌, ◌∙◌, ℕ, ◌+◌, ◌-◌, ◌*◌, ◌%◌, ◌<◌, ◌≤◌, List, ◌∷◌, ◌++◌, true, false, length, map, take, drop, get_or, refl, sym, subst, arith}
-use Rattle.std.proofs.{lemmas.List.{get_or-take, get_or_append_left, get_or-drop, length-take-le, length-drop}, lemmas.List.FromFn.get_or-map-range_with_len}
-use Rattle.std.proofs.{lemmas.List.FromFn.length-map-range_with_len, lemmas.Simd.{get_or_wider, Each1-from_get_or}}
+use Rattle.std.proofs.Common.{◌≡◌, ◌∙◌, ℕ, ◌+◌, ◌-◌, ◌*◌, ◌%◌, ◌<◌, ◌≤◌, List, ◌++◌, true, false, length, map, take, get_or, sym, subst, arith}
+use Rattle.std.proofs.{lemmas.List.{get_or-take, get_or_append_left, length-take-le}, lemmas.List.FromFn.get_or-map-range_with_len}
+use Rattle.std.proofs.{lemmas.List.FromFn.length-map-range_with_len}
 use Rattle.std.specs.{List.range_with_len, Simd.Lanes.{number_l, digits_l}}
 use Rattle.legacy_tables.specs.Unicode.{IsByte}
 use Rattle.legacy_text.proofs.ScalarTurns.{lane}
