@@ -10,10 +10,7 @@ loop-at-init g c = reads_none g.T.Destination (new_state user_defined) c.args.sr
 
 pub put_eight-requires-clause-scalars : goal.put_eight-requires-clause-scalars
 put_eight-requires-clause-scalars g c =
-    let src = c.args.src.now in
-    let at = c.loop-at.at in
-    units_are_scalars (take (length src - at) (drop at src)) c.units_of.result (rest_bytes src at (λ k. let f = c.type_inv.src k in omega arith))
-    c.units_of.ensures.count c.units_of.ensures.same
+    units_are_scalars _ _ (rest_bytes c.args.src.now _ (λ k. let f = c.type_inv.src k in omega arith)) c.units_of.ensures.count c.units_of.ensures.same
 
 pub loop-at-preserved : goal.loop-at-preserved
 loop-at-preserved g c =

@@ -15,15 +15,5 @@ loop-at-preserved c =
       within = omega (arith, i.within, i.sixteens, i.long, c.requires.sixteens, c.loop-at-test.true, c.put_narrow.auto.block);
       sixteens = omega (arith, i.sixteens);
       long = omega (arith, i.long, c.put_narrow.auto.block);
-      narrow = λ k h low.
-          elim (cases_lt k at) [
-            | inl l ↦ i.narrow k l (subst (λ n. n < 128) (e.before k l) low) ∙ sym (e.before k l)
-            | inr l ↦
-                let j = k - at in
-                let small : j < 16 = omega (arith, h, l) in
-                let place : at + j ≡ k = omega (arith, l) in
-                let stored = e.narrow j small (subst (λ n. slice_index new n < 128) (sym place) low) in
-                ap (unit_at big_endian src) (sym place) ∙ sym (unit_after big_endian src at j) ∙ sym (c.sixteen_units-units.ensures j small) ∙ stored
-                ∙ ap (slice_index new) place
-          ];
+      narrow = λ k h low. grind (arith, i.narrow k, e.before k, e.narrow (k - at), c.sixteen_units-units.ensures (k - at), unit_after big_endian src at (k - at));
     }
