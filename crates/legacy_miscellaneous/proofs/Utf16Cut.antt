@@ -1,8 +1,8 @@
 -- The units of UTF-16 give the same events as its fronts.
-use Rattle.std.proofs.{Common.{◌≡◌, ℕ, ◌+◌, ◌*◌, List, [], ◌∷◌, ◌++◌, Bool, true, false, inl, inr, refl, sym, ap, ◌∙◌, ◌&&◌, arith}, lemmas.Bool.and_left}
-use Rattle.std.proofs.lemmas.Bool.{and_right, cases_Bool}
+use Rattle.std.proofs.{Common.{◌≡◌, ℕ, ◌+◌, ◌*◌, List, [], ◌∷◌, ◌++◌, Bool, true, false, inl, inr, refl, ◌&&◌, arith}}
+use Rattle.std.proofs.lemmas.Bool.{cases_Bool}
 use Rattle.std.specs.Char.Utf16.{is_high_surrogate, is_low_surrogate, surrogate_pair_char}
-use Rattle.legacy_base.specs.{declared.results.DecodeEvent.DecodeEvent, declared.results.DecodeEvent.TheVariants.Scalar, Fronts.{Front, reads, cut}}
+use Rattle.legacy_base.specs.{declared.results.DecodeEvent.TheVariants.Scalar, Fronts.{Front, cut}}
 use Rattle.legacy_base.specs.Utf16.{unit_of, units_of, has_odd_byte, single_unit_events, units_events}
 use Rattle.legacy_miscellaneous.specs.Utf16Fronts.{single_unit_front, utf16_front}
 use Rattle.legacy_base.proofs.Cuts.{cut_at}
@@ -33,23 +33,13 @@ pub utf16_cut : (be : Bool) (i : ℕ) (bytes : List ℕ) → units_events i (uni
 unfolding units_of has_odd_byte units_events utf16_front cut
 utf16_cut be i [] = refl
 utf16_cut be i (a ∷ []) = refl
-utf16_cut be i (a ∷ b ∷ []) =
-    let e : (is_high_surrogate (unit_of be a b) && false) ≡ false = and_right (is_high_surrogate (unit_of be a b)) false refl in
-    rw e (sym (cut_lone (utf16_front be) i (unit_of be a b) a b [] refl))
-utf16_cut be i (a ∷ b ∷ c ∷ []) = elim (cases_Bool (is_high_surrogate (unit_of be a b))) [
-  | inl e ↦ rw e
-  | inr e ↦ rw (and_left _ true e) (sym (cut_lone (utf16_front be) i (unit_of be a b) a b (c ∷ []) (rw e)))
-]
+utf16_cut be i (a ∷ b ∷ []) = grind (arith, cut_lone (utf16_front be) i (unit_of be a b) a b [])
+utf16_cut be i (a ∷ b ∷ c ∷ []) = grind (arith, cut_lone (utf16_front be) i (unit_of be a b) a b (c ∷ []))
 utf16_cut be i (a ∷ b ∷ c ∷ d ∷ rest) =
     let u : ℕ = unit_of be a b in
     let v : ℕ = unit_of be c d in
     let place : 2 * i + 4 ≡ 2 * (i + 2) = omega arith in
     elim (cases_Bool (is_high_surrogate u && is_low_surrogate v)) [
-      | inl e ↦
-          paired i u v (units_of be rest) (has_odd_byte rest) e ∙ ap (λ (es : List DecodeEvent). Scalar (surrogate_pair_char u v) ∷ es)
-          (rw (← place) at (utf16_cut be (i + 2) rest))
-          ∙ sym (cut_at (utf16_front be) (2 * i) a (b ∷ c ∷ d ∷ rest) (reads 4 (surrogate_pair_char u v ∷ [])) (rw e) (omega arith))
-      | inr e ↦
-          unpaired i u v (units_of be rest) (has_odd_byte rest) e ∙ ap (λ (es : List DecodeEvent). single_unit_events i u ++ es)
-          (utf16_cut be (i + 1) (c ∷ d ∷ rest)) ∙ sym (cut_lone (utf16_front be) i u a b (c ∷ d ∷ rest) (rw e))
+      | inl e ↦ grind (arith, paired i u v, utf16_cut be (i + 2) rest, cut_at (utf16_front be) (2 * i) a (b ∷ c ∷ d ∷ rest))
+      | inr e ↦ grind (arith, unpaired i u v, utf16_cut be (i + 1) (c ∷ d ∷ rest), cut_lone (utf16_front be) i u a b (c ∷ d ∷ rest))
     ]

@@ -24,8 +24,7 @@ high_below u h = grind (arith, nat_tests)
 
 are_two : (be : Bool) (u : ℕ) → u < 0x1_0000 → (bytes : List ℕ) → AreBytes bytes → AreBytes (first_byte be u ∷ second_byte be u ∷ bytes)
 are_two be u h bytes all =
-    let below = bytes_below be u h in All-cons IsByte (first_byte be u) (second_byte be u ∷ bytes) below.0
-    (All-cons IsByte (second_byte be u) bytes below.1 all)
+    grind (arith, bytes_below, All-cons IsByte)
 
 module _ (be : Bool) where
   may : (h : Held) → utf16_may_hold be (held_bytes be h) ≡ true
@@ -36,11 +35,7 @@ module _ (be : Bool) where
   may (Pending pending) = rw (unit_of-bytes be pending.scalar, pending.is_not_low) refl
 
   bytes : (h : Held) → AreBytes (held_bytes be h)
-  bytes Nothing = All-nil IsByte
-  bytes (Odd odd) = All-cons IsByte odd.byte [] odd.is_byte (All-nil IsByte)
-  bytes (High high) = are_two be high.unit (high_below high.unit high.is_high) [] (All-nil IsByte)
-  bytes (HighOdd high odd) = are_two be high.unit (high_below high.unit high.is_high) (odd.byte ∷ []) (All-cons IsByte odd.byte [] odd.is_byte (All-nil IsByte))
-  bytes (Pending pending) = are_two be pending.scalar pending.is_unit [] (All-nil IsByte)
+  bytes h = grind (arith, are_two, high_below, All-nil IsByte, All-cons IsByte)
 
   pub covered : (h : Held) → IsCovered (state_of (utf16 be) (held_bytes be h))
   covered h = moves.covered (utf16_shown be) (held_bytes be h) (may h) (bytes h)

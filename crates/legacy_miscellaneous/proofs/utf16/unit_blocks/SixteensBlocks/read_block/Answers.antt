@@ -1,8 +1,5 @@
-use Rattle.std.proofs.Common.{◌≡◌, ℕ, ◌+◌, ◌*◌, ◌<◌, length, get_or, subst, arith}
-use Rattle.std.specs.Char.{IsScalar}
+use Rattle.std.proofs.Common.{arith}
 use Rattle.legacy_base.specs.{Grammar.utf16, States.new_state}
-use Rattle.legacy_tables.specs.Unicode.{IsByte}
-use Rattle.legacy_miscellaneous.specs.Utf16Decoder.{unit_at}
 use Rattle.legacy_miscellaneous.proofs.Utf16Runs.{writes_unit}
 use Rattle.legacy_decoder_engine.proofs.WrittenRuns.{writes_none, reads_none, short}
 use Rattle.legacy_miscellaneous.proofs.utf16.unit_blocks.SixteensBlocks.read_block.Goals as goal

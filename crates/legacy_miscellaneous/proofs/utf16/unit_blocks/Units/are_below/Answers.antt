@@ -1,5 +1,4 @@
-use Rattle.std.proofs.{Common.{◌≡◌, ◌∙◌, ◌+◌, ◌-◌, ◌*◌, ◌<◌, arith, inl, inr, subst, ap}, lemmas.Bool.cases_lt, lemmas.List.Elements.All-get_or}
-use Rattle.legacy_miscellaneous.specs.Utf16Decoder.{unit_at}
+use Rattle.std.proofs.{Common.{◌-◌, ◌*◌, ◌<◌, arith}, lemmas.List.Elements.All-get_or}
 use Rattle.legacy_miscellaneous.proofs.Utf16Runs.{rest_unit}
 use Rattle.legacy_miscellaneous.proofs.utf16.unit_blocks.Units.are_below.Goals as goal
 

@@ -1,5 +1,4 @@
-use Rattle.std.proofs.{Common.{◌≡◌, ◌∙◌, ◌+◌, ◌-◌, ◌<◌, slice_index, ap, subst, sym, inl, inr, arith}, lemmas.Bool.cases_lt}
-use Rattle.legacy_miscellaneous.specs.Utf16Decoder.{unit_at}
+use Rattle.std.proofs.{Common.{◌-◌, arith}}
 use Rattle.legacy_miscellaneous.proofs.Utf16Runs.{unit_after}
 use Rattle.legacy_miscellaneous.proofs.utf16.unit_blocks.Units.narrow.Goals as goal
 
