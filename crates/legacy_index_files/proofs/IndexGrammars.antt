@@ -1,10 +1,10 @@
 -- The parser of lines agrees with the grammar.
-use Rattle.std.proofs.Common.{◌≡◌, ℕ, ◌≤◌, Bool, true, false, cond, List, [], ◌∷◌, ◌++◌, length, Option, Some, nat_eq, refl, sym, ◌∙◌, ap}
+use Rattle.std.proofs.Common.{◌≡◌, ℕ, ◌≤◌, Bool, true, false, List, [], ◌∷◌, ◌++◌, length, Some, nat_eq, refl, sym}
 use Rattle.std.proofs.{Common.{subst, inl, arith}, lemmas.Bool.Decides.nat_tests}
 use Rattle.std.specs.Option.{unwrap_or}
 use Rattle.legacy_index_files.specs.{declared.index_line.LineKind.TheVariants.{Skipped, Entry}, IndexLine.run_of}
 use Rattle.legacy_index_files.specs.IndexLine.{behind_run, is_blank, past_blanks, says_nothing, is_digit, digits_at, past_digits, number_at}
-use Rattle.legacy_index_files.specs.{IndexLine.{past_mark, value_digits, entry_behind, entry_at, kind_of_entry, line_kind}, IndexGrammar.Passes}
+use Rattle.legacy_index_files.specs.{IndexLine.{past_mark, value_digits, entry_behind, entry_at, line_kind}, IndexGrammar.Passes}
 use Rattle.legacy_index_files.specs.IndexGrammar.{EndsRun, IsNumber, HasValue, HasEntry, IsEntryLine, SaysNothing, IsSkippedLine, IsOfKind}
 
 -- ---- runs
@@ -52,24 +52,6 @@ mark_sound [] digits h = absurd (cc)
 mark_sound (b ∷ []) digits h = absurd (cc)
 mark_sound (b ∷ c ∷ more) digits h = grind (arith, nat_tests)
 
--- at least one blank, then `0x`, then digits
-record HasMark (bytes digits : List ℕ) : Type 0 where
-  blanks : List ℕ
-  parts : bytes ≡ blanks ++ (0x30 ∷ 0x78 ∷ digits)
-  some : 1 ≤ length blanks
-  are_blanks : Passes is_blank blanks
-
-digits_sound : (bytes digits : List ℕ) → value_digits bytes ≡ Some digits → HasMark bytes digits
-digits_sound [] digits h = absurd (cc)
-digits_sound (b ∷ bs) digits h =
-    let found : (is_blank b ≡ true) × (past_mark (past_blanks bs) ≡ Some digits) = grind arith in
-    record {
-      blanks = b ∷ run_of is_blank bs;
-      parts = ap (λ xs. b ∷ xs) (run_parts is_blank bs ∙ ap (λ xs. run_of is_blank bs ++ xs) (mark_sound (past_blanks bs) digits found.1));
-      some = omega arith;
-      are_blanks = (found.0, run_passes is_blank bs);
-    }
-
 digits_complete : (blanks digits : List ℕ) → 1 ≤ length blanks → Passes is_blank blanks
     → value_digits (blanks ++ (0x30 ∷ 0x78 ∷ digits)) ≡ Some digits
 digits_complete [] digits some blank = absurd (omega arith)
@@ -79,17 +61,17 @@ digits_complete (b ∷ bs) digits some blank = grind (arith, behind_run-append i
 
 -- if the parser finds the digits of a value and their number, the grammar has that value
 value_sound : (bytes digits : List ℕ) (n : ℕ × List ℕ) → value_digits bytes ≡ Some digits → number_at 16 digits ≡ Some n → HasValue bytes n.0
-value_sound bytes digits n marked numbered =
-    let mark = digits_sound bytes digits marked in
-    let found = number_sound 16 digits n numbered in
+value_sound [] digits n marked numbered = absurd (cc)
+value_sound (b ∷ bs) digits n marked numbered =
+    let found : (is_blank b ≡ true) × (past_mark (past_blanks bs) ≡ Some digits) = grind arith in
     record {
-      blanks = mark.blanks;
+      blanks = b ∷ run_of is_blank bs;
       digits = digits_at 16 digits;
       behind = past_digits 16 digits;
-      parts = mark.parts ∙ ap (λ xs. mark.blanks ++ (0x30 ∷ 0x78 ∷ xs)) (run_parts (is_digit 16) digits);
-      some = mark.some;
-      are_blanks = mark.are_blanks;
-      number = found.0;
+      parts = grind (arith, run_parts is_blank bs, mark_sound (past_blanks bs) digits found.1, run_parts (is_digit 16) digits);
+      some = omega arith;
+      are_blanks = (found.0, run_passes is_blank bs);
+      number = (number_sound 16 digits n numbered).0;
       ends = run_ends (is_digit 16) digits;
     }
 
@@ -160,20 +142,13 @@ entry_here : (bytes digits behind : List ℕ) → bytes ≡ digits ++ behind →
 entry_here bytes [] behind parts some h = absurd (omega arith)
 entry_here bytes (b ∷ bs) behind parts some h = subst (IsBody false) (sym parts) (digit_here b (bs ++ behind) h.0)
 
-kind_skipped : (t : Bool) (o : Option (ℕ × ℕ)) → cond t Skipped (kind_of_entry o) ≡ Skipped → t ≡ true
-kind_skipped t o h = grind arith
-
-kind_entry : (t : Bool) (o : Option (ℕ × ℕ)) (pointer value : ℕ) → cond t Skipped (kind_of_entry o) ≡ Entry pointer value
-    → o ≡ Some (pointer, value)
-kind_entry t o pointer value h = grind arith
-
 skipped_sound : (line : List ℕ) → line_kind line ≡ Skipped → IsSkippedLine line
 skipped_sound line h = record {
   blanks = run_of is_blank line;
   behind = past_blanks line;
   parts = run_parts is_blank line;
   are_blanks = run_passes is_blank line;
-  nothing = nothing_sound (past_blanks line) (kind_skipped (says_nothing (past_blanks line)) (entry_at (past_blanks line)) h);
+  nothing = nothing_sound (past_blanks line) (grind arith);
 }
 
 entry_line_sound : (line : List ℕ) (pointer value : ℕ) → line_kind line ≡ Entry pointer value → IsEntryLine line pointer value
@@ -182,20 +157,20 @@ entry_line_sound line pointer value h = record {
   behind = past_blanks line;
   parts = run_parts is_blank line;
   are_blanks = run_passes is_blank line;
-  entry = entry_sound (past_blanks line) (pointer, value) (kind_entry (says_nothing (past_blanks line)) (entry_at (past_blanks line)) pointer value h);
+  entry = entry_sound (past_blanks line) (pointer, value) (grind arith);
 }
 
 skipped_complete : (line : List ℕ) → IsSkippedLine line → line_kind line ≡ Skipped
 skipped_complete line h =
     let here = nothing_here h.behind h.nothing in
-    let rest : past_blanks line ≡ h.behind = ap past_blanks h.parts ∙ behind_run-append is_blank h.blanks h.behind h.are_blanks here.ends in
+    let rest : past_blanks line ≡ h.behind = rw h.parts (behind_run-append is_blank h.blanks h.behind h.are_blanks here.ends) in
     rw (rest, here.says) refl
 
 entry_line_complete : (line : List ℕ) (pointer value : ℕ) → IsEntryLine line pointer value → line_kind line ≡ Entry pointer value
 entry_line_complete line pointer value h =
     let entry = h.entry in
     let here = entry_here h.behind entry.digits entry.behind entry.parts entry.number.some entry.number.are_digits in
-    let rest : past_blanks line ≡ h.behind = ap past_blanks h.parts ∙ behind_run-append is_blank h.blanks h.behind h.are_blanks here.ends in
+    let rest : past_blanks line ≡ h.behind = rw h.parts (behind_run-append is_blank h.blanks h.behind h.are_blanks here.ends) in
     rw (rest, here.says, entry_complete h.behind pointer value entry) refl
 
 pub kind_by_grammar : (line : List ℕ) → IsOfKind line (line_kind line)

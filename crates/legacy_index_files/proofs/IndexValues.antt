@@ -24,9 +24,4 @@ fills_line name line rest behind values pointer value first said fits =
     let others = file_entries name (lines behind) in
     let split : file_entries name (lines rest) ≡ (pointer, value) ∷ others =
     ap (file_entries name) first ∙ ap (λ kind. with_entry kind others) (sym said) in
-    let length_is = ap table_length split in
-    record {
-      room = omega arith;
-      within = omega arith;
-      at_each = λ p. rw split (fills_entry others values pointer value p (omega arith));
-    }
+    grind (arith, split, fills_entry others values pointer value)

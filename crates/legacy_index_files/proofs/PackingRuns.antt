@@ -76,10 +76,7 @@ module _ (limit p : ℕ) (index : List ℕ) (runs : List Run) (so_far : AreRunsB
 
     entry_some : (k : ℕ) → p ≤ k → k < p + run.length → idx index k ≡ Some (run.scalar + (k - run.pointer))
     entry_some k h l =
-        let at = row (k - p) (omega arith) in
-        let place : p + (k - p) ≡ k = omega arith in
-        let is = rw place at at in
-        grind (arith, nat_tests)
+        grind (arith, nat_tests, row (k - p))
 
     pub run-added : AreRunsBelow limit (p + run.length) index (runs ++ run ∷ [])
     run-added = record {
