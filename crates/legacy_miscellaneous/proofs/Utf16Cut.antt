@@ -1,23 +1,11 @@
 -- The units of UTF-16 give the same events as its fronts.
-use Rattle.std.proofs.{Common.{◌≡◌, ℕ, ◌+◌, ◌*◌, List, [], ◌∷◌, ◌++◌, Bool, true, false, inl, inr, refl, ◌&&◌, arith}}
+use Rattle.std.proofs.{Common.{◌≡◌, ℕ, ◌+◌, ◌*◌, List, [], ◌∷◌, ◌++◌, Bool, inl, inr, refl, ◌&&◌, arith}}
 use Rattle.std.proofs.lemmas.Bool.{cases_Bool}
-use Rattle.std.specs.Char.Utf16.{is_high_surrogate, is_low_surrogate, surrogate_pair_char}
-use Rattle.legacy_base.specs.{declared.results.DecodeEvent.TheVariants.Scalar, Fronts.{Front, cut}}
+use Rattle.std.specs.Char.Utf16.{is_high_surrogate, is_low_surrogate}
+use Rattle.legacy_base.specs.{Fronts.{Front, cut}}
 use Rattle.legacy_base.specs.Utf16.{unit_of, units_of, has_odd_byte, single_unit_events, units_events}
 use Rattle.legacy_miscellaneous.specs.Utf16Fronts.{single_unit_front, utf16_front}
 use Rattle.legacy_base.proofs.Cuts.{cut_at}
-
--- ---- units
-
-paired : (i u v : ℕ) (units : List ℕ) (odd : Bool) → (is_high_surrogate u && is_low_surrogate v) ≡ true →
-    units_events i (u ∷ v ∷ units) odd ≡ Scalar (surrogate_pair_char u v) ∷ units_events (i + 2) units odd
-unfolding units_events
-paired i u v units odd e = rw (e, units_events)
-
-unpaired : (i u v : ℕ) (units : List ℕ) (odd : Bool) → (is_high_surrogate u && is_low_surrogate v) ≡ false →
-    units_events i (u ∷ v ∷ units) odd ≡ single_unit_events i u ++ units_events (i + 1) (v ∷ units) odd
-unfolding units_events
-unpaired i u v units odd e = rw (e, units_events)
 
 -- ---- fronts
 
@@ -40,6 +28,6 @@ utf16_cut be i (a ∷ b ∷ c ∷ d ∷ rest) =
     let v : ℕ = unit_of be c d in
     let place : 2 * i + 4 ≡ 2 * (i + 2) = omega arith in
     elim (cases_Bool (is_high_surrogate u && is_low_surrogate v)) [
-      | inl e ↦ grind (arith, paired i u v, utf16_cut be (i + 2) rest, cut_at (utf16_front be) (2 * i) a (b ∷ c ∷ d ∷ rest))
-      | inr e ↦ grind (arith, unpaired i u v, utf16_cut be (i + 1) (c ∷ d ∷ rest), cut_lone (utf16_front be) i u a b (c ∷ d ∷ rest))
+      | inl e ↦ grind (arith, utf16_cut be (i + 2) rest, cut_at (utf16_front be) (2 * i) a (b ∷ c ∷ d ∷ rest))
+      | inr e ↦ grind (arith, utf16_cut be (i + 1) (c ∷ d ∷ rest), cut_lone (utf16_front be) i u a b (c ∷ d ∷ rest))
     ]

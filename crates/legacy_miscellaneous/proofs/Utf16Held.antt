@@ -4,7 +4,7 @@ use Rattle.std.proofs.lemmas.List.Elements.{All-nil, All-cons}
 use Rattle.std.specs.{Char.Utf16.{is_high_surrogate}}
 use Rattle.legacy_tables.specs.Unicode.{IsByte, AreBytes}
 use Rattle.legacy_base.specs.{Grammar.{utf16, events_of}, States.{utf16_may_hold, rests, state_of}, Utf16.unit_of}
-use Rattle.legacy_miscellaneous.specs.{declared.utf16.held_bytes.Held.Held, declared.utf16.held_bytes.Held.TheVariants.{Nothing, Odd, High, HighOdd, Pending}}
+use Rattle.legacy_miscellaneous.specs.{declared.utf16.held_bytes.Held.Held, declared.utf16.held_bytes.Held.TheVariants.{Nothing, Pending}}
 use Rattle.legacy_miscellaneous.specs.{declared.utf16.held_bytes.UnitScalar.UnitScalar, Utf16Machine.{utf16_step}, Utf16Decoder.first_byte}
 use Rattle.legacy_miscellaneous.specs.Utf16Decoder.{second_byte, held_bytes}
 use Rattle.legacy_decoder_engine.specs.{declared.moves.Fed.Fed, Moves.{IsCovered, Feeds, Releases, Reports}, Feeding.Took}
@@ -28,11 +28,7 @@ are_two be u h bytes all =
 
 module _ (be : Bool) where
   may : (h : Held) → utf16_may_hold be (held_bytes be h) ≡ true
-  may Nothing = refl
-  may (Odd odd) = refl
-  may (High high) = rw (unit_of-bytes be high.unit, high_not_low high.unit high.is_high) refl
-  may (HighOdd high odd) = rw (unit_of-bytes be high.unit) high.is_high
-  may (Pending pending) = rw (unit_of-bytes be pending.scalar, pending.is_not_low) refl
+  may h = grind (arith, unit_of-bytes, high_not_low)
 
   bytes : (h : Held) → AreBytes (held_bytes be h)
   bytes h = grind (arith, are_two, high_below, All-nil IsByte, All-cons IsByte)

@@ -1,5 +1,5 @@
 -- The steps of UTF-16 agree with its grammar.
-use Rattle.std.proofs.{Common.{◌≡◌, ℕ, ◌+◌, ◌*◌, ◌<◌, ◌≤◌, List, [], ◌∷◌, length, get_or, Bool, true, false, cond, refl, inl, arith}, lemmas.Bool.cond_both}
+use Rattle.std.proofs.{Common.{◌≡◌, ℕ, ◌+◌, ◌*◌, ◌<◌, ◌≤◌, List, [], ◌∷◌, length, Bool, true, false, cond, refl, inl, arith}, lemmas.Bool.cond_both}
 use Rattle.std.proofs.lemmas.Bool.{false≢true}
 use Rattle.std.specs.Char.Utf16.{is_high_surrogate, is_low_surrogate, surrogate_pair_char}
 use Rattle.legacy_tables.specs.Unicode.{IsByte, AreBytes}
@@ -22,9 +22,6 @@ record Halved (len : ℕ → ℕ) (narrow wide : ℕ) (held : List ℕ) (b : ℕ
 pub unit_below : (be : Bool) (a b : ℕ) → a < 0x100 → b < 0x100 → unit_of be a b < 0x1_0000
 unit_below be a b h k = grind arith
 
-byte_at : (held : List ℕ) (i : ℕ) → AreBytes held → i < length held → get_or held i 0 < 0x100
-byte_at held i h l = h i 0 l
-
 -- the room falls by at least u if the bytes to come and those held back become fewer by 2 * pairs
 abbrev IsHalved : (DecoderState → ℕ → ℕ) → Bool → ℕ → Type 0
 IsHalved room be narrow = (held held' : List ℕ) (n n' u pairs : ℕ) → u ≤ narrow * pairs →
@@ -36,7 +33,7 @@ module _ (be : Bool) where
         Halved len narrow wide held b (utf16_step be held b)
     halved [] b h r bytes byte = record { pairs = 0; fits = omega arith; units_most = omega arith; fewer = omega arith }
     halved (a ∷ []) b h r bytes byte =
-        let below : unit_of be a b < 0x1_0000 = unit_below be a b (byte_at (a ∷ []) 0 bytes (omega arith)) byte in
+        let below : unit_of be a b < 0x1_0000 = unit_below be a b (bytes 0 0 (omega arith)) byte in
         let q : len (unit_of be a b) ≤ narrow = w.bmp (unit_of be a b) below in
         record { pairs = cond (is_high_surrogate (unit_of be a b)) 0 1; fits = grind arith; units_most = grind arith; fewer = grind arith }
     halved (a ∷ b ∷ []) c h r bytes byte = record { pairs = 0; fits = omega arith; units_most = omega arith; fewer = omega arith }
@@ -55,7 +52,7 @@ module _ (be : Bool) where
     unit_pays room falls [] h bytes = tt
     unit_pays room falls (a ∷ []) h bytes = tt
     unit_pays room falls (a ∷ b ∷ []) h bytes =
-        let q = w.bmp (unit_of be a b) (unit_below be a b (byte_at (a ∷ b ∷ []) 0 bytes (omega arith)) (byte_at (a ∷ b ∷ []) 1 bytes (omega arith))) in
+        let q = w.bmp (unit_of be a b) (unit_below be a b (bytes 0 0 (omega arith)) (bytes 1 0 (omega arith))) in
         cond_both (is_high_surrogate (unit_of be a b)) _ _ (WritePays len narrow wide room (utf16 be) (a ∷ b ∷ [])) (λ t. tt)
         (λ t. (q, λ n. falls (a ∷ b ∷ []) [] n n (len (unit_of be a b)) 1 (omega arith) (omega arith)))
     unit_pays room falls (a ∷ b ∷ c ∷ held) h bytes = tt

@@ -21,13 +21,8 @@ swapped n src = map (λ i. get_or (take (2 * n) src ++ take (2 * n) src) (i + 1 
 
 swapped_at : (n : ℕ) (src : List ℕ) → 2 * n ≤ length src → (i : ℕ) → i < 2 * n → get_or (swapped n src) i 0 ≡ get_or src (i + 1 - 2 * (i % 2)) 0
 swapped_at n src within i h =
-    grind (
-      arith,
-      get_or-map-range_with_len (λ i. get_or (take (2 * n) src ++ take (2 * n) src) (i + 1 - 2 * (i % 2)) 0) 0 (2 * n) i,
-      get_or_append_left,
-      get_or-take,
-      length-take-le,
-    )
+    let swap : ℕ → ℕ = λ i. get_or (take (2 * n) src ++ take (2 * n) src) (i + 1 - 2 * (i % 2)) 0 in
+    grind (arith, get_or-map-range_with_len swap 0 (2 * n) i, get_or_append_left, get_or-take, length-take-le)
 
 pub big : (n : ℕ) (src : List ℕ) → 2 * n ≤ length src → ((i : ℕ) → IsByte (get_or src i 0)) → (k : ℕ) → k < n
     → get_or (digits_l 65536 n (number_l 256 (swapped n src))) k 0 ≡ unit_at true src k

@@ -9,7 +9,6 @@ loop-at-preserved c =
     let at = c.loop-at.at in
     let i = c.loop-at.invariant in
     let e = c.put_narrow.ensures in
-    let new = c.put_narrow.new.block in
     record {
       within = omega (arith, i.within, i.sixteens, i.long, c.requires.sixteens, c.loop-at-test.true, c.put_narrow.auto.block);
       sixteens = omega (arith, i.sixteens);
