@@ -5,16 +5,13 @@ use Rattle.std.specs.List.{position_or_len}
 use Rattle.legacy_text.specs.UnitCodes.{IsNoSurrogate}
 use Rattle.legacy_tables.specs.{Indexes.{idx}, TableChecks.IsAcceptedTable}
 use Rattle.legacy_base.specs.SingleByte.{single_byte_code}
-use Rattle.legacy_tables.proofs.{Accepted.entry_scalar-is, AcceptedTable.{position-idx, within, table-scalars, table-below}, FirstPlaces.find-first}
+use Rattle.legacy_tables.proofs.{Accepted.entry_scalar-is, AcceptedTable.{position-idx, within, table-scalars, table-below}}
 use Rattle.legacy_tables.proofs.FirstPlaces.{find-none-at}
 use Rattle.legacy_single_byte.specs.SingleByteRun.{IsRun, first_mismatch}
 
 pub run_holds : (table : List ℕ) (scalar start count : ℕ) → first_mismatch table scalar start count ≡ None → IsRun table scalar start count
 run_holds table scalar start count e k h =
     let same = find-none-at (λ k. not (get_or table (start + k) 0 == scalar + k)) 0 count e k (omega arith) (omega arith) in grind (arith, nat_tests)
-
-pub mismatch_within : (table : List ℕ) (scalar start count k : ℕ) → first_mismatch table scalar start count ≡ Some k → k < count
-mismatch_within table scalar start count k e = grind (arith, find-first)
 
 -- each entry of an accepted table is below U+10000
 entry_below : (table : List ℕ) → IsAcceptedTable table → (p : ℕ) → get_or table p 0 < 0x1_0000

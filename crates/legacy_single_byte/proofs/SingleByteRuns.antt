@@ -1,16 +1,16 @@
 -- The runs of the single-byte decoders.
 use Rattle.std.proofs.Common.{rules, IsAscii, ◌≡◌, ℕ, List, ◌+◌, ◌-◌, ◌≤◌, ◌<◌, ◌^◌, ◌++◌, zero, suc, length, take, get_or, Some, refl}
 use Rattle.std.proofs.{Common.{arith, All}, lemmas.Bool.Decides.nat_tests, lemmas.List.get_or_past}
-use Rattle.std.proofs.{lemmas.List.{take_all, take_more, take-take, length-take-le}, lemmas.List.Elements.All-from_get_or}
+use Rattle.std.proofs.{lemmas.List.{take_all, take_more, take-take}, lemmas.List.Elements.All-from_get_or}
 use Rattle.std.specs.Char.{IsScalar}
 use Rattle.legacy_text.specs.{declared.destination.Destination.Ghosts, EncodingForm.{code_units, all_code_units, total_unit_count}}
 use Rattle.legacy_base.specs.{States.{DecoderState, new_state}, Grammar.single_byte}
 use Rattle.legacy_tables.specs.{Indexes.{idx}, AcceptedTables.AcceptedTable}
 use Rattle.legacy_tables.proofs.AcceptedTable.{table-below, table-scalars}
-use Rattle.legacy_decoder_engine.specs.{ReadAhead.{Runs, IsSingle, HasAscii, Writes, ReadsAhead}, Shown.IsShown}
+use Rattle.legacy_decoder_engine.specs.{ReadAhead.{Runs, IsSingle, HasAscii, ReadsAhead}, Shown.IsShown}
 use Rattle.legacy_single_byte.specs.{ByteEntries.IsByteEntry, SingleByteMachine.single_byte_machine}
-use Rattle.legacy_decoder_engine.proofs.{RunForms.{single_runs, has_ascii, ascii_is, past_ascii}, JoinedRuns.reads_written, WrittenRuns.{all_short, short}}
-use Rattle.legacy_decoder_engine.proofs.WrittenRuns.{runs_none, runs_more, writes_ascii, writes_one}
+use Rattle.legacy_decoder_engine.proofs.{RunForms.{single_runs, has_ascii, ascii_is, past_ascii}, JoinedRuns.{reads_written, reads_ascii}, WrittenRuns.{all_short, short}}
+use Rattle.legacy_decoder_engine.proofs.WrittenRuns.{runs_none, runs_more, writes_one}
 use Rattle.legacy_single_byte.proofs.SingleByteShown.{single_byte_shown}
 
 small : (x : ℕ) → x < 0x80 → IsScalar x
@@ -47,19 +47,15 @@ module _ (table : AcceptedTable) where
       (enough : 70 ≤ T.room old) (contents : T.contents mid ≡ T.contents old ++ take r source) (room : T.room mid + r ≡ T.room old)
       (loan : T.loan mid ≡ T.loan old)
     where
-      front_writes : Writes T (single_byte table.entries) (take r source) old mid
-      front_writes =
-          grind (arith, length-take-le, writes_ascii T (single_byte table.entries) old mid (take r source) single_byte_ascii)
-
       pub reads_front : ReadsAhead T (new_state (single_byte table.entries)) source r old mid
-      reads_front = reads_written (omega arith) front_writes (omega (arith, room)) (omega arith)
+      reads_front = reads_ascii single_byte_ascii (omega arith) ascii contents room loan (λ h. omega (arith, room))
 
       pub reads_malformed : (new : D) (c : ℕ) → r < 64 → IsSingle (single_byte table.entries) (get_or source r 0) c →
           T.contents new ≡ T.contents mid ++ code_units T.form c
           → T.room new + length (code_units T.form c) ≡ T.room mid → T.loan new ≡ T.loan mid →
           ReadsAhead T (new_state (single_byte table.entries)) source (r + 1) old new
       reads_malformed new c less single more less_room same =
-          reads_written (omega arith) (writes_one T source r c (omega arith) front_writes single.1 more less_room same)
+          reads_written (omega arith) (writes_one T source r c (omega arith) reads_front.writes single.1 more less_room same)
           (omega (arith, room, less_room, short T.form c single.0)) (omega arith)
 
   -- ---- eight bytes at once, by their entries

@@ -1,9 +1,10 @@
 use Rattle.std.proofs.{Common.arith, lemmas.Grind.common_steps}
-use Rattle.legacy_single_byte.proofs.EncoderRuns.{run_holds, run_below, mismatch_within}
+use Rattle.legacy_tables.proofs.FirstPlaces.{find-first}
+use Rattle.legacy_single_byte.proofs.EncoderRuns.{run_holds, run_below}
 use Rattle.legacy_single_byte.proofs.single_byte.run.check_run.Goals as goal
 
 pub overflow_add-result : goal.overflow_add-result
-overflow_add-result c = grind (arith, mismatch_within)
+overflow_add-result c = grind (arith, find-first)
 
 pub returns-in-None-clause-is_run : goal.returns-in-None-clause-is_run
 returns-in-None-clause-is_run c = grind (arith, run_holds)

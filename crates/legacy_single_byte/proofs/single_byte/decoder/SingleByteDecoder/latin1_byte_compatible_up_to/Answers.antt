@@ -12,8 +12,7 @@ loop-count-init c = (
 
 pub returns-else-is_latin1 : goal.returns-else-is_latin1
 returns-else-is_latin1 c =
-    latin1_front-length (single_byte_entries c.args.self.now) c.args.bytes.now c.loop-count.count c.loop-count.invariant.0 c.loop-count.invariant.1
-    (λ h. sym c.is_latin1.ensures ∙ c.if-is_latin1.false)
+    latin1_front-length _ _ _ c.loop-count.invariant.0 c.loop-count.invariant.1 (λ h. sym c.is_latin1.ensures ∙ c.if-is_latin1.false)
 
 pub returns-after-loop-count : goal.returns-after-loop-count
 returns-after-loop-count c =

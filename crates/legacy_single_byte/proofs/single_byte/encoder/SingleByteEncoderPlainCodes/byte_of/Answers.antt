@@ -1,4 +1,4 @@
-use Rattle.std.proofs.{Common.{◌+◌, ◌-◌, arith, inl, inr}, lemmas.Bool.cases_lt, lemmas.Bool.Decides.nat_tests}
+use Rattle.std.proofs.{Common.{◌-◌, arith}, lemmas.Bool.Decides.nat_tests}
 use Rattle.legacy_single_byte.proofs.EncoderRuns.{code_at, code_ascii, malformed_at}
 use Rattle.legacy_single_byte.proofs.single_byte.encoder.SingleByteEncoderPlainCodes.byte_of.Goals as goal
 
@@ -8,8 +8,4 @@ returns c = λ known.
     let table = e.table.now.entries in
     let unit = c.args.unit in
     let k = unit - e.run_bmp_offset in
-    elim (cases_lt unit 128) [
-      | inl low ↦ grind (arith, code_ascii)
-      | inr high ↦ grind (arith, nat_tests, e.is_run k, code_at table e.table.now.accepted unit high (e.run_byte_offset + k),
-          malformed_at table e.table.now.accepted unit high (e.run_byte_offset + k))
-    ]
+    grind (arith, nat_tests, code_ascii, e.is_run k, code_at table e.table.now.accepted unit, malformed_at table e.table.now.accepted unit)

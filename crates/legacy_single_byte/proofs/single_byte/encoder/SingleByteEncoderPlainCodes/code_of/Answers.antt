@@ -1,4 +1,4 @@
-use Rattle.std.proofs.{Common.{◌+◌, ◌-◌, arith, inl, inr}, lemmas.Bool.cases_lt, lemmas.Bool.Decides.nat_tests}
+use Rattle.std.proofs.{Common.{◌-◌, arith}, lemmas.Bool.Decides.nat_tests}
 use Rattle.legacy_single_byte.proofs.EncoderRuns.{code_at, code_ascii}
 use Rattle.legacy_single_byte.proofs.single_byte.encoder.SingleByteEncoderPlainCodes.code_of.Goals as goal
 
@@ -9,7 +9,4 @@ pub returns-then-either : goal.returns-then-either
 returns-then-either c =
     let e = c.args.self.now in
     let k = c.args.c - e.run_bmp_offset in
-    elim (cases_lt c.args.c 128) [
-      | inl low ↦ grind (arith, code_ascii)
-      | inr high ↦ grind (arith, nat_tests, e.is_run k, code_at e.table.now.entries e.table.now.accepted c.args.c high (e.run_byte_offset + k))
-    ]
+    grind (arith, nat_tests, code_ascii, e.is_run k, code_at e.table.now.entries e.table.now.accepted c.args.c)
