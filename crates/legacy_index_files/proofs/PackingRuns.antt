@@ -5,7 +5,7 @@ use Rattle.std.proofs.lemmas.List.{length_push}
 use Rattle.std.specs.Option.{option_or}
 use Rattle.legacy_tables.specs.{declared.tables.packed.PackedPart.PackedPart, declared.tables.packed.Run.Run, Indexes.idx, Runs.{run_end, run_scalar}}
 use Rattle.legacy_tables.specs.{Runs.{runs_scalar, is_run_in_order, run_fault_from, run_fault}, Packed.{differs_at, run_difference, runs_fault}}
-use Rattle.legacy_tables.proofs.{FirstPlaces.{taken, find-none}}
+use Rattle.legacy_tables.proofs.FirstPlaces.{taken, find-none}
 use Rattle.legacy_index_files.specs.Packing.{AreBelow, AreLongest}
 
 -- ---- one more run
@@ -47,13 +47,7 @@ module _ (end p : ℕ) (index : List ℕ) (runs : List Run) (so_far : AreLongest
   module _ (run : Run) (starts : run.pointer ≡ p) (scalar : run.scalar ≡ get_or index p 0) (within : p + run.length ≤ end) (some : 0 < run.length)
       (longest : p + run.length < end → get_or index (p + run.length) 0 ≢ get_or index p 0 + run.length) where
     pub longest-added : AreLongestBelow end (p + run.length) index (runs ++ run ∷ [])
-    longest-added = record {
-      longest = record {
-        ends = λ i d h. grind (arith, length_push, get_or_append_left, get_or_push, so_far.longest.ends i d, so_far.stops i d);
-      };
-      reach = λ i d h. grind (arith, length_push, get_or_append_left, get_or_push, so_far.reach i d);
-      stops = λ i d h. grind (arith, length_push, get_or_push);
-    }
+    longest-added = grind (arith, length_push, get_or_append_left, get_or_push, so_far.longest.ends, so_far.stops, so_far.reach)
 
 -- ---- the entries of runs
 

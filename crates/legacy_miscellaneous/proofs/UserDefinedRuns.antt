@@ -8,9 +8,9 @@ use Rattle.legacy_base.specs.{States.new_state, Grammar.user_defined}
 use Rattle.std.specs.Char.{IsScalar}
 use Rattle.legacy_text.specs.{declared.destination.Destination.Ghosts, EncodingForm.{code_units, all_code_units, total_unit_count}}
 use Rattle.legacy_decoder_engine.specs.{declared.moves.Fed.TheVariants.One, ReadAhead.{Runs, IsSingle, HasAscii, ReadsAhead}}
-use Rattle.legacy_decoder_engine.specs.{Moves.Feeds}
+use Rattle.legacy_decoder_engine.specs.Moves.{Feeds}
 use Rattle.legacy_decoder_engine.proofs.{RunForms.{ascii_is, single_runs, has_ascii}, JoinedRuns.{reads_more, reads_written, reads_ascii}}
-use Rattle.legacy_decoder_engine.proofs.WrittenRuns.{runs_none, runs_more, rest_of, all_short, short, writes_one}
+use Rattle.legacy_decoder_engine.proofs.WrittenRuns.{runs_none, runs_more, rest_of, all_short, short, three_fit, one_unit, writes_none, writes_one}
 use Rattle.legacy_miscellaneous.specs.UserDefinedUnits.{unit_of_byte}
 use Rattle.legacy_miscellaneous.proofs.UserDefinedShown.{user_defined_shown}
 use Rattle.legacy_decoder_engine.proofs.Feeding as moves
@@ -93,3 +93,6 @@ module _ {D : Type 0} (T : Ghosts D) (source : List ℕ) (r : ℕ) (old mid : D)
     reads_byte new c less single more less_room same =
         reads_written (omega arith) (writes_one T source r c (omega arith) reads_front.writes single.1 more less_room same)
         (omega (arith, room, less_room, short T.form c single.0)) (omega arith)
+
+-- the lemmas for a loop that reads bytes one by one
+pub ruleset byte_steps = (writes_none, writes_one, one_unit, three_fit, short, is_single)

@@ -1,7 +1,7 @@
 -- The UTF-16 decoders hold back only what their machine may hold back.
 use Rattle.std.proofs.{Common.{◌≡◌, ◌≢◌, ℕ, ◌<◌, List, [], ◌∷◌, length, Bool, true, false, refl, arith}, lemmas.Bool.Decides.nat_tests}
 use Rattle.std.proofs.lemmas.List.Elements.{All-nil, All-cons}
-use Rattle.std.specs.{Char.Utf16.{is_high_surrogate}}
+use Rattle.std.specs.Char.Utf16.{is_high_surrogate}
 use Rattle.legacy_tables.specs.Unicode.{IsByte, AreBytes}
 use Rattle.legacy_base.specs.{Grammar.{utf16, events_of}, States.{utf16_may_hold, rests, state_of}, Utf16.unit_of}
 use Rattle.legacy_miscellaneous.specs.{declared.utf16.held_bytes.Held.Held, declared.utf16.held_bytes.Held.TheVariants.{Nothing, Pending}}

@@ -34,7 +34,8 @@ module _ (table : List ℕ) where
     begun value e other low = record {
       is = grind arith;
       ends = refl;
-      longest = λ c s n run ends. grind (arith, before.longest c s (n - 1) (front c s n run), before.is.holds (count - 1), run.holds (n - 2), run.holds (n - 1));
+      longest = λ c s n run ends.
+          grind (arith, before.longest c s (n - 1) (front c s n run), before.is.holds (count - 1), run.holds (n - 2), run.holds (n - 1));
     }
 
   -- ---- the longest run up to a place

@@ -9,8 +9,8 @@ use Rattle.legacy_tables.specs.{Indexes.{idx}, AcceptedTables.AcceptedTable}
 use Rattle.legacy_tables.proofs.AcceptedTable.{table-below, table-scalars}
 use Rattle.legacy_decoder_engine.specs.{ReadAhead.{Runs, IsSingle, HasAscii, ReadsAhead}, Shown.IsShown}
 use Rattle.legacy_single_byte.specs.{ByteEntries.IsByteEntry, SingleByteMachine.single_byte_machine}
-use Rattle.legacy_decoder_engine.proofs.{RunForms.{single_runs, has_ascii, ascii_is, past_ascii}, JoinedRuns.{reads_written, reads_ascii}, WrittenRuns.{all_short, short}}
-use Rattle.legacy_decoder_engine.proofs.WrittenRuns.{runs_none, runs_more, writes_one}
+use Rattle.legacy_decoder_engine.proofs.{RunForms.{single_runs, has_ascii, ascii_is, past_ascii}, JoinedRuns.{reads_written, reads_ascii}}
+use Rattle.legacy_decoder_engine.proofs.WrittenRuns.{runs_none, runs_more, writes_none, writes_one, all_short, short, three_fit}
 use Rattle.legacy_single_byte.proofs.SingleByteShown.{single_byte_shown}
 
 small : (x : ℕ) → x < 0x80 → IsScalar x
@@ -91,3 +91,6 @@ module _ (table : AcceptedTable) where
 pub reads_padded : {D : Type 0} {T : Ghosts D} {state : DecoderState} {source padded : List ℕ} {r : ℕ} {old new : D} → r ≤ length source →
     take (length source) padded ≡ source → ReadsAhead T state padded r old new → ReadsAhead T state source r old new
 reads_padded {source = source} {padded} {r} within front reads = grind (arith, take-take r (length source) padded)
+
+-- the lemmas for a loop that reads bytes one by one
+pub ruleset byte_steps = (writes_none, writes_one, three_fit, short)

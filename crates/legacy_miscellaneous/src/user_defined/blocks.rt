@@ -52,7 +52,7 @@ fn units_of(src: &[u8]) -> [u16; 8]
 ///
 /// Returns the number of bytes read.
 #[inline(always)]
-#[tactic(auto, using(legacy_decoder_engine::proofs::WrittenRuns::writes_none, legacy_decoder_engine::proofs::WrittenRuns::writes_one, legacy_decoder_engine::proofs::WrittenRuns::one_unit, crate::proofs::UserDefinedRuns::is_single))]
+#[tactic(auto, using(crate::proofs::UserDefinedRuns::byte_steps))]
 pub fn read_units<T: Destination>(src: &[u8], dst: &mut T) -> usize
     requires { bmp_room T.form ≡ 1 }
     ensures { ReadsAhead T.Destination (new_state user_defined) src.now result dst.old dst.new }
@@ -87,7 +87,7 @@ fn read_eights<T: Destination>(src: &[u8], dst: &mut T, is_mixed: bool) -> usize
 
 /// Decodes at most `most` bytes one by one. Returns the number of bytes read.
 #[inline(always)]
-#[tactic(auto, using(legacy_decoder_engine::proofs::WrittenRuns::writes_none, legacy_decoder_engine::proofs::WrittenRuns::writes_one, legacy_decoder_engine::proofs::WrittenRuns::three_fit, legacy_decoder_engine::proofs::WrittenRuns::short, crate::proofs::UserDefinedRuns::is_single))]
+#[tactic(auto, using(crate::proofs::UserDefinedRuns::byte_steps))]
 fn read_singly<T: Destination>(src: &[u8], most: usize, dst: &mut T) -> usize
     requires source { most ≤ length src.now }
     requires room { 0 < most → 3 * most + 3 ≤ T.room dst.old }

@@ -124,8 +124,7 @@ struct Eights<'a> {
 impl Eights<'_> {
     /// Decodes at most `most` bytes one by one, up to one that has no scalar. Returns the number of bytes read.
     #[inline(always)]
-    #[tactic(auto, using(legacy_decoder_engine::proofs::WrittenRuns::writes_none, legacy_decoder_engine::proofs::WrittenRuns::writes_one,
-        legacy_decoder_engine::proofs::WrittenRuns::three_fit, legacy_decoder_engine::proofs::WrittenRuns::short))]
+    #[tactic(auto, using(crate::proofs::SingleByteRuns::byte_steps))]
     fn read_singly<T: Destination>(&self, src: &[u8], most: usize, dst: &mut T) -> usize
         requires source { most ≤ length src.now }
         requires room { 0 < most → 3 * most + 3 ≤ T.room dst.old }

@@ -1,12 +1,10 @@
 use Rattle.std.proofs.Common.{arith}
-use Rattle.legacy_base.specs.Grammar.{user_defined}
-use Rattle.legacy_base.specs.States.{new_state}
 use Rattle.legacy_decoder_engine.proofs.WrittenRuns.{reads_none}
 use Rattle.legacy_miscellaneous.proofs.UserDefinedRuns.{rest_bytes, units_are_scalars, eight_more}
 use Rattle.legacy_miscellaneous.proofs.user_defined.blocks.read_eights.Goals as goal
 
 pub loop-at-init : goal.loop-at-init
-loop-at-init g c = reads_none g.T.Destination (new_state user_defined) c.args.src.now c.args.dst.now
+loop-at-init g c = reads_none _ _ _ _
 
 pub put_eight-requires-clause-scalars : goal.put_eight-requires-clause-scalars
 put_eight-requires-clause-scalars g c =

@@ -1,12 +1,10 @@
 use Rattle.std.proofs.Common.{arith}
-use Rattle.legacy_base.specs.Grammar.{user_defined}
-use Rattle.legacy_base.specs.States.{new_state}
 use Rattle.legacy_decoder_engine.proofs.{JoinedRuns.reads_more, WrittenRuns.{reads_none, three_fit}}
 use Rattle.legacy_miscellaneous.proofs.UserDefinedRuns.{is_single, reads_front, reads_byte}
 use Rattle.legacy_miscellaneous.proofs.user_defined.blocks.MixedBlocks.read_block.Goals as goal
 
 pub returns-then-src-le64-clause-ahead : goal.returns-then-src-le64-clause-ahead
-returns-then-src-le64-clause-ahead g c = reads_none g.T.Destination (new_state user_defined) c.args.src.now c.args.dst.now
+returns-then-src-le64-clause-ahead g c = reads_none _ _ _ _
 
 pub returns-then-count-eq64-clause-ahead : goal.returns-then-count-eq64-clause-ahead
 returns-then-count-eq64-clause-ahead g c =

@@ -1,11 +1,10 @@
 use Rattle.std.proofs.Common.{arith}
-use Rattle.legacy_base.specs.{Grammar.utf16, States.new_state}
 use Rattle.legacy_decoder_engine.proofs.WrittenRuns.{reads_none}
 use Rattle.legacy_miscellaneous.proofs.Utf16Runs.{reads_block}
 use Rattle.legacy_miscellaneous.proofs.utf16.unit_blocks.AsciiUnitsBlocks.read_block.Goals as goal
 
 pub returns-then-src-lt32-clause-ahead : goal.returns-then-src-lt32-clause-ahead
-returns-then-src-lt32-clause-ahead g c = reads_none g.T.Destination (new_state (utf16 c.args.self.now.units.now.big_endian)) c.args.src.now c.args.dst.now
+returns-then-src-lt32-clause-ahead g c = reads_none _ _ _ _
 
 pub returns-then-free-ge67-clause-ahead : goal.returns-then-free-ge67-clause-ahead
 returns-then-free-ge67-clause-ahead g c =

@@ -1,4 +1,4 @@
-use Rattle.std.proofs.{Common.{◌-◌, arith}}
+use Rattle.std.proofs.Common.{◌-◌, arith}
 use Rattle.legacy_miscellaneous.proofs.Utf16Runs.{unit_after}
 use Rattle.legacy_miscellaneous.proofs.utf16.unit_blocks.Units.narrow.Goals as goal
 
@@ -13,5 +13,6 @@ loop-at-preserved c =
       within = omega (arith, i.within, i.sixteens, i.long, c.requires.sixteens, c.loop-at-test.true, c.put_narrow.auto.block);
       sixteens = omega (arith, i.sixteens);
       long = omega (arith, i.long, c.put_narrow.auto.block);
-      narrow = λ k h low. grind (arith, i.narrow k, e.before k, e.narrow (k - at), c.sixteen_units-units.ensures (k - at), unit_after big_endian src at (k - at));
+      narrow = λ k h low.
+          let j = k - at in grind (arith, i.narrow k, e.before k, e.narrow j, c.sixteen_units-units.ensures j, unit_after big_endian src at j);
     }

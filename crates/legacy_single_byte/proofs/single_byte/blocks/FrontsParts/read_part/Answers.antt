@@ -7,4 +7,5 @@ returns-in-Some-clause-ahead g c =
     let e = c.put_front-count.ensures in
     let p = c.put.ensures in
     reads_malformed c.args.self.now.scalars.now.table.now g.T.Destination c.args.src.now c.put_front-count.result c.args.dst.now _
-    e.read c.requires.source e.ascii c.requires.room e.contents e.room e.loan _ c.in-Some.scalar (omega (arith, e.read, c.if-count-eq64.false)) c.in-Some.ensures p.contents p.room p.loan
+    e.read c.requires.source e.ascii c.requires.room e.contents e.room e.loan _ c.in-Some.scalar (omega (arith, e.read, c.if-count-eq64.false))
+    c.in-Some.ensures p.contents p.room p.loan
