@@ -1,9 +1,9 @@
 -- The tables of an index file without lines.
-use Rattle.std.proofs.{Common.{◌≡◌, ℕ, List, [], length, refl, arith, replicate}, lemmas.List.{get_or-replicate, length-replicate}}
+use Rattle.std.proofs.{Common.{◌≡◌, ℕ, List, [], arith, replicate}, lemmas.List.{get_or-replicate, length-replicate}}
 use Rattle.legacy_index_files.specs.IndexTable.{IsIndexOf, IsSingleByteIndexOf}
 
 pub empty_index : (values : List ℕ) → values ≡ [] → IsIndexOf [] values
-empty_index values e = record { len = rw e refl; at_each = record { at = λ p h. absurd (let n : length values ≡ 0 = rw e refl in omega arith) } }
+empty_index values e = grind arith
 
 pub empty_single_byte : IsSingleByteIndexOf [] (replicate 128 0)
 empty_single_byte = record {

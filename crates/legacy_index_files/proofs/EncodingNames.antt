@@ -1,5 +1,5 @@
 -- Each encoding is found by its name.
-use Rattle.std.proofs.Common.{◌≡◌, ◌↔◌, ◌∙◌, ℕ, List, [], ◌∷◌, Bool, true, false, Option, Some, cond, refl, sym, subst, find, bytes_eq, arith}
+use Rattle.std.proofs.Common.{◌≡◌, ◌↔◌, ◌∙◌, ℕ, List, [], ◌∷◌, Bool, true, Option, Some, sym, subst, find, bytes_eq, arith}
 use Rattle.std.proofs.lemmas.Slice.Eq.{bytes_eq-Decides}
 use Rattle.legacy_index_files.specs.{declared.encodings.Encoding.Encoding, declared.encodings.TheConstants.ENCODINGS, Encodings.encoding_name}
 
@@ -10,11 +10,7 @@ has_name name e = bytes_eq (encoding_name e) name
 -- an item that is found passes the test
 found : {A : Type 0} (test : A → Bool) (list : List A) (x : A) → find test list ≡ Some x → test x ≡ true
 found test [] x e = cc
-found test (y ∷ list) x e = go (test y) refl e (found test list x)
-  where
-    go : (t : Bool) → test y ≡ t → cond t (Some y) (find test list) ≡ Some x → (find test list ≡ Some x → test x ≡ true) → test x ≡ true
-    go true q z later = let same : y ≡ x = cc in subst (λ (w : _). test w ≡ true) same q
-    go false q z later = later z
+found test (y ∷ list) x e = grind (arith, found test list x)
 
 -- no two encodings have the same name
 only : (e : Encoding) → find (has_name (encoding_name e)) ENCODINGS ≡ Some e

@@ -1,23 +1,14 @@
 -- The steps of filling a table.
-use Rattle.std.proofs.Common.{◌≡◌, ℕ, ◌<◌, ◌≤◌, cond, List, ◌∷◌, length, set, get_or, nat_eq, Option, Some, None, refl, sym, ◌∙◌, ap, arith}
+use Rattle.std.proofs.Common.{◌≡◌, ℕ, ◌<◌, ◌≤◌, List, ◌∷◌, length, set, get_or, sym, ◌∙◌, ap, arith}
 use Rattle.std.proofs.{lemmas.Grind.common_steps, lemmas.Bool.Decides.nat_tests}
-use Rattle.std.specs.Option.{option_or, unwrap_or}
+use Rattle.std.specs.Option.{unwrap_or}
 use Rattle.legacy_index_files.specs.{declared.index_line.LineKind.TheVariants.Entry, declared.index_file.EncoderIndex.EncoderIndex, IndexLine.lines}
 use Rattle.legacy_index_files.specs.IndexTable.{says, file_entries, with_entry, table_length, last_value}
-
--- the value of a pointer after one write to the table
-written_at : (values : List ℕ) (pointer value p : ℕ) → pointer < length values
-    → get_or (set values pointer value) p 0 ≡ unwrap_or (cond (nat_eq pointer p) (Some value) None) (get_or values p 0)
-written_at values pointer value p within = grind (arith, nat_tests, common_steps)
 
 -- writing an entry before the later ones
 pub fills_entry : (entries : List (ℕ × ℕ)) (values : List ℕ) (pointer value p : ℕ) → pointer < length values
     → unwrap_or (last_value entries p) (get_or (set values pointer value) p 0) ≡ unwrap_or (last_value ((pointer, value) ∷ entries) p) (get_or values p 0)
-fills_entry entries values pointer value p within =
-    let P : Option ℕ → Type 0 =
-    λ later. unwrap_or later (get_or (set values pointer value) p 0)
-    ≡ unwrap_or (option_or later (cond (nat_eq pointer p) (Some value) None)) (get_or values p 0) in
-    elim (last_value entries p) as P [ Some later ↦ refl | None ↦ written_at values pointer value p within ]
+fills_entry entries values pointer value p within = grind (arith, nat_tests, common_steps)
 
 -- writing the entry of a line before those of the later lines
 pub record FillsLine (name : EncoderIndex) (rest behind : List ℕ) (values : List ℕ) (pointer value : ℕ) : Type 0 where
@@ -26,16 +17,6 @@ pub record FillsLine (name : EncoderIndex) (rest behind : List ℕ) (values : Li
   pub at_each : (p : ℕ) → unwrap_or (last_value (file_entries name (lines behind)) p) (get_or (set values pointer value) p 0)
       ≡ unwrap_or (last_value (file_entries name (lines rest)) p) (get_or values p 0)
 
-fills_with : (entries others : List (ℕ × ℕ)) (values : List ℕ) (pointer value p : ℕ) → entries ≡ (pointer, value) ∷ others
-    → pointer < length values
-    → unwrap_or (last_value others p) (get_or (set values pointer value) p 0) ≡ unwrap_or (last_value entries p) (get_or values p 0)
-fills_with entries others values pointer value p split within = rw split (fills_entry others values pointer value p within)
-
-room_with : (entries others : List (ℕ × ℕ)) (room pointer value : ℕ) → entries ≡ (pointer, value) ∷ others → table_length entries ≤ room
-    → (table_length others ≤ room) × (pointer < room)
-room_with entries others room pointer value split fits =
-    let length_is = ap table_length split in (omega arith, omega arith)
-
 pub fills_line : (name : EncoderIndex) (line rest behind values : List ℕ) (pointer value : ℕ) → lines rest ≡ line ∷ lines behind
     → Entry pointer value ≡ says name line → table_length (file_entries name (lines rest)) ≤ length values
     → FillsLine name rest behind values pointer value
@@ -43,9 +24,4 @@ fills_line name line rest behind values pointer value first said fits =
     let others = file_entries name (lines behind) in
     let split : file_entries name (lines rest) ≡ (pointer, value) ∷ others =
     ap (file_entries name) first ∙ ap (λ kind. with_entry kind others) (sym said) in
-    let has_room = room_with (file_entries name (lines rest)) others (length values) pointer value split fits in
-    record {
-      room = has_room.0;
-      within = has_room.1;
-      at_each = λ p. fills_with (file_entries name (lines rest)) others values pointer value p split has_room.1;
-    }
+    grind (arith, split, fills_entry others values pointer value)

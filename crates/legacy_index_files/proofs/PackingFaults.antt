@@ -1,12 +1,12 @@
 -- The packed parts of accepted indexes are accepted.
-use Rattle.std.proofs.{Common.{◌≡◌, ℕ, ◌≤◌, ◌<◌, List, length, refl, arith, Some, None, Option, true, ◌||◌}, lemmas.Bool.Decides.nat_tests}
+use Rattle.std.proofs.{Common.{◌≡◌, ℕ, ◌≤◌, ◌<◌, List, length, refl, arith, None, Option, true, ◌||◌}, lemmas.Bool.Decides.nat_tests}
 use Rattle.std.specs.{Int.is_in_range, Option.option_or}
-use Rattle.legacy_tables.specs.{declared.tables.packed.Packed.Packed, declared.tables.packed.PackedPart.PackedPart, declared.tables.packed.Run.Run}
+use Rattle.legacy_tables.specs.{declared.tables.packed.Packed.Packed, declared.tables.packed.PackedPart.PackedPart}
 use Rattle.legacy_tables.specs.{declared.tables.TableError.TableError, Indexes.FlatIndexes, TableChecks.{AreAccepted, is_narrow_entry, table_fault}}
-use Rattle.legacy_tables.specs.{Packed.{all_runs_fault, all_orders_fault, runs_fault}, Walks.order_index}
+use Rattle.legacy_tables.specs.{Packed.{all_runs_fault, all_orders_fault}, Walks.order_index}
 use Rattle.legacy_tables.proofs.Accepted.{parts, all_entries, order_index-short, euc_kr-below, jis0208-below, jis0212-below, gb18030-below}
 use Rattle.legacy_tables.proofs.PackedAccepted.{entry_all, entry-narrow}
-use Rattle.legacy_index_files.specs.{declared.packing.OwnedPacked.OwnedPacked, Packing.{AreBelow, GivesIndex, GiveRuns, IsOrderOf, HasParts, IsPackOf}}
+use Rattle.legacy_index_files.specs.{declared.packing.OwnedPacked.OwnedPacked, Packing.{AreBelow, GiveRuns, IsOrderOf, HasParts, IsPackOf}}
 use Rattle.legacy_tables.specs.declared.tables.IndexName.TheVariants as names
 use Rattle.legacy_tables.specs.declared.tables.packed.PackedPart.TheVariants as parts
 
@@ -27,11 +27,6 @@ pub record GiveOrders (flat : FlatIndexes) (owned : OwnedPacked) : Type 0 where
   pub shift_jis : IsOrderOf parts.ShiftJisOrder 0x1_0000 flat owned.shift_jis_order.items
   pub euc_jp : IsOrderOf parts.EucJpOrder 0x1_0000 flat owned.euc_jp_order.items
   pub gb18030 : IsOrderOf parts.Gb18030Order 0x1_0000 flat owned.gb18030_order.items
-
--- the runs of an index whose entries are less than `scalars`
-runs_none : (part : PackedPart) (limit scalars : ℕ) (index : List ℕ) (runs shown : List Run) → shown ≡ runs → GivesIndex limit index runs
-    → length index ≤ limit → scalars ≤ 0x11_0000 → AreBelow scalars index → runs_fault part limit shown index ≡ None
-runs_none part limit scalars index runs shown same given short few below = rw same (given.accepted short (wider scalars index few below) part)
 
 module _ (flat : FlatIndexes) (owned : OwnedPacked) (runs : GiveRuns flat owned) (orders : GiveOrders flat owned)
     (packed : Packed) (has : HasParts owned packed) where
@@ -59,31 +54,22 @@ module _ (flat : FlatIndexes) (owned : OwnedPacked) (runs : GiveRuns flat owned)
 
     runs_whole : all_runs_fault flat packed ≡ None
     unfolding all_runs_fault
-    runs_whole = rw (
-      runs_none parts.Big5 19782 0x3_0000 flat.big5 _ _ has.big5 runs.big5 (parts flat accepted).big5.0 (omega arith) big5_below,
-      runs_none parts.EucKr 23940 0x1_0000 flat.euc_kr _ _ has.euc_kr runs.euc_kr (parts flat accepted).euc_kr.0 (omega arith) euc_kr_below,
-      runs_none parts.Jis0208 11280 0x1_0000 flat.jis0208 _ _ has.jis0208 runs.jis0208 (parts flat accepted).jis0208.0 (omega arith) jis0208_below,
-      runs_none parts.Jis0212 8836 0x1_0000 flat.jis0212 _ _ has.jis0212 runs.jis0212 (parts flat accepted).jis0212.0 (omega arith) jis0212_below,
-    ) (runs_none parts.Gb18030 23940 0x1_0000 flat.gb18030 _ _ has.gb18030 runs.gb18030 (parts flat accepted).gb18030.0 (omega arith) gb18030_below)
+    runs_whole = grind (arith, wider, parts flat accepted, big5_below, euc_kr_below, jis0208_below, jis0212_below, gb18030_below)
 
     orders_whole : all_orders_fault flat packed ≡ None
     unfolding all_orders_fault
-    orders_whole = rw (
-      has.big5_order,
-      has.euc_kr_order,
-      has.shift_jis_order,
-      has.euc_jp_order,
-      has.gb18030_order,
+    orders_whole = grind (
+      arith,
       orders.big5.accepted (short parts.Big5Order) big5_below,
       orders.euc_kr.accepted (short parts.EucKrOrder) euc_kr_below,
       orders.shift_jis.accepted (short parts.ShiftJisOrder) jis0208_below,
       orders.euc_jp.accepted (short parts.EucJpOrder) jis0208_below,
-    ) (orders.gb18030.accepted (short parts.Gb18030Order) gb18030_below)
+      orders.gb18030.accepted (short parts.Gb18030Order) gb18030_below,
+    )
 
   no_more_faults : (o : Option TableError) → table_fault flat ≡ o
       → option_or o (option_or (all_runs_fault flat packed) (all_orders_fault flat packed)) ≡ o
-  no_more_faults (Some fault) e = refl
-  no_more_faults None e = rw (runs_whole e) (orders_whole e)
+  no_more_faults o e = grind (arith, runs_whole, orders_whole)
 
 pub pack-made : (flat : FlatIndexes) (owned : OwnedPacked) → GiveRuns flat owned → GiveOrders flat owned → IsPackOf flat owned
 pack-made flat owned runs orders = record {

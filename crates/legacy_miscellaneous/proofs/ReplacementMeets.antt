@@ -8,14 +8,8 @@ use Rattle.legacy_decoder_engine.proofs.OneByteMeets.{few_held, no_report}
 replacement_steps : (reported : Bool) (held : List ℕ) (b : ℕ) → is_empty held ≡ true →
     StepMeets (replacement reported) held b (cond reported (finish (reads 1 [])) (finish (malformed 1))) (replacement true)
 unfolding events_of replacement_events
-replacement_steps true [] b h = record { goes_on = λ more. refl; counts = omega arith; malformed_sequence = tt; few = omega arith; allowed = refl }
-replacement_steps false [] b h = record {
-  goes_on = λ more. refl;
-  counts = omega arith;
-  malformed_sequence = (omega arith, omega arith);
-  few = omega arith;
-  allowed = refl;
-}
+replacement_steps true [] b h = grind arith
+replacement_steps false [] b h = grind arith
 replacement_steps reported (c ∷ held) b h = absurd (false≢true h)
 
 replacement_ends : (reported : Bool) (held : List ℕ) → is_empty held ≡ true → events_of (replacement reported) held ≡ end_events held

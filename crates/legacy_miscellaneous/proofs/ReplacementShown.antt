@@ -1,6 +1,6 @@
 -- The steps of the replacement decoder agree with its grammar.
-use Rattle.std.proofs.{Common.{◌≡◌, ◌≤◌, ◌+◌, ℕ, List, [], ◌∷◌, length, Bool, true, false, refl, ◌⊎◌, inl, inr, arith}, lemmas.Bool.false≢true}
-use Rattle.legacy_base.specs.{Grammar.replacement, States.{is_empty, state_of}, Lengths.{LengthQuery, to_utf16, query_form, replacement_units, room}}
+use Rattle.std.proofs.{Common.{◌≡◌, ◌≤◌, ℕ, List, [], ◌∷◌, Bool, true, false, refl, ◌⊎◌, inl, inr, arith}, lemmas.Bool.false≢true}
+use Rattle.legacy_base.specs.{Grammar.replacement, States.{is_empty, state_of}, Lengths.{LengthQuery, query_form, room}}
 use Rattle.legacy_base.specs.Fronts.{reads}
 use Rattle.legacy_miscellaneous.specs.ReplacementMachine.{replacement_machine}
 use Rattle.legacy_text.specs.EncodingForm.{bmp_room}
@@ -8,18 +8,9 @@ use Rattle.legacy_decoder_engine.specs.{Steps.finish, StatesAfterSteps.Settles, 
 use Rattle.legacy_miscellaneous.proofs.ReplacementMeets.{replacement_meets}
 use Rattle.legacy_decoder_engine.proofs.{RoomMoves.{no_short_room, cond_most}, Widths.width_of}
 
-none_held : (held : List ℕ) → is_empty held ≡ true → length held ≡ 0
-none_held [] h = refl
-none_held (b ∷ held) h = absurd (false≢true h)
-
 -- the length queries have room for one U+FFFD
 one_fits : (query : LengthQuery) (held : List ℕ) (n : ℕ) → bmp_room (query_form query) ≤ room query (state_of (replacement false) held) n
-one_fits to_utf16 held n = omega arith
-one_fits _ held n = omega arith
-
-malformed_fits : (query : LengthQuery) → replacement_units query ≤ bmp_room (query_form query)
-malformed_fits to_utf16 = omega arith
-malformed_fits _ = omega arith
+one_fits query held n = grind arith
 
 rooms : (reported : Bool) (query : LengthQuery) → KeepsRooms query (replacement reported) (replacement_machine reported)
 rooms true query = record {
@@ -28,16 +19,16 @@ rooms true query = record {
   write_pays = λ held h r bytes. tt;
   report_pays = λ b held h r. absurd (false≢true h);
   reads_covered = λ held b n h p. omega arith;
-  holds_covered = λ held n h p. let none = none_held held h in absurd (omega arith);
+  holds_covered = λ held n h p. grind arith;
 }
 rooms false query = record {
   step_fits = λ held b h r bytes byte. rw (no_short_room _ 1 (bmp_room (query_form query))) (omega arith);
-  step_pays = λ held b n h r bytes byte. let f = malformed_fits query in let o = one_fits query held (n + 1) in omega arith;
+  step_pays = λ held b n h r bytes byte. grind arith;
   write_pays = λ held h r bytes. tt;
   report_pays = λ b held h r. absurd (false≢true h);
   reads_covered = λ held b n h p. let w = (width_of (query_form query)).some in let o = one_fits query held n in
       cond_most _ 1 (bmp_room (query_form query)) _ (omega arith) o;
-  holds_covered = λ held n h p. let none = none_held held h in absurd (omega arith);
+  holds_covered = λ held n h p. grind arith;
 }
 
 settles : (reported : Bool) (held : List ℕ) (b : ℕ) → is_empty held ≡ true → Settles (replacement true) held b ((replacement_machine reported).step held b)

@@ -1,16 +1,16 @@
 -- The runs of x-user-defined.
-use Rattle.std.proofs.Common.{◌≡◌, ◌∙◌, Bool, true, false, cond, ℕ, zero, suc, ◌+◌, ◌-◌, ◌%◌, ◌<◌, ◌≤◌, ◌^◌, ◌==◌, List, [], ◌∷◌, ◌++◌, bit_and, bit_xor, refl}
-use Rattle.std.proofs.Common.{ap, arith, IsAscii, length, take, drop, get_or, All}
+use Rattle.std.proofs.Common.{◌≡◌, true, ℕ, zero, suc, ◌+◌, ◌-◌, ◌%◌, ◌<◌, ◌≤◌, ◌^◌, ◌==◌, List, [], ◌++◌, bit_and, bit_xor, refl}
+use Rattle.std.proofs.Common.{arith, IsAscii, length, take, drop, get_or, All}
 use Rattle.std.proofs.{lemmas.Bool.{agree_below_at, eqb-true}, lemmas.Bool.Decides.nat_tests, lemmas.List.Elements.{All-nil, All-from_get_or}}
 use Rattle.std.proofs.lemmas.List.{take_more, take_all, length-drop, get_or-drop}
 use Rattle.legacy_tables.specs.Unicode.{IsByte}
-use Rattle.legacy_base.specs.{States.new_state, Grammar.user_defined, Fronts.reads}
-use Rattle.std.specs.Char.{IsScalar, is_ascii}
+use Rattle.legacy_base.specs.{States.new_state, Grammar.user_defined}
+use Rattle.std.specs.Char.{IsScalar}
 use Rattle.legacy_text.specs.{declared.destination.Destination.Ghosts, EncodingForm.{code_units, all_code_units, total_unit_count}}
-use Rattle.legacy_decoder_engine.specs.{declared.moves.Fed.TheVariants.One, ReadAhead.{Runs, IsSingle, HasAscii, ReadsAhead}, Steps.finish}
-use Rattle.legacy_decoder_engine.specs.{Moves.Feeds, Feeding.Took}
+use Rattle.legacy_decoder_engine.specs.{declared.moves.Fed.TheVariants.One, ReadAhead.{Runs, IsSingle, HasAscii, ReadsAhead}}
+use Rattle.legacy_decoder_engine.specs.Moves.{Feeds}
 use Rattle.legacy_decoder_engine.proofs.{RunForms.{ascii_is, single_runs, has_ascii}, JoinedRuns.{reads_more, reads_written, reads_ascii}}
-use Rattle.legacy_decoder_engine.proofs.WrittenRuns.{runs_none, runs_more, rest_of, all_short, short, writes_one}
+use Rattle.legacy_decoder_engine.proofs.WrittenRuns.{runs_none, runs_more, rest_of, all_short, short, three_fit, one_unit, writes_none, writes_one}
 use Rattle.legacy_miscellaneous.specs.UserDefinedUnits.{unit_of_byte}
 use Rattle.legacy_miscellaneous.proofs.UserDefinedShown.{user_defined_shown}
 use Rattle.legacy_decoder_engine.proofs.Feeding as moves
@@ -29,12 +29,7 @@ is_single b c byte scalar e = (grind arith, single_runs user_defined_shown b c b
 
 -- the move of a byte
 pub feeds : (b c : ℕ) → b < 2 ^ 8 → IsScalar c → scalar_is b c → Feeds (new_state user_defined) b (new_state user_defined) (One c)
-feeds b c byte scalar e = moves.feeds user_defined_shown [] refl (All-nil IsByte) b byte refl (One c) [] (takes (is_ascii b) e)
-  where
-    takes : (t : Bool) → c ≡ cond t b (0xF780 + (b - 0x80)) →
-        Took (cond t (finish (reads 1 (b ∷ []))) (finish (reads 1 ((0xF780 + (b - 0x80)) ∷ [])))) [] b (One c) []
-    takes true e = record { answer = ap One e; holds = refl; scalar = scalar }
-    takes false e = record { answer = ap One e; holds = refl; scalar = scalar }
+feeds b c byte scalar e = moves.feeds user_defined_shown [] refl (All-nil IsByte) b byte refl (One c) [] (grind arith)
 
 -- ---- the unit of a byte by its bits
 
@@ -52,14 +47,11 @@ units_run : (source units : List ℕ) (r : ℕ) → ((k : ℕ) → get_or source
     ((k : ℕ) → k < r → get_or units k 0 ≡ unit_of_byte (get_or source k 0)) → Runs user_defined (take r source) (take r units)
 units_run source units zero bytes within room are = runs_none user_defined
 units_run source units (suc r) bytes within room are =
-    let b : ℕ = get_or source r 0 in
-    let u : ℕ = get_or units r 0 in
     let is = are r (omega arith) in
-    let one = (is_single b u (bytes r) (rw is (unit_scalar b (bytes r))) is).1 in
+    let one = is_single _ _ (bytes r) (rw is (unit_scalar _ (bytes r))) is in
     let more : suc r ≡ r + 1 = omega arith in
     rw (more, take_more units r 0 (omega arith), take_more source r 0 (omega arith))
-    (runs_more user_defined (take r source) (b ∷ []) (take r units) (u ∷ []) (units_run source units r bytes (omega arith) (omega arith)
-    (λ k h. are k (omega arith))) one)
+    (runs_more _ _ _ _ _ (units_run source units r bytes (omega arith) (omega arith) (λ k h. are k (omega arith))) one.1)
 
 -- each byte of the rest of a source is a byte
 pub rest_bytes : (source : List ℕ) (at : ℕ) → ((k : ℕ) → get_or source k 0 < 2 ^ 8) → (k : ℕ) → get_or (take (length source - at) (drop at source)) k 0 < 2 ^ 8
@@ -69,7 +61,7 @@ rest_bytes source at bytes k = rw (rest_of source at, get_or-drop at source k 0)
 pub units_are_scalars : (source units : List ℕ) → ((k : ℕ) → get_or source k 0 < 2 ^ 8) → length units ≡ 8 →
     ((k : ℕ) → k < 8 → get_or units k 0 ≡ unit_of_byte (get_or source k 0)) → All IsScalar units
 units_are_scalars source units bytes long are =
-    All-from_get_or IsScalar units 0 (λ k h. rw (are k (omega arith)) (unit_scalar (get_or source k 0) (bytes k)))
+    grind (arith, All-from_get_or IsScalar units 0, unit_scalar)
 
 -- eight more bytes are read, and their units are written
 pub eight_more : {D : Type 0} (T : Ghosts D) (source units : List ℕ) {old mid new : D} (at : ℕ) → ((k : ℕ) → get_or source k 0 < 2 ^ 8) →
@@ -79,12 +71,10 @@ pub eight_more : {D : Type 0} (T : Ghosts D) (source units : List ℕ) {old mid 
     ReadsAhead T (new_state user_defined) source (at + 8) old new
 eight_more T source units {old} {mid} {new} at bytes within long before enough are contents room loan =
     let rest : List ℕ = take (length source - at) (drop at source) in
-    let is_rest : rest ≡ drop at source = rest_of source at in
-    let longer : length rest ≡ length source - at = ap length is_rest ∙ length-drop at source in
+    let longer : length rest ≡ length source - at = grind (arith, rest_of, length-drop) in
     let low = rest_bytes source at bytes in
     let all : take 8 units ≡ units = take_all 8 units (omega arith) in
-    let few = all_short T.form units (λ k h. (is_single (get_or rest k 0) (get_or units k 0) (low k)
-    (rw (are k (omega arith)) (unit_scalar (get_or rest k 0) (low k))) (are k (omega arith))).0) in
+    let few = all_short T.form units (λ k h. grind (arith, are k, low k)) in
     let run = units_run rest units 8 low (omega arith) (omega arith) are in
     reads_more before (reads_written (omega arith) (record { scalars = units; runs = rw all at run; written = contents; room = room; loan = loan })
     (omega (arith, few, room)) (omega arith))
@@ -103,3 +93,6 @@ module _ {D : Type 0} (T : Ghosts D) (source : List ℕ) (r : ℕ) (old mid : D)
     reads_byte new c less single more less_room same =
         reads_written (omega arith) (writes_one T source r c (omega arith) reads_front.writes single.1 more less_room same)
         (omega (arith, room, less_room, short T.form c single.0)) (omega arith)
+
+-- the lemmas for a loop that reads bytes one by one
+pub ruleset byte_steps = (writes_none, writes_one, one_unit, three_fit, short, is_single)

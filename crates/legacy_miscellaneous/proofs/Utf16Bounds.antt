@@ -1,6 +1,6 @@
 -- Units of vectors that are below a bound.
-use Rattle.std.proofs.{Common.{◌≡◌, ℕ, zero, suc, ◌-◌, ◌^◌, ◌<◌, Bool, true, false, cond, ltb, List, [], ◌∷◌, length, map, refl, arith}, lemmas.Bool.ltb-true}
-use Rattle.std.proofs.lemmas.Bool.{ltb-false}
+use Rattle.std.proofs.Common.{◌≡◌, ℕ, zero, suc, ◌-◌, ◌^◌, ◌<◌, cond, ltb, List, [], ◌∷◌, length, map, arith}
+use Rattle.std.proofs.lemmas.Bool.Decides.{nat_tests}
 use lib.Lanes.{zip2, sel_l, top}
 use Rattle.legacy_miscellaneous.specs.Utf16Decoder.{AreBelow}
 
@@ -10,21 +10,12 @@ abbrev greater : List ℕ → List ℕ → List ℕ
 greater xs ys = sel_l (map (top 15) (zip2 (λ a b. cond (ltb a b) (2 ^ 16 - 1) 0) xs ys)) ys xs
 
 greater_lane : (x y n : ℕ) → cond (top 15 (cond (ltb x y) (2 ^ 16 - 1) 0)) y x < n → (x < n) × (y < n)
-greater_lane x y n = go (ltb x y) refl
-  where
-    go : (t : Bool) → ltb x y ≡ t → cond (top 15 (cond t (2 ^ 16 - 1) 0)) y x < n → (x < n) × (y < n)
-    go true e below = let less : x < y = ltb-true _ _ e in (omega arith, below)
-    go false e below = let less = ltb-false _ _ e in (below, omega arith)
-
-below_both : (n x : ℕ) (xs : List ℕ) → x < n → AreBelow n xs → AreBelow n (x ∷ xs)
-below_both n x xs first rest zero h = first
-below_both n x xs first rest (suc k) h = rest k (omega arith)
+greater_lane x y n below = grind (arith, nat_tests)
 
 pub both_below : (n : ℕ) (xs ys : List ℕ) → length xs ≡ length ys → AreBelow n (greater xs ys) → AreBelow n xs × AreBelow n ys
-both_below n [] [] long below = (λ k h. absurd (omega arith), λ k h. absurd (omega arith))
-both_below n [] (y ∷ ys) long below = absurd (omega arith)
+both_below n [] ys long below = grind arith
 both_below n (x ∷ xs) [] long below = absurd (omega arith)
 both_below n (x ∷ xs) (y ∷ ys) long below =
     let head = greater_lane x y n (below zero (omega arith)) in
     let tail = both_below n xs ys (omega arith) (λ k h. below (suc k) (omega arith)) in
-    (below_both n x xs head.0 tail.0, below_both n y ys head.1 tail.1)
+    grind (arith, head, tail)

@@ -1,23 +1,11 @@
 -- The units of UTF-16 give the same events as its fronts.
-use Rattle.std.proofs.{Common.{◌≡◌, ℕ, ◌+◌, ◌*◌, List, [], ◌∷◌, ◌++◌, Bool, true, false, inl, inr, refl, sym, ap, ◌∙◌, ◌||◌, ◌&&◌, arith}, lemmas.Bool.and_left}
-use Rattle.std.proofs.lemmas.Bool.{and_right, cases_Bool, cond_both}
-use Rattle.std.specs.Char.Utf16.{is_high_surrogate, is_low_surrogate, surrogate_pair_char}
-use Rattle.legacy_base.specs.{declared.results.DecodeEvent.DecodeEvent, declared.results.DecodeEvent.TheVariants.Scalar, Fronts.{Front, reads, malformed, cut}}
+use Rattle.std.proofs.Common.{◌≡◌, ℕ, ◌+◌, ◌*◌, List, [], ◌∷◌, ◌++◌, Bool, inl, inr, refl, ◌&&◌, arith}
+use Rattle.std.proofs.lemmas.Bool.{cases_Bool}
+use Rattle.std.specs.Char.Utf16.{is_high_surrogate, is_low_surrogate}
+use Rattle.legacy_base.specs.Fronts.{Front, cut}
 use Rattle.legacy_base.specs.Utf16.{unit_of, units_of, has_odd_byte, single_unit_events, units_events}
 use Rattle.legacy_miscellaneous.specs.Utf16Fronts.{single_unit_front, utf16_front}
 use Rattle.legacy_base.proofs.Cuts.{cut_at}
-
--- ---- units
-
-paired : (i u v : ℕ) (units : List ℕ) (odd : Bool) → (is_high_surrogate u && is_low_surrogate v) ≡ true →
-    units_events i (u ∷ v ∷ units) odd ≡ Scalar (surrogate_pair_char u v) ∷ units_events (i + 2) units odd
-unfolding units_events
-paired i u v units odd e = rw (e, units_events)
-
-unpaired : (i u v : ℕ) (units : List ℕ) (odd : Bool) → (is_high_surrogate u && is_low_surrogate v) ≡ false →
-    units_events i (u ∷ v ∷ units) odd ≡ single_unit_events i u ++ units_events (i + 1) (v ∷ units) odd
-unfolding units_events
-unpaired i u v units odd e = rw (e, units_events)
 
 -- ---- fronts
 
@@ -25,11 +13,7 @@ unpaired i u v units odd e = rw (e, units_events)
 cut_lone : (front : ℕ → List ℕ → Front) (i u a b : ℕ) (rest : List ℕ) → front a (b ∷ rest) ≡ single_unit_front u →
     cut front 0 (2 * i) (a ∷ b ∷ rest) ≡ single_unit_events i u ++ cut front 0 (2 * (i + 1)) rest
 cut_lone front i u a b rest h =
-    let place : 2 * i + 2 ≡ 2 * (i + 1) = omega arith in
-    elim (cases_Bool (is_high_surrogate u || is_low_surrogate u)) [
-      | inl t ↦ rw (← place, t) (cut_at front (2 * i) a (b ∷ rest) (malformed 2) (rw t at h) (omega arith))
-      | inr t ↦ rw (← place, t) (cut_at front (2 * i) a (b ∷ rest) (reads 2 (u ∷ [])) (rw t at h) (omega arith))
-    ]
+    let place : 2 * i + 2 ≡ 2 * (i + 1) = omega arith in grind (arith, cut_at front (2 * i) a (b ∷ rest))
 
 -- ---- both
 
@@ -37,24 +21,13 @@ pub utf16_cut : (be : Bool) (i : ℕ) (bytes : List ℕ) → units_events i (uni
 unfolding units_of has_odd_byte units_events utf16_front cut
 utf16_cut be i [] = refl
 utf16_cut be i (a ∷ []) = refl
-utf16_cut be i (a ∷ b ∷ []) =
-    let e : (is_high_surrogate (unit_of be a b) && false) ≡ false = and_right (is_high_surrogate (unit_of be a b)) false refl in
-    rw e (sym (cut_lone (utf16_front be) i (unit_of be a b) a b [] refl))
-utf16_cut be i (a ∷ b ∷ c ∷ []) = elim (cases_Bool (is_high_surrogate (unit_of be a b))) [
-  | inl e ↦ rw e
-  | inr e ↦ rw (and_left _ true e) (sym (cut_lone (utf16_front be) i (unit_of be a b) a b (c ∷ []) (rw e)))
-]
+utf16_cut be i (a ∷ b ∷ []) = grind (arith, cut_lone (utf16_front be) i (unit_of be a b) a b [])
+utf16_cut be i (a ∷ b ∷ c ∷ []) = grind (arith, cut_lone (utf16_front be) i (unit_of be a b) a b (c ∷ []))
 utf16_cut be i (a ∷ b ∷ c ∷ d ∷ rest) =
     let u : ℕ = unit_of be a b in
     let v : ℕ = unit_of be c d in
     let place : 2 * i + 4 ≡ 2 * (i + 2) = omega arith in
-    let first : (t : Bool) → Type 0 = λ t. units_events i (u ∷ v ∷ units_of be rest) (has_odd_byte rest)
-    ≡ cut (utf16_front be) 0 (2 * i) (a ∷ b ∷ c ∷ d ∷ rest) in
-    cond_both (is_high_surrogate u && is_low_surrogate v) true false first
-    (λ e. paired i u v (units_of be rest) (has_odd_byte rest) e
-    ∙ (ap (λ (es : List DecodeEvent). Scalar (surrogate_pair_char u v) ∷ es)
-    (utf16_cut be (i + 2) rest ∙ ap (λ (p : ℕ). cut (utf16_front be) 0 p rest) (sym place))
-    ∙ sym (cut_at (utf16_front be) (2 * i) a (b ∷ c ∷ d ∷ rest) (reads 4 (surrogate_pair_char u v ∷ [])) (rw e) (omega arith))))
-    (λ e. unpaired i u v (units_of be rest) (has_odd_byte rest) e
-    ∙ (ap (λ (es : List DecodeEvent). single_unit_events i u ++ es) (utf16_cut be (i + 1) (c ∷ d ∷ rest))
-    ∙ sym (cut_lone (utf16_front be) i u a b (c ∷ d ∷ rest) (rw e))))
+    elim (cases_Bool (is_high_surrogate u && is_low_surrogate v)) [
+      | inl e ↦ grind (arith, utf16_cut be (i + 2) rest, cut_at (utf16_front be) (2 * i) a (b ∷ c ∷ d ∷ rest))
+      | inr e ↦ grind (arith, utf16_cut be (i + 1) (c ∷ d ∷ rest), cut_lone (utf16_front be) i u a b (c ∷ d ∷ rest))
+    ]

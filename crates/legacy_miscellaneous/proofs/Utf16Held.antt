@@ -1,11 +1,11 @@
 -- The UTF-16 decoders hold back only what their machine may hold back.
-use Rattle.std.proofs.{Common.{◌≡◌, ◌≢◌, ℕ, ◌<◌, List, [], ◌∷◌, length, Bool, true, false, refl, arith, Some}, lemmas.Bool.Decides.nat_tests}
+use Rattle.std.proofs.{Common.{◌≡◌, ◌≢◌, ℕ, ◌<◌, List, [], ◌∷◌, length, Bool, true, false, refl, arith}, lemmas.Bool.Decides.nat_tests}
 use Rattle.std.proofs.lemmas.List.Elements.{All-nil, All-cons}
-use Rattle.std.specs.{Char.IsScalar, Char.Utf16.{is_high_surrogate, is_low_surrogate}}
+use Rattle.std.specs.Char.Utf16.{is_high_surrogate}
 use Rattle.legacy_tables.specs.Unicode.{IsByte, AreBytes}
 use Rattle.legacy_base.specs.{Grammar.{utf16, events_of}, States.{utf16_may_hold, rests, state_of}, Utf16.unit_of}
-use Rattle.legacy_miscellaneous.specs.{declared.utf16.held_bytes.Held.Held, declared.utf16.held_bytes.Held.TheVariants.{Nothing, Odd, High, HighOdd, Pending}}
-use Rattle.legacy_miscellaneous.specs.{declared.utf16.held_bytes.UnitScalar.UnitScalar, Utf16Machine.{utf16_step, utf16_pending}, Utf16Decoder.first_byte}
+use Rattle.legacy_miscellaneous.specs.{declared.utf16.held_bytes.Held.Held, declared.utf16.held_bytes.Held.TheVariants.{Nothing, Pending}}
+use Rattle.legacy_miscellaneous.specs.{declared.utf16.held_bytes.UnitScalar.UnitScalar, Utf16Machine.{utf16_step}, Utf16Decoder.first_byte}
 use Rattle.legacy_miscellaneous.specs.Utf16Decoder.{second_byte, held_bytes}
 use Rattle.legacy_decoder_engine.specs.{declared.moves.Fed.Fed, Moves.{IsCovered, Feeds, Releases, Reports}, Feeding.Took}
 use Rattle.legacy_miscellaneous.proofs.{Utf16Meets.high_not_low, Utf16Shown.utf16_shown}
@@ -17,34 +17,21 @@ unit_of-bytes true u = omega arith
 unit_of-bytes false u = omega arith
 
 bytes_below : (be : Bool) (u : ℕ) → u < 0x1_0000 → IsByte (first_byte be u) × IsByte (second_byte be u)
-bytes_below true u h = (omega arith, omega arith)
-bytes_below false u h = (omega arith, omega arith)
+bytes_below be u h = grind arith
 
 high_below : (u : ℕ) → is_high_surrogate u ≡ true → u < 0x1_0000
 high_below u h = grind (arith, nat_tests)
 
-scalar_is : (u : ℕ) → u < 0x1_0000 → is_high_surrogate u ≡ false → is_low_surrogate u ≡ false → IsScalar u
-scalar_is u h k l = grind (arith, nat_tests)
-
 are_two : (be : Bool) (u : ℕ) → u < 0x1_0000 → (bytes : List ℕ) → AreBytes bytes → AreBytes (first_byte be u ∷ second_byte be u ∷ bytes)
 are_two be u h bytes all =
-    let below = bytes_below be u h in All-cons IsByte (first_byte be u) (second_byte be u ∷ bytes) below.0
-    (All-cons IsByte (second_byte be u) bytes below.1 all)
+    grind (arith, bytes_below, All-cons IsByte)
 
 module _ (be : Bool) where
   may : (h : Held) → utf16_may_hold be (held_bytes be h) ≡ true
-  may Nothing = refl
-  may (Odd odd) = refl
-  may (High high) = rw (unit_of-bytes be high.unit, high_not_low high.unit high.is_high) refl
-  may (HighOdd high odd) = rw (unit_of-bytes be high.unit) high.is_high
-  may (Pending pending) = rw (unit_of-bytes be pending.scalar, pending.is_not_low) refl
+  may h = grind (arith, unit_of-bytes, high_not_low)
 
   bytes : (h : Held) → AreBytes (held_bytes be h)
-  bytes Nothing = All-nil IsByte
-  bytes (Odd odd) = All-cons IsByte odd.byte [] odd.is_byte (All-nil IsByte)
-  bytes (High high) = are_two be high.unit (high_below high.unit high.is_high) [] (All-nil IsByte)
-  bytes (HighOdd high odd) = are_two be high.unit (high_below high.unit high.is_high) (odd.byte ∷ []) (All-cons IsByte odd.byte [] odd.is_byte (All-nil IsByte))
-  bytes (Pending pending) = are_two be pending.scalar pending.is_unit [] (All-nil IsByte)
+  bytes h = grind (arith, are_two, high_below, All-nil IsByte, All-cons IsByte)
 
   pub covered : (h : Held) → IsCovered (state_of (utf16 be) (held_bytes be h))
   covered h = moves.covered (utf16_shown be) (held_bytes be h) (may h) (bytes h)
@@ -53,16 +40,10 @@ module _ (be : Bool) where
       Took (utf16_step be (held_bytes be h) b) (held_bytes be h) b fed kept → Feeds (state_of (utf16 be) (held_bytes be h)) b (state_of (utf16 be) kept) fed
   feeds h b byte r fed kept took = moves.feeds (utf16_shown be) (held_bytes be h) (may h) (bytes h) b byte r fed kept took
 
-  resting : (h : Held) (pending : UnitScalar) → h ≡ Pending pending → rests (utf16 be) (held_bytes be h) ≡ false
-  resting h p e = rw (e, unit_of-bytes be p.scalar) p.is_not_high
-
-  pending_is : (p : UnitScalar) → utf16_pending be (held_bytes be (Pending p)) ≡ Some (2, p.scalar)
-  pending_is p = rw (unit_of-bytes be p.scalar, p.is_not_high) refl
-
   pub releases : (p : UnitScalar) → Releases (state_of (utf16 be) (held_bytes be (Pending p))) (state_of (utf16 be) []) p.scalar
   releases p =
-      moves.releases (utf16_shown be) (held_bytes be (Pending p)) (may (Pending p)) (bytes (Pending p)) 2 p.scalar (resting (Pending p) p refl) (pending_is p)
-      (scalar_is p.scalar p.is_unit p.is_not_high p.is_not_low)
+      moves.releases (utf16_shown be) (held_bytes be (Pending p)) (may (Pending p)) (bytes (Pending p)) 2 p.scalar
+      (rw (unit_of-bytes be p.scalar) p.is_not_high) (rw (unit_of-bytes be p.scalar, p.is_not_high) refl) (grind (arith, nat_tests))
 
   pub reports : (h : Held) → rests (utf16 be) (held_bytes be h) ≡ true → held_bytes be h ≢ [] →
       Reports (state_of (utf16 be) (held_bytes be h)) (state_of (utf16 be) []) (length (held_bytes be h)) 0
@@ -73,8 +54,4 @@ module _ (be : Bool) where
   ends_none = moves.ends_none (utf16_shown be) [] refl (All-nil IsByte) refl refl
 
   pub ends_some : (h : Held) → (h ≡ Nothing → ⊥) → events_of (utf16 be) (held_bytes be h) ≢ []
-  ends_some h n = moves.ends_held (utf16_shown be) (held_bytes be h) (may h) (bytes h) (some h n)
-    where
-      some : (h : Held) → (h ≡ Nothing → ⊥) → held_bytes be h ≢ []
-      some Nothing n = absurd (n refl)
-      some _ n = λ e. cc
+  ends_some h n = moves.ends_held (utf16_shown be) (held_bytes be h) (may h) (bytes h) (grind arith)

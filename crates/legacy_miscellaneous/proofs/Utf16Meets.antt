@@ -1,6 +1,6 @@
 -- The machine of UTF-16 keeps to its grammar.
 use Rattle.std.proofs.{Common.{◌≡◌, ℕ, ◌≤◌, ◌<◌, List, [], ◌∷◌, length, Bool, true, false, refl, ◌∙◌, arith}, lemmas.Bool.{cond_both, false≢true, not-true}}
-use Rattle.std.proofs.{lemmas.Bool.{not_from_false, or_left}, lemmas.Bool.Decides.nat_tests}
+use Rattle.std.proofs.{lemmas.Bool.{or_left}, lemmas.Bool.Decides.nat_tests}
 use Rattle.std.specs.Char.Utf16.{is_high_surrogate, is_low_surrogate}
 use Rattle.legacy_base.specs.{Fronts.{front_length, cut}, Grammar.{utf16, events_of}, Utf16.{unit_of, utf16_events}, States.{utf16_may_hold, rests}}
 use Rattle.legacy_miscellaneous.specs.{Utf16Fronts.{single_unit_front, utf16_front}, Utf16Machine.{utf16_pending, utf16_step, utf16_machine}}
@@ -28,15 +28,9 @@ module _ (be : Bool) where
       Fits (utf16_front be) (utf16_may_hold be) held b (utf16_step be held b)
   unfolding utf16_front
   fits [] b h r = (omega arith, refl)
-  fits (a ∷ []) b h r = cond_both (is_high_surrogate (unit_of be a b)) _ _ (Fits (utf16_front be) (utf16_may_hold be) (a ∷ []) b)
-      (λ k. (omega arith, not_from_false (is_low_surrogate (unit_of be a b)) (high_not_low (unit_of be a b) k)))
-      (λ k. cond_both (is_low_surrogate (unit_of be a b)) _ _ (Fits (utf16_front be) (utf16_may_hold be) (a ∷ []) b)
-      (λ l. (λ more. front_lone a b more k ∙ rw (k, l), omega arith, omega arith, refl))
-      (λ l. (λ more. front_lone a b more k ∙ rw (k, l), omega arith, omega arith, refl)))
+  fits (a ∷ []) b h r = grind (arith, high_not_low (unit_of be a b), front_lone a b)
   fits (a ∷ b ∷ []) c h r = (omega arith, r)
-  fits (a ∷ b ∷ c ∷ []) d h r = cond_both (is_low_surrogate (unit_of be c d)) _ _ (Fits (utf16_front be) (utf16_may_hold be) (a ∷ b ∷ c ∷ []) d)
-      (λ l. (λ more. rw (h, l), omega arith, omega arith, refl))
-      (λ l. (λ more. rw (h, l), omega arith, omega arith, not_from_false (is_low_surrogate (unit_of be c d)) l))
+  fits (a ∷ b ∷ c ∷ []) d h r = grind arith
   fits (a ∷ b ∷ c ∷ d ∷ held) e h r = absurd (false≢true h)
 
   few_held : (held : List ℕ) → utf16_may_hold be held ≡ true → length held ≤ 3

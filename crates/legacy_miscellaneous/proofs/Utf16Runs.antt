@@ -1,7 +1,7 @@
 -- The runs of UTF-16.
-use Rattle.std.proofs.Common.{rules, ◌≡◌, ◌∙◌, ℕ, zero, suc, ◌+◌, ◌-◌, ◌*◌, ◌<◌, ◌≤◌, List, [], ◌∷◌, ◌++◌, Bool, false, Option, Some, None, length, take, drop}
+use Rattle.std.proofs.Common.{rules, ◌≡◌, ◌∙◌, ℕ, zero, suc, ◌+◌, ◌-◌, ◌*◌, ◌<◌, ◌≤◌, List, ◌++◌, Bool, false, Option, Some, None, length, take, drop}
 use Rattle.std.proofs.{Common.{get_or, sym, ap, subst, arith, refl}, lemmas.Bool.Decides.nat_tests, lemmas.List.{take_more, length-take-le, length-drop}}
-use Rattle.std.proofs.{lemmas.List.{get_or-take, get_or-drop, take_all}, lemmas.List.Elements.All-get_or, lemmas.Str.Ascii.All-from_ascii}
+use Rattle.std.proofs.{lemmas.List.{get_or-take, get_or-drop, take_all}, lemmas.Str.Ascii.All-from_ascii}
 use Rattle.std.specs.{Prelude.{IfSome, IsAscii}, Option.SomeIff, Char.IsScalar, Char.Utf16.{is_high_surrogate, is_low_surrogate}}
 use Rattle.legacy_text.specs.{declared.destination.Destination.Ghosts, EncodingForm.{EncodingForm, code_units, all_code_units, total_unit_count}}
 use Rattle.legacy_tables.specs.Unicode.{IsByte}
@@ -10,7 +10,7 @@ use Rattle.legacy_decoder_engine.specs.ReadAhead.{Runs, IsPair, Writes, ReadsAhe
 use Rattle.legacy_miscellaneous.specs.Utf16Decoder.{HasAsciiUnits, AreUnitsBelow, unit_at}
 use Rattle.legacy_decoder_engine.proofs.{RunForms.pair_runs, JoinedRuns.reads_written, WrittenRuns.{runs_none, runs_more, take_two, writes_two, rest_of}}
 use Rattle.legacy_decoder_engine.proofs.WrittenRuns.{writes_none, writes_run, all_code_units_ascii, all_short}
-use Rattle.legacy_miscellaneous.proofs.Utf16Shown.{unit_below, utf16_shown}
+use Rattle.legacy_miscellaneous.proofs.{Utf16Shown.{unit_below, utf16_shown}, UserDefinedRuns.rest_bytes}
 
 -- a unit that is not a surrogate is a run of its own
 pub unit_pair : (be : Bool) (a b : ℕ) → IsByte a → IsByte b → IsScalar (unit_of be a b) → IsPair (utf16 be) a b (unit_of be a b)
@@ -32,17 +32,13 @@ units_run : (be : Bool) (source units : List ℕ) (r : ℕ) → ((k : ℕ) → I
     ((k : ℕ) → k < r → (get_or units k 0 ≡ unit_at be source k) × IsScalar (get_or units k 0)) → Runs (utf16 be) (take (2 * r) source) (take r units)
 units_run be source units zero bytes within room are = runs_none (utf16 be)
 units_run be source units (suc r) bytes within room are =
-    let u : ℕ = get_or units r 0 in
-    let a : ℕ = get_or source (2 * r) 0 in
-    let b : ℕ = get_or source (2 * r + 1) 0 in
     let is = are r (omega arith) in
     let before = units_run be source units r bytes (omega arith) (omega arith) (λ k h. are k (omega arith)) in
-    let one = subst (λ x. Runs (utf16 be) (a ∷ b ∷ []) (x ∷ [])) (sym is.0)
-    ((unit_pair be a b (bytes (2 * r)) (bytes (2 * r + 1)) (subst IsScalar is.0 is.1)).1) in
+    let one = unit_pair be _ _ (bytes (2 * r)) (bytes (2 * r + 1)) (subst IsScalar is.0 is.1) in
     let place : 2 * suc r ≡ 2 * r + 2 = omega arith in
     let more : suc r ≡ r + 1 = omega arith in
     rw (place, more, take_two source (2 * r) (omega arith), take_more units r 0 (omega arith))
-    (runs_more (utf16 be) (take (2 * r) source) (a ∷ b ∷ []) (take r units) (u ∷ []) before one)
+    (runs_more _ _ _ _ _ before (rw (← is.0) at one.1))
 
 -- these scalars were written
 pub writes_units : {D : Type 0} (T : Ghosts D) (be : Bool) (source units : List ℕ) {old new : D} (r : ℕ) → ((k : ℕ) → IsByte (get_or source k 0)) →
@@ -70,8 +66,7 @@ reads_block T be source block old new r bytes within narrow count ascii contents
     let all = All-from_ascii (take r block) ascii in
     let l : length (take r block) ≡ r = length-take-le r block count in
     let same = all_code_units_ascii T.form (take r block) ascii in
-    let low : (k : ℕ) → k < r → get_or block k 0 < 0x80 = λ k h.
-    rw (← get_or-take r block k 0 h) (All-get_or (λ u. u < 0x80) (take r block) k 0 (omega arith) all) in
+    let low : (k : ℕ) → k < r → get_or block k 0 < 0x80 = λ k h. grind (arith, get_or-take r block k, all k 0) in
     reads_written (omega arith)
     (writes_units T be source block r bytes (omega arith) count
     (λ k h. (sym (narrow k (omega arith) (low k h)), below_scalar (get_or block k 0) (omega (arith, low k h))))
@@ -79,24 +74,16 @@ reads_block T be source block old new r bytes within narrow count ascii contents
 
 -- ---- eight more units
 
--- each byte of the rest of a source is a byte
-rest_bytes : (source : List ℕ) (at : ℕ) → ((k : ℕ) → IsByte (get_or source k 0)) → (k : ℕ) →
-    IsByte (get_or (take (length source - at) (drop at source)) k 0)
-rest_bytes source at bytes k = rw (rest_of source at, get_or-drop at source k 0) (bytes (at + k))
-
 -- a unit of the rest of a source
 pub unit_after : (be : Bool) (source : List ℕ) (at k : ℕ) → unit_at be (take (length source - 2 * at) (drop (2 * at) source)) k ≡ unit_at be source (at + k)
 unit_after be source at k =
-    let first : 2 * at + 2 * k ≡ 2 * (at + k) = omega arith in
-    let second : 2 * at + (2 * k + 1) ≡ 2 * (at + k) + 1 = omega arith in
-    rw (rest_of source (2 * at), get_or-drop (2 * at) source (2 * k) 0, get_or-drop (2 * at) source (2 * k + 1) 0, first, second) refl
+    grind (arith, rest_of source (2 * at), get_or-drop)
 
 -- the same after groups of eight units
 pub rest_unit : (be : Bool) (source : List ℕ) (group k : ℕ) →
     unit_at be (take (length source - 16 * group) (drop (16 * group) source)) k ≡ unit_at be source (8 * group + k)
 rest_unit be source group k =
-    let same : 2 * (8 * group) ≡ 16 * group = omega arith in
-    subst (λ n. unit_at be (take (length source - n) (drop n source)) k ≡ unit_at be source (8 * group + k)) same (unit_after be source (8 * group) k)
+    grind (arith, rest_of source (16 * group), get_or-drop)
 
 -- eight units have at most three code units each
 few_units : (form : EncodingForm) (be : Bool) (source units : List ℕ) → ((k : ℕ) → IsByte (get_or source k 0)) → length units ≡ 8 →
@@ -122,7 +109,7 @@ pub eight_more : {D : Type 0} {T : Ghosts D} {be : Bool} {source : List ℕ} (un
 eight_more {T = T} {be} {source} units {old} {mid} {new} {eights} {group} bytes within less long before are contents room loan =
     let at = 16 * group in
     let rest : List ℕ = take (length source - at) (drop at source) in
-    let longer : length rest ≡ length source - at = length-take-le (length source - at) (drop at source) (omega (arith, length-drop at source)) in
+    let longer : length rest ≡ length source - at = grind (arith, rest_of, length-drop) in
     let all : take 8 units ≡ units = take_all 8 units (omega arith) in
     let place : at + 16 ≡ 16 * (group + 1) = omega arith in
     let enough : 2 * 8 ≤ length rest = omega arith in
@@ -150,7 +137,5 @@ pub writes_unit : {D : Type 0} (T : Ghosts D) (be : Bool) (source : List ℕ) {o
     Writes T (utf16 be) (take (2 * (at + 1)) source) old new
 writes_unit T be source at c bytes within before scalar is contents room loan =
     let place : 2 * (at + 1) ≡ 2 * at + 2 = omega arith in
-    let a : ℕ = get_or source (2 * at) 0 in
-    let b : ℕ = get_or source (2 * at + 1) 0 in
-    let run = subst (λ x. Runs (utf16 be) (a ∷ b ∷ []) (x ∷ [])) (sym is) ((unit_pair be a b (bytes (2 * at)) (bytes (2 * at + 1)) scalar).1) in
-    rw place (writes_two T source (2 * at) c within before run contents room loan)
+    let run = unit_pair be _ _ (bytes (2 * at)) (bytes (2 * at + 1)) scalar in
+    rw place (writes_two T source (2 * at) c within before (rw (← is) at run.1) contents room loan)

@@ -1,12 +1,12 @@
 -- The steps of UTF-16 agree with its grammar.
-use Rattle.std.proofs.{Common.{◌≡◌, ℕ, ◌+◌, ◌*◌, ◌<◌, ◌≤◌, List, [], ◌∷◌, length, get_or, Bool, true, false, refl, inl, arith}, lemmas.Bool.cond_both}
+use Rattle.std.proofs.{Common.{◌≡◌, ℕ, ◌+◌, ◌*◌, ◌<◌, ◌≤◌, List, [], ◌∷◌, length, Bool, true, false, cond, refl, inl, arith}, lemmas.Bool.cond_both}
 use Rattle.std.proofs.lemmas.Bool.{false≢true}
 use Rattle.std.specs.Char.Utf16.{is_high_surrogate, is_low_surrogate, surrogate_pair_char}
 use Rattle.legacy_tables.specs.Unicode.{IsByte, AreBytes}
-use Rattle.legacy_base.specs.{Fronts.malformed, Grammar.utf16, Utf16.unit_of, States.{DecoderState, utf16_may_hold, rests, state_of}, DecoderActs.act_room}
-use Rattle.legacy_base.specs.{DecoderActs.takes, Lengths.{LengthQuery, to_utf16, to_utf8, to_utf8_without_replacement, query_form, replacement_units, room}}
+use Rattle.legacy_base.specs.{Grammar.utf16, Utf16.unit_of, States.{DecoderState, utf16_may_hold, rests, state_of}, DecoderActs.act_room}
+use Rattle.legacy_base.specs.{DecoderActs.takes, Lengths.{LengthQuery, query_form, replacement_units, room}}
 use Rattle.legacy_text.specs.EncodingForm.{unit_count, bmp_room, wide_room}
-use Rattle.legacy_decoder_engine.specs.{Steps.{Step, hold, finish, step_held}, StepUnits.{step_units, step_left, IsWidth, WritePays}, StatesAfterSteps.Settles}
+use Rattle.legacy_decoder_engine.specs.{Steps.{Step, step_held}, StepUnits.{step_units, step_left, IsWidth, WritePays}, StatesAfterSteps.Settles}
 use Rattle.legacy_decoder_engine.specs.Shown.{KeepsRooms, IsShown, WriteSettles}
 use Rattle.legacy_miscellaneous.specs.Utf16Machine.{utf16_machine, utf16_pending, utf16_step}
 use Rattle.legacy_miscellaneous.proofs.Utf16Meets.{utf16_meets}
@@ -20,11 +20,7 @@ record Halved (len : ℕ → ℕ) (narrow wide : ℕ) (held : List ℕ) (b : ℕ
   fewer : (length (step_held s held b) + step_left s) + 2 * pairs ≤ length held + 1
 
 pub unit_below : (be : Bool) (a b : ℕ) → a < 0x100 → b < 0x100 → unit_of be a b < 0x1_0000
-unit_below true a b h k = omega arith
-unit_below false a b h k = omega arith
-
-byte_at : (held : List ℕ) (i : ℕ) → AreBytes held → i < length held → get_or held i 0 < 0x100
-byte_at held i h l = h i 0 l
+unit_below be a b h k = grind arith
 
 -- the room falls by at least u if the bytes to come and those held back become fewer by 2 * pairs
 abbrev IsHalved : (DecoderState → ℕ → ℕ) → Bool → ℕ → Type 0
@@ -37,19 +33,13 @@ module _ (be : Bool) where
         Halved len narrow wide held b (utf16_step be held b)
     halved [] b h r bytes byte = record { pairs = 0; fits = omega arith; units_most = omega arith; fewer = omega arith }
     halved (a ∷ []) b h r bytes byte =
-        let below : unit_of be a b < 0x1_0000 = unit_below be a b (byte_at (a ∷ []) 0 bytes (omega arith)) byte in
+        let below : unit_of be a b < 0x1_0000 = unit_below be a b (bytes 0 0 (omega arith)) byte in
         let q : len (unit_of be a b) ≤ narrow = w.bmp (unit_of be a b) below in
-        cond_both (is_high_surrogate (unit_of be a b)) _ _ (Halved len narrow wide (a ∷ []) b)
-        (λ k. record { pairs = 0; fits = omega arith; units_most = omega arith; fewer = omega arith })
-        (λ k. cond_both (is_low_surrogate (unit_of be a b)) _ _ (Halved len narrow wide (a ∷ []) b)
-        (λ l. record { pairs = 1; fits = omega arith; units_most = omega arith; fewer = omega arith })
-        (λ l. record { pairs = 1; fits = omega arith; units_most = omega arith; fewer = omega arith }))
+        record { pairs = cond (is_high_surrogate (unit_of be a b)) 0 1; fits = grind arith; units_most = grind arith; fewer = grind arith }
     halved (a ∷ b ∷ []) c h r bytes byte = record { pairs = 0; fits = omega arith; units_most = omega arith; fewer = omega arith }
     halved (a ∷ b ∷ c ∷ []) d h r bytes byte =
         let q = w.every (surrogate_pair_char (unit_of be a b) (unit_of be c d)) in
-        cond_both (is_low_surrogate (unit_of be c d)) _ _ (Halved len narrow wide (a ∷ b ∷ c ∷ []) d)
-        (λ l. record { pairs = 2; fits = omega arith; units_most = omega arith; fewer = omega arith })
-        (λ l. record { pairs = 1; fits = omega arith; units_most = omega arith; fewer = omega arith })
+        record { pairs = cond (is_low_surrogate (unit_of be c d)) 2 1; fits = grind arith; units_most = grind arith; fewer = grind arith }
     halved (a ∷ b ∷ c ∷ d ∷ held) e h r bytes byte = absurd (false≢true h)
 
     step_fits : (held : List ℕ) (b : ℕ) → utf16_may_hold be held ≡ true → rests (utf16 be) held ≡ true → AreBytes held → IsByte b →
@@ -62,7 +52,7 @@ module _ (be : Bool) where
     unit_pays room falls [] h bytes = tt
     unit_pays room falls (a ∷ []) h bytes = tt
     unit_pays room falls (a ∷ b ∷ []) h bytes =
-        let q = w.bmp (unit_of be a b) (unit_below be a b (byte_at (a ∷ b ∷ []) 0 bytes (omega arith)) (byte_at (a ∷ b ∷ []) 1 bytes (omega arith))) in
+        let q = w.bmp (unit_of be a b) (unit_below be a b (bytes 0 0 (omega arith)) (bytes 1 0 (omega arith))) in
         cond_both (is_high_surrogate (unit_of be a b)) _ _ (WritePays len narrow wide room (utf16 be) (a ∷ b ∷ [])) (λ t. tt)
         (λ t. (q, λ n. falls (a ∷ b ∷ []) [] n n (len (unit_of be a b)) 1 (omega arith) (omega arith)))
     unit_pays room falls (a ∷ b ∷ c ∷ held) h bytes = tt
@@ -76,30 +66,15 @@ module _ (be : Bool) where
         falls held _ (n + 1) (n + step_left (utf16_step be held b)) _ c.pairs c.units_most (let f = c.fewer in omega arith)
 
   falls : (query : LengthQuery) → IsHalved (room query) be (bmp_room (query_form query))
-  falls to_utf16 = λ held held' n n' u pairs h k. omega arith
-  falls _ = λ held held' n n' u pairs h k. omega arith
+  falls query held held' n n' u pairs h k = grind arith
 
   -- a malformed sequence needs no more room than a scalar of its length, or is not counted
   fewer_units : (query : LengthQuery) (len : ℕ → ℕ) (s : Step) → step_units len (replacement_units query) s ≤ step_units len (bmp_room (query_form query)) s
-  fewer_units to_utf16 len s = omega arith
-  fewer_units to_utf8 len s = omega arith
-  fewer_units to_utf8_without_replacement len hold = omega arith
-  fewer_units to_utf8_without_replacement len (finish (malformed n)) = omega arith
-  fewer_units to_utf8_without_replacement len s = omega arith
+  fewer_units query len s = grind arith
 
-  -- the length for a byte to come covers any scalar, and that for a held-back byte one up to U+FFFF
+  -- the length for a byte to come covers any scalar
   byte_covered : (query : LengthQuery) (held : List ℕ) (n : ℕ) → 0 < n → wide_room (query_form query) ≤ room query (state_of (utf16 be) held) n
-  byte_covered to_utf16 held n p = omega arith
-  byte_covered _ held n p = omega arith
-
-  held_covered : (query : LengthQuery) (held : List ℕ) (n : ℕ) → 0 < length held → bmp_room (query_form query) ≤ room query (state_of (utf16 be) held) n
-  held_covered to_utf16 held n p = omega arith
-  held_covered _ held n p = omega arith
-
-  report_pays : (query : LengthQuery) (b : ℕ) (held : List ℕ) →
-      room query (state_of (utf16 be) []) 0 + replacement_units query ≤ room query (state_of (utf16 be) (b ∷ held)) 0
-  report_pays to_utf16 b held = omega arith
-  report_pays _ b held = omega arith
+  byte_covered query held n p = grind arith
 
   rooms : (query : LengthQuery) → KeepsRooms query (utf16 be) (utf16_machine be)
   rooms query = let form = query_form query in let w = width_of form in record {
@@ -108,24 +83,23 @@ module _ (be : Bool) where
         let p = step_pays (unit_count form) (bmp_room form) (wide_room form) w (room query) (falls query) held b n h r bytes byte in
         let q = fewer_units query (unit_count form) (utf16_step be held b) in omega arith;
     write_pays = λ held h r bytes. unit_pays (unit_count form) (bmp_room form) (wide_room form) w (room query) (falls query) held h bytes;
-    report_pays = λ b held h r. report_pays query b held;
+    report_pays = λ b held h r. grind arith;
     reads_covered = λ held b n h p.
         let c = byte_covered query held n p in let s = w.some in let r = w.rises in cond_most _ 1 (wide_room form) _ (omega arith) c;
-    holds_covered = λ held n h p. held_covered query held n p;
+    holds_covered = λ held n h p. grind arith;
   }
 
   settles : (held : List ℕ) (b : ℕ) → utf16_may_hold be held ≡ true → Settles (utf16 be) held b (utf16_step be held b)
   settles [] b h = refl
-  settles (a ∷ []) b h = cond_both (is_high_surrogate (unit_of be a b)) _ _ (Settles (utf16 be) (a ∷ []) b) (λ k. k)
-      (λ k. cond_both (is_low_surrogate (unit_of be a b)) _ _ (Settles (utf16 be) (a ∷ []) b) (λ l. tt) (λ l. (refl, tt)))
+  settles (a ∷ []) b h = grind arith
   settles (a ∷ b ∷ []) c h = refl
-  settles (a ∷ b ∷ c ∷ []) d h = cond_both (is_low_surrogate (unit_of be c d)) _ _ (Settles (utf16 be) (a ∷ b ∷ c ∷ []) d) (λ l. (refl, tt)) (λ l. tt)
+  settles (a ∷ b ∷ c ∷ []) d h = grind arith
   settles (a ∷ b ∷ c ∷ d ∷ held) e h = absurd (false≢true h)
 
   write_settles : (held : List ℕ) → utf16_may_hold be held ≡ true → WriteSettles (utf16 be) held (utf16_pending be held)
   write_settles [] h = tt
   write_settles (a ∷ []) h = tt
-  write_settles (a ∷ b ∷ []) h = cond_both (is_high_surrogate (unit_of be a b)) _ _ (WriteSettles (utf16 be) (a ∷ b ∷ [])) (λ k. tt) (λ k. refl)
+  write_settles (a ∷ b ∷ []) h = grind arith
   write_settles (a ∷ b ∷ d ∷ held) h = tt
 
   pub utf16_shown : IsShown (utf16 be) (utf16_machine be)

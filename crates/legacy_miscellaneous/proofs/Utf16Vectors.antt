@@ -1,7 +1,7 @@
 -- The units of a vector of bytes.
-use Rattle.std.proofs.Common.{◌≡◌, ◌∙◌, ℕ, ◌+◌, ◌-◌, ◌*◌, ◌%◌, ◌<◌, ◌≤◌, List, ◌∷◌, ◌++◌, true, false, length, map, take, drop, get_or, refl, sym, subst, arith}
-use Rattle.std.proofs.{lemmas.List.{get_or-take, get_or_append_left, get_or-drop, length-take-le, length-drop}, lemmas.List.FromFn.get_or-map-range_with_len}
-use Rattle.std.proofs.{lemmas.List.FromFn.length-map-range_with_len, lemmas.Simd.{get_or_wider, Each1-from_get_or}}
+use Rattle.std.proofs.Common.{◌≡◌, ◌∙◌, ℕ, ◌+◌, ◌-◌, ◌*◌, ◌%◌, ◌<◌, ◌≤◌, List, ◌++◌, true, false, length, map, take, get_or, sym, subst, arith}
+use Rattle.std.proofs.{lemmas.List.{get_or-take, get_or_append_left, length-take-le}, lemmas.List.FromFn.get_or-map-range_with_len}
+use Rattle.std.proofs.{lemmas.List.FromFn.length-map-range_with_len}
 use Rattle.std.specs.{List.range_with_len, Simd.Lanes.{number_l, digits_l}}
 use Rattle.legacy_tables.specs.Unicode.{IsByte}
 use Rattle.legacy_text.proofs.ScalarTurns.{lane}
@@ -21,11 +21,8 @@ swapped n src = map (λ i. get_or (take (2 * n) src ++ take (2 * n) src) (i + 1 
 
 swapped_at : (n : ℕ) (src : List ℕ) → 2 * n ≤ length src → (i : ℕ) → i < 2 * n → get_or (swapped n src) i 0 ≡ get_or src (i + 1 - 2 * (i % 2)) 0
 swapped_at n src within i h =
-    let place : ℕ = i + 1 - 2 * (i % 2) in
-    let long = length-take-le (2 * n) src within in
-    let front = take (2 * n) src in
-    get_or-map-range_with_len (λ i. get_or (take (2 * n) src ++ take (2 * n) src) (i + 1 - 2 * (i % 2)) 0) 0 (2 * n) i i 0 h (omega arith)
-    ∙ get_or_append_left front front 0 place (omega arith) ∙ get_or-take (2 * n) src place 0 (omega arith)
+    let swap : ℕ → ℕ = λ i. get_or (take (2 * n) src ++ take (2 * n) src) (i + 1 - 2 * (i % 2)) 0 in
+    grind (arith, get_or-map-range_with_len swap 0 (2 * n) i, get_or_append_left, get_or-take, length-take-le)
 
 pub big : (n : ℕ) (src : List ℕ) → 2 * n ≤ length src → ((i : ℕ) → IsByte (get_or src i 0)) → (k : ℕ) → k < n
     → get_or (digits_l 65536 n (number_l 256 (swapped n src))) k 0 ≡ unit_at true src k

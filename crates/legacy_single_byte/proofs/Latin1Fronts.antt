@@ -1,7 +1,6 @@
 -- The length of the front of Latin-1 bytes.
-use Rattle.std.proofs.Common.{◌≡◌, ◌∙◌, ℕ, ◌<◌, ◌≤◌, List, length, get_or, take, true, false, refl, sym, arith, get_or-take, IsAscii}
+use Rattle.std.proofs.Common.{◌≡◌, ◌∙◌, ℕ, ◌<◌, ◌≤◌, List, length, get_or, take, true, false, sym, arith, get_or-take, IsAscii}
 use Rattle.std.proofs.{lemmas.Bool.Decides.nat_tests, lemmas.List.Folds.length-prefix_len, lemmas.List.Sums.prefix_len_is}
-use Rattle.std.specs.Char.{is_ascii}
 use Rattle.legacy_base.specs.Latin1.{is_latin1_byte, latin1_front}
 
 pub latin1_front-length : (table bytes : List ℕ) (n : ℕ) → n ≤ length bytes →
@@ -14,6 +13,4 @@ latin1_front-length table bytes n h pass stop =
 -- a front of ASCII bytes is Latin-1
 pub latin1-ascii : (table bytes : List ℕ) (n : ℕ) → IsAscii (take n bytes) → (k : ℕ) → k < n → is_latin1_byte table (get_or bytes k 0) ≡ true
 latin1-ascii table bytes n h k l =
-    let small : get_or bytes k 0 < 128 = rw (← get_or-take n bytes k 0 l) (h k) in
-    let ascii : is_ascii (get_or bytes k 0) ≡ true = grind (arith, nat_tests) in
-    rw ascii refl
+    let small : get_or bytes k 0 < 128 = rw (← get_or-take n bytes k 0 l) (h k) in grind (arith, nat_tests)

@@ -1,6 +1,5 @@
 -- The steps of the single-byte decoders agree with their grammar.
-use Rattle.std.proofs.{Common.{ℕ, ◌-◌, ◌<◌, ◌==◌, List, true, Some, None, get_or, refl}, lemmas.Bool.cond_both}
-use Rattle.std.specs.Option.{IfSome}
+use Rattle.std.proofs.Common.{ℕ, ◌-◌, List, true, refl, arith}
 use Rattle.legacy_base.specs.{SingleByte.single_byte_front, Grammar.single_byte}
 use Rattle.legacy_tables.specs.Indexes.{idx}
 use Rattle.legacy_decoder_engine.specs.{StepUnits.IsNarrowIndex, Shown.IsShown}
@@ -12,6 +11,5 @@ unfolding single_byte_front
 single_byte_shown table narrow = one_byte_shown (single_byte table) (single_byte_front table) (λ b. idx table (b - 0x80)) true (record {
   profile_is = refl;
   front_is = λ b rest. refl;
-  below = λ b byte. cond_both (get_or table (b - 0x80) 0 == 0) None (Some (get_or table (b - 0x80) 0)) (λ o. IfSome o (λ c. c < 0x1_0000)) (λ e. tt)
-      (λ e. narrow_entry table (b - 0x80) narrow);
+  below = λ b byte. grind (arith, narrow_entry table (b - 0x80) narrow);
 })

@@ -16,6 +16,7 @@ use std::simd::prelude::*;
 /// Returns the code unit of any byte: ASCII for ASCII, and a private-use scalar for any other.
 // Copies bit 7 into all higher bits and clears bit 11: the compiler makes vectors of it, without a branch.
 #[inline(always)]
+#[tactic(auto, using(crate::proofs::UserDefinedRuns::bits_are))]
 fn unit_of(byte: u8) -> u16
     ensures { result ≡ unit_of_byte byte }
 {
@@ -24,6 +25,7 @@ fn unit_of(byte: u8) -> u16
 
 /// Returns the scalar of any byte.
 #[inline(always)]
+#[tactic(auto, using(crate::proofs::UserDefinedRuns::unit_scalar))]
 pub fn scalar_of(byte: u8) -> char
     ensures { result ≡ unit_of_byte byte }
 {
@@ -50,6 +52,7 @@ fn units_of(src: &[u8]) -> [u16; 8]
 ///
 /// Returns the number of bytes read.
 #[inline(always)]
+#[tactic(auto, using(crate::proofs::UserDefinedRuns::byte_steps))]
 pub fn read_units<T: Destination>(src: &[u8], dst: &mut T) -> usize
     requires { bmp_room T.form ≡ 1 }
     ensures { ReadsAhead T.Destination (new_state user_defined) src.now result dst.old dst.new }
@@ -84,6 +87,7 @@ fn read_eights<T: Destination>(src: &[u8], dst: &mut T, is_mixed: bool) -> usize
 
 /// Decodes at most `most` bytes one by one. Returns the number of bytes read.
 #[inline(always)]
+#[tactic(auto, using(crate::proofs::UserDefinedRuns::byte_steps))]
 fn read_singly<T: Destination>(src: &[u8], most: usize, dst: &mut T) -> usize
     requires source { most ≤ length src.now }
     requires room { 0 < most → 3 * most + 3 ≤ T.room dst.old }

@@ -54,6 +54,7 @@ fn has_surrogate(units: &[u16]) -> bool
 
 /// Writes a unit that is a scalar.
 #[inline(always)]
+#[tactic(auto, using(legacy_decoder_engine::proofs::WrittenRuns::three_fit))]
 fn put_unit<T: Destination>(dst: &mut T, unit: u16)
     requires scalar { IsScalar unit }
     requires room { 3 ≤ T.room dst.old }

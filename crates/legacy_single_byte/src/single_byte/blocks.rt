@@ -96,7 +96,7 @@ impl Parts for Fronts<'_> {
 
     /// Reads the ASCII of the first 64 bytes, and the byte after it if the next one is ASCII.
     #[inline(always)]
-    #[tactic(auto, using(crate::proofs::SingleByteRuns::reads_front))]
+    #[tactic(auto, using(crate::proofs::SingleByteRuns::reads_front, legacy_decoder_engine::proofs::WrittenRuns::three_fit))]
     fn read_part<T: Destination>(&self, src: &[u8], most: usize, dst: &mut T) -> (usize, bool) {
         let count = dst.put_front(src, most);
         if count == 64 {
@@ -124,6 +124,7 @@ struct Eights<'a> {
 impl Eights<'_> {
     /// Decodes at most `most` bytes one by one, up to one that has no scalar. Returns the number of bytes read.
     #[inline(always)]
+    #[tactic(auto, using(crate::proofs::SingleByteRuns::byte_steps))]
     fn read_singly<T: Destination>(&self, src: &[u8], most: usize, dst: &mut T) -> usize
         requires source { most ≤ length src.now }
         requires room { 0 < most → 3 * most + 3 ≤ T.room dst.old }

@@ -1,11 +1,11 @@
-use Rattle.std.proofs.Common.{◌<◌, ◌+◌, ◌*◌, ◌^◌, sym, ◌∙◌, arith}
+use Rattle.std.proofs.Common.{◌<◌, ◌+◌, ◌*◌, ◌^◌, arith}
 use Rattle.legacy_index_files.proofs.IndexNumbers.{below_power, six_digits, TakesDigit, takes_digit}
 use Rattle.legacy_index_files.proofs.index_line.parse_number.Goals as goal
 
 small_enough : (c : goal.Else-count-eq-MOST_DIGITS) → c.loop-first.value * c.args.radix + c.in-Some-to_digit.digit < 16 ^ (c.loop-first.count + 1)
 small_enough c =
-    let below : c.in-Some-to_digit.digit < c.args.radix = omega (arith, c.in-Some-to_digit.ensures.value.0, c.in-Some-to_digit.ensures.value.1) in
-    below_power c.loop-first.value c.args.radix c.in-Some-to_digit.digit c.loop-first.count c.loop-first.invariant.small c.requires.high below
+    below_power _ c.args.radix _ _ c.loop-first.invariant.small c.requires.high
+    (omega (arith, c.in-Some-to_digit.ensures.value.0, c.in-Some-to_digit.ensures.value.1))
 
 pub overflow_mul-value : goal.overflow_mul-value
 overflow_mul-value c = omega (arith, small_enough c, six_digits c.loop-first.count (omega arith))
@@ -14,14 +14,7 @@ pub overflow_add-value : goal.overflow_add-value
 overflow_add-value c = omega (arith, small_enough c, six_digits c.loop-first.count (omega arith))
 
 taken : (c : goal.Else-count-eq-MOST_DIGITS) → TakesDigit c.args.radix c.loop-first.value c.in-Some-to_digit.digit c.loop-first.rest.now c.in-Some.behind.now
-taken c = takes_digit c.args.radix c.loop-first.value c.in-Some-to_digit.digit c.in-Some.first.now c.loop-first.rest.now c.in-Some.behind.now
-    c.in-Some.ensures.cases.0 c.in-Some-to_digit.ensures.value.0 c.in-Some-to_digit.ensures.value.1
+taken c = takes_digit _ _ _ _ _ _ c.in-Some.ensures.cases.0 c.in-Some-to_digit.ensures.value.0 c.in-Some-to_digit.ensures.value.1
 
 pub loop-first-preserved : goal.loop-first-preserved
-loop-first-preserved c = let step = taken c in record {
-  few = omega arith;
-  small = small_enough c;
-  count = omega (arith, step.counted, c.loop-first.invariant.count);
-  value = sym step.number ∙ c.loop-first.invariant.value;
-  behind = sym step.past ∙ c.loop-first.invariant.behind;
-}
+loop-first-preserved c = grind (arith, small_enough c, taken c)

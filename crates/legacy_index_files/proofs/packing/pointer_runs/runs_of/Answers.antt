@@ -1,4 +1,4 @@
-use Rattle.std.proofs.Common.{◌∙◌, refl, arith}
+use Rattle.std.proofs.Common.{refl, arith}
 use Rattle.legacy_tables.specs.declared.tables.packed.Run.{Run}
 use Rattle.legacy_index_files.proofs.PackingRuns.{no-runs, run-added, runs-made, none-longest, longest-added}
 use Rattle.legacy_index_files.proofs.packing.pointer_runs.runs_of.Goals as goal
@@ -12,24 +12,20 @@ loop-pointer-init g c = record {
 
 pub loop-pointer-preserved : goal.loop-pointer-preserved
 loop-pointer-preserved g c =
-    let index = g.E.Entries.entries c.args.index.now in
     let within = c.run_length-length.ensures.within in
     let run : Run = record { scalar = c.entry-scalar.result; pointer = c.loop-pointer.pointer; length = c.run_length-length.result } in
     record {
       within = omega arith;
       longest = rw c.in_ok-push.ensures.items
-          (longest-added _ c.loop-pointer.pointer index c.loop-pointer.runs.items c.loop-pointer.invariant.longest run
-          refl c.entry-scalar.ensures (omega arith) c.run_length-length.ensures.some
+          (longest-added _ _ _ _ c.loop-pointer.invariant.longest run refl c.entry-scalar.ensures (omega arith) c.run_length-length.ensures.some
           (λ l. c.run_length-length.ensures.longest (omega arith)));
       runs = rw c.in_ok-push.ensures.items
-          (run-added c.args.limit c.loop-pointer.pointer index c.loop-pointer.runs.items c.loop-pointer.invariant.runs run
-          refl c.entry-scalar.ensures (λ z. c.if-scalar-eq0.false (c.entry-scalar.ensures ∙ z)) c.run_length-length.ensures.some (omega arith)
+          (run-added _ _ _ _ c.loop-pointer.invariant.runs run refl c.entry-scalar.ensures (grind arith) c.run_length-length.ensures.some (omega arith)
           c.run_length-length.ensures.row);
     }
 
 pub returns : goal.returns
 returns g c = record {
-  accepted = λ short. let loop = c.loop-pointer in
-      runs-made c.args.limit loop.pointer (g.E.Entries.entries c.args.index.now) loop.runs.items loop.invariant.runs (omega arith);
+  accepted = λ short. runs-made _ c.loop-pointer.pointer _ _ c.loop-pointer.invariant.runs (omega arith);
   longest = c.loop-pointer.invariant.longest.longest;
 }

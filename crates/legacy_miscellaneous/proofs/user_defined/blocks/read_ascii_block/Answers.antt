@@ -1,15 +1,13 @@
 use Rattle.std.proofs.Common.{arith}
-use Rattle.legacy_base.specs.Grammar.{user_defined}
-use Rattle.legacy_base.specs.States.{new_state}
 use Rattle.legacy_decoder_engine.proofs.{JoinedRuns.reads_ascii, WrittenRuns.reads_none}
 use Rattle.legacy_miscellaneous.proofs.UserDefinedRuns.{user_defined_ascii}
 use Rattle.legacy_miscellaneous.proofs.user_defined.blocks.read_ascii_block.Goals as goal
 
 pub returns-then-src-lt64 : goal.returns-then-src-lt64
-returns-then-src-lt64 g c = reads_none g.T.Destination (new_state user_defined) c.args.src.now c.args.dst.now
+returns-then-src-lt64 g c = reads_none _ _ _ _
 
 pub returns-then-past-ne0 : goal.returns-then-past-ne0
-returns-then-past-ne0 g c = reads_none g.T.Destination (new_state user_defined) c.args.src.now c.args.dst.now
+returns-then-past-ne0 g c = reads_none _ _ _ _
 
 pub returns : goal.returns
 returns g c =

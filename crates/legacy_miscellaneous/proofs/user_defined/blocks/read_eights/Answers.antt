@@ -1,19 +1,14 @@
-use Rattle.std.proofs.Common.{◌-◌, length, take, drop, arith}
-use Rattle.legacy_base.specs.Grammar.{user_defined}
-use Rattle.legacy_base.specs.States.{new_state}
+use Rattle.std.proofs.Common.{arith}
 use Rattle.legacy_decoder_engine.proofs.WrittenRuns.{reads_none}
 use Rattle.legacy_miscellaneous.proofs.UserDefinedRuns.{rest_bytes, units_are_scalars, eight_more}
 use Rattle.legacy_miscellaneous.proofs.user_defined.blocks.read_eights.Goals as goal
 
 pub loop-at-init : goal.loop-at-init
-loop-at-init g c = reads_none g.T.Destination (new_state user_defined) c.args.src.now c.args.dst.now
+loop-at-init g c = reads_none _ _ _ _
 
 pub put_eight-requires-clause-scalars : goal.put_eight-requires-clause-scalars
 put_eight-requires-clause-scalars g c =
-    let src = c.args.src.now in
-    let at = c.loop-at.at in
-    units_are_scalars (take (length src - at) (drop at src)) c.units_of.result (rest_bytes src at (λ k. let f = c.type_inv.src k in omega arith))
-    c.units_of.ensures.count c.units_of.ensures.same
+    units_are_scalars _ _ (rest_bytes c.args.src.now _ (λ k. let f = c.type_inv.src k in omega arith)) c.units_of.ensures.count c.units_of.ensures.same
 
 pub loop-at-preserved : goal.loop-at-preserved
 loop-at-preserved g c =

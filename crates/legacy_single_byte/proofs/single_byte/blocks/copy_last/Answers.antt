@@ -5,7 +5,7 @@ pub copy_from_slice-requires : goal.copy_from_slice-requires
 copy_from_slice-requires c = omega (arith, c.if-src-eq64.true, length-take-le 64 c.args.text.now c.requires.room)
 
 pub returns-then-src-eq64 : goal.returns-then-src-eq64
-returns-then-src-eq64 c = rw c.copy_from_slice.ensures.after (take-append_seam c.args.src.now _)
+returns-then-src-eq64 c = grind (arith, take-append_seam)
 
 pub returns-else-src-eq64 : goal.returns-else-src-eq64
-returns-else-src-eq64 c = rw c.copy_from_slice-else-src-eq64.ensures.after (take-append_seam c.args.src.now _)
+returns-else-src-eq64 c = grind (arith, take-append_seam)

@@ -5,5 +5,4 @@ pub returns-clause-value : goal.returns-clause-value
 returns-clause-value c = place_is c.args.table.now.entries c.args.table.now.accepted c.args.c c.requires c.place.result c.place.ensures
 
 pub returns-clause-bound : goal.returns-clause-bound
-returns-clause-bound c =
-    place_bound c.args.table.now.entries c.args.table.now.accepted c.args.c c.requires c.args.table.now.entry_count c.place.result c.place.ensures
+returns-clause-bound c = place_bound _ c.args.table.now.accepted c.args.c c.requires c.args.table.now.entry_count _ c.place.ensures

@@ -1,38 +1,27 @@
-use Rattle.std.proofs.Common.{get_or, arith}
-use Rattle.legacy_base.specs.Grammar.{user_defined}
-use Rattle.legacy_base.specs.States.{new_state}
+use Rattle.std.proofs.Common.{arith}
 use Rattle.legacy_decoder_engine.proofs.{JoinedRuns.reads_more, WrittenRuns.{reads_none, three_fit}}
 use Rattle.legacy_miscellaneous.proofs.UserDefinedRuns.{is_single, reads_front, reads_byte}
 use Rattle.legacy_miscellaneous.proofs.user_defined.blocks.MixedBlocks.read_block.Goals as goal
 
 pub returns-then-src-le64-clause-ahead : goal.returns-then-src-le64-clause-ahead
-returns-then-src-le64-clause-ahead g c = reads_none g.T.Destination (new_state user_defined) c.args.src.now c.args.dst.now
+returns-then-src-le64-clause-ahead g c = reads_none _ _ _ _
 
 pub returns-then-count-eq64-clause-ahead : goal.returns-then-count-eq64-clause-ahead
 returns-then-count-eq64-clause-ahead g c =
     let f = c.put_front-count in
     let e = f.ensures in
-    reads_front g.T.Destination c.args.src.now f.result c.args.dst.now f.new.self e.read (omega (arith, c.if-src-le64.false)) e.ascii
-    (omega (arith, c.free.ensures, c.if-free-lt70.false)) e.contents e.room e.loan
+    reads_front _ _ _ _ _ e.read (omega (arith, c.if-src-le64.false)) e.ascii (omega (arith, c.free.ensures, c.if-free-lt70.false)) e.contents e.room e.loan
 
 pub put-requires : goal.put-requires
-put-requires g c =
-    let e = c.put_front-count.ensures in
-    let byte = get_or c.args.src.now c.put_front-count.result 0 in
-    let single = is_single byte c.scalar_of.result (let f = c.type_inv.src c.put_front-count.result in omega arith) c.scalar_of.type_inv.1.1 c.scalar_of.ensures
-    in
-    three_fit g.T.Destination.form c.scalar_of.result _ single.0 (omega (arith, e.read, e.room, c.free.ensures, c.if-free-lt70.false))
+put-requires g c = grind (arith, three_fit)
 
 pub returns-then-src-count-lt128-clause-ahead : goal.returns-then-src-count-lt128-clause-ahead
 returns-then-src-count-lt128-clause-ahead g c =
     let f = c.put_front-count in
     let e = f.ensures in
     let p = c.put.ensures in
-    let byte = get_or c.args.src.now f.result 0 in
-    let single = is_single byte c.scalar_of.result (let f = c.type_inv.src c.put_front-count.result in omega arith) c.scalar_of.type_inv.1.1 c.scalar_of.ensures
-    in
-    reads_byte g.T.Destination c.args.src.now f.result c.args.dst.now f.new.self e.read (omega (arith, c.if-src-le64.false)) e.ascii
-    (omega (arith, c.free.ensures, c.if-free-lt70.false)) e.contents e.room e.loan c.put.new.self c.scalar_of.result
+    let single = is_single _ c.scalar_of.result (omega arith) c.scalar_of.type_inv.1.1 c.scalar_of.ensures in
+    reads_byte _ _ _ _ _ e.read (omega (arith, c.if-src-le64.false)) e.ascii (omega (arith, c.free.ensures, c.if-free-lt70.false)) e.contents e.room e.loan _ _
     (omega (arith, e.read, c.if-count-eq64.false)) single p.contents p.room p.loan
 
 pub returns-clause-ahead : goal.returns-clause-ahead
@@ -40,6 +29,5 @@ returns-clause-ahead g c =
     let f = c.put_front-count in
     let e = f.ensures in
     reads_more
-    (reads_front g.T.Destination c.args.src.now f.result c.args.dst.now f.new.self e.read (omega (arith, c.if-src-le64.false)) e.ascii
-    (omega (arith, c.free.ensures, c.if-free-lt70.false)) e.contents e.room e.loan)
+    (reads_front _ _ _ _ _ e.read (omega (arith, c.if-src-le64.false)) e.ascii (omega (arith, c.free.ensures, c.if-free-lt70.false)) e.contents e.room e.loan)
     c.read_eights-read.ensures

@@ -1,12 +1,11 @@
-use Rattle.std.proofs.{Common.{◌≡◌, ◌∙◌, ◌+◌, ◌-◌, ◌*◌, ◌<◌, arith, inl, inr, subst, ap}, lemmas.Bool.cases_lt, lemmas.List.Elements.All-get_or}
-use Rattle.legacy_miscellaneous.specs.Utf16Decoder.{unit_at}
+use Rattle.std.proofs.{Common.{◌-◌, ◌*◌, ◌<◌, arith}, lemmas.List.Elements.All-get_or}
 use Rattle.legacy_miscellaneous.proofs.Utf16Runs.{rest_unit}
 use Rattle.legacy_miscellaneous.proofs.utf16.unit_blocks.Units.are_below.Goals as goal
 
 pub loop-group-init : goal.loop-group-init
 loop-group-init c = record {
   within = omega (arith, c.requires.some);
-  below = λ n below k h. subst (λ u. u < n) (c.eight_units-greatest.ensures k h) (below k (omega (arith, h, c.eight_units-greatest.type_inv)));
+  below = λ n below k h. grind (arith, c.eight_units-greatest.ensures k, below k, c.eight_units-greatest.type_inv);
 }
 
 pub loop-group-preserved : goal.loop-group-preserved
@@ -14,17 +13,10 @@ loop-group-preserved c = record {
   within = omega (arith, c.loop-group-test.true);
   below = λ n below k h.
       let both = c.greater_units-greatest.ensures n below in
+      let j = k - 8 * c.loop-group.group in
       let units = c.eight_units-units in
-      elim (cases_lt k (8 * c.loop-group.group)) [
-        | inl l ↦ c.loop-group.invariant.below n both.0 k l
-        | inr l ↦
-            let j = k - 8 * c.loop-group.group in
-            let small : j < 8 = omega (arith, h, l) in
-            let place : 8 * c.loop-group.group + j ≡ k = omega (arith, l) in
-            let is = units.ensures j small ∙ rest_unit c.args.self.now.big_endian c.args.src.now c.loop-group.group j
-            ∙ ap (unit_at c.args.self.now.big_endian c.args.src.now) place in
-            subst (λ u. u < n) is (both.1 j (omega (arith, small, units.type_inv)))
-      ];
+      let is = rest_unit c.args.self.now.big_endian c.args.src.now c.loop-group.group j in
+      grind (arith, c.loop-group.invariant.below n both.0 k, units.ensures j, is, both.1 j, units.type_inv);
 }
 
 pub returns : goal.returns

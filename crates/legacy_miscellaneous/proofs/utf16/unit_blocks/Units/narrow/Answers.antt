@@ -1,5 +1,4 @@
-use Rattle.std.proofs.{Common.{◌≡◌, ◌∙◌, ℕ, ◌+◌, ◌-◌, ◌<◌, slice_index, ap, subst, sym, inl, inr, arith}, lemmas.Bool.cases_lt}
-use Rattle.legacy_miscellaneous.specs.Utf16Decoder.{unit_at}
+use Rattle.std.proofs.Common.{◌-◌, arith}
 use Rattle.legacy_miscellaneous.proofs.Utf16Runs.{unit_after}
 use Rattle.legacy_miscellaneous.proofs.utf16.unit_blocks.Units.narrow.Goals as goal
 
@@ -10,20 +9,10 @@ loop-at-preserved c =
     let at = c.loop-at.at in
     let i = c.loop-at.invariant in
     let e = c.put_narrow.ensures in
-    let new = c.put_narrow.new.block in
     record {
       within = omega (arith, i.within, i.sixteens, i.long, c.requires.sixteens, c.loop-at-test.true, c.put_narrow.auto.block);
       sixteens = omega (arith, i.sixteens);
       long = omega (arith, i.long, c.put_narrow.auto.block);
       narrow = λ k h low.
-          elim (cases_lt k at) [
-            | inl l ↦ i.narrow k l (subst (λ n. n < 128) (e.before k l) low) ∙ sym (e.before k l)
-            | inr l ↦
-                let j = k - at in
-                let small : j < 16 = omega (arith, h, l) in
-                let place : at + j ≡ k = omega (arith, l) in
-                let stored = e.narrow j small (subst (λ n. slice_index new n < 128) (sym place) low) in
-                ap (unit_at big_endian src) (sym place) ∙ sym (unit_after big_endian src at j) ∙ sym (c.sixteen_units-units.ensures j small) ∙ stored
-                ∙ ap (slice_index new) place
-          ];
+          let j = k - at in grind (arith, i.narrow k, e.before k, e.narrow j, c.sixteen_units-units.ensures j, unit_after big_endian src at j);
     }

@@ -4,14 +4,12 @@ use Rattle.legacy_single_byte.proofs.single_byte.blocks.EightsParts.read_part.Go
 
 pub put_units-requires-clause-scalars : goal.put_units-requires-clause-scalars
 put_units-requires-clause-scalars g c =
-    let units = c.units-units in
-    units_are_scalars c.args.self.now.scalars.now.table.now c.args.src.now units.result (λ k. let f = c.type_inv.src k in omega arith) units.ensures.same
-    units.ensures.count
+    let units = c.units-units.ensures in
+    units_are_scalars c.args.self.now.scalars.now.table.now c.args.src.now _ (λ k. let f = c.type_inv.src k in omega arith) units.same units.count
 
 pub returns-clause-ahead : goal.returns-clause-ahead
 returns-clause-ahead g c =
-    let units = c.units-units in
+    let units = c.units-units.ensures in
     let e = c.put_units.ensures in
-    reads_eight c.args.self.now.scalars.now.table.now c.args.src.now units.result (λ k. let f = c.type_inv.src k in omega arith) units.ensures.same
-    g.T.Destination c.args.dst.now c.put_units.new.dst
-    (c.has_zero.ensures c.if-has_zero.false) (omega arith) units.ensures.count e.contents e.room e.loan (omega arith)
+    reads_eight c.args.self.now.scalars.now.table.now c.args.src.now _ (λ k. let f = c.type_inv.src k in omega arith) units.same g.T.Destination _ _
+    (c.has_zero.ensures c.if-has_zero.false) (omega arith) units.count e.contents e.room e.loan (omega arith)

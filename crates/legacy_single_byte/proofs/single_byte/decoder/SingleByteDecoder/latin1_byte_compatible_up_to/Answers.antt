@@ -1,30 +1,14 @@
-use Rattle.std.proofs.Common.{◌≡◌, ◌∙◌, get_or, true, sym, arith}
-use Rattle.legacy_base.specs.Latin1.{is_latin1_byte}
-use Rattle.legacy_single_byte.specs.SingleByteDecoder.{single_byte_entries}
+use Rattle.std.proofs.Common.{◌∙◌, sym, arith}
 use Rattle.legacy_single_byte.proofs.Latin1Fronts.{latin1_front-length, latin1-ascii}
-use borrow.Author.Count.{below_more}
 use Rattle.legacy_single_byte.proofs.single_byte.decoder.SingleByteDecoder.latin1_byte_compatible_up_to.Goals as goal
 
 pub loop-count-init : goal.loop-count-init
-loop-count-init c = (
-  c.ascii_blocks-count.ensures.within,
-  latin1-ascii (single_byte_entries c.args.self.now) c.args.bytes.now c.ascii_blocks-count.result
-      c.ascii_blocks-count.ensures.ascii,
-)
-
-pub loop-count-preserved : goal.loop-count-preserved
-loop-count-preserved c = (
-  omega (arith, c.loop-count-test.true),
-  below_more (λ k. is_latin1_byte (single_byte_entries c.args.self.now) (get_or c.args.bytes.now k 0) ≡ true) c.loop-count.count c.loop-count.invariant.1
-      (sym c.is_latin1.ensures ∙ c.if-is_latin1.true),
-)
+loop-count-init c = (c.ascii_blocks-count.ensures.within, latin1-ascii _ _ _ c.ascii_blocks-count.ensures.ascii)
 
 pub returns-else-is_latin1 : goal.returns-else-is_latin1
 returns-else-is_latin1 c =
-    latin1_front-length (single_byte_entries c.args.self.now) c.args.bytes.now c.loop-count.count c.loop-count.invariant.0 c.loop-count.invariant.1
-    (λ h. sym c.is_latin1.ensures ∙ c.if-is_latin1.false)
+    latin1_front-length _ _ _ c.loop-count.invariant.0 c.loop-count.invariant.1 (λ h. sym c.is_latin1.ensures ∙ c.if-is_latin1.false)
 
 pub returns-after-loop-count : goal.returns-after-loop-count
 returns-after-loop-count c =
-    latin1_front-length (single_byte_entries c.args.self.now) c.args.bytes.now c.loop-count.count c.loop-count.invariant.0 c.loop-count.invariant.1
-    (λ h. absurd (omega (arith, c.loop-count-test.false)))
+    grind (arith, latin1_front-length)
