@@ -7,7 +7,7 @@ use Rattle.legacy_base.specs.{Fronts.{Front, reads, malformed, reads_or, cut}, P
 use Rattle.legacy_base.specs.{Grammar.{Grammar, profile, events_of}, States.{may_hold, state_of}, DecoderActs.act_room}
 use Rattle.legacy_base.specs.DecoderActs.{takes}
 use Rattle.legacy_base.proofs.Cuts.{cut-nil}
-use Rattle.legacy_decoder_engine.specs.{Steps.{Step, finish, no_pending, end_events, StepMeets, DecoderMachine, Meets}, StepUnits.{IsWidth, Cost}}
+use Rattle.legacy_decoder_engine.specs.{Steps.{Step, finish, no_pending, StepMeets, DecoderMachine, Meets}, StepUnits.{IsWidth, Cost}}
 use Rattle.legacy_decoder_engine.specs.{StatesAfterSteps.Settles, Shown.IsShown}
 use Rattle.legacy_decoder_engine.proofs.{CallUnderWay.same_rooms, FrontMoves.{Fits, fits_meets}, OneByteMeets.{few_held, no_report, one_fits}}
 use Rattle.legacy_decoder_engine.proofs.{RoomMoves.{HasCosts, IsSloped, sloped_rooms}, SettledSteps.{one_option, or_settles}}
@@ -43,11 +43,8 @@ module _ (g : Grammar) (front : ℕ → List ℕ → Front) (found : ℕ → Opt
   steps [] b h = fits_meets g front ev_is is_empty may_is [] b (first b) (omega arith) (fits b)
   steps (c ∷ held) b h = absurd (false≢true h)
 
-  ends : (held : List ℕ) → is_empty held ≡ true → events_of g held ≡ end_events held
-  ends held h = grind (arith, ev_is, cut-nil, false≢true)
-
   meets : Meets g machine
-  meets = grind (arith, steps, may_is, ends, no_report, few_held)
+  meets = grind (arith, steps, may_is, ev_is, cut-nil, false≢true, no_report, few_held)
 
   cost : (len : ℕ → ℕ) (narrow wide : ℕ) → IsWidth len narrow wide → (held : List ℕ) (b : ℕ) → is_empty held ≡ true → IsByte b →
       Cost len narrow (act_room narrow wide (state_of g held) (takes b)) weightless 6 held b (first b)

@@ -30,8 +30,5 @@ module _ (len : ℕ → ℕ) (narrow wide : ℕ) (w : IsWidth len narrow wide) w
 
 -- ---- entries
 
-entry_below : (entry c : ℕ) → entry < 0x1_0000 → option_to_list (entry_scalar entry) ≡ c ∷ [] → c < 0x1_0000
-entry_below entry c h e = grind (arith, nat_tests)
-
 pub idx_below : (index : List ℕ) (p c : ℕ) → IsNarrowIndex index → option_to_list (idx index p) ≡ c ∷ [] → c < 0x1_0000
-idx_below index p c narrow e = entry_below (get_or index p 0) c (narrow_entry index p narrow) e
+idx_below index p c narrow e = grind (arith, nat_tests, narrow_entry)
