@@ -7,7 +7,7 @@ use Rattle.std.specs.Char.{IsScalar}
 use Rattle.legacy_text.specs.EncodingForm.{EncodingForm, unit_count, total_unit_count}
 use Rattle.legacy_text.proofs.CodeUnits.{total_unit_count-append}
 use Rattle.legacy_base.specs.{declared.results.DecoderResult.TheVariants.{InputEmpty, OutputFull, Malformed}, States.{DecoderState, may_hold, rests}}
-use Rattle.legacy_base.specs.{DecoderActs.{LacksRoom, HadRoom, HadRooms, malformed_room, full_room_in, release_room_in}, Lengths.{LengthQuery, query_form}}
+use Rattle.legacy_base.specs.{DecoderActs.{LacksRoom, HadRoom, HadRooms, malformed_room, full_room_in, release_room_in}, Lengths.{LengthQuery, query_form, query_answer}}
 use Rattle.legacy_base.specs.{Lengths.{replacement_units, room}, Calls.{Progress, DecoderCall, IsMalformedSequence, IsMalformed, HoldsBack, reported_events}}
 use Rattle.legacy_base.specs.{Calls.may_report_end, declared.results.DecodeEvent.TheVariants.{Scalar, Bad}, declared.results.DecoderResult.DecoderResult}
 use Rattle.legacy_base.specs.{Events.shift, Grammar.{Grammar, events_of}}
@@ -223,24 +223,11 @@ module _ {form : EncodingForm} {last : Bool} where
     call_none {source} answer sound m done full lacks =
         let never : (query : LengthQuery) → query_form query ≡ form → room query s (length source) ≤ free → answer ≡ OutputFull → ⊥ =
         λ query q enough e. grind (arith, (full e).1.covers query source last) in
-        record {
-          within = omega arith;
-          fits = omega arith;
-          scalar = All-nil IsScalar;
-          passed = 0;
-          progress = stay false s source;
-          allowed = m;
-          malformed_sequence = tt;
-          input_empty = done;
-          output_full = λ e. rw sub-zero (full e).0;
-          full_at_once = λ l. (lacks l, refl, refl, refl);
-          room_after_malformed = λ x. absurd (sound x);
-          room_held = λ a. absurd (omega arith);
-          had_room = HadRooms-none form s free;
-          lowers = λ query q more z. omega arith;
-          suffices = never;
-          enough = λ query q n k le answered most. never query q (omega (arith, room-answer query s (length source) n k le answered));
-        }
+        let none = stay false s source in
+        let enough : (query : LengthQuery) → query_form query ≡ form → (n k : ℕ) → length source ≤ n → query_answer query s n ≡ Some k → k ≤ free
+            → answer ≢ OutputFull =
+        λ query q n k le answered most. never query q (omega (arith, room-answer query s (length source) n k le answered)) in
+        grind (arith, All-nil, sub-zero, HadRooms-none)
 
     -- the next act lacks its room
     call_full : {source : List ℕ} → may_hold s.grammar s.held ≡ true → IsCovered s → LacksRoom form s source last free

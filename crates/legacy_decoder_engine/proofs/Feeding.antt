@@ -25,8 +25,6 @@ pub units-total : (form : EncodingForm) (cs : List ℕ) → units (unit_count fo
 units-total form [] = refl
 units-total form (c ∷ cs) = let e = units-total form cs in omega (arith, length-append (code_units form c) (all_code_units form cs))
 
--- ---- what a step is
-
 -- ---- the room that the scalars of a step had
 
 -- a byte needs less than the full room only if it is ASCII and nothing is held back; then it is its own scalar
@@ -77,16 +75,6 @@ module _ {g : Grammar} {m : DecoderMachine} (shown : IsShown g m) (held : List �
         (replacement_units query) s ≤ room query (state_of g held) (n + 1)
     pays_step query n s e = rw (← e) ((shown.rooms query).step_pays held b n may resting bytes byte)
 
-    -- there was full room before a step, unless the byte is its own scalar
-    usual_step : (form : EncodingForm) (s : Step) → m.step held b ≡ s → (s ≡ finish (reads 1 (b ∷ [])) → ⊥) → has_reported g ≡ false
-        → full_room_in form g ≤ read_room form (state_of g held) b
-    usual_step form s e ne reported = grind (arith, short_or_usual)
-
-    had_form : (form : EncodingForm) (free n : ℕ) (cs : List ℕ) → m.step held b ≡ finish (reads n cs) → read_room form (state_of g held) b ≤ free
-        → HadRoom form g None free cs
-    unfolding HadRoom
-    had_form form free n cs e le = grind (arith, short_or_usual, had_usual, settled, had_short)
-
     -- the bytes and the events after a step
     rest_is : (s : Step) → m.step held b ≡ s → drop (step_length s) (held ++ b ∷ []) ≡ step_held s held b ++ step_unread s b []
     rest_is s h = grind (arith, drop-append-le, meets, length-drop, append-nil)
@@ -96,12 +84,12 @@ module _ {g : Grammar} {m : DecoderMachine} (shown : IsShown g m) (held : List �
 
     full_is : (form : EncodingForm) (s : Step) → m.step held b ≡ s → RevealsMalformed (fed_of s held b) ⊎ (step_held s held b ≢ [])
         → full_room_in form g ≤ read_room form (state_of g held) b
-    full_is form s h h1 = grind (arith, all_dropped, settled, usual_step)
+    full_is form s h h1 = grind (arith, nat_tests, all_dropped, settled)
 
     had_is : (form : EncodingForm) (free : ℕ) (s : Step) → m.step held b ≡ s → read_room form (state_of g held) b ≤ free
         → HadRoom form g None free (fed_scalars (fed_of s held b))
     unfolding HadRoom
-    had_is form free (finish (reads n cs)) e le = grind (arith, settled _ e, had_form form free n cs e le)
+    had_is form free (finish (reads n cs)) e le = grind (arith, short_or_usual, had_usual, settled, had_short)
     had_is form free s e le = tt
 
     -- any step at the byte is a move
@@ -134,10 +122,8 @@ module _ {g : Grammar} {m : DecoderMachine} (shown : IsShown g m) (held : List �
   -- the held-back scalar is written
   pub releases : (n c : ℕ) → rests g held ≡ false → m.pending held ≡ Some (n, c) → IsScalar c → Releases (state_of g held) (state_of g (drop n held)) c
   releases n c r e scalar =
-      let w = shown.meets.writes held may in
-      let w' = (rw e at w).1 in
-      let s = shown.write_settles held may in
-      let s' = rw e at s in
+      let w = (rw e at (shown.meets.writes held may)).1 in
+      let s = rw e at (shown.write_settles held may) in
       let progress : Progress false (state_of g held) [] n (state_of g (drop n held)) [] (Scalar c ∷ []) = grind (arith, append-nil) in
       let pays = λ (query : LengthQuery). rw e at ((shown.rooms query).write_pays held may r bytes) in
       grind (arith, same_rooms, pays to_utf8, pays to_utf16, pays)

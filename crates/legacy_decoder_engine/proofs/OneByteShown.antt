@@ -46,12 +46,8 @@ module _ (g : Grammar) (front : ℕ → List ℕ → Front) (found : ℕ → Opt
   meets : Meets g machine
   meets = grind (arith, steps, may_is, ev_is, cut-nil, false≢true, no_report, few_held)
 
-  cost : (len : ℕ → ℕ) (narrow wide : ℕ) → IsWidth len narrow wide → (held : List ℕ) (b : ℕ) → is_empty held ≡ true → IsByte b →
-      Cost len narrow (act_room narrow wide (state_of g held) (takes b)) weightless 6 held b (first b)
-  cost len narrow wide h held b h1 h2 = grind (arith, false≢true, cond_both, ltb-true, fits)
-
   costs : HasCosts g machine weightless 6
-  costs = record { to_is = λ held b. refl; cost = λ len narrow wide w held b h r bytes byte. cost len narrow wide w held b (rw (may_is held) at h) byte }
+  costs = grind (arith, may_is, false≢true, cond_both, ltb-true, fits)
 
   sloped : IsSloped g machine weightless 6
   sloped = grind (arith, false≢true, may_is)

@@ -34,7 +34,8 @@ pub all_needs : (narrow wide : ℕ) (room : ℕ → ℕ) (g : Grammar) (m : Deco
     (unread : List ℕ) (last : Bool) → need narrow wide (state_of g held) unread last ≤ room (length unread)
 all_needs narrow wide room g m meets empty held may take write unread last =
     cond_both (rests g held) (act_at_rest (state_of g held) unread last) (Some writes)
-    (λ act. room_of_act narrow wide (state_of g held) act ≤ room (length unread)) (λ r. at_rest r unread) (λ r. write (length unread) (grind (arith, false≢true)))
+    (λ act. room_of_act narrow wide (state_of g held) act ≤ room (length unread)) (λ r. at_rest r unread)
+    (λ r. write (length unread) (grind (arith, false≢true)))
   where
     at_end : (held' : List ℕ) → (0 < length held' → act_room narrow wide (state_of g held) reports ≤ room 0) →
         (last : Bool) → room_of_act narrow wide (state_of g held) (act_at_end (end_events held') last) ≤ room 0
@@ -96,10 +97,6 @@ paid_of query wt paid at_most held b s h = grind arith
 pub narrow_read : (narrow wide : ℕ) → narrow ≤ wide → (g : Grammar) → (narrow ≤ full_room narrow wide g) × (full_room narrow wide g ≤ wide)
 narrow_read narrow wide rises g = grind arith
 
-read_most : (narrow wide : ℕ) → 1 ≤ narrow → narrow ≤ wide → (g : Grammar) (held : List ℕ) (b : ℕ)
-    → act_room narrow wide (state_of g held) (takes b) ≤ full_room narrow wide g
-read_most narrow wide some rises g held b = grind (arith, narrow_read, cond_both)
-
 -- the rooms of a codec that fall by slopes
 module _ (g : Grammar) (m : DecoderMachine) (wt : List ℕ → ℕ) (paid : ℕ) (meets : Meets g m) (costs : HasCosts g m wt paid) (is : IsSloped g m wt paid)
     (query : LengthQuery) where
@@ -115,6 +112,6 @@ module _ (g : Grammar) (m : DecoderMachine) (wt : List ℕ → ℕ) (paid : ℕ)
             (paid_of query wt paid _ held b (m.step held b) (cost held b h r bytes byte)));
         write_pays = is.writes query;
         report_pays = λ b held h r. is.falls query (b ∷ held) [] 0 0 _ (grind (arith, mul-le-mul_left, is.heavy b held h));
-        reads_covered = λ held b n h p. grind (arith, read_most, w, room-rises);
+        reads_covered = λ held b n h p. grind (arith, narrow_read, cond_both, w, room-rises);
         holds_covered = λ held n h p. grind (arith, room-rises);
       }

@@ -55,13 +55,10 @@ module _ (g : Grammar) (front : ℕ → List ℕ → Front) (is_lead_byte : ℕ 
   unfolding events_of
   ev_is bytes = ap (λ p. p.events bytes) is.profile_is
 
-  pub rests_is : (held : List ℕ) → rests g held ≡ true
-  rests_is held = ap (λ p. p.rests held) is.profile_is
-
   -- ---- the first byte
 
   pub first_settles : (b : ℕ) → Settles g [] b (first b)
-  first_settles b = grind (arith, rests_is)
+  first_settles b = grind (arith, is.profile_is)
 
   -- ---- all steps
 
@@ -73,16 +70,13 @@ module _ (g : Grammar) (front : ℕ → List ℕ → Front) (is_lead_byte : ℕ 
   all_ends [] h = ev_is [] ∙ cut-nil front
   all_ends (b ∷ held) h = end_meets g front ev_is b held (grind (arith, lead_holds, false≢true))
 
-  lead_some : (lead : ℕ) (rest : List ℕ) → is_lead_byte lead ≡ true → 0 < front_length (front lead rest)
-  lead_some lead rest h = grind (arith, lead_holds, some_reads_or, some_trail_rule)
-
   all_reports : (held more : List ℕ) → single_lead_may_hold is_lead_byte held ≡ true → ReportMeets g held more
-  all_reports held more h = report_meets g front ev_is held more (grind (arith, lead_some, false≢true))
+  all_reports held more h = report_meets g front ev_is held more (grind (arith, lead_holds, some_reads_or, some_trail_rule, false≢true))
 
   pub two_byte_meets : Meets g (two_byte_machine g first scalars)
   two_byte_meets =
       let meets = fits_meets g front ev_is (single_lead_may_hold is_lead_byte) may_is in
-      grind (arith, may_is, rests_is, meets, false≢true, step_fits, all_ends, all_reports)
+      grind (arith, may_is, is.profile_is, meets, false≢true, step_fits, all_ends, all_reports)
 
 -- ---- tests of the first byte
 
@@ -108,13 +102,10 @@ pub lead_front_is : (is_lead_byte : ℕ → Bool) (scalars : ℕ → List ℕ) (
     cond (is_ascii b) (reads 1 (b ∷ [])) (cond (is_lead_byte b) pair (malformed 1)) ≡ step_front scalars rest (lead_first is_lead_byte b)
 lead_front_is is_lead_byte scalars rest pair b e = grind (arith, front_test)
 
-pub range-past : (low high : ℕ) → 0x80 ≤ low → high < 0x100 → (b : ℕ) → is_in_range low high b ≡ true → IsPastAscii b
-range-past low high from to b h = (grind (arith, nat_tests), grind (arith, nat_tests))
-
 -- ---- codecs whose leads are 81 to FE
 
 pub is_lead-past : (b : ℕ) → is_lead b ≡ true → IsPastAscii b
-is_lead-past = range-past 0x81 0xFE (omega arith) (omega arith)
+is_lead-past b h = (grind (arith, nat_tests), grind (arith, nat_tests))
 
 pub is_lead-in : (b : ℕ) → 0x81 ≤ b → b ≤ 0xFE → is_lead b ≡ true
 is_lead-in b low high = grind (arith, nat_tests)

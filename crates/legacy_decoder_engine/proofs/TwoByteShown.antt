@@ -21,12 +21,6 @@ pub record HasTwoByteRooms (g : Grammar) (scalars : ℕ → ℕ → List ℕ) (p
 module _ (g : Grammar) (front : ℕ → List ℕ → Front) (is_lead_byte : ℕ → Bool) (first : ℕ → Step) (scalars : ℕ → ℕ → List ℕ)
     (is : IsTwoByte g front is_lead_byte first scalars)
     (paid : ℕ) (firsts : (b : ℕ) → IsFirst is_lead_byte paid b (first b)) where
-  pub short_ascii : has_short_ascii g ≡ true
-  short_ascii = ap (λ p. p.short_ascii) is.profile_is
-
-  pub unreported : has_reported g ≡ false
-  unreported = ap (λ p. p.reported) is.profile_is
-
   settles : (held : List ℕ) (b : ℕ) → single_lead_may_hold is_lead_byte held ≡ true → Settles g held b (two_byte_step first scalars held b)
   settles held b h = grind (arith, first_settles, trail_settles, false≢true)
 
@@ -34,24 +28,20 @@ module _ (g : Grammar) (front : ℕ → List ℕ → Front) (is_lead_byte : ℕ 
   may = may_is g front is_lead_byte first scalars is paid firsts
 
   costs : HasTwoByteRooms g scalars paid → HasCosts g (two_byte_machine g first scalars) length paid
-  costs has_rooms = record { to_is = λ held b. refl; cost = λ len narrow wide w held b h r bytes byte. cost len narrow wide w held b (rw (may held) at h) }
-    where
-      cost : (len : ℕ → ℕ) (narrow wide : ℕ) → IsWidth len narrow wide → (held : List ℕ) (b : ℕ) → single_lead_may_hold is_lead_byte held ≡ true →
-          Cost len narrow (act_room narrow wide (state_of g held) (takes b)) length paid held b (two_byte_step first scalars held b)
-      cost len narrow wide w held b h =
-          let one = firsts b in
-          let two = has_rooms.pair_units len narrow wide w in
-          let three = has_rooms.is_paid len narrow wide w in
-          grind (arith, false≢true, narrow_read, first_cost, trail_cost, unreported, short_ascii)
-
-  sloped : HasTwoByteRooms g scalars paid → IsSloped g (two_byte_machine g first scalars) length paid
-  sloped has_rooms = grind arith
+  costs has_rooms = record {
+    to_is = λ held b. refl;
+    cost = λ len narrow wide w held b h r bytes byte.
+        let one = firsts b in
+        let two = has_rooms.pair_units len narrow wide w in
+        let three = has_rooms.is_paid len narrow wide w in
+        grind (arith, false≢true, narrow_read, first_cost, trail_cost, may);
+  }
 
   pub two_byte_shown : HasTwoByteRooms g scalars paid → IsShown g (two_byte_machine g first scalars)
   two_byte_shown has_rooms =
       let meets = two_byte_meets g front is_lead_byte first scalars is paid firsts in
-      let rooms = sloped_rooms g (two_byte_machine g first scalars) length paid meets (costs has_rooms) (sloped has_rooms) in
-      grind (arith, rooms, settles, may, same_rooms, ascii_first, unreported)
+      let rooms = sloped_rooms g (two_byte_machine g first scalars) length paid meets (costs has_rooms) (grind arith) in
+      grind (arith, rooms, settles, may, same_rooms, ascii_first)
 
 -- the facts that the decoder requires, for a codec that has them for each index
 module _ (grammar : FlatIndexes → Grammar) (front : FlatIndexes → ℕ → List ℕ → Front) (is_lead_byte : ℕ → Bool) (first : ℕ → Step)

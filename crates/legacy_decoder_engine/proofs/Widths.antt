@@ -15,15 +15,11 @@ pub narrow_entry : (index : List ℕ) (p : ℕ) → IsNarrowIndex index → get_
 narrow_entry index p h = grind (arith, All-get_or, get_or_past, cases_lt)
 
 module _ (len : ℕ → ℕ) (narrow wide : ℕ) (w : IsWidth len narrow wide) where
-  -- an entry of an index is one scalar or none
-  entry_units : (entry n : ℕ) → len entry ≤ n → units len (option_to_list (entry_scalar entry)) ≤ n
-  entry_units entry n h = grind (arith, nat_tests)
-
   pub idx_units : (index : List ℕ) (p : ℕ) → units len (option_to_list (idx index p)) ≤ wide
-  idx_units index p = entry_units (get_or index p 0) wide (w.every (get_or index p 0))
+  idx_units index p = grind (arith, nat_tests)
 
   pub narrow_idx_units : (index : List ℕ) (p : ℕ) → IsNarrowIndex index → units len (option_to_list (idx index p)) ≤ narrow
-  narrow_idx_units index p h = entry_units (get_or index p 0) narrow (w.bmp (get_or index p 0) (narrow_entry index p h))
+  narrow_idx_units index p h = grind (arith, nat_tests, narrow_entry)
 
   pub option_units : (o : Option ℕ) → units len (option_to_list o) ≤ wide
   option_units o = grind arith
