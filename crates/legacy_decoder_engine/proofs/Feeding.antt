@@ -40,10 +40,6 @@ had_usual : (form : EncodingForm) (g : Grammar) (free : ℕ) (cs : List ℕ) →
 unfolding HadRoom
 had_usual form g free cs h h1 = grind (arith, nat_tests)
 
-had_short : (form : EncodingForm) (g : Grammar) (free b : ℕ) → (has_short_ascii g && is_ascii b) ≡ true → HadRoom form g None free (b ∷ [])
-unfolding HadRoom
-had_short form g free b h = grind (arith, nat_tests)
-
 pub all_dropped : (n : ℕ) (held : List ℕ) (b : ℕ) → n ≡ suc (length held) → drop n (held ++ b ∷ []) ≡ []
 all_dropped n held b e = drop_of_length-le (held ++ b ∷ []) (omega (arith, length-append held (b ∷ [])))
 
@@ -70,26 +66,10 @@ module _ {g : Grammar} {m : DecoderMachine} (shown : IsShown g m) (held : List �
     fits_step Utf8 s e = rw (← e) ((shown.rooms to_utf8).step_fits held b may resting bytes byte)
     fits_step Utf16 s e = rw (← e) ((shown.rooms to_utf16).step_fits held b may resting bytes byte)
 
-    pays_step : (query : LengthQuery) (n : ℕ) (s : Step) → m.step held b ≡ s →
-        room query (state_of (m.to held b) (step_held s held b)) (n + step_left s) + step_units (unit_count (query_form query))
-        (replacement_units query) s ≤ room query (state_of g held) (n + 1)
-    pays_step query n s e = rw (← e) ((shown.rooms query).step_pays held b n may resting bytes byte)
-
-    -- the bytes and the events after a step
-    rest_is : (s : Step) → m.step held b ≡ s → drop (step_length s) (held ++ b ∷ []) ≡ step_held s held b ++ step_unread s b []
-    rest_is s h = grind (arith, drop-append-le, meets, length-drop, append-nil)
-
-    holds_is : (s : Step) → m.step held b ≡ s → FedHolds (step_length s) (state_of to (step_held s held b)) (fed_of s held b)
-    holds_is s h = grind (arith, settled, all_dropped, rests-none, meets)
-
-    full_is : (form : EncodingForm) (s : Step) → m.step held b ≡ s → RevealsMalformed (fed_of s held b) ⊎ (step_held s held b ≢ [])
-        → full_room_in form g ≤ read_room form (state_of g held) b
-    full_is form s h h1 = grind (arith, nat_tests, all_dropped, settled)
-
     had_is : (form : EncodingForm) (free : ℕ) (s : Step) → m.step held b ≡ s → read_room form (state_of g held) b ≤ free
         → HadRoom form g None free (fed_scalars (fed_of s held b))
     unfolding HadRoom
-    had_is form free (finish (reads n cs)) e le = grind (arith, short_or_usual, had_usual, settled, had_short)
+    had_is form free (finish (reads n cs)) e le = grind (arith, short_or_usual, had_usual, settled)
     had_is form free s e le = tt
 
     -- any step at the byte is a move
@@ -100,19 +80,19 @@ module _ {g : Grammar} {m : DecoderMachine} (shown : IsShown g m) (held : List �
       passed = step_length s;
       progress = record {
         counts = omega (arith, (meets s e).counts);
-        rest = rest_is s e;
+        rest = grind (arith, drop-append-le, meets s e, length-drop, append-nil);
         events = λ more l. grind (arith, (meets s e).goes_on more, settled s e);
       };
-      holds = holds_is s e;
+      holds = grind (arith, settled s e, all_dropped, rests-none, meets s e);
       allowed = (meets s e).allowed;
       rooms = shown.same_rooms held b;
       empties = grind (arith, settled s e, all_dropped);
       report = λ form. release-full form g;
-      full = λ form. full_is form s e;
+      full = λ form h. grind (arith, nat_tests, all_dropped, settled s e);
       fits = λ form. omega (arith, fits_step form s e, units-total form (fed_scalars (fed_of s held b)));
       had = λ form free. had_is form free s e;
       scalar = scalar;
-      lowers = λ query n. omega (arith, pays_step query n s e, units-total (query_form query) (fed_scalars (fed_of s held b)));
+      lowers = λ query n. omega (arith, rw e at ((shown.rooms query).step_pays held b n may resting bytes byte), units-total (query_form query) (fed_scalars (fed_of s held b)));
     }
 
     -- a decoder that took the step has made the move

@@ -52,8 +52,5 @@ module _ (g : Grammar) (front : ℕ → List ℕ → Front) (found : ℕ → Opt
   sloped : IsSloped g machine weightless 6
   sloped = grind (arith, false≢true, may_is)
 
-  settles : (held : List ℕ) (b : ℕ) → is_empty held ≡ true → Settles g held b (first b)
-  settles held b h = grind (arith, cond_both, or_settles, one_option, false≢true)
-
   pub one_byte_shown : IsShown g machine
-  one_byte_shown = grind (arith, meets, sloped_rooms, costs, sloped, settles, may_is, same_rooms)
+  one_byte_shown = grind (arith, meets, sloped_rooms, costs, sloped, cond_both, or_settles, one_option, false≢true, may_is, same_rooms)

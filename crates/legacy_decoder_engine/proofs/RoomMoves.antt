@@ -37,14 +37,10 @@ all_needs narrow wide room g m meets empty held may take write unread last =
     (λ act. room_of_act narrow wide (state_of g held) act ≤ room (length unread)) (λ r. at_rest r unread)
     (λ r. write (length unread) (grind (arith, false≢true)))
   where
-    at_end : (held' : List ℕ) → (0 < length held' → act_room narrow wide (state_of g held) reports ≤ room 0) →
-        (last : Bool) → room_of_act narrow wide (state_of g held) (act_at_end (end_events held') last) ≤ room 0
-    at_end held' h last = grind arith
-
     at_rest : rests g held ≡ true → (unread : List ℕ)
         → room_of_act narrow wide (state_of g held) (act_at_rest (state_of g held) unread last) ≤ room (length unread)
     at_rest r (b ∷ unread) = take b (length (b ∷ unread)) (omega arith)
-    at_rest r [] = rw (meets.ends held may r) (at_end held (λ h. write 0 h) last)
+    at_rest r [] = rw (meets.ends held may r) (grind (arith, write 0))
 
 -- ---- rooms that fall by a slope for each byte, or for each two
 

@@ -55,11 +55,6 @@ module _ (g : Grammar) (front : ℕ → List ℕ → Front) (is_lead_byte : ℕ 
   unfolding events_of
   ev_is bytes = ap (λ p. p.events bytes) is.profile_is
 
-  -- ---- the first byte
-
-  pub first_settles : (b : ℕ) → Settles g [] b (first b)
-  first_settles b = grind (arith, is.profile_is)
-
   -- ---- all steps
 
   step_fits : (held : List ℕ) (b : ℕ) → single_lead_may_hold is_lead_byte held ≡ true

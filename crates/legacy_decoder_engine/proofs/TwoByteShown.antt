@@ -5,7 +5,7 @@ use Rattle.legacy_base.specs.{Grammar.Grammar, States.{single_lead_may_hold, may
 use Rattle.legacy_tables.specs.{Indexes.FlatIndexes, TableChecks.AreAccepted}
 use Rattle.legacy_decoder_engine.specs.{Steps.Step, LeadMachines.{two_byte_step, two_byte_machine}, StepUnits.{units, IsWidth, Cost}, StatesAfterSteps.Settles}
 use Rattle.legacy_decoder_engine.specs.{Shown.IsShown, LeadCodecs.IsLeadCodec}
-use Rattle.legacy_decoder_engine.proofs.TwoByteMeets.{IsFirst, IsTwoByte, may_is, ascii_first, lead_holds, first_settles, two_byte_meets}
+use Rattle.legacy_decoder_engine.proofs.TwoByteMeets.{IsFirst, IsTwoByte, may_is, ascii_first, lead_holds, two_byte_meets}
 use Rattle.legacy_decoder_engine.proofs.RoomMoves.{narrow_read, Falls, query_slope, HasCosts, IsSloped, sloped_rooms}
 use Rattle.legacy_decoder_engine.proofs.{CallUnderWay.same_rooms, TwoByteCosts.{first_cost, trail_cost}, SettledSteps.trail_settles}
 
@@ -21,9 +21,6 @@ pub record HasTwoByteRooms (g : Grammar) (scalars : ℕ → ℕ → List ℕ) (p
 module _ (g : Grammar) (front : ℕ → List ℕ → Front) (is_lead_byte : ℕ → Bool) (first : ℕ → Step) (scalars : ℕ → ℕ → List ℕ)
     (is : IsTwoByte g front is_lead_byte first scalars)
     (paid : ℕ) (firsts : (b : ℕ) → IsFirst is_lead_byte paid b (first b)) where
-  settles : (held : List ℕ) (b : ℕ) → single_lead_may_hold is_lead_byte held ≡ true → Settles g held b (two_byte_step first scalars held b)
-  settles held b h = grind (arith, first_settles, trail_settles, false≢true)
-
   may : (held : List ℕ) → may_hold g held ≡ single_lead_may_hold is_lead_byte held
   may = may_is g front is_lead_byte first scalars is paid firsts
 
@@ -41,7 +38,7 @@ module _ (g : Grammar) (front : ℕ → List ℕ → Front) (is_lead_byte : ℕ 
   two_byte_shown has_rooms =
       let meets = two_byte_meets g front is_lead_byte first scalars is paid firsts in
       let rooms = sloped_rooms g (two_byte_machine g first scalars) length paid meets (costs has_rooms) (grind arith) in
-      grind (arith, rooms, settles, may, same_rooms, ascii_first)
+      grind (arith, rooms, trail_settles, false≢true, may, same_rooms, ascii_first)
 
 -- the facts that the decoder requires, for a codec that has them for each index
 module _ (grammar : FlatIndexes → Grammar) (front : FlatIndexes → ℕ → List ℕ → Front) (is_lead_byte : ℕ → Bool) (first : ℕ → Step)

@@ -9,14 +9,5 @@ loop-left-init g c = (omega arith, omega arith, writes_none g.T.Destination (g.F
 pub put-requires : goal.put-requires
 put-requires g c = grind (arith, three_fit, in-Pair)
 
-pub put-requires-in-Single : goal.put-requires-in-Single
-put-requires-in-Single g c = grind (arith, three_fit)
-
-pub returns-then-byte-next-lt128-clause-writes : goal.returns-then-byte-next-lt128-clause-writes
-returns-then-byte-next-lt128-clause-writes g c = grind (arith, writes_one)
-
-pub returns-then-byte-next-lt128-clause-slack : goal.returns-then-byte-next-lt128-clause-slack
-returns-then-byte-next-lt128-clause-slack g c = grind (arith, short)
-
 pub loop-left-preserved : goal.loop-left-preserved
 loop-left-preserved g c = grind (arith, in-Pair, short, writes_two, in-Single+else-byte-next-lt128, writes_one)
