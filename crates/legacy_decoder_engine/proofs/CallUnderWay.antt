@@ -49,15 +49,6 @@ module _ (form : EncodingForm) (g : Grammar) where
   malformed_room_at : (read n : ℕ) → (read ≡ 0 → release_room_in form g ≤ n) → (0 < read → full_room_in form g ≤ n) → malformed_room form g read ≤ n
   malformed_room_at read n a b = grind (arith, nat_tests)
 
-  malformed_room_of : (read n : ℕ) → malformed_room form g read ≤ n → (read ≡ 0 → release_room_in form g ≤ n) × (0 < read → full_room_in form g ≤ n)
-  malformed_room_of read n h = (λ z. grind (arith, nat_tests), λ p. grind (arith, nat_tests))
-
--- ---- what is reported, if `p` more bytes were done with before
-
-shift-reported : (p seen more : ℕ) (after : DecoderState) (answer : DecoderResult) → p + seen ≡ more → HoldsBack seen after answer
-    → (shift p (reported_events seen answer) ≡ reported_events more answer) × HoldsBack more after answer
-shift-reported p seen more after answer h h1 = grind arith
-
 -- A call in progress: the decoder is in the state `now`, has read `read` bytes and has written the scalars.
 pub record Going (form : EncodingForm) (last : Bool) (before : DecoderState) (source : List ℕ) (free : ℕ) (now : DecoderState) (read : ℕ)
     (scalars : List ℕ) : Type 0 where
@@ -117,7 +108,8 @@ module _ {form : EncodingForm} {last : Bool} where
         → IsMalformed answer ⊎ (next ≡ now) → DecoderCall form before source last free next answer (read + n) scalars
     call_then {next} {answer} {n} c kind =
         let seen : a.passed + (length now.held + n) ≡ length before.held + (read + n) = omega (arith, a.progress.counts, length-drop read source, a.within) in
-        let reported = shift-reported a.passed (length now.held + n) (length before.held + (read + n)) next answer seen c.malformed_sequence in
+        let reported : (shift a.passed (reported_events (length now.held + n) answer) ≡ reported_events (length before.held + (read + n)) answer)
+            × HoldsBack (length before.held + (read + n)) next answer = grind (arith, c.malformed_sequence) in
         let full = a.rooms.full form in
         let l = length-drop read source in
         let was_held : n ≤ 0 → IsMalformed answer → now.held ≢ [] = grind arith in
@@ -137,9 +129,8 @@ module _ {form : EncodingForm} {last : Bool} where
           output_full = λ e. rw (← drop-drop n read source) (omega (arith, c.output_full e));
           full_at_once = λ l. grind (arith, c.full_at_once (still l), a.once l);
           room_after_malformed = λ m.
-              let r = malformed_room_of form now.grammar n _ (c.room_after_malformed m) in
-              malformed_room_at form before.grammar (read + n) _ (λ z. omega (arith, r.0 (omega arith), a.rooms.report form))
-              (λ p. elim (cases_lt 0 n) [ inl q ↦ omega (arith, r.1 q, full) | inr z ↦ a.held (omega arith) (was_held z m) ]);
+              malformed_room_at form before.grammar (read + n) _ (λ z. grind (arith, nat_tests, c.room_after_malformed m, a.rooms.report form))
+              (λ p. elim (cases_lt 0 n) [ inl q ↦ grind (arith, nat_tests, c.room_after_malformed m) | inr z ↦ a.held (omega arith) (was_held z m) ]);
           room_held = λ p ne. elim (cases_lt 0 n) [
             | inl q ↦ omega (arith, c.room_held q ne, full)
             | inr z ↦ a.held (omega arith) (elim kind [ inl m ↦ was_held z m | inr e ↦ λ none. ne (ap DecoderState.held e ∙ none) ])
@@ -234,11 +225,6 @@ module _ {form : EncodingForm} {last : Bool} where
         → DecoderCall form s source last free s OutputFull 0 []
     call_full m c l = call_none OutputFull (λ x. x) m (λ e. cc) (λ e. (l, c)) (λ l. refl)
 
-    -- all bytes are read, and there is nothing to report
-    call_done : rests s.grammar s.held ≡ true → may_hold s.grammar s.held ≡ true → (IsTrue last → events_of s.grammar s.held ≡ [])
-        → DecoderCall form s [] last free s InputEmpty 0 []
-    call_done r m none = call_none InputEmpty (λ x. x) m (λ e. (refl, r, none)) (λ e. cc) (λ l. absurd (omega (arith, room_needed-none form s last r none)))
-
     -- a malformed sequence is reported, after `n` more bytes
     call_malformed : {source : List ℕ} {next : DecoderState} {a b : ℕ} (n passed : ℕ) → n ≤ length source → may_hold next.grammar next.held ≡ true
         → IsMalformedSequence (passed + length next.held) next a b
@@ -258,12 +244,10 @@ module _ {form : EncodingForm} {last : Bool} where
     call_fed {byte} {rest} {next} {a} {b} unread n r f enough within left_is =
         let full = f.full form (inl tt) in
         let needs = room_needed-read form s byte rest last r in
-        call_malformed n f.passed within f.allowed f.holds
-        (at_last _ s (byte ∷ rest) f.passed next (drop n (byte ∷ rest)) _
-        (rw left_is (behind s (byte ∷ []) f.passed next (unread_byte byte (MalformedSequence a b unread)) _ rest f.progress)))
-        (λ l. omega (arith, enough, needs))
-        (malformed_room_at form s.grammar n free (λ z. omega (arith, f.report form)) (λ p. omega arith))
-        (λ p. omega arith)
+        let seen = at_last (may_report_end last (Malformed a b) (drop n (byte ∷ rest))) s (byte ∷ rest) f.passed next (drop n (byte ∷ rest)) _
+            (rw left_is (behind s (byte ∷ []) f.passed next (unread_byte byte (MalformedSequence a b unread)) _ rest f.progress)) in
+        let room = malformed_room_at form s.grammar n free (λ z. omega (arith, f.report form)) (λ p. omega arith) in
+        call_malformed n f.passed within f.allowed f.holds seen (grind arith) room (λ p. omega arith)
         (λ query q more z. grind (arith, f.lowers query (length rest + more), ap length left_is, length-append))
 
     -- the held-back bytes are reported at the end of input
@@ -277,7 +261,7 @@ module _ {form : EncodingForm} {last : Bool} where
     call_finish : {next : DecoderState} (answer : DecoderResult) → rests s.grammar s.held ≡ true → may_hold s.grammar s.held ≡ true
         → Finishes form s last free next answer
         → DecoderCall form s [] last free next answer 0 [] × (IsMalformed answer ⊎ (next ≡ s))
-    call_finish answer h h1 h2 = grind (arith, call_done, call_full, room_needed-report, call_report)
+    call_finish answer h h1 h2 = grind (arith, call_none {source = []} InputEmpty, call_full, room_needed-none, room_needed-report, call_report)
 
     -- the held-back scalar lacks its room
     pub call_full_release : {source : List ℕ} → IsCovered s → may_hold s.grammar s.held ≡ true → rests s.grammar s.held ≡ false

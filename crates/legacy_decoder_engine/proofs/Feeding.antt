@@ -147,10 +147,10 @@ module _ {g : Grammar} {m : DecoderMachine} (shown : IsShown g m) (held : List �
 
   -- there is something to report if bytes are held back, even if a scalar is still to be written
   pub ends_held : held ≢ [] → events_of g held ≢ []
-  ends_held n = by_pending (m.pending held) (shown.meets.writes held may) where
-    by_pending : (p : Option (ℕ × ℕ)) → PendingMeets g held p → events_of g held ≢ []
-    by_pending None r = ends_some r n
-    by_pending (Some (k, c)) w = let first = w.1.goes_on [] in grind (arith, append-nil)
+  ends_held n =
+      let writes = shown.meets.writes held may in
+      let first = λ (p : ℕ × ℕ) (e : m.pending held ≡ Some p). (rw e at writes).1.goes_on [] in
+      grind (arith, append-nil, ends_some, first)
 
 -- a byte that is malformed by itself in the machine, if nothing is held back
 pub malformed_byte : {g : Grammar} {m : DecoderMachine} → IsShown g m → (b : ℕ) → m.step [] b ≡ finish (malformed 1) → m.to [] b ≡ g →

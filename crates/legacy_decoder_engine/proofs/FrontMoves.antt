@@ -61,12 +61,9 @@ module _ (g : Grammar) (front : ℕ → List ℕ → Front) (ev_is : (bytes : Li
       → Fits front may held b s → StepMeets g held b s g
   fits_meets may may_is held b hold few fits = grind (arith, may_is, append_assoc, shift-zero, length-append)
   fits_meets may may_is held b (finish f) few fits =
-      let l = length-append held (b ∷ []) in
-      let d = length-drop (front_length f) (held ++ b ∷ []) in
-      let seam = λ (more : List ℕ). drop-append-le (front_length f) (held ++ b ∷ []) more (omega arith) in
       let goes_on = λ (more : List ℕ). ev_front (held ++ b ∷ more) (drop (front_length f) (held ++ b ∷ []) ++ more) f (fits.0 more) (fits.1)
-          (grind (arith, append_assoc, seam more)) in
-      grind (arith, may_is)
+          (grind (arith, append_assoc, drop-append-le (front_length f) (held ++ b ∷ []) more, length-append)) in
+      grind (arith, may_is, length-append, length-drop)
   fits_meets may may_is held b (leave n) few fits =
       let goes_on = λ (more : List ℕ). ev_front (held ++ b ∷ more) _ (malformed n) (fits.0 more) (fits.1) (drop-append-le n held (b ∷ more) (fits.2)) in
       grind (arith, may_is, length-drop)
@@ -89,6 +86,5 @@ module _ (g : Grammar) (front : ℕ → List ℕ → Front) (ev_is : (bytes : Li
   report_meets [] more some pos g = absurd (omega arith)
   report_meets (b ∷ held) more some pos g =
       let n = length (b ∷ held) in
-      let is = front_reported front b (held ++ more) n (front b (held ++ more)) refl (some b (held ++ more) refl)
-      (subst (λ l. BeginsWith l (Bad 0 n ∷ [])) (ev_is (b ∷ (held ++ more))) g) in
+      let is = front_reported front b (held ++ more) n _ refl (some b (held ++ more) refl) (rw (ev_is (b ∷ (held ++ more))) at g) in
       ev_front (b ∷ (held ++ more)) more (malformed n) is (omega arith) (drop-append_seam (b ∷ held) more)

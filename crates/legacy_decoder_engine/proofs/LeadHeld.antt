@@ -47,8 +47,7 @@ module _ {L : Type 0} {grammar : FlatIndexes → Grammar} {is_lead_byte : ℕ �
       → Took (two_byte_step first (scalars tables.flat) (held_bytes byte held) b) (held_bytes byte held) b fed (held_bytes byte kept) →
       Feeds (lead_state grammar byte tables held) b (lead_state grammar byte tables kept) fed
   feeds held b is_byte fed kept took =
-      feeding.feeds shown (held_bytes byte held) (may held) (are_bytes held) b is_byte (is.rests_is tables.flat (held_bytes byte held)) fed
-      (held_bytes byte kept) took
+      feeding.feeds shown _ (may held) (are_bytes held) b is_byte (is.rests_is tables.flat _) fed _ took
 
   pub ends_none : (held : Option L) → is_some held ≡ false → events_of (grammar tables.flat) (held_bytes byte held) ≡ []
   ends_none held e = grind (arith, shown, may, are_bytes)
@@ -58,8 +57,7 @@ module _ {L : Type 0} {grammar : FlatIndexes → Grammar} {is_lead_byte : ℕ �
 
   pub reports : (lead : L) → Reports (lead_state grammar byte tables (Some lead)) (lead_state grammar byte tables None) 1 0
   reports lead =
-      feeding.reports_all shown (held_bytes byte (Some lead)) (may (Some lead)) (are_bytes (Some lead)) (is.rests_is tables.flat (held_bytes byte (Some lead)))
-      (λ e. cc)
+      feeding.reports_all shown _ (may (Some lead)) (are_bytes (Some lead)) (is.rests_is tables.flat _) (λ e. cc)
 
   pub malformed_byte : (b : ℕ) → first b ≡ finish (malformed 1) → IsMalformedByte (lead_state grammar byte tables None) b
   malformed_byte b e = feeding.malformed_byte shown b e refl

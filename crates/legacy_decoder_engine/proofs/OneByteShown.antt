@@ -36,18 +36,15 @@ module _ (g : Grammar) (front : ℕ → List ℕ → Front) (found : ℕ → Opt
   unfolding events_of
   ev_is bytes = ap (λ p. p.events bytes) is.profile_is
 
-  fits : (b : ℕ) → Fits front is_empty [] b (first b)
-  fits b = grind (arith, cond_both, one_fits)
-
   steps : (held : List ℕ) (b : ℕ) → is_empty held ≡ true → StepMeets g held b (first b) g
-  steps [] b h = fits_meets g front ev_is is_empty may_is [] b (first b) (omega arith) (fits b)
+  steps [] b h = fits_meets g front ev_is is_empty may_is [] b (first b) (omega arith) (grind (arith, cond_both, one_fits))
   steps (c ∷ held) b h = absurd (false≢true h)
 
   meets : Meets g machine
   meets = grind (arith, steps, may_is, ev_is, cut-nil, false≢true, no_report, few_held)
 
   costs : HasCosts g machine weightless 6
-  costs = grind (arith, may_is, false≢true, cond_both, ltb-true, fits)
+  costs = grind (arith, may_is, false≢true, cond_both, ltb-true)
 
   sloped : IsSloped g machine weightless 6
   sloped = grind (arith, false≢true, may_is)

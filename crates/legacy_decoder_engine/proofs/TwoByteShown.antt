@@ -21,9 +21,6 @@ pub record HasTwoByteRooms (g : Grammar) (scalars : ℕ → ℕ → List ℕ) (p
 module _ (g : Grammar) (front : ℕ → List ℕ → Front) (is_lead_byte : ℕ → Bool) (first : ℕ → Step) (scalars : ℕ → ℕ → List ℕ)
     (is : IsTwoByte g front is_lead_byte first scalars)
     (paid : ℕ) (firsts : (b : ℕ) → IsFirst is_lead_byte paid b (first b)) where
-  may : (held : List ℕ) → may_hold g held ≡ single_lead_may_hold is_lead_byte held
-  may = may_is g front is_lead_byte first scalars is paid firsts
-
   costs : HasTwoByteRooms g scalars paid → HasCosts g (two_byte_machine g first scalars) length paid
   costs has_rooms = record {
     to_is = λ held b. refl;
@@ -31,14 +28,14 @@ module _ (g : Grammar) (front : ℕ → List ℕ → Front) (is_lead_byte : ℕ 
         let one = firsts b in
         let two = has_rooms.pair_units len narrow wide w in
         let three = has_rooms.is_paid len narrow wide w in
-        grind (arith, false≢true, narrow_read, first_cost, trail_cost, may);
+        grind (arith, false≢true, narrow_read, first_cost, trail_cost, may_is);
   }
 
   pub two_byte_shown : HasTwoByteRooms g scalars paid → IsShown g (two_byte_machine g first scalars)
   two_byte_shown has_rooms =
       let meets = two_byte_meets g front is_lead_byte first scalars is paid firsts in
       let rooms = sloped_rooms g (two_byte_machine g first scalars) length paid meets (costs has_rooms) (grind arith) in
-      grind (arith, rooms, trail_settles, false≢true, may, same_rooms, ascii_first)
+      grind (arith, rooms, trail_settles, false≢true, may_is, same_rooms, ascii_first)
 
 -- the facts that the decoder requires, for a codec that has them for each index
 module _ (grammar : FlatIndexes → Grammar) (front : FlatIndexes → ℕ → List ℕ → Front) (is_lead_byte : ℕ → Bool) (first : ℕ → Step)
