@@ -29,10 +29,8 @@ units-total form (c ∷ cs) = let e = units-total form cs in omega (arith, lengt
 
 -- a byte needs less than the full room only if it is ASCII and nothing is held back; then it is its own scalar
 module _ (narrow wide : ℕ) {g : Grammar} {m : DecoderMachine} (shown : IsShown g m) (b : ℕ) (unreported : has_reported g ≡ false) where
-  abbrev IsShort : List ℕ → Type 0
-  IsShort held = ((has_short_ascii g && is_ascii b) ≡ true) × (m.step held b ≡ finish (reads 1 (b ∷ [])))
-
-  short_or_usual : (held : List ℕ) → (full_room narrow wide g ≤ act_room narrow wide (state_of g held) (takes b)) ⊎ IsShort held
+  short_or_usual : (held : List ℕ) → (full_room narrow wide g ≤ act_room narrow wide (state_of g held) (takes b))
+      ⊎ (((has_short_ascii g && is_ascii b) ≡ true) × (m.step held b ≡ finish (reads 1 (b ∷ []))))
   short_or_usual held = grind (arith, nat_tests)
 
 had_usual : (form : EncodingForm) (g : Grammar) (free : ℕ) (cs : List ℕ) → IsOneOrMarked (has_marks g) cs → full_room_in form g ≤ free

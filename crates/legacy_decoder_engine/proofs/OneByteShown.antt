@@ -46,8 +46,7 @@ module _ (g : Grammar) (front : ℕ → List ℕ → Front) (found : ℕ → Opt
   costs : HasCosts g machine weightless 6
   costs = grind (arith, may_is, false≢true, cond_both, ltb-true)
 
-  sloped : IsSloped g machine weightless 6
-  sloped = grind (arith, false≢true, may_is)
-
   pub one_byte_shown : IsShown g machine
-  one_byte_shown = grind (arith, meets, sloped_rooms, costs, sloped, cond_both, or_settles, one_option, false≢true, may_is, same_rooms)
+  one_byte_shown =
+      let rooms = sloped_rooms g machine weightless 6 meets costs (grind (arith, false≢true, may_is)) in
+      grind (arith, meets, rooms, cond_both, or_settles, one_option, false≢true, may_is, same_rooms)
