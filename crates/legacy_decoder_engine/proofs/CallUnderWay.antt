@@ -109,7 +109,7 @@ module _ {form : EncodingForm} {last : Bool} where
     call_then {next} {answer} {n} c kind =
         let seen : a.passed + (length now.held + n) ≡ length before.held + (read + n) = omega (arith, a.progress.counts, length-drop read source, a.within) in
         let reported : (shift a.passed (reported_events (length now.held + n) answer) ≡ reported_events (length before.held + (read + n)) answer)
-            × HoldsBack (length before.held + (read + n)) next answer = grind (arith, c.malformed_sequence) in
+        × HoldsBack (length before.held + (read + n)) next answer = grind (arith, c.malformed_sequence) in
         let full = a.rooms.full form in
         let l = length-drop read source in
         let was_held : n ≤ 0 → IsMalformed answer → now.held ≢ [] = grind arith in
@@ -216,7 +216,7 @@ module _ {form : EncodingForm} {last : Bool} where
         λ query q enough e. grind (arith, (full e).1.covers query source last) in
         let none = stay false s source in
         let enough : (query : LengthQuery) → query_form query ≡ form → (n k : ℕ) → length source ≤ n → query_answer query s n ≡ Some k → k ≤ free
-            → answer ≢ OutputFull =
+        → answer ≢ OutputFull =
         λ query q n k le answered most. never query q (omega (arith, room-answer query s (length source) n k le answered)) in
         grind (arith, All-nil, sub-zero, HadRooms-none)
 
@@ -245,7 +245,7 @@ module _ {form : EncodingForm} {last : Bool} where
         let full = f.full form (inl tt) in
         let needs = room_needed-read form s byte rest last r in
         let seen = at_last (may_report_end last (Malformed a b) (drop n (byte ∷ rest))) s (byte ∷ rest) f.passed next (drop n (byte ∷ rest)) _
-            (rw left_is (behind s (byte ∷ []) f.passed next (unread_byte byte (MalformedSequence a b unread)) _ rest f.progress)) in
+        (rw left_is (behind s (byte ∷ []) f.passed next (unread_byte byte (MalformedSequence a b unread)) _ rest f.progress)) in
         let room = malformed_room_at form s.grammar n free (λ z. omega (arith, f.report form)) (λ p. omega arith) in
         call_malformed n f.passed within f.allowed f.holds seen (grind arith) room (λ p. omega arith)
         (λ query q more z. grind (arith, f.lowers query (length rest + more), ap length left_is, length-append))

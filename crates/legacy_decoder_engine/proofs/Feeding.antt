@@ -1,6 +1,6 @@
 -- A machine that agrees with its grammar and keeps its rooms makes the moves that the loop requires.
-use Rattle.std.proofs.Common.{◌≡◌, ◌≢◌, ◌∙◌, ℕ, suc, ◌+◌, ◌-◌, ◌≤◌, List, [], ◌∷◌, ◌++◌, length, drop, refl, ap, subst, arith, append-nil, length-append}
-use Rattle.std.proofs.Common.{length-drop, drop_of_length-le, true, false, ◌&&◌, ◌⊎◌, Option, Some, None, inl, inr, All}
+use Rattle.std.proofs.Common.{◌≡◌, ◌≢◌, ◌∙◌, ℕ, suc, ◌-◌, ◌≤◌, List, [], ◌∷◌, ◌++◌, length, drop, refl, ap, subst, arith, append-nil, length-append}
+use Rattle.std.proofs.Common.{length-drop, drop_of_length-le, true, false, ◌&&◌, ◌⊎◌, Some, None, inl, inr, All}
 use Rattle.std.proofs.{lemmas.List.{drop-append-le, nil_from_length}, lemmas.List.Elements.{All-nil, All-cons}, lemmas.Bool.Decides.nat_tests}
 use Rattle.std.proofs.Math.Seq.{drop-length}
 use Rattle.std.specs.Char.{IsScalar, is_ascii}
@@ -8,12 +8,12 @@ use Rattle.legacy_text.specs.EncodingForm.{EncodingForm, Utf8, Utf16, code_units
 use Rattle.legacy_tables.specs.Unicode.{IsByte, AreBytes}
 use Rattle.legacy_base.specs.{States.{rests, may_hold, state_of}, DecoderActs.{act_room, takes, full_room, has_short_ascii, has_reported}}
 use Rattle.legacy_base.specs.{DecoderActs.{has_marks, full_room_in, HadRoom}, Lengths.{LengthQuery, to_utf16, to_utf8}}
-use Rattle.legacy_base.specs.{Lengths.{query_form, replacement_units, room}, Fronts.{reads, malformed}}
+use Rattle.legacy_base.specs.{Lengths.{query_form, room}, Fronts.{reads, malformed}}
 use Rattle.legacy_base.specs.{declared.results.DecodeEvent.TheVariants.Scalar, Grammar.{Grammar, events_of}, Calls.{IsMalformedByte, Progress}}
-use Rattle.legacy_decoder_engine.specs.Moves.{IsCovered, read_room, fed_scalars, FedHolds, RevealsMalformed, Feeds, Releases, Reports}
-use Rattle.legacy_decoder_engine.specs.Steps.{Step, finish, step_held, step_length, step_unread, StepMeets, PendingMeets}
+use Rattle.legacy_decoder_engine.specs.Moves.{IsCovered, read_room, fed_scalars, Feeds, Releases, Reports}
+use Rattle.legacy_decoder_engine.specs.Steps.{Step, finish, step_held, step_length, StepMeets}
 use Rattle.legacy_decoder_engine.specs.{Steps.DecoderMachine, Feeding.{fed_of, Took}}
-use Rattle.legacy_decoder_engine.specs.{StepUnits.{units, step_units, step_left}, declared.moves.Fed.Fed, StatesAfterSteps.{IsOneOrMarked, Settles}}
+use Rattle.legacy_decoder_engine.specs.{StepUnits.{units, step_units}, declared.moves.Fed.Fed, StatesAfterSteps.{IsOneOrMarked, Settles}}
 use Rattle.legacy_decoder_engine.specs.Shown.{IsShown}
 use Rattle.legacy_base.proofs.{Rooms.release-full, GrammarLaws.{may_none, rests-none}}
 use Rattle.legacy_decoder_engine.proofs.{RoomMoves.all_needs, CallUnderWay.same_rooms}

@@ -1,6 +1,6 @@
 -- The front of a list gives the move of a decoder, for every continuation.
 use Rattle.std.proofs.Common.{◌≡◌, ℕ, suc, ◌+◌, ◌<◌, ◌≤◌, List, [], ◌∷◌, ◌++◌, drop, length, Bool, true, false, cond, refl, sym, ◌∙◌, append_assoc}
-use Rattle.std.proofs.{Common.{length-append, length-drop, drop_of_length-le, le_refl, arith, subst}, Math.Seq.{drop-length, drop-append_seam}}
+use Rattle.std.proofs.{Common.{length-append, length-drop, drop_of_length-le, le_refl, arith}, Math.Seq.{drop-length, drop-append_seam}}
 use Rattle.std.proofs.{lemmas.List.drop-append-le, lemmas.Bool.cond_both}
 use Rattle.legacy_base.specs.{Fronts.{Front, reads, malformed, front_length, front_events, reads_or, trail_rule, cut}, Grammar.{Grammar, events_of}}
 use Rattle.legacy_base.specs.{declared.results.DecodeEvent.TheVariants.Bad, Beginnings.BeginsWith, Events.shift, States.may_hold}
@@ -24,13 +24,6 @@ Fits front may held b hold = (length held ≤ 2) × (may (held ++ b ∷ []) ≡ 
 Fits front may held b (finish f) = ((more : List ℕ) → HasFront front (held ++ b ∷ more) f) × (0 < front_length f) × (front_length f ≤ suc (length held)) ×
     (may (drop (front_length f) (held ++ b ∷ [])) ≡ true)
 Fits front may held b (leave n) = ((more : List ℕ) → HasFront front (held ++ b ∷ more) (malformed n)) × (0 < n) × (n ≤ length held) × (may (drop n held) ≡ true)
-
--- a front that is malformed or gives scalars has at least one byte
-pub some_reads_or : (n : ℕ) (scalars : List ℕ) (other : Front) → 0 < n → 0 < front_length other → 0 < front_length (reads_or n scalars other)
-some_reads_or n scalars other h h1 = grind arith
-
-pub some_trail_rule : (n t : ℕ) → 0 < n → 0 < front_length (trail_rule n t)
-some_trail_rule n t some = grind (arith, cond_both)
 
 -- if the events of a list begin with a malformed sequence of n bytes, its front is that sequence
 front_reported : (front : ℕ → List ℕ → Front) (b : ℕ) (rest : List ℕ) (n : ℕ) (f : Front) → front b rest ≡ f → 0 < front_length f
@@ -62,7 +55,7 @@ module _ (g : Grammar) (front : ℕ → List ℕ → Front) (ev_is : (bytes : Li
   fits_meets may may_is held b hold few fits = grind (arith, may_is, append_assoc, shift-zero, length-append)
   fits_meets may may_is held b (finish f) few fits =
       let goes_on = λ (more : List ℕ). ev_front (held ++ b ∷ more) (drop (front_length f) (held ++ b ∷ []) ++ more) f (fits.0 more) (fits.1)
-          (grind (arith, append_assoc, drop-append-le (front_length f) (held ++ b ∷ []) more, length-append)) in
+      (grind (arith, append_assoc, drop-append-le (front_length f) (held ++ b ∷ []) more, length-append)) in
       grind (arith, may_is, length-append, length-drop)
   fits_meets may may_is held b (leave n) few fits =
       let goes_on = λ (more : List ℕ). ev_front (held ++ b ∷ more) _ (malformed n) (fits.0 more) (fits.1) (drop-append-le n held (b ∷ more) (fits.2)) in

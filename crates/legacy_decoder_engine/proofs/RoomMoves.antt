@@ -2,12 +2,12 @@
 use Rattle.std.proofs.Common.{◌≡◌, ℕ, ◌+◌, ◌*◌, ◌<◌, ◌≤◌, List, [], ◌∷◌, length, Bool, true, false, cond, Some, ◌&&◌, mul-add, arith}
 use Rattle.std.proofs.{lemmas.Bool.{false≢true, cond_both}, lemmas.Bool.Decides.nat_tests, Math.Nat.mul-le-mul_left}
 use Rattle.legacy_tables.specs.Unicode.{IsByte, AreBytes}
-use Rattle.legacy_base.specs.{States.{DecoderState, may_hold, rests, state_of}, DecoderActs.{takes, writes, reports, act_at_end, act_at_rest}}
+use Rattle.legacy_base.specs.{States.{DecoderState, may_hold, rests, state_of}, DecoderActs.{takes, writes, act_at_rest}}
 use Rattle.legacy_base.specs.DecoderActs.{act_room, room_of_act, need, full_room, full_room_in, release_room_in}
 use Rattle.legacy_base.specs.{Lengths.{LengthQuery, to_utf16, to_utf8, to_utf8_without_replacement, query_form, replacement_units, room}, Grammar.Grammar}
 use Rattle.legacy_text.specs.EncodingForm.{unit_count, bmp_room, wide_room}
 use Rattle.legacy_base.proofs.Enough.{room-rises}
-use Rattle.legacy_decoder_engine.specs.{Steps.{Step, step_held, end_events, DecoderMachine, Meets}, StepUnits.{step_units, step_left, IsWidth, Cost, WritePays}}
+use Rattle.legacy_decoder_engine.specs.{Steps.{Step, step_held, DecoderMachine, Meets}, StepUnits.{step_units, step_left, IsWidth, Cost, WritePays}}
 use Rattle.legacy_decoder_engine.specs.Shown.{KeepsRooms}
 use Rattle.legacy_decoder_engine.proofs.Widths.{width_of}
 

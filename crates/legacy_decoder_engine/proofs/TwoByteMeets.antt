@@ -1,13 +1,13 @@
 -- The machines of codecs with sequences of one and two bytes agree with their grammars.
-use Rattle.std.proofs.{Common.{◌≡◌, ◌∙◌, ℕ, ◌<◌, ◌≤◌, List, [], ◌∷◌, Bool, true, false, cond, refl, ap, arith}, lemmas.Bool.false≢true}
+use Rattle.std.proofs.{Common.{◌≡◌, ◌∙◌, ℕ, ◌<◌, ◌≤◌, List, [], ◌∷◌, Bool, true, false, cond, refl, ap, arith}, lemmas.Bool.{false≢true, cond_both}}
 use Rattle.std.proofs.lemmas.Bool.Decides.{nat_tests}
-use Rattle.std.specs.{Int.is_in_range, Char.is_ascii}
-use Rattle.legacy_base.specs.{Fronts.{Front, reads, malformed, reads_or, trail_rule, front_length, cut}, States.{is_lead, single_lead_may_hold, may_hold}}
-use Rattle.legacy_base.specs.{States.rests, Profile.{Profile, lead_profile}, Grammar.{Grammar, profile, events_of}, DecoderActs.has_marks}
+use Rattle.std.specs.{Char.is_ascii}
+use Rattle.legacy_base.specs.{Fronts.{Front, reads, malformed, reads_or, trail_rule, cut}, States.{is_lead, single_lead_may_hold, may_hold}}
+use Rattle.legacy_base.specs.{Profile.{Profile, lead_profile}, Grammar.{Grammar, profile, events_of}, DecoderActs.has_marks}
 use Rattle.legacy_decoder_engine.specs.{Steps.{Step, hold, finish, end_events, ReportMeets, Meets}, LeadMachines.{two_byte_step, two_byte_machine, lead_first}}
-use Rattle.legacy_decoder_engine.specs.{LeadCodecs.IsPastAscii, StatesAfterSteps.{IsOneOrMarked, Settles}}
+use Rattle.legacy_decoder_engine.specs.{LeadCodecs.IsPastAscii, StatesAfterSteps.{IsOneOrMarked}}
 use Rattle.legacy_base.proofs.Cuts.{cut-nil}
-use Rattle.legacy_decoder_engine.proofs.FrontMoves.{Fits, fits_trail, fits_meets, end_meets, report_meets, some_reads_or, some_trail_rule}
+use Rattle.legacy_decoder_engine.proofs.FrontMoves.{Fits, fits_trail, fits_meets, end_meets, report_meets}
 
 -- The kinds of first bytes: ASCII, which is its own scalar; another scalar up to U+FFFF; a lead; or malformed. For each
 -- two bytes, `paid` code units are enough for the scalar.
@@ -57,21 +57,17 @@ module _ (g : Grammar) (front : ℕ → List ℕ → Front) (is_lead_byte : ℕ 
 
   -- ---- all steps
 
-  step_fits : (held : List ℕ) (b : ℕ) → single_lead_may_hold is_lead_byte held ≡ true
-      → Fits front (single_lead_may_hold is_lead_byte) held b (two_byte_step first scalars held b)
-  step_fits held b h = grind (arith, fits_trail, lead_holds, false≢true)
-
   all_ends : (held : List ℕ) → single_lead_may_hold is_lead_byte held ≡ true → events_of g held ≡ end_events held
   all_ends [] h = ev_is [] ∙ cut-nil front
   all_ends (b ∷ held) h = end_meets g front ev_is b held (grind (arith, lead_holds, false≢true))
 
   all_reports : (held more : List ℕ) → single_lead_may_hold is_lead_byte held ≡ true → ReportMeets g held more
-  all_reports held more h = report_meets g front ev_is held more (grind (arith, lead_holds, some_reads_or, some_trail_rule, false≢true))
+  all_reports held more h = report_meets g front ev_is held more (grind (arith, lead_holds, cond_both, false≢true))
 
   pub two_byte_meets : Meets g (two_byte_machine g first scalars)
   two_byte_meets =
       let meets = fits_meets g front ev_is (single_lead_may_hold is_lead_byte) may_is in
-      grind (arith, may_is, is.profile_is, meets, false≢true, step_fits, all_ends, all_reports)
+      grind (arith, may_is, is.profile_is, meets, false≢true, fits_trail, lead_holds, all_ends, all_reports)
 
 -- ---- tests of the first byte
 

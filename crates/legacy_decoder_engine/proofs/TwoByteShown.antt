@@ -1,12 +1,12 @@
 -- The proof for all codecs with sequences of one and two bytes, from the few facts that each shows.
-use Rattle.std.proofs.{Common.{◌≡◌, ℕ, ◌<◌, ◌≤◌, List, ◌∷◌, length, Bool, true, false, refl, ap, arith}, lemmas.Bool.false≢true}
-use Rattle.legacy_base.specs.{DecoderActs.{act_room, takes, full_room, full_room_in, release_room_in, has_short_ascii, has_reported}, Fronts.Front}
-use Rattle.legacy_base.specs.{Grammar.Grammar, States.{single_lead_may_hold, may_hold, state_of}, Lengths.{LengthQuery, query_form, room}}
+use Rattle.std.proofs.{Common.{◌≡◌, ℕ, ◌<◌, ◌≤◌, List, ◌∷◌, length, Bool, true, refl, arith}, lemmas.Bool.false≢true}
+use Rattle.legacy_base.specs.{DecoderActs.{full_room, full_room_in, release_room_in}, Fronts.Front}
+use Rattle.legacy_base.specs.{Grammar.Grammar, States.{state_of}, Lengths.{LengthQuery, query_form, room}}
 use Rattle.legacy_tables.specs.{Indexes.FlatIndexes, TableChecks.AreAccepted}
-use Rattle.legacy_decoder_engine.specs.{Steps.Step, LeadMachines.{two_byte_step, two_byte_machine}, StepUnits.{units, IsWidth, Cost}, StatesAfterSteps.Settles}
+use Rattle.legacy_decoder_engine.specs.{Steps.Step, LeadMachines.{two_byte_machine}, StepUnits.{units, IsWidth}}
 use Rattle.legacy_decoder_engine.specs.{Shown.IsShown, LeadCodecs.IsLeadCodec}
 use Rattle.legacy_decoder_engine.proofs.TwoByteMeets.{IsFirst, IsTwoByte, may_is, ascii_first, lead_holds, two_byte_meets}
-use Rattle.legacy_decoder_engine.proofs.RoomMoves.{narrow_read, Falls, query_slope, HasCosts, IsSloped, sloped_rooms}
+use Rattle.legacy_decoder_engine.proofs.RoomMoves.{narrow_read, Falls, query_slope, HasCosts, sloped_rooms}
 use Rattle.legacy_decoder_engine.proofs.{CallUnderWay.same_rooms, TwoByteCosts.{first_cost, trail_cost}, SettledSteps.trail_settles}
 
 -- The rooms of such a codec. A pair fits into the full room. For each two bytes, `paid` code units are enough. The
@@ -47,6 +47,6 @@ module _ (grammar : FlatIndexes → Grammar) (front : FlatIndexes → ℕ → Li
       IsLeadCodec grammar is_lead_byte first scalars
   lead_codec rooms bytes =
       let shown = λ (flat : FlatIndexes) (accepted : AreAccepted flat).
-          two_byte_shown (grammar flat) (front flat) is_lead_byte first (scalars flat) (is flat) paid firsts (rooms flat accepted) in
+      two_byte_shown (grammar flat) (front flat) is_lead_byte first (scalars flat) (is flat) paid firsts (rooms flat accepted) in
       let profile_is = λ (flat : FlatIndexes). (is flat).profile_is in
       grind (arith, shown, profile_is, ascii_first, lead_holds)

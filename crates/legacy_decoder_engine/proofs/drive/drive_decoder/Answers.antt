@@ -1,8 +1,7 @@
-use Rattle.std.proofs.Common.{ℕ, Bool, ◌≡◌, ◌∙◌, ◌++◌, [], ◌∷◌, arith, refl, sym, ap, subst, append-nil, add-zero, length-append}
+use Rattle.std.proofs.Common.{◌∙◌, ◌++◌, [], ◌∷◌, arith, refl, sym, ap, append-nil, add-zero, length-append}
 use Rattle.legacy_text.specs.EncodingForm.{code_units}
 use Rattle.legacy_text.proofs.CodeUnits.{total_unit_count-append}
-use Rattle.legacy_base.specs.Calls.{DecoderCall}
-use Rattle.legacy_decoder_engine.specs.{declared.moves.Fed.Fed, declared.moves.Fed.TheVariants.MalformedSequence, Moves.{fed_scalars, RevealsMalformed}}
+use Rattle.legacy_decoder_engine.specs.{Moves.{fed_scalars}}
 use Rattle.legacy_decoder_engine.proofs.CallUnderWay.{going_start, going_release, going_feed, call_full_release, call_lacks, call_read, call_unread, call_end}
 use Rattle.legacy_decoder_engine.proofs.{AheadRuns.{front_going, written}, drive.drive_decoder.Goals.{then-not-rests+else-not-has_room+in-Some, else-not-rests}}
 use Rattle.legacy_decoder_engine.proofs.drive.drive_decoder.Goals as goal

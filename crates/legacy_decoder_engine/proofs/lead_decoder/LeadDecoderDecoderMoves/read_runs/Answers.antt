@@ -1,5 +1,5 @@
 use Rattle.std.proofs.Common.{◌∙◌, sym}
-use Rattle.legacy_decoder_engine.proofs.{JoinedRuns.reads_idle, LeadHeld.idle, WrittenRuns.reads_none}
+use Rattle.legacy_decoder_engine.proofs.{JoinedRuns.reads_idle, LeadHeld.idle}
 use Rattle.legacy_decoder_engine.proofs.lead_decoder.LeadDecoderDecoderMoves.read_runs.Goals as goal
 
 pub returns-in-None : goal.returns-in-None
