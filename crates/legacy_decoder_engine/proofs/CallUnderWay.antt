@@ -7,10 +7,10 @@ use Rattle.std.specs.Char.{IsScalar}
 use Rattle.legacy_text.specs.EncodingForm.{EncodingForm, unit_count, total_unit_count}
 use Rattle.legacy_text.proofs.CodeUnits.{total_unit_count-append}
 use Rattle.legacy_base.specs.{declared.results.DecoderResult.TheVariants.{InputEmpty, OutputFull, Malformed}, States.{DecoderState, may_hold, rests}}
-use Rattle.legacy_base.specs.{DecoderActs.{LacksRoom, HadRoom, HadRooms, malformed_room, full_room_in, release_room_in}, Lengths.{LengthQuery, query_form, query_answer}}
+use Rattle.legacy_base.specs.{DecoderActs.{LacksRoom, HadRoom, HadRooms, malformed_room, full_room_in, release_room_in}, Lengths.{LengthQuery, query_form}}
 use Rattle.legacy_base.specs.{Lengths.{replacement_units, room}, Calls.{Progress, DecoderCall, IsMalformedSequence, IsMalformed, HoldsBack, reported_events}}
 use Rattle.legacy_base.specs.{Calls.may_report_end, declared.results.DecodeEvent.TheVariants.{Scalar, Bad}, declared.results.DecoderResult.DecoderResult}
-use Rattle.legacy_base.specs.{Events.shift, Grammar.{Grammar, events_of}}
+use Rattle.legacy_base.specs.{Lengths.query_answer, Events.shift, Grammar.{Grammar, events_of}}
 use Rattle.legacy_base.proofs.{Progress.{stay, at_last, behind, after_that}, Rooms.{HadRooms-append, HadRooms-none, HadRooms-released, room_needed-release}}
 use Rattle.legacy_base.proofs.{Rooms.{room_needed-read, room_needed-report, room_needed-none}, Enough.room-answer, Shifts.shift-scalars}
 use Rattle.legacy_decoder_engine.specs.{declared.moves.Fed.TheVariants.{Nothing, MalformedSequence}, Moves.{SameRooms, Feeds, Releases, Reports}}

@@ -90,7 +90,9 @@ module _ {g : Grammar} {m : DecoderMachine} (shown : IsShown g m) (held : List �
       fits = λ form. omega (arith, fits_step form s e, units-total form (fed_scalars (fed_of s held b)));
       had = λ form free. had_is form free s e;
       scalar = scalar;
-      lowers = λ query n. omega (arith, rw e at ((shown.rooms query).step_pays held b n may resting bytes byte), units-total (query_form query) (fed_scalars (fed_of s held b)));
+      lowers = λ query n.
+          let pays = rw e at ((shown.rooms query).step_pays held b n may resting bytes byte) in
+          omega (arith, pays, units-total (query_form query) (fed_scalars (fed_of s held b)));
     }
 
     -- a decoder that took the step has made the move

@@ -1,7 +1,7 @@
 -- The front of a list gives the move of a decoder, for every continuation.
 use Rattle.std.proofs.Common.{◌≡◌, ℕ, suc, ◌+◌, ◌<◌, ◌≤◌, List, [], ◌∷◌, ◌++◌, drop, length, Bool, true, false, cond, refl, sym, ◌∙◌, append_assoc}
 use Rattle.std.proofs.{Common.{length-append, length-drop, drop_of_length-le, le_refl, arith}, Math.Seq.{drop-length, drop-append_seam}}
-use Rattle.std.proofs.{lemmas.List.drop-append-le, lemmas.Bool.cond_both}
+use Rattle.std.proofs.{lemmas.List.drop-append-le}
 use Rattle.legacy_base.specs.{Fronts.{Front, reads, malformed, front_length, front_events, reads_or, trail_rule, cut}, Grammar.{Grammar, events_of}}
 use Rattle.legacy_base.specs.{declared.results.DecodeEvent.TheVariants.Bad, Beginnings.BeginsWith, Events.shift, States.may_hold}
 use Rattle.legacy_decoder_engine.specs.Steps.{Step, hold, finish, leave, StepMeets, WriteMeets, end_events, ReportMeets, trail_step}

@@ -1,8 +1,7 @@
 -- Machines that hold nothing back.
-use Rattle.std.proofs.{Common.{◌≡◌, ℕ, ◌≤◌, List, [], length, true, arith}, lemmas.Bool.false≢true}
-use Rattle.legacy_base.specs.{Fronts.{Front, malformed, reads_or}, Grammar.Grammar, States.is_empty}
-use Rattle.legacy_decoder_engine.specs.Steps.{finish, ReportMeets}
-use Rattle.legacy_decoder_engine.proofs.FrontMoves.{Fits}
+use Rattle.std.proofs.{Common.{◌≡◌, ℕ, ◌≤◌, List, length, true, arith}, lemmas.Bool.false≢true}
+use Rattle.legacy_base.specs.{Grammar.Grammar, States.is_empty}
+use Rattle.legacy_decoder_engine.specs.Steps.{ReportMeets}
 
 pub few_held : (held : List ℕ) → is_empty held ≡ true → length held ≤ 3
 few_held held h = grind (arith, false≢true)

@@ -96,11 +96,9 @@ narrow_read narrow wide rises g = grind arith
 -- the rooms of a codec that fall by slopes
 module _ (g : Grammar) (m : DecoderMachine) (wt : List ℕ → ℕ) (paid : ℕ) (meets : Meets g m) (costs : HasCosts g m wt paid) (is : IsSloped g m wt paid)
     (query : LengthQuery) where
-  w : IsWidth (unit_count (query_form query)) (bmp_room (query_form query)) (wide_room (query_form query))
-  w = width_of (query_form query)
-
   pub sloped_rooms : KeepsRooms query g m
   sloped_rooms =
+      let w = width_of (query_form query) in
       let cost = costs.cost (unit_count (query_form query)) (bmp_room (query_form query)) (wide_room (query_form query)) w in
       record {
         step_fits = λ held b h r bytes byte. (cost held b h r bytes byte).fits;

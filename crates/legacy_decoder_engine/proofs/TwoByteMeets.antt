@@ -4,10 +4,10 @@ use Rattle.std.proofs.lemmas.Bool.Decides.{nat_tests}
 use Rattle.std.specs.{Char.is_ascii}
 use Rattle.legacy_base.specs.{Fronts.{Front, reads, malformed, reads_or, trail_rule, cut}, States.{is_lead, single_lead_may_hold, may_hold}}
 use Rattle.legacy_base.specs.{Profile.{Profile, lead_profile}, Grammar.{Grammar, profile, events_of}, DecoderActs.has_marks}
-use Rattle.legacy_decoder_engine.specs.{Steps.{Step, hold, finish, end_events, ReportMeets, Meets}, LeadMachines.{two_byte_step, two_byte_machine, lead_first}}
+use Rattle.legacy_decoder_engine.specs.{Steps.{Step, hold, finish, end_events, ReportMeets, Meets}, LeadMachines.{two_byte_machine, lead_first}}
 use Rattle.legacy_decoder_engine.specs.{LeadCodecs.IsPastAscii, StatesAfterSteps.{IsOneOrMarked}}
 use Rattle.legacy_base.proofs.Cuts.{cut-nil}
-use Rattle.legacy_decoder_engine.proofs.FrontMoves.{Fits, fits_trail, fits_meets, end_meets, report_meets}
+use Rattle.legacy_decoder_engine.proofs.FrontMoves.{fits_trail, fits_meets, end_meets, report_meets}
 
 -- The kinds of first bytes: ASCII, which is its own scalar; another scalar up to U+FFFF; a lead; or malformed. For each
 -- two bytes, `paid` code units are enough for the scalar.
