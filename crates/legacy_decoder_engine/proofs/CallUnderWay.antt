@@ -1,5 +1,5 @@
 -- The moves of a decoder make a call.
-use Rattle.std.proofs.Common.{◌≡◌, ◌≢◌, ◌∙◌, ℕ, zero, suc, ◌+◌, ◌-◌, ◌≤◌, ◌<◌, List, [], ◌∷◌, ◌++◌, length, map, get_or, take, drop, refl, sym, ap, subst}
+use Rattle.std.proofs.Common.{◌≡◌, ◌≢◌, ◌∙◌, ℕ, zero, suc, ◌+◌, ◌-◌, ◌≤◌, ◌<◌, List, [], ◌∷◌, ◌++◌, length, map, get_or, take, drop, refl, ap, subst}
 use Rattle.std.proofs.Common.{arith, add-zero, add-one, append-nil, drop-cons, drop_of_length-le, length-append, length-drop, Bool, true, false, IsTrue, Some}
 use Rattle.std.proofs.{Common.{None, Option, ◌⊎◌, inl, inr, All}, lemmas.List.{map-append, drop-drop}, lemmas.List.Elements.{All-append, All-nil, All-cons}}
 use Rattle.std.proofs.{Math.Nat.sub-zero, lemmas.Bool.{true≢false, cases_lt}, lemmas.Bool.Decides.nat_tests}
@@ -10,11 +10,11 @@ use Rattle.legacy_base.specs.{declared.results.DecoderResult.TheVariants.{InputE
 use Rattle.legacy_base.specs.{DecoderActs.{LacksRoom, HadRoom, HadRooms, malformed_room, full_room_in, release_room_in}, Lengths.{LengthQuery, query_form}}
 use Rattle.legacy_base.specs.{Lengths.{replacement_units, room}, Calls.{Progress, DecoderCall, IsMalformedSequence, IsMalformed, HoldsBack, reported_events}}
 use Rattle.legacy_base.specs.{Calls.may_report_end, declared.results.DecodeEvent.TheVariants.{Scalar, Bad}, declared.results.DecoderResult.DecoderResult}
-use Rattle.legacy_base.specs.{Events.shift, Grammar.{Grammar, events_of}}
+use Rattle.legacy_base.specs.{Lengths.query_answer, Events.shift, Grammar.{Grammar, events_of}}
 use Rattle.legacy_base.proofs.{Progress.{stay, at_last, behind, after_that}, Rooms.{HadRooms-append, HadRooms-none, HadRooms-released, room_needed-release}}
 use Rattle.legacy_base.proofs.{Rooms.{room_needed-read, room_needed-report, room_needed-none}, Enough.room-answer, Shifts.shift-scalars}
 use Rattle.legacy_decoder_engine.specs.{declared.moves.Fed.TheVariants.{Nothing, MalformedSequence}, Moves.{SameRooms, Feeds, Releases, Reports}}
-use Rattle.legacy_decoder_engine.specs.Moves.{Finishes, IsCovered, HoldsBytes, RevealsMalformed, read_room, fed_scalars, fed_units, unread_byte}
+use Rattle.legacy_decoder_engine.specs.Moves.{Finishes, IsCovered, HoldsBytes, RevealsMalformed, read_room, fed_scalars, unread_byte}
 use Rattle.legacy_decoder_engine.specs.declared.moves.Fed.{Fed}
 
 pub same_rooms : (g : Grammar) → SameRooms g g
@@ -48,20 +48,6 @@ module _ (form : EncodingForm) (g : Grammar) where
 
   malformed_room_at : (read n : ℕ) → (read ≡ 0 → release_room_in form g ≤ n) → (0 < read → full_room_in form g ≤ n) → malformed_room form g read ≤ n
   malformed_room_at read n a b = grind (arith, nat_tests)
-
-  malformed_room_of : (read n : ℕ) → malformed_room form g read ≤ n → (read ≡ 0 → release_room_in form g ≤ n) × (0 < read → full_room_in form g ≤ n)
-  malformed_room_of read n h = (λ z. grind (arith, nat_tests), λ p. grind (arith, nat_tests))
-
--- ---- what is reported, if `p` more bytes were done with before
-
-shift-reported : (p seen more : ℕ) (after : DecoderState) (answer : DecoderResult) → p + seen ≡ more → HoldsBack seen after answer
-    → (shift p (reported_events seen answer) ≡ reported_events more answer) × HoldsBack more after answer
-shift-reported p seen more after answer h h1 = grind arith
-
--- a sequence that is reported without a byte was held back
-malformed-held : (answer : DecoderResult) (seen : ℕ) (held : List ℕ) (after : DecoderState) → length held ≡ seen → IsMalformed answer
-    → HoldsBack seen after answer → held ≢ []
-malformed-held answer seen held after h h1 h2 h3 = grind arith
 
 -- A call in progress: the decoder is in the state `now`, has read `read` bytes and has written the scalars.
 pub record Going (form : EncodingForm) (last : Bool) (before : DecoderState) (source : List ℕ) (free : ℕ) (now : DecoderState) (read : ℕ)
@@ -121,21 +107,16 @@ module _ {form : EncodingForm} {last : Bool} where
     pub call_then : {next : DecoderState} {answer : DecoderResult} {n : ℕ} → DecoderCall form now (drop read source) last left next answer n []
         → IsMalformed answer ⊎ (next ≡ now) → DecoderCall form before source last free next answer (read + n) scalars
     call_then {next} {answer} {n} c kind =
-        let counts = a.progress.counts in
-        let seen : a.passed + (length now.held + n) ≡ length before.held + (read + n) = omega (arith, counts, length-drop read source, a.within) in
-        let reported = shift-reported a.passed (length now.held + n) (length before.held + (read + n)) next answer seen c.malformed_sequence in
+        let seen : a.passed + (length now.held + n) ≡ length before.held + (read + n) = omega (arith, a.progress.counts, length-drop read source, a.within) in
+        let reported : (shift a.passed (reported_events (length now.held + n) answer) ≡ reported_events (length before.held + (read + n)) answer)
+        × HoldsBack (length before.held + (read + n)) next answer = grind (arith, c.malformed_sequence) in
         let full = a.rooms.full form in
-        let seen_here = length now.held + n in
-        let was_held : n ≤ 0 → IsMalformed answer → now.held ≢ [] = λ z m. malformed-held answer seen_here _ next (omega arith) m c.malformed_sequence in
+        let l = length-drop read source in
+        let was_held : n ≤ 0 → IsMalformed answer → now.held ≢ [] = grind arith in
         let suffices : (query : LengthQuery) → query_form query ≡ form → room query before (length source) ≤ free → answer ≢ OutputFull =
-        λ query q enough.
-        let k = a.lowers query q 0 in
-        let x : length (drop read source) + 0 ≡ length (drop read source) = omega arith in
-        let y : length source + 0 ≡ length source = omega arith in
-        let k' = rw (x, y) at k in
-        c.suffices query q (omega arith) in
+        λ query q enough. let k = a.lowers query q 0 in grind (arith, c.suffices query q) in
         record {
-          within = omega (arith, a.within, c.within, length-drop read source);
+          within = omega (arith, a.within, c.within);
           fits = a.fits;
           scalar = a.scalar;
           passed = a.passed + c.passed;
@@ -144,15 +125,12 @@ module _ {form : EncodingForm} {last : Bool} where
               (at_last _ before source a.passed now (drop read source) _ a.progress) c.progress);
           allowed = c.allowed;
           malformed_sequence = reported.1;
-          input_empty = λ e. let i = c.input_empty e in (omega (arith, i.0, a.within, length-drop read source), i.1, i.2);
+          input_empty = λ e. grind (arith, c.input_empty e);
           output_full = λ e. rw (← drop-drop n read source) (omega (arith, c.output_full e));
-          full_at_once = λ l. let e = a.once l in let f = c.full_at_once (still l) in (f.0, omega (arith, e.0, f.1), e.1, f.3 ∙ e.2);
+          full_at_once = λ l. grind (arith, c.full_at_once (still l), a.once l);
           room_after_malformed = λ m.
-              let r = malformed_room_of form now.grammar n _ (c.room_after_malformed m) in
-              malformed_room_at form before.grammar (read + n) _ (λ z. omega (arith, r.0 (omega arith), a.rooms.report form)) (λ p. elim (cases_lt 0 n) [
-                | inl q ↦ omega (arith, r.1 q, full)
-                | inr z ↦ a.held (omega arith) (was_held z m)
-              ]);
+              malformed_room_at form before.grammar (read + n) _ (λ z. grind (arith, nat_tests, c.room_after_malformed m, a.rooms.report form))
+              (λ p. elim (cases_lt 0 n) [ inl q ↦ grind (arith, nat_tests, c.room_after_malformed m) | inr z ↦ a.held (omega arith) (was_held z m) ]);
           room_held = λ p ne. elim (cases_lt 0 n) [
             | inl q ↦ omega (arith, c.room_held q ne, full)
             | inr z ↦ a.held (omega arith) (elim kind [ inl m ↦ was_held z m | inr e ↦ λ none. ne (ap DecoderState.held e ∙ none) ])
@@ -186,28 +164,23 @@ module _ {form : EncodingForm} {last : Bool} where
       → Feeds before byte next fed → (RevealsMalformed fed → ⊥) → read_room form before byte ≤ free
       → Going form last before (byte ∷ rest) free next 1 (fed_scalars fed)
   fed_going (MalformedSequence a b unread) r f sound enough = absurd (sound tt)
-  fed_going {before} {byte} {rest} {free} {next} fed r f sound enough = record {
-    within = omega arith;
-    passed = f.passed;
-    progress = behind before (byte ∷ []) f.passed next [] (map Scalar (fed_scalars fed)) rest f.progress;
-    resting = f.holds;
-    allowed = f.allowed;
-    rooms = f.rooms;
-    held = λ a ne. let full = f.full form (inr ne) in let none = f.empties in grind arith;
-    had = rw r (f.had form free enough);
-    released = λ e. absurd (true≢false (sym r ∙ e));
-    fits = omega (arith, f.fits form, enough);
-    scalar = f.scalar;
-    once = λ l. absurd (omega (arith, enough, room_needed-read form before byte rest last r));
-    lowers = λ query q more.
-        let l = f.lowers query (length rest + more) in
-        let z : (length rest + more) + length (unread_byte byte fed) ≡ length rest + more = omega arith in
-        let l' = subst
-        (λ k. room query next k + (total_unit_count (query_form query) (fed_scalars fed) + fed_units query fed) ≤ room query before
-        (length rest + more + 1)) z l in
-        let e : length (byte ∷ rest) + more ≡ length rest + more + 1 = omega arith in
-        rw e (omega (arith, l', ap (λ f. total_unit_count f (fed_scalars fed)) q));
-  }
+  fed_going {before} {byte} {rest} {free} {next} fed r f sound enough =
+      let needs = room_needed-read form before byte rest last r in
+      record {
+        within = omega arith;
+        passed = f.passed;
+        progress = behind before (byte ∷ []) f.passed next [] (map Scalar (fed_scalars fed)) rest f.progress;
+        resting = f.holds;
+        allowed = f.allowed;
+        rooms = f.rooms;
+        held = λ a ne. grind (arith, f.full form (inr ne));
+        had = rw r (f.had form free enough);
+        released = grind arith;
+        fits = omega (arith, f.fits form, enough);
+        scalar = f.scalar;
+        once = λ l. absurd (omega (arith, enough, needs));
+        lowers = λ query q more. grind (arith, f.lowers query (length rest + more));
+      }
 
   module _ {before : DecoderState} {source : List ℕ} {free : ℕ} {now : DecoderState} {read : ℕ} {scalars : List ℕ}
       (a : Going form last before source free now read scalars) {left : ℕ} (room_is : left + total_unit_count form scalars ≡ free) where
@@ -223,8 +196,7 @@ module _ {form : EncodingForm} {last : Bool} where
   held_going {before} {source} {free} {now} {read} {scalars} a left room_is zero within holds = rw (holds, add-zero read) a
   held_going {before} {source} {free} {now} {read} {scalars} {next} a left room_is (suc n) within holds =
       let some : read < length source = omega (arith, within, length-drop read source) in
-      let cut : take (suc n) (drop read source) ≡ get_or source read 0 ∷ take n (drop (read + 1) source) = ap (take (suc n)) (next_byte source read some) in
-      let h = subst (λ l. HoldsBytes form left now l next) cut holds in
+      let h = rw (next_byte source read some) at holds in
       let step = subst (λ cs. Going form last before source free h.0 (read + 1) cs) (append-nil scalars) (going_feed a room_is Nothing some h.1 (λ x. x) h.2) in
       let place : read + 1 + n ≡ read + suc n = omega arith in
       subst (λ k. Going form last before source free next k scalars) place
@@ -241,35 +213,17 @@ module _ {form : EncodingForm} {last : Bool} where
     call_none (Malformed a b) sound m done full lacks = absurd (sound tt)
     call_none {source} answer sound m done full lacks =
         let never : (query : LengthQuery) → query_form query ≡ form → room query s (length source) ≤ free → answer ≡ OutputFull → ⊥ =
-        λ query q enough e. let f = full e in let n = f.1.covers query source last in let n' = rw q at n in omega (arith, f.0) in
-        record {
-          within = omega arith;
-          fits = omega arith;
-          scalar = All-nil IsScalar;
-          passed = 0;
-          progress = stay false s source;
-          allowed = m;
-          malformed_sequence = tt;
-          input_empty = done;
-          output_full = λ e. rw sub-zero (full e).0;
-          full_at_once = λ l. (lacks l, refl, refl, refl);
-          room_after_malformed = λ x. absurd (sound x);
-          room_held = λ a. absurd (omega arith);
-          had_room = HadRooms-none form s free;
-          lowers = λ query q more z. omega arith;
-          suffices = never;
-          enough = λ query q n k le answered most. never query q (omega (arith, room-answer query s (length source) n k le answered));
-        }
+        λ query q enough e. grind (arith, (full e).1.covers query source last) in
+        let none = stay false s source in
+        let enough : (query : LengthQuery) → query_form query ≡ form → (n k : ℕ) → length source ≤ n → query_answer query s n ≡ Some k → k ≤ free
+        → answer ≢ OutputFull =
+        λ query q n k le answered most. never query q (omega (arith, room-answer query s (length source) n k le answered)) in
+        grind (arith, All-nil, sub-zero, HadRooms-none)
 
     -- the next act lacks its room
     call_full : {source : List ℕ} → may_hold s.grammar s.held ≡ true → IsCovered s → LacksRoom form s source last free
         → DecoderCall form s source last free s OutputFull 0 []
     call_full m c l = call_none OutputFull (λ x. x) m (λ e. cc) (λ e. (l, c)) (λ l. refl)
-
-    -- all bytes are read, and there is nothing to report
-    call_done : rests s.grammar s.held ≡ true → may_hold s.grammar s.held ≡ true → (IsTrue last → events_of s.grammar s.held ≡ [])
-        → DecoderCall form s [] last free s InputEmpty 0 []
-    call_done r m none = call_none InputEmpty (λ x. x) m (λ e. (refl, r, none)) (λ e. cc) (λ l. absurd (omega (arith, room_needed-none form s last r none)))
 
     -- a malformed sequence is reported, after `n` more bytes
     call_malformed : {source : List ℕ} {next : DecoderState} {a b : ℕ} (n passed : ℕ) → n ≤ length source → may_hold next.grammar next.held ≡ true
@@ -289,33 +243,25 @@ module _ {form : EncodingForm} {last : Bool} where
         → DecoderCall form s (byte ∷ rest) last free next (Malformed a b) n []
     call_fed {byte} {rest} {next} {a} {b} unread n r f enough within left_is =
         let full = f.full form (inl tt) in
-        call_malformed n f.passed within f.allowed f.holds
-        (at_last _ s (byte ∷ rest) f.passed next (drop n (byte ∷ rest)) _
-        (rw left_is (behind s (byte ∷ []) f.passed next (unread_byte byte (MalformedSequence a b unread)) _ rest f.progress)))
-        (λ l. omega (arith, enough, room_needed-read form s byte rest last r))
-        (malformed_room_at form s.grammar n free (λ z. omega (arith, f.report form, full, enough)) (λ p. omega (arith, full, enough)))
-        (λ p. omega (arith, full, enough))
-        (λ query q more z.
-        let l = f.lowers query (length rest + more) in
-        let c : length (drop n (byte ∷ rest)) + more ≡ (length rest + more) + length (unread_byte byte (MalformedSequence a b unread)) =
-        omega (arith, ap length left_is, length-append (unread_byte byte (MalformedSequence a b unread)) rest) in
-        let e : length (byte ∷ rest) + more ≡ length rest + more + 1 = omega arith in
-        rw (c, e) (omega arith))
+        let needs = room_needed-read form s byte rest last r in
+        let seen = at_last (may_report_end last (Malformed a b) (drop n (byte ∷ rest))) s (byte ∷ rest) f.passed next (drop n (byte ∷ rest)) _
+        (rw left_is (behind s (byte ∷ []) f.passed next (unread_byte byte (MalformedSequence a b unread)) _ rest f.progress)) in
+        let room = malformed_room_at form s.grammar n free (λ z. omega (arith, f.report form)) (λ p. omega arith) in
+        call_malformed n f.passed within f.allowed f.holds seen (grind arith) room (λ p. omega arith)
+        (λ query q more z. grind (arith, f.lowers query (length rest + more), ap length left_is, length-append))
 
     -- the held-back bytes are reported at the end of input
     call_report : {next : DecoderState} {a b : ℕ} → last ≡ true → rests s.grammar s.held ≡ true → events_of s.grammar s.held ≢ []
         → release_room_in form s.grammar ≤ free
         → Reports s next a b → DecoderCall form s [] last free next (Malformed a b) 0 []
     call_report {next} {a} {b} end r some enough f =
-        call_malformed 0 f.passed (omega arith) f.allowed f.holds (rw end f.progress)
-        (λ l. let e = room_needed-report form s r some in omega (arith, rw end at l)) enough
-        (λ p. absurd (omega arith)) (λ query q more z. let none = z end in rw none (f.lowers query))
+        grind (arith, call_malformed {source = []} {next = next} {a = a} {b = b} 0 f.passed, room_needed-report)
 
     -- the call ends after its input
     call_finish : {next : DecoderState} (answer : DecoderResult) → rests s.grammar s.held ≡ true → may_hold s.grammar s.held ≡ true
         → Finishes form s last free next answer
         → DecoderCall form s [] last free next answer 0 [] × (IsMalformed answer ⊎ (next ≡ s))
-    call_finish answer h h1 h2 = grind (arith, call_done, call_full, room_needed-report, call_report)
+    call_finish answer h h1 h2 = grind (arith, call_none {source = []} InputEmpty, call_full, room_needed-none, room_needed-report, call_report)
 
     -- the held-back scalar lacks its room
     pub call_full_release : {source : List ℕ} → IsCovered s → may_hold s.grammar s.held ≡ true → rests s.grammar s.held ≡ false

@@ -1,22 +1,22 @@
 -- A machine that agrees with its grammar and keeps its rooms makes the moves that the loop requires.
-use Rattle.std.proofs.Common.{◌≡◌, ◌≢◌, ◌∙◌, ℕ, suc, ◌+◌, ◌-◌, ◌≤◌, List, [], ◌∷◌, ◌++◌, length, drop, refl, sym, ap, subst, arith, append-nil, length-append}
-use Rattle.std.proofs.Common.{length-drop, drop_of_length-le, Bool, true, false, cond, ◌&&◌, ◌⊎◌, map, IsTrue, Option, Some, None, inl, inr, All}
+use Rattle.std.proofs.Common.{◌≡◌, ◌≢◌, ◌∙◌, ℕ, suc, ◌-◌, ◌≤◌, List, [], ◌∷◌, ◌++◌, length, drop, refl, ap, subst, arith, append-nil, length-append}
+use Rattle.std.proofs.Common.{length-drop, drop_of_length-le, true, false, ◌&&◌, ◌⊎◌, Some, None, inl, inr, All}
 use Rattle.std.proofs.{lemmas.List.{drop-append-le, nil_from_length}, lemmas.List.Elements.{All-nil, All-cons}, lemmas.Bool.Decides.nat_tests}
 use Rattle.std.proofs.Math.Seq.{drop-length}
 use Rattle.std.specs.Char.{IsScalar, is_ascii}
 use Rattle.legacy_text.specs.EncodingForm.{EncodingForm, Utf8, Utf16, code_units, unit_count, all_code_units, total_unit_count, bmp_room, wide_room}
 use Rattle.legacy_tables.specs.Unicode.{IsByte, AreBytes}
-use Rattle.legacy_base.specs.{States.{DecoderState, rests, may_hold, state_of}, DecoderActs.{act_room, takes, full_room, has_short_ascii, has_reported}}
-use Rattle.legacy_base.specs.{DecoderActs.{has_marks, full_room_in, release_room_in, HadRoom}, Lengths.{LengthQuery, to_utf16, to_utf8}}
-use Rattle.legacy_base.specs.{Lengths.{query_form, replacement_units, room}, Fronts.{reads, malformed}, Events.shift}
-use Rattle.legacy_base.specs.{declared.results.DecodeEvent.TheVariants.Scalar, Grammar.{Grammar, events_of}, Calls.IsMalformedByte}
-use Rattle.legacy_decoder_engine.specs.Moves.{IsCovered, read_room, fed_scalars, fed_malformed, FedHolds, RevealsMalformed, Feeds, Releases, Reports}
-use Rattle.legacy_decoder_engine.specs.Steps.{Step, finish, step_held, step_length, step_unread, step_events, StepMeets, PendingMeets}
-use Rattle.legacy_decoder_engine.specs.{Steps.DecoderMachine, Feeding.{fed_form, fed_of, HasScalars, Took}}
-use Rattle.legacy_decoder_engine.specs.{StepUnits.{units, step_units, step_left}, declared.moves.Fed.Fed, StatesAfterSteps.{IsOneOrMarked, Settles}}
+use Rattle.legacy_base.specs.{States.{rests, may_hold, state_of}, DecoderActs.{act_room, takes, full_room, has_short_ascii, has_reported}}
+use Rattle.legacy_base.specs.{DecoderActs.{has_marks, full_room_in, HadRoom}, Lengths.{LengthQuery, to_utf16, to_utf8}}
+use Rattle.legacy_base.specs.{Lengths.{query_form, room}, Fronts.{reads, malformed}}
+use Rattle.legacy_base.specs.{declared.results.DecodeEvent.TheVariants.Scalar, Grammar.{Grammar, events_of}, Calls.{IsMalformedByte, Progress}}
+use Rattle.legacy_decoder_engine.specs.Moves.{IsCovered, read_room, fed_scalars, Feeds, Releases, Reports}
+use Rattle.legacy_decoder_engine.specs.Steps.{Step, finish, step_held, step_length, StepMeets}
+use Rattle.legacy_decoder_engine.specs.{Steps.DecoderMachine, Feeding.{fed_of, Took}}
+use Rattle.legacy_decoder_engine.specs.{StepUnits.{units, step_units}, declared.moves.Fed.Fed, StatesAfterSteps.{IsOneOrMarked, Settles}}
 use Rattle.legacy_decoder_engine.specs.Shown.{IsShown}
 use Rattle.legacy_base.proofs.{Rooms.release-full, GrammarLaws.{may_none, rests-none}}
-use Rattle.legacy_decoder_engine.proofs.RoomMoves.{all_needs}
+use Rattle.legacy_decoder_engine.proofs.{RoomMoves.all_needs, CallUnderWay.same_rooms}
 
 -- ---- rooms of all three queries
 
@@ -25,58 +25,18 @@ pub units-total : (form : EncodingForm) (cs : List ℕ) → units (unit_count fo
 units-total form [] = refl
 units-total form (c ∷ cs) = let e = units-total form cs in omega (arith, length-append (code_units form c) (all_code_units form cs))
 
-fits_form : (form : EncodingForm) {g : Grammar} {m : DecoderMachine} → IsShown g m → (held : List ℕ) (b : ℕ) → may_hold g held ≡ true → rests g held ≡ true
-    → AreBytes held → IsByte b →
-    step_units (unit_count form) (bmp_room form) (m.step held b) ≤ read_room form (state_of g held) b
-fits_form Utf8 shown held b m r bytes byte = (shown.rooms to_utf8).step_fits held b m r bytes byte
-fits_form Utf16 shown held b m r bytes byte = (shown.rooms to_utf16).step_fits held b m r bytes byte
-
-writes_form : (form : EncodingForm) {g : Grammar} {m : DecoderMachine} → IsShown g m →
-    (held : List ℕ) (n c : ℕ) → may_hold g held ≡ true → rests g held ≡ false → AreBytes held → m.pending held ≡ Some (n, c) →
-    unit_count form c ≤ release_room_in form g
-writes_form Utf8 shown held n c m r bytes e = let w = (shown.rooms to_utf8).write_pays held m r bytes in let w' = rw e at w in w'.0
-writes_form Utf16 shown held n c m r bytes e = let w = (shown.rooms to_utf16).write_pays held m r bytes in let w' = rw e at w in w'.0
-
--- ---- what a step is
-
-fed_scalars_are : (marks : Bool) (cs : List ℕ) → IsOneOrMarked marks cs → fed_scalars (fed_form cs) ≡ cs
-fed_scalars_are marks cs h = grind arith
-
-form_sound : (cs : List ℕ) → RevealsMalformed (fed_form cs) → ⊥
-form_sound cs h = grind arith
-
-form_holds : (passed : ℕ) (after : DecoderState) (cs : List ℕ) → IsTrue (rests after.grammar after.held) → FedHolds passed after (fed_form cs)
-form_holds passed after cs h = grind arith
-
 -- ---- the room that the scalars of a step had
 
 -- a byte needs less than the full room only if it is ASCII and nothing is held back; then it is its own scalar
 module _ (narrow wide : ℕ) {g : Grammar} {m : DecoderMachine} (shown : IsShown g m) (b : ℕ) (unreported : has_reported g ≡ false) where
-  abbrev IsShort : List ℕ → Type 0
-  IsShort held = ((has_short_ascii g && is_ascii b) ≡ true) × (m.step held b ≡ finish (reads 1 (b ∷ [])))
-
-  by_tests : (a s : Bool) → is_ascii b ≡ a → has_short_ascii g ≡ s
-      → (full_room narrow wide g ≤ cond ((a && true) && s) 1 (full_room narrow wide g)) ⊎ IsShort []
-  by_tests a s h h1 = grind arith
-
-  short_or_usual : (held : List ℕ) → (full_room narrow wide g ≤ act_room narrow wide (state_of g held) (takes b)) ⊎ IsShort held
-  short_or_usual held = grind (arith, by_tests, nat_tests)
-
--- an ASCII scalar needs no more room if ASCII needs one code unit
-had_short : (form : EncodingForm) (g : Grammar) (free b : ℕ) → (has_short_ascii g && is_ascii b) ≡ true → HadRoom form g None free (b ∷ [])
-unfolding HadRoom
-had_short form g free b h = grind (arith, nat_tests)
+  short_or_usual : (held : List ℕ) → (full_room narrow wide g ≤ act_room narrow wide (state_of g held) (takes b))
+      ⊎ (((has_short_ascii g && is_ascii b) ≡ true) × (m.step held b ≡ finish (reads 1 (b ∷ []))))
+  short_or_usual held = grind (arith, nat_tests)
 
 had_usual : (form : EncodingForm) (g : Grammar) (free : ℕ) (cs : List ℕ) → IsOneOrMarked (has_marks g) cs → full_room_in form g ≤ free
     → HadRoom form g None free cs
 unfolding HadRoom
 had_usual form g free cs h h1 = grind (arith, nat_tests)
-
-has_scalars : (fed : Fed) → HasScalars fed → All IsScalar (fed_scalars fed)
-has_scalars fed h = grind (arith, All-cons, All-nil)
-
-reads_same : (m n : ℕ) (xs ys : List ℕ) → finish (reads m xs) ≡ finish (reads n ys) → xs ≡ ys
-reads_same m n xs ys e = cc
 
 pub all_dropped : (n : ℕ) (held : List ℕ) (b : ℕ) → n ≡ suc (length held) → drop n (held ++ b ∷ []) ≡ []
 all_dropped n held b e = drop_of_length-le (held ++ b ∷ []) (omega (arith, length-append held (b ∷ [])))
@@ -101,44 +61,13 @@ module _ {g : Grammar} {m : DecoderMachine} (shown : IsShown g m) (held : List �
     settled s e = subst (λ s. Settles to held b s) e (shown.settles held b may resting)
 
     fits_step : (form : EncodingForm) (s : Step) → m.step held b ≡ s → step_units (unit_count form) (bmp_room form) s ≤ read_room form (state_of g held) b
-    fits_step form s e = rw (← e) (fits_form form shown held b may resting bytes byte)
-
-    pays_step : (query : LengthQuery) (n : ℕ) (s : Step) → m.step held b ≡ s →
-        room query (state_of (m.to held b) (step_held s held b)) (n + step_left s) + step_units (unit_count (query_form query))
-        (replacement_units query) s ≤ room query (state_of g held) (n + 1)
-    pays_step query n s e = rw (← e) ((shown.rooms query).step_pays held b n may resting bytes byte)
-
-    -- there was full room before a step, unless the byte is its own scalar
-    usual_step : (form : EncodingForm) (s : Step) → m.step held b ≡ s → (s ≡ finish (reads 1 (b ∷ [])) → ⊥) → has_reported g ≡ false
-        → full_room_in form g ≤ read_room form (state_of g held) b
-    usual_step form s e ne reported = grind (arith, short_or_usual)
-
-    had_form : (form : EncodingForm) (free n : ℕ) (cs : List ℕ) → m.step held b ≡ finish (reads n cs) → read_room form (state_of g held) b ≤ free
-        → HadRoom form g None free cs
-    unfolding HadRoom
-    had_form form free n cs e le = grind (arith, reads_same, short_or_usual, had_usual, settled, had_short)
-
-    -- the bytes and the events after a step
-    rest_is : (s : Step) → m.step held b ≡ s → drop (step_length s) (held ++ b ∷ []) ≡ step_held s held b ++ step_unread s b []
-    rest_is s h = grind (arith, drop-append-le, meets, length-drop, append-nil)
-
-    out_is : (s : Step) → Settles to held b s → step_events s ≡ map Scalar (fed_scalars (fed_of s held b)) ++ fed_malformed (step_length s) (fed_of s held b)
-    out_is s h = grind arith
-
-    holds_is : (s : Step) → m.step held b ≡ s → FedHolds (step_length s) (state_of to (step_held s held b)) (fed_of s held b)
-    holds_is s h = grind (arith, settled, form_holds, all_dropped, rests-none, meets)
-
-    empties_is : (s : Step) → Settles to held b s → fed_scalars (fed_of s held b) ≢ [] → step_held s held b ≡ []
-    empties_is s h h1 = grind (arith, all_dropped)
-
-    full_is : (form : EncodingForm) (s : Step) → m.step held b ≡ s → RevealsMalformed (fed_of s held b) ⊎ (step_held s held b ≢ [])
-        → full_room_in form g ≤ read_room form (state_of g held) b
-    full_is form s h h1 = grind (arith, form_sound, all_dropped, settled, usual_step)
+    fits_step Utf8 s e = rw (← e) ((shown.rooms to_utf8).step_fits held b may resting bytes byte)
+    fits_step Utf16 s e = rw (← e) ((shown.rooms to_utf16).step_fits held b may resting bytes byte)
 
     had_is : (form : EncodingForm) (free : ℕ) (s : Step) → m.step held b ≡ s → read_room form (state_of g held) b ≤ free
         → HadRoom form g None free (fed_scalars (fed_of s held b))
     unfolding HadRoom
-    had_is form free (finish (reads n cs)) e le = rw (fed_scalars_are (has_marks to) cs (settled _ e).1) (had_form form free n cs e le)
+    had_is form free (finish (reads n cs)) e le = grind (arith, short_or_usual, had_usual, settled)
     had_is form free s e le = tt
 
     -- any step at the byte is a move
@@ -149,47 +78,35 @@ module _ {g : Grammar} {m : DecoderMachine} (shown : IsShown g m) (held : List �
       passed = step_length s;
       progress = record {
         counts = omega (arith, (meets s e).counts);
-        rest = rest_is s e;
-        events = λ more l. (meets s e).goes_on more
-            ∙ ap (λ es. es ++ shift (step_length s) (events_of to (step_held s held b ++ step_unread s b more))) (out_is s (settled s e));
+        rest = grind (arith, drop-append-le, meets s e, length-drop, append-nil);
+        events = λ more l. grind (arith, (meets s e).goes_on more, settled s e);
       };
-      holds = holds_is s e;
+      holds = grind (arith, settled s e, all_dropped, rests-none, meets s e);
       allowed = (meets s e).allowed;
       rooms = shown.same_rooms held b;
-      empties = empties_is s (settled s e);
+      empties = grind (arith, settled s e, all_dropped);
       report = λ form. release-full form g;
-      full = λ form. full_is form s e;
+      full = λ form h. grind (arith, nat_tests, all_dropped, settled s e);
       fits = λ form. omega (arith, fits_step form s e, units-total form (fed_scalars (fed_of s held b)));
       had = λ form free. had_is form free s e;
       scalar = scalar;
-      lowers = λ query n. omega (arith, pays_step query n s e, units-total (query_form query) (fed_scalars (fed_of s held b)));
+      lowers = λ query n.
+          let pays = rw e at ((shown.rooms query).step_pays held b n may resting bytes byte) in
+          omega (arith, pays, units-total (query_form query) (fed_scalars (fed_of s held b)));
     }
 
     -- a decoder that took the step has made the move
     pub feeds : (fed : Fed) (kept : List ℕ) → Took (m.step held b) held b fed kept → Feeds (state_of g held) b (state_of (m.to held b) kept) fed
-    feeds fed kept took = grind (arith, has_scalars, step_feeds)
+    feeds fed kept took = grind (arith, All-cons, All-nil, step_feeds)
 
   -- the held-back scalar is written
   pub releases : (n c : ℕ) → rests g held ≡ false → m.pending held ≡ Some (n, c) → IsScalar c → Releases (state_of g held) (state_of g (drop n held)) c
   releases n c r e scalar =
-      let w = shown.meets.writes held may in
-      let w' = (rw e at w).1 in
-      let s = shown.write_settles held may in
-      let s' = rw e at s in
-      record {
-        passed = n;
-        progress = record {
-          counts = let q = w'.counts in omega arith;
-          rest = rw append-nil (sym (append-nil (drop n held)));
-          events = λ more l. w'.goes_on more;
-        };
-        resting = s';
-        allowed = w'.allowed;
-        rooms = record { full = λ form. refl; report = λ form. refl; wants = λ p c'. refl };
-        fits = λ form. writes_form form shown held n c may r bytes e;
-        scalar = scalar;
-        lowers = λ query m. let p = (shown.rooms query).write_pays held may r bytes in let p' = rw e at p in p'.1 m;
-      }
+      let w = (rw e at (shown.meets.writes held may)).1 in
+      let s = rw e at (shown.write_settles held may) in
+      let progress : Progress false (state_of g held) [] n (state_of g (drop n held)) [] (Scalar c ∷ []) = grind (arith, append-nil) in
+      let pays = λ (query : LengthQuery). rw e at ((shown.rooms query).write_pays held may r bytes) in
+      grind (arith, same_rooms, pays to_utf8, pays to_utf16, pays)
 
   -- at the end of input all held-back bytes are reported
   pub reports_all : rests g held ≡ true → held ≢ [] → Reports (state_of g held) (state_of g []) (length held) 0
@@ -199,20 +116,21 @@ module _ {g : Grammar} {m : DecoderMachine} (shown : IsShown g m) (held : List �
     by_held (x ∷ xs) m r' n =
         let few = shown.meets.few (x ∷ xs) m in
         let zero_place : length (x ∷ xs) - length (x ∷ xs) ≡ 0 = omega arith in
+        let all = append-nil (x ∷ xs) in
         let none : events_of g [] ≡ [] = shown.meets.ends [] (may_none g) (rests-none g) in
+        let ends = shown.meets.ends (x ∷ xs) m r' in
         record {
           passed = length (x ∷ xs);
           holding = λ z. cc;
           progress = record {
             counts = omega arith;
-            rest = ap (drop (length (x ∷ xs))) (append-nil (x ∷ xs)) ∙ drop-length (x ∷ xs);
+            rest = grind (arith, drop-length);
             events = λ more l. elim (l refl) [
-              | inl z ↦ ap (λ q. events_of g ((x ∷ xs) ++ q)) z ∙ ap (events_of g) (append-nil (x ∷ xs)) ∙ shown.meets.ends (x ∷ xs) m r'
-                  ∙ rw (zero_place, z, none) refl
-              | inr b ↦ let b' = rw zero_place at b in rw zero_place (shown.meets.reports (x ∷ xs) more m r' (omega arith) b')
+              | inl z ↦ rw (zero_place, z) (grind arith)
+              | inr b ↦ rw zero_place (shown.meets.reports (x ∷ xs) more m r' (omega arith) (rw zero_place at b))
             ];
           };
-          holds = record { some = omega arith; few = omega arith; near = omega arith; held = refl; within = omega arith };
+          holds = grind arith;
           allowed = may_none g;
           lowers = λ query. (shown.rooms query).report_pays x xs m r';
         }
@@ -229,10 +147,10 @@ module _ {g : Grammar} {m : DecoderMachine} (shown : IsShown g m) (held : List �
 
   -- there is something to report if bytes are held back, even if a scalar is still to be written
   pub ends_held : held ≢ [] → events_of g held ≢ []
-  ends_held n = by_pending (m.pending held) (shown.meets.writes held may) where
-    by_pending : (p : Option (ℕ × ℕ)) → PendingMeets g held p → events_of g held ≢ []
-    by_pending None r = ends_some r n
-    by_pending (Some (k, c)) w = λ e. let first = w.1.goes_on [] in let all = ap (events_of g) (append-nil held) in cc
+  ends_held n =
+      let writes = shown.meets.writes held may in
+      let first = λ (p : ℕ × ℕ) (e : m.pending held ≡ Some p). (rw e at writes).1.goes_on [] in
+      grind (arith, append-nil, ends_some, first)
 
 -- a byte that is malformed by itself in the machine, if nothing is held back
 pub malformed_byte : {g : Grammar} {m : DecoderMachine} → IsShown g m → (b : ℕ) → m.step [] b ≡ finish (malformed 1) → m.to [] b ≡ g →

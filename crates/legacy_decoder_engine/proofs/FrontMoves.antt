@@ -1,10 +1,10 @@
 -- The front of a list gives the move of a decoder, for every continuation.
-use Rattle.std.proofs.Common.{◌≡◌, ℕ, suc, ◌+◌, ◌<◌, ◌≤◌, List, [], ◌∷◌, ◌++◌, drop, length, Bool, true, false, cond, ◌-◌, refl, sym, ap, ◌∙◌, append_assoc}
-use Rattle.std.proofs.{Common.{length-append, length-drop, drop_of_length-le, le_refl, arith, subst}, Math.Seq.{drop-length, drop-append_seam}}
-use Rattle.std.proofs.{lemmas.List.drop-append-le, lemmas.Bool.cond_both}
+use Rattle.std.proofs.Common.{◌≡◌, ℕ, suc, ◌+◌, ◌<◌, ◌≤◌, List, [], ◌∷◌, ◌++◌, drop, length, Bool, true, false, cond, refl, sym, ◌∙◌, append_assoc}
+use Rattle.std.proofs.{Common.{length-append, length-drop, drop_of_length-le, le_refl, arith}, Math.Seq.{drop-length, drop-append_seam}}
+use Rattle.std.proofs.{lemmas.List.drop-append-le}
 use Rattle.legacy_base.specs.{Fronts.{Front, reads, malformed, front_length, front_events, reads_or, trail_rule, cut}, Grammar.{Grammar, events_of}}
 use Rattle.legacy_base.specs.{declared.results.DecodeEvent.TheVariants.Bad, Beginnings.BeginsWith, Events.shift, States.may_hold}
-use Rattle.legacy_decoder_engine.specs.Steps.{Step, hold, finish, leave, HasMalformedLength, StepMeets, WriteMeets, end_events, ReportMeets, trail_step}
+use Rattle.legacy_decoder_engine.specs.Steps.{Step, hold, finish, leave, StepMeets, WriteMeets, end_events, ReportMeets, trail_step}
 use Rattle.legacy_base.proofs.{Shifts.shift-zero, Cuts.{cut-nil, cut-front}, Beginnings.no_sooner}
 
 -- the list begins with the front
@@ -25,43 +25,25 @@ Fits front may held b (finish f) = ((more : List ℕ) → HasFront front (held +
     (may (drop (front_length f) (held ++ b ∷ [])) ≡ true)
 Fits front may held b (leave n) = ((more : List ℕ) → HasFront front (held ++ b ∷ more) (malformed n)) × (0 < n) × (n ≤ length held) × (may (drop n held) ≡ true)
 
--- a front that is malformed or gives scalars has at least one byte
-pub some_reads_or : (n : ℕ) (scalars : List ℕ) (other : Front) → 0 < n → 0 < front_length other → 0 < front_length (reads_or n scalars other)
-some_reads_or n scalars other h h1 = grind arith
-
-pub some_trail_rule : (n t : ℕ) → 0 < n → 0 < front_length (trail_rule n t)
-some_trail_rule n t some = grind (arith, cond_both)
-
 -- if the events of a list begin with a malformed sequence of n bytes, its front is that sequence
 front_reported : (front : ℕ → List ℕ → Front) (b : ℕ) (rest : List ℕ) (n : ℕ) (f : Front) → front b rest ≡ f → 0 < front_length f
     → BeginsWith (cut front 0 0 (b ∷ rest)) (Bad 0 n ∷ []) →
     f ≡ malformed n
 front_reported front b rest n (reads k []) e some g =
-    let all : shift k (cut front 0 0 (drop k (b ∷ rest))) ≡ Bad 0 n ∷ g.0 =
-    sym (front_move front (b ∷ rest) (drop k (b ∷ rest)) (reads k []) e some refl) ∙ g.1 in
-    absurd (no_sooner k 0 n (cut front 0 0 (drop k (b ∷ rest))) g.0 some all)
-front_reported front b rest n (reads k (c ∷ scalars)) e some g =
-    let all = sym (front_move front (b ∷ rest) (drop k (b ∷ rest)) (reads k (c ∷ scalars)) e some refl) ∙ g.1 in cc
-front_reported front b rest n (malformed k) e some g =
-    let all = sym (front_move front (b ∷ rest) (drop k (b ∷ rest)) (malformed k) e some refl) ∙ g.1 in
-    let same : k ≡ n = cc in ap malformed same
+    absurd (no_sooner k 0 n (cut front 0 0 (drop k (b ∷ rest))) g.0 some (sym (front_move front (b ∷ rest) _ (reads k []) e some refl) ∙ g.1))
+front_reported front b rest n f e some g =
+    let all = sym (front_move front (b ∷ rest) (drop (front_length f) (b ∷ rest)) f e some refl) ∙ g.1 in cc
 
 -- a step that depends on a test
 pub fits_test : (front : ℕ → List ℕ → Front) (may : List ℕ → Bool) (held : List ℕ) (b : ℕ) (t : Bool) (s₁ s₂ : Step) →
     (t ≡ true → Fits front may held b s₁) → (t ≡ false → Fits front may held b s₂) → Fits front may held b (cond t s₁ s₂)
 fits_test front may held b t s₁ s₂ h h1 = grind arith
 
-all_dropped : (xs : List ℕ) (x : ℕ) → drop (length xs + 1) (xs ++ x ∷ []) ≡ []
-all_dropped xs x = drop_of_length-le (xs ++ x ∷ []) (omega (arith, length-append xs (x ∷ [])))
-
 -- the trail rule
 pub fits_trail : (front : ℕ → List ℕ → Front) (may : List ℕ → Bool) (held : List ℕ) (scalars : List ℕ) (t : ℕ) → may [] ≡ true → 0 < length held →
     ((more : List ℕ) → HasFront front (held ++ t ∷ more) (reads_or (length held + 1) scalars (trail_rule (length held) t))) →
     Fits front may held t (trail_step (length held) scalars t)
-fits_trail front may held scalars t h h1 h2 = grind (arith, all_dropped, fits_test, le_refl, drop-length)
-
-malformed_length : (f : Front) (n : ℕ) → n ≤ 3 → 0 < front_length f → front_length f ≤ suc n → HasMalformedLength f
-malformed_length f n h h1 h2 = grind arith
+fits_trail front may held scalars t h h1 h2 = grind (arith, drop_of_length-le, length-append, fits_test, le_refl, drop-length)
 
 module _ (g : Grammar) (front : ℕ → List ℕ → Front) (ev_is : (bytes : List ℕ) → events_of g bytes ≡ cut front 0 0 bytes) where
   pub ev_front : (bytes behind : List ℕ) (f : Front) → HasFront front bytes f → 0 < front_length f → drop (front_length f) bytes ≡ behind →
@@ -72,36 +54,19 @@ module _ (g : Grammar) (front : ℕ → List ℕ → Front) (ev_is : (bytes : Li
       → Fits front may held b s → StepMeets g held b s g
   fits_meets may may_is held b hold few fits = grind (arith, may_is, append_assoc, shift-zero, length-append)
   fits_meets may may_is held b (finish f) few fits =
-      let l : length (held ++ b ∷ []) ≡ suc (length held) = omega (arith, length-append held (b ∷ [])) in
-      let within : front_length f ≤ length (held ++ b ∷ []) = rw l (fits.2) in
-      let d : length (drop (front_length f) (held ++ b ∷ [])) ≡ length (held ++ b ∷ []) - front_length f =
-      length-drop (front_length f) (held ++ b ∷ []) in record {
-        goes_on = λ more. ev_front (held ++ b ∷ more) _ f (fits.0 more) (fits.1)
-            (ap (drop (front_length f)) (sym (append_assoc held (b ∷ []) more)) ∙ drop-append-le (front_length f) (held ++ b ∷ []) more within);
-        counts = omega arith;
-        malformed_sequence = malformed_length f (length held) few (fits.1) (fits.2);
-        few = omega (arith, fits.1);
-        allowed = may_is _ ∙ fits.3;
-      }
+      let goes_on = λ (more : List ℕ). ev_front (held ++ b ∷ more) (drop (front_length f) (held ++ b ∷ []) ++ more) f (fits.0 more) (fits.1)
+      (grind (arith, append_assoc, drop-append-le (front_length f) (held ++ b ∷ []) more, length-append)) in
+      grind (arith, may_is, length-append, length-drop)
   fits_meets may may_is held b (leave n) few fits =
-      let d : length (drop n held) ≡ length held - n = length-drop n held in record {
-        goes_on = λ more. ev_front (held ++ b ∷ more) _ (malformed n) (fits.0 more) (fits.1) (drop-append-le n held (b ∷ more) (fits.2));
-        counts = omega (arith, fits.2);
-        malformed_sequence = (fits.1, omega (arith, fits.2));
-        few = omega arith;
-        allowed = may_is _ ∙ fits.3;
-      }
+      let goes_on = λ (more : List ℕ). ev_front (held ++ b ∷ more) _ (malformed n) (fits.0 more) (fits.1) (drop-append-le n held (b ∷ more) (fits.2)) in
+      grind (arith, may_is, length-drop)
 
   -- the held-back scalar is written whatever bytes follow
   pub write_meets : (held : List ℕ) (n c : ℕ) → ((more : List ℕ) → HasFront front (held ++ more) (reads n (c ∷ []))) → 0 < n → n ≤ length held
       → may_hold g (drop n held) ≡ true → WriteMeets g held n c
   write_meets held n c has pos le may =
-      let d : length (drop n held) ≡ length held - n = length-drop n held in record {
-        goes_on = λ more. ev_front (held ++ more) _ (reads n (c ∷ [])) (has more) pos (drop-append-le n held more le);
-        counts = omega arith;
-        some = pos;
-        allowed = may;
-      }
+      let goes_on = λ (more : List ℕ). ev_front (held ++ more) _ (reads n (c ∷ [])) (has more) pos (drop-append-le n held more le) in
+      grind (arith, length-drop)
 
   -- all held-back bytes are malformed at the end of input
   pub end_meets : (b : ℕ) (held : List ℕ) → front b held ≡ malformed (length (b ∷ held)) → events_of g (b ∷ held) ≡ end_events (b ∷ held)
@@ -114,6 +79,5 @@ module _ (g : Grammar) (front : ℕ → List ℕ → Front) (ev_is : (bytes : Li
   report_meets [] more some pos g = absurd (omega arith)
   report_meets (b ∷ held) more some pos g =
       let n = length (b ∷ held) in
-      let is = front_reported front b (held ++ more) n (front b (held ++ more)) refl (some b (held ++ more) refl)
-      (subst (λ l. BeginsWith l (Bad 0 n ∷ [])) (ev_is (b ∷ (held ++ more))) g) in
+      let is = front_reported front b (held ++ more) n _ refl (some b (held ++ more) refl) (rw (ev_is (b ∷ (held ++ more))) at g) in
       ev_front (b ∷ (held ++ more)) more (malformed n) is (omega arith) (drop-append_seam (b ∷ held) more)

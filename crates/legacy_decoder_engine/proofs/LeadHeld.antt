@@ -39,12 +39,6 @@ module _ {L : Type 0} {grammar : FlatIndexes → Grammar} {is_lead_byte : ℕ �
   are_bytes : (held : Option L) → AreBytes (held_bytes byte held)
   are_bytes held = grind (arith, All-nil, All-cons)
 
-  none_held : (held : Option L) → is_some held ≡ false → held_bytes byte held ≡ []
-  none_held held h = grind arith
-
-  some_held : (held : Option L) → is_some held ≡ true → held_bytes byte held ≢ []
-  some_held held h = grind arith
-
   pub covered : (held : Option L) → IsCovered (lead_state grammar byte tables held)
   covered held = feeding.covered shown (held_bytes byte held) (may held) (are_bytes held)
 
@@ -56,18 +50,18 @@ module _ {L : Type 0} {grammar : FlatIndexes → Grammar} {is_lead_byte : ℕ �
       feeding.feeds shown _ (may held) (are_bytes held) b is_byte (is.rests_is tables.flat _) fed _ took
 
   pub ends_none : (held : Option L) → is_some held ≡ false → events_of (grammar tables.flat) (held_bytes byte held) ≡ []
-  ends_none held e = grind (arith, shown, may, are_bytes, none_held)
+  ends_none held e = grind (arith, shown, may, are_bytes)
 
   pub ends_some : (held : Option L) → is_some held ≡ true → events_of (grammar tables.flat) (held_bytes byte held) ≢ []
-  ends_some held e = grind (arith, shown, may, are_bytes, some_held)
+  ends_some held e = grind (arith, shown, may, are_bytes)
 
   pub reports : (lead : L) → Reports (lead_state grammar byte tables (Some lead)) (lead_state grammar byte tables None) 1 0
   reports lead =
-      feeding.reports_all shown _ (may (Some lead)) (are_bytes (Some lead)) (is.rests_is tables.flat _) (some_held (Some lead) refl)
+      feeding.reports_all shown _ (may (Some lead)) (are_bytes (Some lead)) (is.rests_is tables.flat _) (λ e. cc)
 
   pub malformed_byte : (b : ℕ) → first b ≡ finish (malformed 1) → IsMalformedByte (lead_state grammar byte tables None) b
   malformed_byte b e = feeding.malformed_byte shown b e refl
 
   -- a decoder without a lead
   pub idle : (held : Option L) → is_some held ≡ false → IsIdle (lead_state grammar byte tables held)
-  idle held e = record { empty = none_held held e; ascii = ascii is tables }
+  idle held e = record { empty = grind arith; ascii = ascii is tables }

@@ -1,8 +1,7 @@
 -- Machines that hold nothing back.
-use Rattle.std.proofs.{Common.{◌≡◌, ℕ, ◌≤◌, List, [], length, true, arith}, lemmas.Bool.false≢true}
-use Rattle.legacy_base.specs.{Fronts.{Front, malformed, reads_or}, Grammar.Grammar, States.is_empty}
-use Rattle.legacy_decoder_engine.specs.Steps.{finish, ReportMeets}
-use Rattle.legacy_decoder_engine.proofs.FrontMoves.{Fits}
+use Rattle.std.proofs.{Common.{◌≡◌, ℕ, ◌≤◌, List, length, true, arith}, lemmas.Bool.false≢true}
+use Rattle.legacy_base.specs.{Grammar.Grammar, States.is_empty}
+use Rattle.legacy_decoder_engine.specs.Steps.{ReportMeets}
 
 pub few_held : (held : List ℕ) → is_empty held ≡ true → length held ≤ 3
 few_held held h = grind (arith, false≢true)
@@ -10,8 +9,3 @@ few_held held h = grind (arith, false≢true)
 -- nothing is ever reported at the end of input
 pub no_report : (g : Grammar) (held more : List ℕ) → is_empty held ≡ true → ReportMeets g held more
 no_report g held more h h1 = grind (arith, false≢true)
-
--- one byte that gives these scalars, or is malformed
-pub one_fits : (front : ℕ → List ℕ → Front) (b : ℕ) (scalars : List ℕ) →
-    ((more : List ℕ) → front b more ≡ reads_or 1 scalars (malformed 1)) → Fits front is_empty [] b (finish (reads_or 1 scalars (malformed 1)))
-one_fits front b scalars h = grind arith

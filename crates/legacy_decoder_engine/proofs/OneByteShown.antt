@@ -1,16 +1,15 @@
 -- The proof for the decoders of single bytes, which hold nothing back, from the few facts that each shows.
-use Rattle.std.proofs.Common.{◌≡◌, ℕ, ◌<◌, List, [], ◌∷◌, Bool, true, cond, Option, option_to_list, refl, ap, arith}
+use Rattle.std.proofs.Common.{◌≡◌, ℕ, ◌<◌, List, [], ◌∷◌, Bool, cond, Option, option_to_list, ap, arith}
 use Rattle.std.proofs.lemmas.Bool.{cond_both, false≢true, ltb-true}
 use Rattle.std.specs.{Char.is_ascii, Option.IfSome}
 use Rattle.legacy_tables.specs.Unicode.{IsByte}
 use Rattle.legacy_base.specs.{Fronts.{Front, reads, malformed, reads_or, cut}, Profile.{Profile, byte_profile, is_empty, weightless}}
-use Rattle.legacy_base.specs.{Grammar.{Grammar, profile, events_of}, States.{may_hold, state_of}, DecoderActs.act_room}
-use Rattle.legacy_base.specs.DecoderActs.{takes}
+use Rattle.legacy_base.specs.{Grammar.{Grammar, profile, events_of}, States.{may_hold}}
 use Rattle.legacy_base.proofs.Cuts.{cut-nil}
-use Rattle.legacy_decoder_engine.specs.{Steps.{Step, finish, no_pending, end_events, StepMeets, DecoderMachine, Meets}, StepUnits.{IsWidth, Cost}}
-use Rattle.legacy_decoder_engine.specs.{StatesAfterSteps.Settles, Shown.IsShown}
-use Rattle.legacy_decoder_engine.proofs.{CallUnderWay.same_rooms, FrontMoves.{Fits, fits_meets}, OneByteMeets.{few_held, no_report, one_fits}}
-use Rattle.legacy_decoder_engine.proofs.{RoomMoves.{HasCosts, IsSloped, sloped_rooms}, SettledSteps.{one_option, or_settles}}
+use Rattle.legacy_decoder_engine.specs.{Steps.{Step, finish, no_pending, DecoderMachine, Meets}}
+use Rattle.legacy_decoder_engine.specs.{Shown.IsShown}
+use Rattle.legacy_decoder_engine.proofs.{CallUnderWay.same_rooms, FrontMoves.{fits_meets}, OneByteMeets.{few_held, no_report}}
+use Rattle.legacy_decoder_engine.proofs.{RoomMoves.{HasCosts, sloped_rooms}, SettledSteps.{one_option, or_settles}}
 
 -- the profile of such a decoder
 abbrev pub one_byte_profile : (ℕ → List ℕ → Front) → Bool → Profile
@@ -36,31 +35,15 @@ module _ (g : Grammar) (front : ℕ → List ℕ → Front) (found : ℕ → Opt
   unfolding events_of
   ev_is bytes = ap (λ p. p.events bytes) is.profile_is
 
-  fits : (b : ℕ) → Fits front is_empty [] b (first b)
-  fits b = grind (arith, cond_both, one_fits)
-
-  steps : (held : List ℕ) (b : ℕ) → is_empty held ≡ true → StepMeets g held b (first b) g
-  steps [] b h = fits_meets g front ev_is is_empty may_is [] b (first b) (omega arith) (fits b)
-  steps (c ∷ held) b h = absurd (false≢true h)
-
-  ends : (held : List ℕ) → is_empty held ≡ true → events_of g held ≡ end_events held
-  ends held h = grind (arith, ev_is, cut-nil, false≢true)
-
   meets : Meets g machine
-  meets = grind (arith, steps, may_is, ends, no_report, few_held)
-
-  cost : (len : ℕ → ℕ) (narrow wide : ℕ) → IsWidth len narrow wide → (held : List ℕ) (b : ℕ) → is_empty held ≡ true → IsByte b →
-      Cost len narrow (act_room narrow wide (state_of g held) (takes b)) weightless 6 held b (first b)
-  cost len narrow wide h held b h1 h2 = grind (arith, false≢true, cond_both, ltb-true, fits)
+  meets =
+      let fits = fits_meets g front ev_is is_empty may_is in
+      grind (arith, fits, cond_both, may_is, ev_is, cut-nil, false≢true, no_report, few_held)
 
   costs : HasCosts g machine weightless 6
-  costs = record { to_is = λ held b. refl; cost = λ len narrow wide w held b h r bytes byte. cost len narrow wide w held b (rw (may_is held) at h) byte }
-
-  sloped : IsSloped g machine weightless 6
-  sloped = grind (arith, false≢true, may_is)
-
-  settles : (held : List ℕ) (b : ℕ) → is_empty held ≡ true → Settles g held b (first b)
-  settles held b h = grind (arith, cond_both, or_settles, one_option, false≢true)
+  costs = grind (arith, may_is, false≢true, cond_both, ltb-true)
 
   pub one_byte_shown : IsShown g machine
-  one_byte_shown = grind (arith, meets, sloped_rooms, costs, sloped, settles, may_is, same_rooms)
+  one_byte_shown =
+      let rooms = sloped_rooms g machine weightless 6 meets costs (grind (arith, false≢true, may_is)) in
+      grind (arith, meets, rooms, cond_both, or_settles, one_option, false≢true, may_is, same_rooms)

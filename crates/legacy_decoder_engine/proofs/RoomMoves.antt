@@ -1,13 +1,13 @@
 -- From the code units that a decoder's steps write to the lengths that its queries return.
-use Rattle.std.proofs.Common.{◌≡◌, ℕ, ◌+◌, ◌*◌, ◌<◌, ◌≤◌, List, [], ◌∷◌, length, Bool, true, false, cond, Some, sym, ◌∙◌, ◌&&◌, mul-add, arith}
+use Rattle.std.proofs.Common.{◌≡◌, ℕ, ◌+◌, ◌*◌, ◌<◌, ◌≤◌, List, [], ◌∷◌, length, Bool, true, false, cond, Some, ◌&&◌, mul-add, arith}
 use Rattle.std.proofs.{lemmas.Bool.{false≢true, cond_both}, lemmas.Bool.Decides.nat_tests, Math.Nat.mul-le-mul_left}
 use Rattle.legacy_tables.specs.Unicode.{IsByte, AreBytes}
-use Rattle.legacy_base.specs.{States.{DecoderState, may_hold, rests, state_of}, DecoderActs.{takes, writes, reports, act_at_end, act_at_rest}}
+use Rattle.legacy_base.specs.{States.{DecoderState, may_hold, rests, state_of}, DecoderActs.{takes, writes, act_at_rest}}
 use Rattle.legacy_base.specs.DecoderActs.{act_room, room_of_act, need, full_room, full_room_in, release_room_in}
 use Rattle.legacy_base.specs.{Lengths.{LengthQuery, to_utf16, to_utf8, to_utf8_without_replacement, query_form, replacement_units, room}, Grammar.Grammar}
 use Rattle.legacy_text.specs.EncodingForm.{unit_count, bmp_room, wide_room}
 use Rattle.legacy_base.proofs.Enough.{room-rises}
-use Rattle.legacy_decoder_engine.specs.{Steps.{Step, step_held, end_events, DecoderMachine, Meets}, StepUnits.{step_units, step_left, IsWidth, Cost, WritePays}}
+use Rattle.legacy_decoder_engine.specs.{Steps.{Step, step_held, DecoderMachine, Meets}, StepUnits.{step_units, step_left, IsWidth, Cost, WritePays}}
 use Rattle.legacy_decoder_engine.specs.Shown.{KeepsRooms}
 use Rattle.legacy_decoder_engine.proofs.Widths.{width_of}
 
@@ -34,22 +34,13 @@ pub all_needs : (narrow wide : ℕ) (room : ℕ → ℕ) (g : Grammar) (m : Deco
     (unread : List ℕ) (last : Bool) → need narrow wide (state_of g held) unread last ≤ room (length unread)
 all_needs narrow wide room g m meets empty held may take write unread last =
     cond_both (rests g held) (act_at_rest (state_of g held) unread last) (Some writes)
-    (λ act. room_of_act narrow wide (state_of g held) act ≤ room (length unread)) (λ r. at_rest r unread) (λ r. write (length unread) (some_held held r))
+    (λ act. room_of_act narrow wide (state_of g held) act ≤ room (length unread)) (λ r. at_rest r unread)
+    (λ r. write (length unread) (grind (arith, false≢true)))
   where
-    at_end : (held' : List ℕ) → (0 < length held' → act_room narrow wide (state_of g held) reports ≤ room 0) →
-        (last : Bool) → room_of_act narrow wide (state_of g held) (act_at_end (end_events held') last) ≤ room 0
-    at_end [] h last = omega arith
-    at_end (b ∷ held') h true = h (omega arith)
-    at_end (b ∷ held') h false = omega arith
-
-    some_held : (held' : List ℕ) → rests g held' ≡ false → 0 < length held'
-    some_held [] r = absurd (false≢true (sym r ∙ empty))
-    some_held (b ∷ held') r = omega arith
-
     at_rest : rests g held ≡ true → (unread : List ℕ)
         → room_of_act narrow wide (state_of g held) (act_at_rest (state_of g held) unread last) ≤ room (length unread)
     at_rest r (b ∷ unread) = take b (length (b ∷ unread)) (omega arith)
-    at_rest r [] = rw (meets.ends held may r) (at_end held (λ h. write 0 h) last)
+    at_rest r [] = rw (meets.ends held may r) (grind (arith, write 0))
 
 -- ---- rooms that fall by a slope for each byte, or for each two
 
@@ -58,16 +49,10 @@ abbrev pub Falls : (DecoderState → ℕ → ℕ) → Grammar → (List ℕ → 
 Falls room g wt slope = (held held' : List ℕ) (n n' u : ℕ) → 2 * u + slope * (n' + wt held') ≤ slope * (n + wt held)
     → room (state_of g held') n' + u ≤ room (state_of g held) n
 
--- the same with n more bytes on both sides
-more_bytes : (slope x y n u : ℕ) → 2 * u + slope * x ≤ slope * y → 2 * u + slope * (n + x) ≤ slope * (n + y)
-more_bytes slope x y n u h = grind (arith, mul-add)
-
 pub sloped_pays : (room : DecoderState → ℕ → ℕ) (g : Grammar) (wt : List ℕ → ℕ) (slope : ℕ) → Falls room g wt slope → (held held' : List ℕ) (left n u : ℕ) →
     2 * u + slope * (wt held' + left) ≤ slope * (wt held + 1) → room (state_of g held') (n + left) + u ≤ room (state_of g held) (n + 1)
 sloped_pays room g wt slope sloped held held' left n u h =
-    let e : (n + left) + wt held' ≡ n + (wt held' + left) = omega arith in
-    let f : (n + 1) + wt held ≡ n + (wt held + 1) = omega arith in
-    sloped held held' (n + 1) (n + left) u (rw (e, f) (more_bytes slope (wt held' + left) (wt held + 1) n u h))
+    sloped held held' (n + 1) (n + left) u (grind (arith, mul-add))
 
 -- ---- a whole codec
 
@@ -103,34 +88,24 @@ paid_of : (query : LengthQuery) (wt : List ℕ → ℕ) (paid at_most : ℕ) (he
     (wt (step_held s held b) + step_left s) ≤ query_slope paid query * (wt held + 1)
 paid_of query wt paid at_most held b s h = grind arith
 
--- a byte pays for a malformed sequence
-malformed_paid : (query : LengthQuery) (paid x y : ℕ) → x + 1 ≤ y
-    → 2 * replacement_units query + query_slope paid query * (0 + x) ≤ query_slope paid query * (0 + y)
-malformed_paid query paid x y h = grind (arith, mul-le-mul_left)
-
 -- ---- the room of an act, in any codec
 
 pub narrow_read : (narrow wide : ℕ) → narrow ≤ wide → (g : Grammar) → (narrow ≤ full_room narrow wide g) × (full_room narrow wide g ≤ wide)
 narrow_read narrow wide rises g = grind arith
 
-read_most : (narrow wide : ℕ) → 1 ≤ narrow → narrow ≤ wide → (g : Grammar) (held : List ℕ) (b : ℕ)
-    → act_room narrow wide (state_of g held) (takes b) ≤ full_room narrow wide g
-read_most narrow wide some rises g held b = grind (arith, narrow_read, cond_both)
-
 -- the rooms of a codec that fall by slopes
 module _ (g : Grammar) (m : DecoderMachine) (wt : List ℕ → ℕ) (paid : ℕ) (meets : Meets g m) (costs : HasCosts g m wt paid) (is : IsSloped g m wt paid)
     (query : LengthQuery) where
-  w : IsWidth (unit_count (query_form query)) (bmp_room (query_form query)) (wide_room (query_form query))
-  w = width_of (query_form query)
-
   pub sloped_rooms : KeepsRooms query g m
-  sloped_rooms = record {
-    step_fits = λ held b h r bytes byte. (costs.cost _ _ _ w held b h r bytes byte).fits;
-    step_pays = λ held b n h r bytes byte. rw (costs.to_is held b)
-        (sloped_pays (room query) g wt (query_slope paid query) (is.falls query) held (step_held (m.step held b) held b) (step_left (m.step held b)) n _
-        (paid_of query wt paid _ held b (m.step held b) (costs.cost _ _ _ w held b h r bytes byte)));
-    write_pays = is.writes query;
-    report_pays = λ b held h r. is.falls query (b ∷ held) [] 0 0 _ (malformed_paid query paid (wt []) (wt (b ∷ held)) (is.heavy b held h));
-    reads_covered = λ held b n h p. grind (arith, read_most, w, room-rises);
-    holds_covered = λ held n h p. grind (arith, room-rises);
-  }
+  sloped_rooms =
+      let w = width_of (query_form query) in
+      let cost = costs.cost (unit_count (query_form query)) (bmp_room (query_form query)) (wide_room (query_form query)) w in
+      record {
+        step_fits = λ held b h r bytes byte. (cost held b h r bytes byte).fits;
+        step_pays = λ held b n h r bytes byte. rw (costs.to_is held b) (sloped_pays (room query) g wt (query_slope paid query) (is.falls query) held _ _ n _
+            (paid_of query wt paid _ held b (m.step held b) (cost held b h r bytes byte)));
+        write_pays = is.writes query;
+        report_pays = λ b held h r. is.falls query (b ∷ held) [] 0 0 _ (grind (arith, mul-le-mul_left, is.heavy b held h));
+        reads_covered = λ held b n h p. grind (arith, narrow_read, cond_both, w, room-rises);
+        holds_covered = λ held n h p. grind (arith, room-rises);
+      }

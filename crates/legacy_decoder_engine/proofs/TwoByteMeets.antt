@@ -1,13 +1,13 @@
 -- The machines of codecs with sequences of one and two bytes agree with their grammars.
-use Rattle.std.proofs.{Common.{◌≡◌, ◌∙◌, ℕ, ◌<◌, ◌≤◌, List, [], ◌∷◌, length, Bool, true, false, cond, refl, ap, arith}, lemmas.Bool.false≢true}
+use Rattle.std.proofs.{Common.{◌≡◌, ◌∙◌, ℕ, ◌<◌, ◌≤◌, List, [], ◌∷◌, Bool, true, false, cond, refl, ap, arith}, lemmas.Bool.{false≢true, cond_both}}
 use Rattle.std.proofs.lemmas.Bool.Decides.{nat_tests}
-use Rattle.std.specs.{Int.is_in_range, Char.is_ascii}
-use Rattle.legacy_base.specs.{Fronts.{Front, reads, malformed, reads_or, trail_rule, front_length, cut}, States.{is_lead, single_lead_may_hold, may_hold}}
-use Rattle.legacy_base.specs.{States.rests, Profile.{Profile, lead_profile}, Grammar.{Grammar, profile, events_of}, DecoderActs.has_marks}
-use Rattle.legacy_decoder_engine.specs.{Steps.{Step, hold, finish, end_events, ReportMeets, Meets}, LeadMachines.{two_byte_step, two_byte_machine, lead_first}}
-use Rattle.legacy_decoder_engine.specs.{LeadCodecs.IsPastAscii, StatesAfterSteps.{IsOneOrMarked, Settles}}
+use Rattle.std.specs.{Char.is_ascii}
+use Rattle.legacy_base.specs.{Fronts.{Front, reads, malformed, reads_or, trail_rule, cut}, States.{is_lead, single_lead_may_hold, may_hold}}
+use Rattle.legacy_base.specs.{Profile.{Profile, lead_profile}, Grammar.{Grammar, profile, events_of}, DecoderActs.has_marks}
+use Rattle.legacy_decoder_engine.specs.{Steps.{Step, hold, finish, end_events, ReportMeets, Meets}, LeadMachines.{two_byte_machine, lead_first}}
+use Rattle.legacy_decoder_engine.specs.{LeadCodecs.IsPastAscii, StatesAfterSteps.{IsOneOrMarked}}
 use Rattle.legacy_base.proofs.Cuts.{cut-nil}
-use Rattle.legacy_decoder_engine.proofs.FrontMoves.{Fits, fits_trail, fits_meets, end_meets, report_meets, some_reads_or, some_trail_rule}
+use Rattle.legacy_decoder_engine.proofs.FrontMoves.{fits_trail, fits_meets, end_meets, report_meets}
 
 -- The kinds of first bytes: ASCII, which is its own scalar; another scalar up to U+FFFF; a lead; or malformed. For each
 -- two bytes, `paid` code units are enough for the scalar.
@@ -55,50 +55,19 @@ module _ (g : Grammar) (front : ℕ → List ℕ → Front) (is_lead_byte : ℕ 
   unfolding events_of
   ev_is bytes = ap (λ p. p.events bytes) is.profile_is
 
-  pub rests_is : (held : List ℕ) → rests g held ≡ true
-  rests_is held = ap (λ p. p.rests held) is.profile_is
-
-  -- ---- the first byte
-
-  first_fits : (b : ℕ) → Fits front (single_lead_may_hold is_lead_byte) [] b (first b)
-  first_fits b = grind arith
-
-  pub first_settles : (b : ℕ) → Settles g [] b (first b)
-  first_settles b = grind (arith, rests_is)
-
   -- ---- all steps
-
-  few_held : (held : List ℕ) → single_lead_may_hold is_lead_byte held ≡ true → length held ≤ 3
-  few_held held h = grind (arith, false≢true)
-
-  step_fits : (held : List ℕ) (b : ℕ) → single_lead_may_hold is_lead_byte held ≡ true
-      → Fits front (single_lead_may_hold is_lead_byte) held b (two_byte_step first scalars held b)
-  step_fits held b h = grind (arith, first_fits, fits_trail, lead_holds, false≢true)
 
   all_ends : (held : List ℕ) → single_lead_may_hold is_lead_byte held ≡ true → events_of g held ≡ end_events held
   all_ends [] h = ev_is [] ∙ cut-nil front
-  all_ends (b ∷ []) h = end_meets g front ev_is b [] (is.front_is b [] ∙ ap (step_front (scalars b) []) (lead_holds is_lead_byte paid first firsts b h))
-  all_ends (b ∷ c ∷ held) h = absurd (false≢true h)
-
-  lead_some : (lead : ℕ) (rest : List ℕ) → is_lead_byte lead ≡ true → 0 < front_length (front lead rest)
-  lead_some lead rest h = grind (arith, lead_holds, some_reads_or, some_trail_rule)
+  all_ends (b ∷ held) h = end_meets g front ev_is b held (grind (arith, lead_holds, false≢true))
 
   all_reports : (held more : List ℕ) → single_lead_may_hold is_lead_byte held ≡ true → ReportMeets g held more
-  all_reports [] more h = λ some. absurd (omega arith)
-  all_reports (lead ∷ []) more h =
-      report_meets g front ev_is (lead ∷ []) more (λ b rest e. let first : lead ≡ b = cc in rw (← first) (lead_some lead rest h))
-  all_reports (b ∷ c ∷ held) more h = absurd (false≢true h)
+  all_reports held more h = report_meets g front ev_is held more (grind (arith, lead_holds, cond_both, false≢true))
 
   pub two_byte_meets : Meets g (two_byte_machine g first scalars)
-  two_byte_meets = record {
-    writes = λ held h. rests_is held;
-    steps = λ held b h r. fits_meets g front ev_is (single_lead_may_hold is_lead_byte) may_is held b (two_byte_step first scalars held b)
-        (few_held held (rw (may_is held) at h))
-        (step_fits held b (rw (may_is held) at h));
-    ends = λ held h r. all_ends held (rw (may_is held) at h);
-    reports = λ held more h r. all_reports held more (rw (may_is held) at h);
-    few = λ held h. few_held held (rw (may_is held) at h);
-  }
+  two_byte_meets =
+      let meets = fits_meets g front ev_is (single_lead_may_hold is_lead_byte) may_is in
+      grind (arith, may_is, is.profile_is, meets, false≢true, fits_trail, lead_holds, all_ends, all_reports)
 
 -- ---- tests of the first byte
 
@@ -117,23 +86,17 @@ module _ (is_lead_byte : ℕ → Bool) (are_leads : (b : ℕ) → is_lead_byte b
   pub lead_byte_below : (b : ℕ) → is_lead_byte b ≡ true → b < 0x100
   lead_byte_below b h = (are_leads b h).1
 
-  ascii_no_lead : (b : ℕ) → is_ascii b ≡ true → is_lead_byte b ≡ false
-  ascii_no_lead b a = let past : is_lead_byte b ≡ true → 0x80 ≤ b = λ e. (are_leads b e).0 in grind (arith, nat_tests)
-
   pub lead_first_is : (paid : ℕ) → 2 ≤ paid → (b : ℕ) → IsFirst is_lead_byte paid b (lead_first is_lead_byte b)
-  lead_first_is paid enough b = grind (arith, first_test, ascii_no_lead)
+  lead_first_is paid enough b = grind (arith, nat_tests, first_test, are_leads)
 
 pub lead_front_is : (is_lead_byte : ℕ → Bool) (scalars : ℕ → List ℕ) (rest : List ℕ) (pair : Front) (b : ℕ) → pair ≡ step_front scalars rest hold →
     cond (is_ascii b) (reads 1 (b ∷ [])) (cond (is_lead_byte b) pair (malformed 1)) ≡ step_front scalars rest (lead_first is_lead_byte b)
 lead_front_is is_lead_byte scalars rest pair b e = grind (arith, front_test)
 
-pub range-past : (low high : ℕ) → 0x80 ≤ low → high < 0x100 → (b : ℕ) → is_in_range low high b ≡ true → IsPastAscii b
-range-past low high from to b h = (grind (arith, nat_tests), grind (arith, nat_tests))
-
 -- ---- codecs whose leads are 81 to FE
 
 pub is_lead-past : (b : ℕ) → is_lead b ≡ true → IsPastAscii b
-is_lead-past = range-past 0x81 0xFE (omega arith) (omega arith)
+is_lead-past b h = (grind (arith, nat_tests), grind (arith, nat_tests))
 
 pub is_lead-in : (b : ℕ) → 0x81 ≤ b → b ≤ 0xFE → is_lead b ≡ true
 is_lead-in b low high = grind (arith, nat_tests)

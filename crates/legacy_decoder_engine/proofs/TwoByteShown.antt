@@ -1,12 +1,12 @@
 -- The proof for all codecs with sequences of one and two bytes, from the few facts that each shows.
-use Rattle.std.proofs.{Common.{◌≡◌, ℕ, ◌<◌, ◌≤◌, List, ◌∷◌, length, Bool, true, false, refl, inl, ap, arith}, lemmas.Bool.false≢true}
-use Rattle.legacy_base.specs.{DecoderActs.{act_room, takes, full_room, full_room_in, release_room_in, has_short_ascii, has_reported}, Fronts.Front}
-use Rattle.legacy_base.specs.{Grammar.Grammar, States.{single_lead_may_hold, may_hold, state_of}, Lengths.{LengthQuery, query_form, room}}
+use Rattle.std.proofs.{Common.{◌≡◌, ℕ, ◌<◌, ◌≤◌, List, ◌∷◌, length, Bool, true, refl, arith}, lemmas.Bool.false≢true}
+use Rattle.legacy_base.specs.{DecoderActs.{full_room, full_room_in, release_room_in}, Fronts.Front}
+use Rattle.legacy_base.specs.{Grammar.Grammar, States.{state_of}, Lengths.{LengthQuery, query_form, room}}
 use Rattle.legacy_tables.specs.{Indexes.FlatIndexes, TableChecks.AreAccepted}
-use Rattle.legacy_decoder_engine.specs.{Steps.Step, LeadMachines.{two_byte_step, two_byte_machine}, StepUnits.{units, IsWidth, Cost}, StatesAfterSteps.Settles}
+use Rattle.legacy_decoder_engine.specs.{Steps.Step, LeadMachines.{two_byte_machine}, StepUnits.{units, IsWidth}}
 use Rattle.legacy_decoder_engine.specs.{Shown.IsShown, LeadCodecs.IsLeadCodec}
-use Rattle.legacy_decoder_engine.proofs.TwoByteMeets.{IsFirst, IsTwoByte, may_is, rests_is, ascii_first, lead_holds, first_settles, two_byte_meets}
-use Rattle.legacy_decoder_engine.proofs.RoomMoves.{narrow_read, Falls, query_slope, HasCosts, IsSloped, sloped_rooms}
+use Rattle.legacy_decoder_engine.proofs.TwoByteMeets.{IsFirst, IsTwoByte, may_is, ascii_first, lead_holds, two_byte_meets}
+use Rattle.legacy_decoder_engine.proofs.RoomMoves.{narrow_read, Falls, query_slope, HasCosts, sloped_rooms}
 use Rattle.legacy_decoder_engine.proofs.{CallUnderWay.same_rooms, TwoByteCosts.{first_cost, trail_cost}, SettledSteps.trail_settles}
 
 -- The rooms of such a codec. A pair fits into the full room. For each two bytes, `paid` code units are enough. The
@@ -21,45 +21,21 @@ pub record HasTwoByteRooms (g : Grammar) (scalars : ℕ → ℕ → List ℕ) (p
 module _ (g : Grammar) (front : ℕ → List ℕ → Front) (is_lead_byte : ℕ → Bool) (first : ℕ → Step) (scalars : ℕ → ℕ → List ℕ)
     (is : IsTwoByte g front is_lead_byte first scalars)
     (paid : ℕ) (firsts : (b : ℕ) → IsFirst is_lead_byte paid b (first b)) where
-  pub short_ascii : has_short_ascii g ≡ true
-  short_ascii = ap (λ p. p.short_ascii) is.profile_is
-
-  pub unreported : has_reported g ≡ false
-  unreported = ap (λ p. p.reported) is.profile_is
-
-  settles : (held : List ℕ) (b : ℕ) → single_lead_may_hold is_lead_byte held ≡ true → Settles g held b (two_byte_step first scalars held b)
-  settles held b h = grind (arith, first_settles, trail_settles, false≢true)
-
-  may : (held : List ℕ) → may_hold g held ≡ single_lead_may_hold is_lead_byte held
-  may = may_is g front is_lead_byte first scalars is paid firsts
-
   costs : HasTwoByteRooms g scalars paid → HasCosts g (two_byte_machine g first scalars) length paid
-  costs has_rooms = record { to_is = λ held b. refl; cost = λ len narrow wide w held b h r bytes byte. cost len narrow wide w held b (rw (may held) at h) }
-    where
-      cost : (len : ℕ → ℕ) (narrow wide : ℕ) → IsWidth len narrow wide → (held : List ℕ) (b : ℕ) → single_lead_may_hold is_lead_byte held ≡ true →
-          Cost len narrow (act_room narrow wide (state_of g held) (takes b)) length paid held b (two_byte_step first scalars held b)
-      cost len narrow wide w held b h =
-          let one = firsts b in
-          let two = has_rooms.pair_units len narrow wide w in
-          let three = has_rooms.is_paid len narrow wide w in
-          grind (arith, false≢true, narrow_read, first_cost, trail_cost, unreported, short_ascii)
-
-  sloped : HasTwoByteRooms g scalars paid → IsSloped g (two_byte_machine g first scalars) length paid
-  sloped has_rooms = grind arith
+  costs has_rooms = record {
+    to_is = λ held b. refl;
+    cost = λ len narrow wide w held b h r bytes byte.
+        let one = firsts b in
+        let two = has_rooms.pair_units len narrow wide w in
+        let three = has_rooms.is_paid len narrow wide w in
+        grind (arith, false≢true, narrow_read, first_cost, trail_cost, may_is);
+  }
 
   pub two_byte_shown : HasTwoByteRooms g scalars paid → IsShown g (two_byte_machine g first scalars)
   two_byte_shown has_rooms =
       let meets = two_byte_meets g front is_lead_byte first scalars is paid firsts in
-      record {
-        meets = meets;
-        rooms = λ query. sloped_rooms g (two_byte_machine g first scalars) length paid meets (costs has_rooms) (sloped has_rooms) query;
-        settles = λ held b h r. settles held b (rw (may held) at h);
-        write_settles = λ held h. tt;
-        same_rooms = λ held b. same_rooms g;
-        same_marks = λ held b. refl;
-        ascii_first = λ s. ascii_first is_lead_byte paid first firsts;
-        swallows = inl unreported;
-      }
+      let rooms = sloped_rooms g (two_byte_machine g first scalars) length paid meets (costs has_rooms) (grind arith) in
+      grind (arith, rooms, trail_settles, false≢true, may_is, same_rooms, ascii_first)
 
 -- the facts that the decoder requires, for a codec that has them for each index
 module _ (grammar : FlatIndexes → Grammar) (front : FlatIndexes → ℕ → List ℕ → Front) (is_lead_byte : ℕ → Bool) (first : ℕ → Step)
@@ -69,15 +45,8 @@ module _ (grammar : FlatIndexes → Grammar) (front : FlatIndexes → ℕ → Li
   pub lead_codec : ((flat : FlatIndexes) → AreAccepted flat → HasTwoByteRooms (grammar flat) (scalars flat) paid)
       → ((b : ℕ) → is_lead_byte b ≡ true → b < 0x100) →
       IsLeadCodec grammar is_lead_byte first scalars
-  lead_codec rooms bytes = record {
-    shown = λ flat accepted. two_byte_shown (grammar flat) (front flat) is_lead_byte first (scalars flat) (is flat) paid firsts (rooms flat accepted);
-    may_is = λ flat. may_is (grammar flat) (front flat) is_lead_byte first (scalars flat) (is flat) paid firsts;
-    rests_is = λ flat. rests_is (grammar flat) (front flat) is_lead_byte first (scalars flat) (is flat) paid firsts;
-    weight_is = λ flat held. ap (λ p. p.weight held) (is flat).profile_is;
-    short_ascii = λ flat. short_ascii (grammar flat) (front flat) is_lead_byte first (scalars flat) (is flat) paid firsts;
-    unreported = λ flat. unreported (grammar flat) (front flat) is_lead_byte first (scalars flat) (is flat) paid firsts;
-    neutral = λ flat. ap (λ p. p.begins_in_ascii) (is flat).profile_is;
-    ascii_first = ascii_first is_lead_byte paid first firsts;
-    lead_first = lead_holds is_lead_byte paid first firsts;
-    bytes = bytes;
-  }
+  lead_codec rooms bytes =
+      let shown = λ (flat : FlatIndexes) (accepted : AreAccepted flat).
+      two_byte_shown (grammar flat) (front flat) is_lead_byte first (scalars flat) (is flat) paid firsts (rooms flat accepted) in
+      let profile_is = λ (flat : FlatIndexes). (is flat).profile_is in
+      grind (arith, shown, profile_is, ascii_first, lead_holds)

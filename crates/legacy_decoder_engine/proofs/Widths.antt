@@ -2,7 +2,7 @@
 use Rattle.std.proofs.{Common.{◌≡◌, [], ◌∷◌, ℕ, ◌<◌, ◌≤◌, List, get_or, Option, arith, option_to_list}, lemmas.Bool.cases_lt}
 use Rattle.std.proofs.{lemmas.Bool.Decides.nat_tests, lemmas.List.Elements.All-get_or, lemmas.List.get_or_past}
 use Rattle.legacy_text.specs.EncodingForm.{EncodingForm, unit_count, bmp_room, wide_room}
-use Rattle.legacy_tables.specs.Indexes.{entry_scalar, idx}
+use Rattle.legacy_tables.specs.Indexes.{idx}
 use Rattle.legacy_text.proofs.CodeUnits.{encode_2, length-code_units-ascii, length-code_units-bmp, length-code_units-wide}
 use Rattle.legacy_decoder_engine.specs.StepUnits.{units, IsWidth, IsNarrowIndex}
 
@@ -15,23 +15,16 @@ pub narrow_entry : (index : List ℕ) (p : ℕ) → IsNarrowIndex index → get_
 narrow_entry index p h = grind (arith, All-get_or, get_or_past, cases_lt)
 
 module _ (len : ℕ → ℕ) (narrow wide : ℕ) (w : IsWidth len narrow wide) where
-  -- an entry of an index is one scalar or none
-  entry_units : (entry n : ℕ) → len entry ≤ n → units len (option_to_list (entry_scalar entry)) ≤ n
-  entry_units entry n h = grind (arith, nat_tests)
-
   pub idx_units : (index : List ℕ) (p : ℕ) → units len (option_to_list (idx index p)) ≤ wide
-  idx_units index p = entry_units (get_or index p 0) wide (w.every (get_or index p 0))
+  idx_units index p = grind (arith, nat_tests)
 
   pub narrow_idx_units : (index : List ℕ) (p : ℕ) → IsNarrowIndex index → units len (option_to_list (idx index p)) ≤ narrow
-  narrow_idx_units index p h = entry_units (get_or index p 0) narrow (w.bmp (get_or index p 0) (narrow_entry index p h))
+  narrow_idx_units index p h = grind (arith, nat_tests, narrow_entry)
 
   pub option_units : (o : Option ℕ) → units len (option_to_list o) ≤ wide
   option_units o = grind arith
 
 -- ---- entries
 
-entry_below : (entry c : ℕ) → entry < 0x1_0000 → option_to_list (entry_scalar entry) ≡ c ∷ [] → c < 0x1_0000
-entry_below entry c h e = grind (arith, nat_tests)
-
 pub idx_below : (index : List ℕ) (p c : ℕ) → IsNarrowIndex index → option_to_list (idx index p) ≡ c ∷ [] → c < 0x1_0000
-idx_below index p c narrow e = entry_below (get_or index p 0) c (narrow_entry index p narrow) e
+idx_below index p c narrow e = grind (arith, nat_tests, narrow_entry)

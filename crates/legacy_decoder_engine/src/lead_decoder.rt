@@ -196,6 +196,7 @@ impl<'a, C: LeadCodec> DecoderMoves for LeadDecoder<'a, C> {
 
     // Over packed tables only ASCII is read ahead.
     #[inline(always)]
+    #[tactic(auto, using(crate::proofs::WrittenRuns::no_bytes))]
     fn read_runs<T: Destination>(&mut self, src: &[u8], dst: &mut T) -> usize {
         if self.held.is_some() {
             return 0;

@@ -1,15 +1,10 @@
-use Rattle.std.proofs.Common.{ℕ, Bool, ◌≡◌, ◌∙◌, ◌++◌, [], ◌∷◌, arith, refl, sym, ap, subst, append-nil, add-zero, length-append}
+use Rattle.std.proofs.Common.{◌∙◌, ◌++◌, [], ◌∷◌, arith, refl, sym, ap, append-nil, add-zero, length-append}
 use Rattle.legacy_text.specs.EncodingForm.{code_units}
 use Rattle.legacy_text.proofs.CodeUnits.{total_unit_count-append}
-use Rattle.legacy_base.specs.Calls.{DecoderCall}
-use Rattle.legacy_decoder_engine.specs.{declared.moves.Fed.Fed, declared.moves.Fed.TheVariants.MalformedSequence, Moves.{fed_scalars, RevealsMalformed}}
+use Rattle.legacy_decoder_engine.specs.{Moves.{fed_scalars}}
 use Rattle.legacy_decoder_engine.proofs.CallUnderWay.{going_start, going_release, going_feed, call_full_release, call_lacks, call_read, call_unread, call_end}
 use Rattle.legacy_decoder_engine.proofs.{AheadRuns.{front_going, written}, drive.drive_decoder.Goals.{then-not-rests+else-not-has_room+in-Some, else-not-rests}}
 use Rattle.legacy_decoder_engine.proofs.drive.drive_decoder.Goals as goal
-
-sound : (fed : Fed) → ((a b : ℕ) (u : Bool) → fed ≡ MalformedSequence a b u → ⊥) → RevealsMalformed fed → ⊥
-sound (MalformedSequence a b u) h f = h a b u refl
-sound fed h f = f
 
 pub feed-fed-requires : goal.feed-fed-requires
 feed-fed-requires g c =
@@ -45,7 +40,7 @@ loop-read-preserved g c =
     let fed = c.feed-fed.result in
     let e = c.put_fed.ensures in (
       i.0 ++ fed_scalars fed,
-      going_feed i.1 i.3 fed (omega (arith, i.1.within, c.if-read-src.false)) c.feed-fed.ensures (sound fed c.in_default-fed.not-MalformedSequence) enough,
+      going_feed i.1 i.3 fed (omega (arith, i.1.within, c.if-read-src.false)) c.feed-fed.ensures (grind (arith, c.in_default-fed.not-MalformedSequence)) enough,
       written g.T.Destination _ _ _ i.0 (fed_scalars fed) i.2 e.contents,
       omega (arith, total_unit_count-append g.T.Destination.form i.0 (fed_scalars fed), e.room, i.3),
       e.loan ∙ i.4,
@@ -89,7 +84,6 @@ returns-clause-call g c =
     let i = front_going c.args.dst.now c.loop-read.invariant c.read_runs-read.ensures.runs c.hold_back-read.ensures.within c.hold_back-read.ensures.holds in
     let all = c.if-read-src.true in (
       i.0,
-      subst (λ n. DecoderCall T.form (g.D.DecoderMoves.state c.args.decoder.now) c.args.src.now c.args.last (T.room c.args.dst.now)
-          (g.D.DecoderMoves.state c.finish.new.decoder) c.finish.result n i.0) all (call_end i.1 _ i.3 all c.finish.ensures),
+      rw (← all) (call_end i.1 _ i.3 all c.finish.ensures),
       i.2,
     )

@@ -1,22 +1,10 @@
 use Rattle.std.proofs.Common.{arith}
-use Rattle.legacy_decoder_engine.proofs.WrittenRuns.{writes_none, writes_one, writes_two, three_fit, short}
+use Rattle.legacy_decoder_engine.proofs.WrittenRuns.{writes_none, writes_one, writes_two, short}
 use Rattle.legacy_decoder_engine.proofs.common_forms.FormsInTurnForms.read_forms.Goals.{in-Pair, in-Single+else-byte-next-lt128}
 use Rattle.legacy_decoder_engine.proofs.common_forms.FormsInTurnForms.read_forms.Goals as goal
 
 pub loop-left-init : goal.loop-left-init
 loop-left-init g c = (omega arith, omega arith, writes_none g.T.Destination (g.F.CommonForms.grammar c.args.self.now.forms.now) c.args.dst.now)
-
-pub put-requires : goal.put-requires
-put-requires g c = grind (arith, three_fit, in-Pair)
-
-pub put-requires-in-Single : goal.put-requires-in-Single
-put-requires-in-Single g c = grind (arith, three_fit)
-
-pub returns-then-byte-next-lt128-clause-writes : goal.returns-then-byte-next-lt128-clause-writes
-returns-then-byte-next-lt128-clause-writes g c = grind (arith, writes_one)
-
-pub returns-then-byte-next-lt128-clause-slack : goal.returns-then-byte-next-lt128-clause-slack
-returns-then-byte-next-lt128-clause-slack g c = grind (arith, short)
 
 pub loop-left-preserved : goal.loop-left-preserved
 loop-left-preserved g c = grind (arith, in-Pair, short, writes_two, in-Single+else-byte-next-lt128, writes_one)

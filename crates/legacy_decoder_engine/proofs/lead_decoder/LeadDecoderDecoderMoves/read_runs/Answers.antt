@@ -1,9 +1,6 @@
 use Rattle.std.proofs.Common.{◌∙◌, sym}
-use Rattle.legacy_decoder_engine.proofs.{JoinedRuns.reads_idle, LeadHeld.idle, WrittenRuns.reads_none}
+use Rattle.legacy_decoder_engine.proofs.{JoinedRuns.reads_idle, LeadHeld.idle}
 use Rattle.legacy_decoder_engine.proofs.lead_decoder.LeadDecoderDecoderMoves.read_runs.Goals as goal
-
-pub returns-then-is_some : goal.returns-then-is_some
-returns-then-is_some g c = record { runs = reads_none _ _ _ _ }
 
 pub returns-in-None : goal.returns-in-None
 returns-in-None g c =
