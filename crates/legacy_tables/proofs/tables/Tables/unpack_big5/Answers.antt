@@ -1,6 +1,6 @@
+use Rattle.legacy_tables.proofs.PackedAccepted.{entry_bounds}
 use Rattle.std.proofs.Common.{arith}
-use Rattle.legacy_tables.proofs.{Accepted.big5-scalars, PackedAccepted.entry-wide}
 use Rattle.legacy_tables.proofs.tables.Tables.unpack_big5.Goals as goal
 
 pub unpack-requires : goal.unpack-requires
-unpack-requires c = grind (arith, entry-wide, big5-scalars)
+unpack-requires c = grind (arith, entry_bounds)

@@ -6,7 +6,7 @@ pub returns-then-count-eq0 : goal.returns-then-count-eq0
 returns-then-count-eq0 c = grind (arith, last-none)
 
 pub overflow_sub-unit : goal.overflow_sub-unit
-overflow_sub-unit c = rw c.from.ensures (c.started_count-count.ensures.started (c.started_count-count.result - 1) (omega arith))
+overflow_sub-unit c = grind (arith, c.started_count-count.ensures.started (c.started_count-count.result - 1))
 
 pub overflow_add-unit : goal.overflow_add-unit
 overflow_add-unit c =

@@ -4,7 +4,7 @@ use Rattle.legacy_tables.proofs.{FirstPlaces.{find-some, find-none}, PackedRuns.
 use Rattle.legacy_tables.proofs.tables.packed_checks.first_difference.Goals as goal
 
 pub loop-pointer-init : goal.loop-pointer-init
-loop-pointer-init g c = record { none = λ k h. absurd (omega arith); place = first-behind c.args.runs.now.runs.now c.args.runs.now.ordered }
+loop-pointer-init g c = grind (arith, first-behind)
 
 pub returns-then-differ : goal.returns-then-differ
 unfolding run_difference

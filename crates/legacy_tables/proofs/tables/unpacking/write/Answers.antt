@@ -1,4 +1,4 @@
-use Rattle.std.proofs.{Common.{◌≡◌, ◌∙◌, ◌+◌, ◌-◌, length, arith}, lemmas.List.ext_get_or}
+use Rattle.std.proofs.{Common.{◌∙◌, ◌+◌, ◌-◌, arith}, lemmas.List.ext_get_or}
 use Rattle.legacy_tables.proofs.tables.unpacking.write.Goals as goal
 
 pub loop-pointer-init : goal.loop-pointer-init
@@ -9,11 +9,8 @@ write_row-requires-clause-within g c = grind arith
 
 pub write_row-requires-clause-small : goal.write_row-requires-clause-small
 write_row-requires-clause-small g c =
-    let row = c.row-start.ensures in
-    let some = row.some in
-    let last = row.numbers (c.row-start.result.2 - 1) (omega arith) in
-    let below = c.requires.small (c.row-start.result.0 + (c.row-start.result.2 - 1)) in
-    omega arith
+    let last = c.row-start.result.2 - 1 in
+    grind (arith, c.row-start.ensures.numbers last, c.requires.small (c.row-start.result.0 + last))
 
 pub loop-pointer-preserved : goal.loop-pointer-preserved
 loop-pointer-preserved g c =
@@ -31,8 +28,4 @@ loop-pointer-preserved g c =
 
 pub returns : goal.returns
 returns g c =
-    let within = c.loop-pointer.invariant.within in
-    let numbers = g.E.Entry.numbers c.loop-pointer.entries in
-    let all : length numbers ≡ length (g.N.Numbers.numbers c.args.index.now) =
-    g.met.E.Entry.all c.loop-pointer.entries ∙ c.loop-pointer.auto.entries ∙ c.clear.auto.entries ∙ c.requires.all in
-    ext_get_or 0 numbers (g.N.Numbers.numbers c.args.index.now) all (λ i h. c.loop-pointer.invariant.written i (omega (arith, all)))
+    grind (arith, g.met.E.Entry.all c.loop-pointer.entries, ext_get_or 0 (g.E.Entry.numbers c.loop-pointer.entries) (g.N.Numbers.numbers c.args.index.now))

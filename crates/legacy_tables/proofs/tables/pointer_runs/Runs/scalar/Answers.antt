@@ -6,7 +6,7 @@ pub returns-then-count-eq0 : goal.returns-then-count-eq0
 returns-then-count-eq0 g c = grind (arith, none-has c.args.self.now.runs.now c.args.self.now.ordered c.args.pointer 0)
 
 pub overflow_sub-at : goal.overflow_sub-at
-overflow_sub-at g c = rw c.from.ensures (c.started_count-count.ensures.started (c.started_count-count.result - 1) (omega arith))
+overflow_sub-at g c = grind (arith, c.started_count-count.ensures.started (c.started_count-count.result - 1))
 
 pub returns-then-at-from : goal.returns-then-at-from
 returns-then-at-from g c =

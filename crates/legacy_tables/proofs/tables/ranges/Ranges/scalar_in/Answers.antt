@@ -8,4 +8,4 @@ pub from_u32_unchecked-requires : goal.from_u32_unchecked-requires
 from_u32_unchecked-requires c = grind (arith, c.requires.part.scalars c.args.pointer)
 
 pub returns-clause-given : goal.returns-clause-given
-returns-clause-given c = grind (arith, c.requires.part.given c.args.pointer)
+returns-clause-given c = grind arith
