@@ -4,9 +4,6 @@ use Rattle.legacy_tables.proofs.tables.unpacking.write.Goals as goal
 pub loop-pointer-init : goal.loop-pointer-init
 loop-pointer-init g c = grind (arith, c.clear.ensures, g.N.Numbers.begins c.args.index.now)
 
-pub write_row-requires-clause-within : goal.write_row-requires-clause-within
-write_row-requires-clause-within g c = grind arith
-
 pub write_row-requires-clause-small : goal.write_row-requires-clause-small
 write_row-requires-clause-small g c =
     let last = c.row-start.result.2 - 1 in

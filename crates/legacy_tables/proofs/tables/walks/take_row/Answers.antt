@@ -2,9 +2,6 @@ use Rattle.std.proofs.Common.{◌+◌, arith}
 use Rattle.legacy_tables.proofs.Walks.{filled-more}
 use Rattle.legacy_tables.proofs.tables.walks.take_row.Goals as goal
 
-pub loop-at-init : goal.loop-at-init
-loop-at-init g c = grind arith
-
 pub loop-at-preserved : goal.loop-at-preserved
 loop-at-preserved g c = λ index has filled.
     let n = c.args.pointer + c.loop-at.at in

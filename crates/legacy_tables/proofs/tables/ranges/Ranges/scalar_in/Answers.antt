@@ -1,11 +1,5 @@
 use Rattle.std.proofs.Common.{◌-◌, arith}
 use Rattle.legacy_tables.proofs.tables.ranges.Ranges.scalar_in.Goals as goal
 
-pub overflow_cast-unit : goal.overflow_cast-unit
-overflow_cast-unit c = grind arith
-
 pub from_u32_unchecked-requires : goal.from_u32_unchecked-requires
 from_u32_unchecked-requires c = grind (arith, c.requires.part.scalars c.args.pointer)
-
-pub returns-clause-given : goal.returns-clause-given
-returns-clause-given c = grind arith

@@ -1,6 +1,0 @@
-use Rattle.legacy_tables.proofs.PackedAccepted.{entry_bounds}
-use Rattle.std.proofs.Common.{arith}
-use Rattle.legacy_tables.proofs.tables.Tables.unpack_big5.Goals as goal
-
-pub unpack-requires : goal.unpack-requires
-unpack-requires c = grind (arith, entry_bounds)
