@@ -176,3 +176,5 @@ order-same part a b order same is = record {
     find-alike : (c : ℕ) (xs : List ℕ) → find (λ p. slice_index a p == c) xs ≡ find (λ p. slice_index b p == c) xs
     find-alike c [] = refl
     find-alike c (x ∷ xs) = rw (same x, find-alike c xs) refl
+
+pub ruleset lacking = (lacks-none, lacks-first)

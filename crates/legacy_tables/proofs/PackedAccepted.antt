@@ -10,7 +10,8 @@ use Rattle.legacy_tables.specs.{TableChecks.{entry_fault, entries_fault, index_f
 use Rattle.legacy_tables.specs.{Runs.run_fault, Tables.index_list, Packed.{part_fault, differs_at, run_difference, runs_fault, all_runs_fault}}
 use Rattle.legacy_tables.specs.{Packed.{all_orders_fault, packed_lists, ArePackedTables}, PackedTables.{lists_of_runs, AreRunsOf, AnswerPointersOf}}
 use Rattle.legacy_tables.specs.{declared.tables.packed_checks.CheckedRuns.CheckedRuns, declared.tables.order_checks.CheckedOrders.CheckedOrders}
-use Rattle.legacy_tables.proofs.{Accepted.{parts, or_none, entry_at}, FirstPlaces.find-none-at, Orders.order-same, PackedRuns.{no_run, are_in_order}}
+use Rattle.legacy_tables.proofs.Accepted.{parts, or_none, entry_at, index-scalars, big5-scalars, narrow_index}
+use Rattle.legacy_tables.proofs.{FirstPlaces.find-none-at, Orders.order-same, PackedRuns.{no_run, are_in_order}}
 use Rattle.legacy_tables.proofs.PackedRuns.{scalar-none, outside-behind, runs_end-within, runs_list-length, runs_list-entry}
 use Rattle.legacy_tables.specs.declared.tables.IndexName.TheVariants as names
 use Rattle.legacy_tables.specs.declared.tables.packed.PackedPart.TheVariants as parts
@@ -145,3 +146,7 @@ module _ (flat : FlatIndexes) (packed : Packed) (accepted : AreAccepted flat) (n
 pub lists-same : (runs : CheckedRuns) (flat : FlatIndexes) (packed : Packed) → AreRunsOf runs packed
     → lists_of_runs runs flat.katakana flat.ranges flat.gb18030_pua ≡ packed_lists flat packed
 lists-same runs flat packed are = rw (are.big5, are.euc_kr, are.jis0208, are.jis0212, are.gb18030) refl
+
+pub ruleset entry_scalars = (entry-scalar, index-scalars)
+
+pub ruleset entry_bounds = (entry-wide, entry-narrow, big5-scalars, narrow_index)

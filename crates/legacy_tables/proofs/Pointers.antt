@@ -186,3 +186,7 @@ module _ (ranges : List (ℕ × ℕ)) (c : ℕ) where
   pub range-taken : (p : ℕ) → range_pointer_of ranges c ≡ Some p → (range ranges p ≡ Some c) × (p < 1237576)
   unfolding range_pointer_of
   range-taken p e = grind (arith, least_taken 1237576 p, range-fixed, at_7457)
+
+pub ruleset from_end = (last-from, none-from)
+
+pub ruleset alike = (first-alike, all_below, from_on, below_both)

@@ -54,3 +54,5 @@ module _ (c : ℕ) where
     pub row-found : count < length rows → (get_or rows count (0, 0, 0)).0 ≡ c
         → Some ((get_or rows count (0, 0, 0)).1, (get_or rows count (0, 0, 0)).2) ≡ gb18030_pua_of rows c
     row-found h e = grind (arith, find-at (λ r. r.0 == c) (0, 0, 0) rows count h, lower)
+
+pub ruleset row_search = (row-outside, row-end, row-other, row-found)

@@ -6,7 +6,7 @@ use Rattle.std.specs.Char.{IsScalar}
 use Rattle.legacy_tables.specs.{declared.tables.ranges.RangePart.RangePart, Indexes.{range, last_range_scalar}, Pointers.range_pointer_of}
 use Rattle.legacy_tables.specs.{RangeParts.IsRangePart, TableChecks.{next_pointer, range_order_fault, range_value_fault}}
 use Rattle.legacy_tables.proofs.Accepted.{climb, rising, rising_scalars, started_by, IsGiven, last-at, none-ahead, last-cases, last_range-narrow, range-cases}
-use Rattle.legacy_tables.proofs.Pointers.{range-first, range-none}
+use Rattle.legacy_tables.proofs.Pointers.{range-first, range-none, range-fixed}
 
 -- the range at a place, and the scalar that it gives a pointer
 abbrev range_at : List (ℕ × ℕ) → ℕ → ℕ × ℕ
@@ -196,3 +196,5 @@ whole-range ranges ordered valued place within part first end scalar =
           sym (pointer-found ranges ordered c (omega arith) free place within (omega arith) ahead (part.first + (c - part.scalar))
           (rw (scalar, first) refl) (omega arith) other);
     }
+
+pub ruleset range_pointers = (range-fixed, wide-pointer)

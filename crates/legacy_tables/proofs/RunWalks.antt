@@ -33,3 +33,5 @@ module _ {limit : ℕ} (runs : List Run) (ordered : AreInOrder limit runs) (n p 
     -- its end is before the next run
     pub row-next : IsBetween runs (n + 1) (run_end (run_at runs n))
     row-next = grind (arith, nat_tests, ordered.rising)
+
+pub ruleset next_row = (row-there, row-gap, row-numbers, row-within, row-next)

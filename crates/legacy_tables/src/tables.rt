@@ -276,6 +276,7 @@ impl<'a> Tables<'a> {
     ///
     /// Returns `None` exactly if `room` is shorter than the index. Tables made of flat indexes look pointers up
     /// without a search.
+    #[tactic(auto, using(crate::proofs::PackedAccepted::entry_bounds))]
     pub fn unpack_big5<'b>(&self, room: &'b mut [u32]) -> Option<&'b [u32]>
         ensures { MatchOption result (length room.old < length self.now.flat.big5)
             (λ flat. flat.now ≡ self.now.flat.big5) }
@@ -290,6 +291,7 @@ impl<'a> Tables<'a> {
     ///
     /// The name must be `EucKr`, `Jis0208`, `Jis0212` or `Gb18030`. Returns `None` exactly if `room` is shorter than the
     /// index.
+    #[tactic(auto, using(crate::proofs::PackedAccepted::entry_bounds))]
     pub fn unpack<'b>(&self, name: IndexName, room: &'b mut [u16]) -> Option<&'b [u16]>
         requires { is_narrow_index name ≡ true }
         ensures { MatchOption result (length room.old < length (index_list self.now.flat name))

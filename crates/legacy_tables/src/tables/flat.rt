@@ -99,6 +99,7 @@ impl<'a> FlatTables<'a> {
 impl<'a> DecoderTables for FlatTables<'a> {
     ghost indexes = { λ t. t };
 
+    #[tactic(auto, using(crate::proofs::PackedAccepted::entry_scalars))]
     #[inline]
     fn idx(&self, name: IndexName, pointer: usize) -> Option<char> {
         lookups::scalar_of(self.entry(name, pointer))

@@ -22,6 +22,7 @@ pub(super) fn scalar_of(entry: usize) -> Option<char>
 }
 
 /// Returns the scalar of a pointer in an index.
+#[tactic(auto, using(crate::proofs::PackedAccepted::entry_scalars))]
 #[inline]
 pub(crate) fn scalar_in<N: Numbers>(index: &N, pointer: usize) -> Option<char>
     requires { AreScalars (N.numbers index.now) }

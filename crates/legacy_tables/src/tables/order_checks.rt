@@ -47,6 +47,7 @@ fn is_in_order<N: Numbers>(part: PackedPart, index: &N, above: usize, pointer: u
 }
 
 /// Returns the first place of a pointer that is not in order.
+#[tactic(auto, using(crate::proofs::Orders::pointers_next, crate::proofs::Orders::pointers_end))]
 fn first_out_of_order<N: Numbers>(part: PackedPart, index: &N, order: &[u16]) -> Option<usize>
     ensures { result ≡ order_fault part (N.numbers index.now) order.now }
 {
@@ -150,6 +151,7 @@ fn held_pointer<N: Numbers>(
 
 /// Checks whether the order lacks the scalar of a pointer, if it lacks that of no earlier pointer.
 // Except for Big5's six scalars, the codec uses the first pointer. So the order is wrong if its pointer is a later one.
+#[tactic(auto, using(crate::proofs::Orders::lacking))]
 fn lacks<N: Numbers>(
     part: PackedPart,
     index: &N,

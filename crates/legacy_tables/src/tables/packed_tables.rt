@@ -122,6 +122,7 @@ impl<'a> PackedTables<'a> {
 impl<'a> DecoderTables for PackedTables<'a> {
     ghost indexes = { λ t. t };
 
+    #[tactic(auto, using(crate::proofs::PackedAccepted::entry_scalars))]
     #[inline]
     fn idx(&self, name: IndexName, pointer: usize) -> Option<char> {
         lookups::scalar_of(self.entry(name, pointer))

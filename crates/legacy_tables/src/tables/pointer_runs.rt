@@ -57,6 +57,7 @@ fn started_count<const POINTERS: usize>(runs: &[Run], pointer: usize) -> usize
 
 impl<'a, const POINTERS: usize> Runs<'a, POINTERS> {
     /// Makes the runs of a list that is in order.
+    #[tactic(auto, using(crate::proofs::PackedRuns::are_in_order))]
     pub(super) fn new(runs: &'a [Run]) -> Runs<'a, POINTERS>
         requires { run_fault POINTERS runs.now ≡ None }
         ensures { result.runs.now ≡ runs.now }
@@ -148,6 +149,7 @@ impl<'a, const POINTERS: usize> Numbers for Runs<'a, POINTERS> {
         }
     }
 
+    #[tactic(auto, using(crate::proofs::RunWalks::next_row))]
     #[inline(always)]
     fn row(&self, place: usize, _at: usize) -> (usize, usize, usize, usize) {
         let run = &self.runs[place];

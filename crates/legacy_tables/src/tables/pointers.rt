@@ -68,7 +68,7 @@ fn last_block<N: Blocks>(index: &N, start: usize, entry: usize) -> usize
 }
 
 /// Returns the last pointer from `start` on that has the entry.
-#[tactic(auto, unfolding(crate::specs::Pointers::last_pointer))]
+#[tactic(auto, using(crate::proofs::Pointers::from_end), unfolding(crate::specs::Pointers::last_pointer))]
 pub(super) fn last_from<N: Blocks>(index: &N, start: usize, entry: usize) -> Option<usize>
     ensures { result ≡ last_pointer (nat_le start) (N.numbers index.now) entry }
 {
@@ -93,6 +93,7 @@ pub(super) fn takes_last(scalar: usize) -> bool
 }
 
 /// Returns the pointer that Big5's encoder uses for a scalar.
+#[tactic(auto, using(crate::proofs::Pointers::alike))]
 pub(super) fn big5_pointer(index: &[u32], scalar: char) -> Option<usize>
     ensures { result ≡ big5_pointer_of index.now scalar }
 {
@@ -104,6 +105,7 @@ pub(super) fn big5_pointer(index: &[u32], scalar: char) -> Option<usize>
 }
 
 /// Returns the first pointer of a scalar.
+#[tactic(auto, using(crate::proofs::Pointers::alike))]
 pub(super) fn first(index: &[u16], scalar: char) -> Option<usize>
     ensures { result ≡ first_pointer every_pointer index.now scalar }
 {
@@ -121,6 +123,7 @@ pub(super) fn shift_jis_pointer(jis0208: &[u16], scalar: char) -> Option<usize>
 }
 
 /// Returns the pointer that the encoders of EUC-JP and ISO-2022-JP use for a scalar.
+#[tactic(auto, using(crate::proofs::Pointers::alike))]
 pub(super) fn euc_jp_pointer(jis0208: &[u16], scalar: char) -> Option<usize>
     ensures { result ≡ euc_jp_pointer_of jis0208.now scalar }
 {
@@ -162,6 +165,7 @@ fn pointer_in_ranges(ranges: &[(u16, u16)], scalar: usize) -> Option<usize>
 }
 
 /// Returns the pointer of four bytes of a scalar.
+#[tactic(auto, using(crate::proofs::RangePointers::range_pointers))]
 #[inline]
 pub(super) fn range_pointer(ranges: &[(u16, u16)], scalar: char) -> Option<usize>
     requires ordered { range_order_fault 0 None ranges.now ≡ None }

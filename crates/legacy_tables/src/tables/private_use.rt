@@ -108,6 +108,7 @@ fn is_private_use(scalar: char) -> bool
 
 /// Returns the lead and the trail of the row that has the scalar.
 // Most scalars are not for private use, and need no search.
+#[tactic(auto, using(crate::proofs::PrivateUse::row_search))]
 #[inline]
 pub(super) fn row_bytes(rows: &[(u16, u8, u8)], scalar: char) -> Option<(u8, u8)>
     requires { rows_fault 0 None rows.now ≡ None }
@@ -120,6 +121,7 @@ pub(super) fn row_bytes(rows: &[(u16, u8, u8)], scalar: char) -> Option<(u8, u8)
 }
 
 /// Returns the same as `row_bytes`, by a search of the rows.
+#[tactic(auto, using(crate::proofs::PrivateUse::row_search))]
 fn searched_bytes(rows: &[(u16, u8, u8)], scalar: char) -> Option<(u8, u8)>
     requires { rows_fault 0 None rows.now ≡ None }
     ensures { result ≡ gb18030_pua_of rows.now scalar }

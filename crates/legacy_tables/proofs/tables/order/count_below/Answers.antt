@@ -1,5 +1,6 @@
-use Rattle.std.proofs.{Common.{ℕ, rules, arith, nat_lt, slice_index}, lemmas.List.Sorted.{IsPartitionPoint-from_clause, IsPartitionedBy-ltb}}
-use borrow.Author.Tests.{ltb-true, ltb-false}
+use Rattle.std.proofs.lemmas.Bool.Decides.{nat_tests}
+use Rattle.std.proofs.Common.{ℕ, rules, arith, nat_lt, slice_index}
+use Rattle.std.proofs.lemmas.List.Sorted.{IsPartitionPoint-from_clause, IsPartitionedBy-ltb}
 use Rattle.legacy_tables.proofs.Orders.{order-rising}
 use Rattle.legacy_tables.proofs.tables.order.count_below.Goals as goal
 
@@ -11,4 +12,4 @@ returns g c =
     c.partition_point.result c.partition_point.ensures.partitioned
     (IsPartitionedBy-ltb (λ (p : ℕ). slice_index index p) c.args.order.now c.args.scalar (order-rising index c.args.order.now c.requires))
     (λ a r q k. search rules) in
-    record { within = search rules; below = λ k h. ltb-true _ _ (point.0 k 0 (omega arith) h); from = λ k h l. ltb-false _ _ (point.1 k 0 h l) }
+    grind (arith, nat_tests, point)

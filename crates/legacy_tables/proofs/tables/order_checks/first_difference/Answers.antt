@@ -7,9 +7,11 @@ use Rattle.legacy_tables.proofs.tables.order_checks.first_difference.Goals as go
 pub returns-then-lacks : goal.returns-then-lacks
 unfolding order_difference
 returns-then-lacks g c =
-    sym (find-some (is_lacking c.args.part (g.N.Numbers.numbers c.args.index.now) c.args.order.now) 0
-    (length (g.N.Numbers.numbers c.args.index.now)) c.loop-pointer.pointer
-    (omega arith) (omega arith) (sym c.lacks.ensures ∙ c.if-lacks.true) (λ k l h. c.loop-pointer.invariant k h))
+    grind (
+      arith,
+      find-some (is_lacking c.args.part (g.N.Numbers.numbers c.args.index.now) c.args.order.now) 0
+          (length (g.N.Numbers.numbers c.args.index.now)) c.loop-pointer.pointer,
+    )
 
 pub loop-pointer-preserved : goal.loop-pointer-preserved
 loop-pointer-preserved g c =
@@ -19,5 +21,4 @@ loop-pointer-preserved g c =
 pub returns : goal.returns
 unfolding order_difference
 returns g c =
-    sym (find-none (is_lacking c.args.part (g.N.Numbers.numbers c.args.index.now) c.args.order.now) 0 (length (g.N.Numbers.numbers c.args.index.now))
-    (λ k l h. c.loop-pointer.invariant k (omega arith)))
+    grind (arith, find-none (is_lacking c.args.part (g.N.Numbers.numbers c.args.index.now) c.args.order.now) 0 (length (g.N.Numbers.numbers c.args.index.now)))

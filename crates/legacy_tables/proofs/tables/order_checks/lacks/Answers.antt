@@ -1,19 +1,9 @@
 use Rattle.std.proofs.Common.{◌∙◌, sym}
-use Rattle.legacy_tables.proofs.Orders.{lacks-none, lacks-last, lacks-first}
+use Rattle.legacy_tables.proofs.Orders.{lacks-last}
 use Rattle.legacy_tables.proofs.tables.order_checks.lacks.Goals as goal
-
-pub returns-in-None : goal.returns-in-None
-returns-in-None g c =
-    lacks-none _ _ _ _ c.requires.lookup _ _ c.number_at-scalar.ensures c.if-scalar-eq0.false (sym c.is_usable.ensures ∙ c.if-not-is_usable.false)
-    (sym c.in-None.ensures)
 
 pub returns-then-takes_last_of : goal.returns-then-takes_last_of
 returns-then-takes_last_of g c =
     let last = c.last_of.ensures c.args.part _ c.requires.lasts (sym c.takes_last_of.ensures ∙ c.if-takes_last_of.true) in
     lacks-last _ _ _ _ c.requires.lookup _ _ c.number_at-scalar.ensures c.if-scalar-eq0.false (sym c.is_usable.ensures ∙ c.if-not-is_usable.false)
     _ (sym c.in-Some.ensures) _ (λ e. last ∙ c.is_other.ensures.same e) (λ e z. c.is_other.ensures.other e (sym last ∙ z))
-
-pub returns-else-takes_last_of : goal.returns-else-takes_last_of
-returns-else-takes_last_of g c =
-    lacks-first _ _ _ _ c.requires.lookup _ _ c.number_at-scalar.ensures c.if-scalar-eq0.false (sym c.is_usable.ensures ∙ c.if-not-is_usable.false)
-    _ (sym c.in-Some.ensures) (sym c.takes_last_of.ensures ∙ c.if-takes_last_of.false) c.requires.passed

@@ -3,8 +3,7 @@ use Rattle.legacy_tables.proofs.RangePointers.{pointer-before, pointer-past, poi
 use Rattle.legacy_tables.proofs.tables.pointers.pointer_in_ranges.Goals as goal
 
 pub returns-then-count-eq0 : goal.returns-then-count-eq0
-returns-then-count-eq0 c =
-    pointer-before _ c.requires.ordered _ c.requires.narrow c.requires.free (λ k h. c.ranges_up_to-count.ensures.ahead k (omega arith) h)
+returns-then-count-eq0 c = grind (arith, pointer-before)
 
 pub returns-then-pointer-from : goal.returns-then-pointer-from
 returns-then-pointer-from c =

@@ -1,9 +1,9 @@
-use Rattle.std.proofs.{Common.{◌+◌, ◌<◌, ap, arith, rules, inl, inr, not, slice_index}, lemmas.Bool.cases_lt}
+use Rattle.std.proofs.{Common.{◌+◌, ap, inl, inr, not, arith}, lemmas.Bool.cases_lt}
 use Rattle.legacy_tables.proofs.SearchedBlocks.{not-contained}
 use Rattle.legacy_tables.proofs.tables.entries.U32Entry.lacks.Goals as goal
 
 pub returns-then-number-gt4294967295 : goal.returns-then-number-gt4294967295
-returns-then-number-gt4294967295 c = λ _ k l h e. let most : slice_index c.args.entries.now k < 0x1_0000_0000 = search rules in absurd (omega arith)
+returns-then-number-gt4294967295 c = grind arith
 
 pub returns : goal.returns
 returns c = λ is k l h. elim (cases_lt k (c.args.from + 16)) [

@@ -1,17 +1,12 @@
-use Rattle.std.proofs.Common.{◌<◌, length, arith}
+use Rattle.std.proofs.{lemmas.Bool.Decides.nat_tests, Common.{◌<◌, length, arith}}
 use Rattle.legacy_tables.proofs.RangePointers.{no-part, whole-range, starts-before}
 use Rattle.legacy_tables.proofs.tables.ranges.Ranges.part_at.Goals as goal
 
 pub returns-then-place-self-clause-part : goal.returns-then-place-self-clause-part
-returns-then-place-self-clause-part c =
-    no-part c.args.self.now.list.now c.none.result c.none.ensures.first c.none.ensures.count c.none.ensures.scalar
+returns-then-place-self-clause-part c = grind (arith, no-part)
 
 pub overflow_sub-count : goal.overflow_sub-count
-overflow_sub-count c =
-    let ranges = c.args.self.now.list.now in
-    let within : c.args.place < length ranges = omega arith in
-    let before = starts-before ranges c.args.self.now.ordered c.args.place within in
-    rw (c.from.ensures, c.from-2.ensures, c.end_of.ensures) (omega (arith, before))
+overflow_sub-count c = grind (arith, nat_tests, starts-before c.args.self.now.list.now c.args.self.now.ordered c.args.place)
 
 pub returns-clause-part : goal.returns-clause-part
 returns-clause-part c =
@@ -22,13 +17,4 @@ returns-clause-part c =
     (rw (c.from.ensures, c.from-2.ensures, c.from-3.ensures, c.end_of.ensures) (omega (arith, before))) c.from-4.ensures
 
 pub returns-clause-at : goal.returns-clause-at
-returns-clause-at c =
-    let ranges = c.args.self.now.list.now in
-    let within : c.args.place < length ranges = omega arith in
-    let before = starts-before ranges c.args.self.now.ordered c.args.place within in
-    record {
-      first = λ h. c.from-3.ensures;
-      end = λ h. rw (c.from.ensures, c.from-2.ensures, c.from-3.ensures, c.end_of.ensures) (omega (arith, before));
-      scalar = λ h. c.from-4.ensures;
-      none = λ h. absurd (omega (arith, within, h));
-    }
+returns-clause-at c = grind (arith, nat_tests, starts-before)

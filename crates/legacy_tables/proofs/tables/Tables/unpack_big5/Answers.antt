@@ -1,5 +1,0 @@
-use Rattle.legacy_tables.proofs.{Accepted.big5-scalars, PackedAccepted.entry-wide}
-use Rattle.legacy_tables.proofs.tables.Tables.unpack_big5.Goals as goal
-
-pub unpack-requires : goal.unpack-requires
-unpack-requires c = rw c.wide.ensures (entry-wide _ (big5-scalars _ c.in-Flat.tables.accepted))
