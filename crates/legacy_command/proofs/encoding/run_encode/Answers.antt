@@ -3,7 +3,8 @@ use Rattle.legacy_command.proofs.CommandLine.{works_with}
 use Rattle.legacy_command.proofs.encoding.run_encode.Goals as goal
 
 pub returns-in-Ok-clause-encoded : goal.returns-in-Ok-clause-encoded
-returns-in-Ok-clause-encoded g c e = works_with _ _ c.args.words.now _ (sym c.encoder_in.ensures ∙ c.in-Some.is) c.in-Ok.ensures.well_formed c.in-Ok.ensures.encoded
+returns-in-Ok-clause-encoded g c e =
+    works_with _ _ c.args.words.now _ (sym c.encoder_in.ensures ∙ c.in-Some.is) c.in-Ok.ensures.well_formed c.in-Ok.ensures.encoded
 
 pub returns-in-Err-clause-stops : goal.returns-in-Err-clause-stops
 returns-in-Err-clause-stops g c e = elim c.in-Err.ensures.stops [
