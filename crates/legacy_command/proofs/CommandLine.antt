@@ -1,7 +1,10 @@
 -- Laws of the words of the command line.
-use Rattle.std.proofs.{Math.Seq.take_all, Common.{◌≡◌, ap, ℕ, ◌-◌, take, drop, IsTrue, ◌≤◌, ◌<◌, List, [], ◌∷◌, length, refl, arith, Bool, true, false, ◌&&◌}}
+use Rattle.std.proofs.Math.Seq.{take_all}
+use Rattle.std.proofs.Common.{◌≡◌, ap, ℕ, ◌-◌, take, drop, IsTrue, ◌≤◌, ◌<◌, List, [], ◌∷◌, length, length-drop, refl, arith, Option, Some, Bool, true, false, ◌&&◌}
 use Rattle.std.specs.Borrow.{Bor}
-use Rattle.legacy_command.specs.Words.{texts_of, are_indexes}
+use Rattle.legacy_tables.specs.Indexes.{FlatIndexes}
+use Rattle.legacy_index_files.specs.declared.codec.Codec.{Codec}
+use Rattle.legacy_command.specs.{Words.{texts_of, are_indexes}, IndexTexts.{text_given, AreWellFormed}, Program.{WorksByTexts, WorksWith}}
 
 -- an INDEX without a FILE is not allowed
 pub one_word : (words : List (Bor (List ℕ))) → 1 ≤ length words → length words < 2 → false ≡ are_indexes (texts_of words)
@@ -11,9 +14,7 @@ one_word (v ∷ w ∷ words) h k = absurd (omega arith)
 
 -- the words after the first INDEX and FILE
 pub later_words : (words : List (Bor (List ℕ))) → 2 ≤ length words → take (length words - 2) (drop 2 words) ≡ drop 2 words
-later_words [] h = absurd (omega arith)
-later_words (w ∷ []) h = absurd (omega arith)
-later_words (v ∷ w ∷ words) h = take_all _ _ (omega arith)
+later_words words h = take_all _ _ (omega (arith, length-drop 2 words))
 
 second_true : (a b : Bool) → IsTrue (a && b) → IsTrue b
 second_true true b h = h
@@ -28,3 +29,12 @@ later_indexes (v ∷ w ∷ words) h k = second_true _ _ k
 pub words_behind_codec : (words : List (Bor (List ℕ))) → texts_of (take (length words - 1) (drop 1 words)) ≡ drop 1 (texts_of words)
 words_behind_codec [] = refl
 words_behind_codec (w ∷ words) = ap texts_of (take_all _ words (omega arith))
+
+-- what is done by the words after CODEC is done by the words
+pub works_with : {State : Type 0} {coder_of : Codec → FlatIndexes → Option (List ℕ) → Option State} {Work : State → Type 0} (asked : Option Codec)
+    (codec : Codec) (words : List (Bor (List ℕ))) (files : List (Option (List ℕ))) → asked ≡ Some codec →
+    AreWellFormed (texts_of (take (length words - 1) (drop 1 words))) files
+    → WorksByTexts coder_of codec (text_given (texts_of (take (length words - 1) (drop 1 words))) files) Work
+    → WorksWith coder_of asked (texts_of words) files Work
+works_with asked codec words files named well_formed by =
+    record { codec = codec; named = named; well_formed = rw (words_behind_codec words) at well_formed; by = rw (words_behind_codec words) at by }

@@ -3,31 +3,17 @@ use Rattle.std.proofs.{Common.{◌≡◌, List, ℕ, Bool, Option, inl, inr, ref
 use Rattle.std.specs.Io.KnownBytes.{Keeps}
 use Rattle.legacy_base.specs.{declared.results.DecodeEvent.DecodeEvent, Encoders.EncoderState, States.DecoderState}
 use Rattle.legacy_streams.specs.{declared.recode.RecodeError.RecodeError, declared.recode.RecodeError.TheVariants.{Read, Write}, Streams.AppendsFront}
-use Rattle.legacy_streams.specs.{Streams.{DecodesAll, DecodesBeginning, DecodesPartly}, Recoding.{RecodesBeginning, RecodesPartly}, Text.WritesBeginning}
-use Rattle.legacy_streams.specs.{Text.WritesPartly, Encoding.{EncodesAll, EncodesBeginning, EncodesPartly, EncodesUpTo}}
+use Rattle.legacy_streams.specs.{Streams.{DecodesAll, DecodesBeginning, DecodesPartly}, Encoding.{EncodesAll, EncodesBeginning, EncodesPartly, EncodesUpTo}}
 use Rattle.legacy_command.specs.{declared.words.OutputKind.OutputKind, declared.words.OutputKind.TheVariants.{Lines, Text}, declared.host.Program.Program}
 use Rattle.legacy_command.specs.{declared.host.Program.TheVariants.{Recode, Encode}, Host.IsStoppedBy, Program.{Untouched, RecodesInput, RecodesSome}}
 use Rattle.legacy_command.specs.Program.{EncodesSome}
 
 -- ---- after a failed read or write
 
-pub failed_lines : {A : Type 0} (r : Result A RecodeError) (b a : DecoderState) (i j o p : Option (List ℕ))
-    → (r ≡ Err Read → RecodesBeginning b a i j o p) → (r ≡ Err Write → RecodesPartly b a i j o p) → OnErr r (RecodesSome Lines b i j o p)
-failed_lines (Ok x) b a i j o p read write = tt
-failed_lines (Err Read) b a i j o p read write = (a, inr (inl (read refl)))
-failed_lines (Err Write) b a i j o p read write = (a, inr (inr (write refl)))
-
-pub failed_text : {A : Type 0} (r : Result A RecodeError) (b a : DecoderState) (i j o p : Option (List ℕ))
-    → (r ≡ Err Read → WritesBeginning b a i j o p) → (r ≡ Err Write → WritesPartly b a i j o p) → OnErr r (RecodesSome Text b i j o p)
-failed_text (Ok x) b a i j o p read write = tt
-failed_text (Err Read) b a i j o p read write = (a, inr (inl (read refl)))
-failed_text (Err Write) b a i j o p read write = (a, inr (inr (write refl)))
-
-pub failed_encoding : {A : Type 0} (r : Result A RecodeError) (b a : EncoderState) (i j o p : Option (List ℕ))
-    → (r ≡ Err Read → EncodesBeginning b a i j o p) → (r ≡ Err Write → EncodesPartly b a i j o p) → OnErr r (EncodesSome b i j o p)
-failed_encoding (Ok x) b a i j o p read write = tt
-failed_encoding (Err Read) b a i j o p read write = (a, inr (inl (read refl)))
-failed_encoding (Err Write) b a i j o p read write = (a, inr (inr (write refl)))
+pub failed : {A Q : Type 0} (r : Result A RecodeError) → (r ≡ Err Read → Q) → (r ≡ Err Write → Q) → OnErr r Q
+failed (Ok x) read write = tt
+failed (Err Read) read write = read refl
+failed (Err Write) read write = write refl
 
 -- something is known of a success, and something weaker of an error
 pub either : {A E P Q : Type 0} (r : Result A E) → (P → Q) → OnOk r P → OnErr r Q → Q
@@ -52,25 +38,16 @@ pub some_found : {E : Type 0} (P : Bool → Type 0) (r : Result Bool E) → IfOk
 some_found P (Ok found) p = (found, p)
 some_found P (Err e) p = tt
 
--- all is a beginning of itself
-pub some_of_all : (kind : OutputKind) (before : DecoderState) (i j o p : Option (List ℕ)) → RecodesInput kind before i j o p → RecodesSome kind before i j o p
-some_of_all Lines before i j o p (after, all) = (after, inl all)
-some_of_all Text before i j o p (after, (found, all)) = (after, inl (found, all))
-
-pub some_encoded : (b a : EncoderState) (i j o p : Option (List ℕ)) → EncodesAll b a i j o p → EncodesSome b i j o p
-some_encoded b a i j o p all = (a, inl all)
-
 -- ---- a flush changes nothing of what was written
 
 -- what is true of the events, with something weaker that is true of them
 module _ {b a : DecoderState} {i j : Option (List ℕ)} {Shown Weaker : List DecodeEvent → Type 0}
     (weaker : (events : List DecodeEvent) → Shown events → Weaker events) where
   weaker_all : DecodesAll b a i j Shown → DecodesAll b a i j Weaker
-  weaker_all r = record { bytes = r.bytes; read = r.read; at_end = r.at_end; shown = weaker _ r.shown; ended = r.ended }
+  weaker_all r = grind (arith, weaker)
 
   weaker_beginning : DecodesBeginning b a i j Shown → DecodesBeginning b a i j Weaker
-  weaker_beginning r =
-      record { bytes = r.bytes; read = r.read; passed = r.passed; events = r.events; progress = r.progress; shown = weaker _ r.shown; beginning = r.beginning }
+  weaker_beginning r = grind (arith, weaker)
 
   weaker_partly : DecodesPartly b a i j Shown → DecodesPartly b a i j Weaker
   weaker_partly r = grind (arith, weaker)
@@ -93,11 +70,7 @@ module _ (i j o p q : Option (List ℕ)) (k : Keeps p q) where
 
   up_to_kept : {b a : EncoderState} {text left waited waiting : List ℕ} {last : Bool} → EncodesUpTo b text last a left waited waiting o p
       → EncodesUpTo b text last a left waited waiting o q
-  up_to_kept d = record {
-    events = d.events;
-    goes_on = d.goes_on;
-    sends = record { sent = d.sends.sent; parts = d.sends.parts; written = Appends-kept o p q _ d.sends.written k };
-  }
+  up_to_kept d = grind (arith, Appends-kept, k)
 
   pub all_kept : {b a : EncoderState} → EncodesAll b a i j o p → EncodesAll b a i j o q
   all_kept r = grind (arith, Appends-kept, k)

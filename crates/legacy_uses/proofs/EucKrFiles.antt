@@ -1,9 +1,9 @@
 -- What is known of a set of indexes into which only index EUC-KR was read of a file.
-use Rattle.std.proofs.Common.{◌≡◌, ◌↔◌, ℕ, List, [], ◌∷◌, length, Some, None, Result, Ok, Err, refl, sym, subst, arith}
+use Rattle.std.proofs.Common.{◌≡◌, ◌↔◌, ℕ, List, [], ◌∷◌, length, Some, None, Result, Ok, Err, refl, arith}
 use Rattle.legacy_base.specs.{EucKr.euc_kr, Lengths.{query_answer, to_utf8}, States.{DecoderState, new_state}}
 use Rattle.legacy_index_files.specs.{declared.index_file.EncoderIndex.TheVariants.Of, declared.index_file.IndexFileError.IndexFileError}
 use Rattle.legacy_index_files.specs.{declared.index_file.FileIndex.TheVariants.EucKr, declared.index_file.FileTable.FileTable}
-use Rattle.legacy_index_files.specs.{declared.index_file.FileTable.TheVariants.{Wide, Narrow, Ranges, Bytes}, declared.owned_indexes.OwnedIndexes.OwnedIndexes}
+use Rattle.legacy_index_files.specs.{declared.index_file.FileTable.TheVariants.Narrow, declared.owned_indexes.OwnedIndexes.OwnedIndexes}
 use Rattle.legacy_index_files.specs.{IndexLine.lines, IndexTable.{entries_of, first_malformed, IsTableOf, IsIndexOf}, IndexTexts.no_text}
 use Rattle.legacy_index_files.specs.OwnedIndexes.{HoldsFile, HoldsTexts, with_table, owned_lists}
 use Rattle.legacy_index_files.proofs.WellFormed.{well_formed_ok, well_formed_memory}
@@ -28,22 +28,13 @@ holds_euc_kr {text = text} {before = before} {after = after} {result = result} {
     go read.table read.is_table read.place
   where
     go : (table : FileTable) → IsTableOf EucKr (entries_of EucKr (lines text)) table → after ≡ with_table before EucKr table → HoldsEucKr text after
-    go (Wide values) is place = absurd is
     go (Narrow values) is place =
         rw place
         (record {
           of_file = record { well_formed = well_formed_ok (Of EucKr) text result line table ok; says = is };
-          only = rw (
-            empty before.big5.items none.big5,
-            empty before.jis0208.items none.jis0208,
-            empty before.jis0212.items none.jis0212,
-            empty before.gb18030.items none.gb18030,
-            katakana,
-            none.ranges,
-          ) refl;
+          only = grind (arith, empty, none.big5, none.jis0208, none.jis0212, none.gb18030, none.ranges);
         })
-    go (Ranges ranges) is place = absurd is
-    go (Bytes values) is place = absurd is
+    go _ is place = absurd is
 
 -- why the file was not read
 pub euc_kr_fault_of : {T : Type 0} (text input : List ℕ) (result : Result T IndexFileError)
@@ -56,7 +47,5 @@ euc_kr_fault_of text input result line reading.Memory e = well_formed_memory (Of
 pub not_decoded_by_file : {T : Type 0} (text input index : List ℕ) → IsEucKrIndex text index → (state : DecoderState) → state ≡ new_state (euc_kr index) →
     (result : Result T SizedError) → ((result ≡ Err TooLong) ↔ (query_answer to_utf8 state (length input) ≡ None)) →
     (error : SizedError) → result ≡ Err error → IsFaultByFile text input (Sized error)
-not_decoded_by_file text input index is state same result long TooLong e =
-    record { index = index; is_index = is; too_long = subst (λ s. query_answer to_utf8 s (length input) ≡ None) same (long.0 e) }
-not_decoded_by_file text input index is state same result long Memory e =
-    (index, is, λ h. let other = long.1 (subst (λ s. query_answer to_utf8 s (length input) ≡ None) (sym same) h) in cc)
+not_decoded_by_file text input index is state same result long TooLong e = record { index = index; is_index = is; too_long = rw same at (long.0 e) }
+not_decoded_by_file text input index is state same result long Memory e = (index, is, λ h. let other = long.1 (rw same h) in cc)

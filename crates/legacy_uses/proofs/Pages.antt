@@ -5,9 +5,7 @@ use Rattle.std.proofs.Math.Seq.{take-append-add, take-append_seam}
 -- the page is unchanged before what it grew by
 pub grown_front : (page grown behind : List ℕ) (start end : ℕ) → start ≡ length page → start ≤ end → grown ≡ take end page ++ behind → take start grown ≡ page
 grown_front page grown behind start end is h e =
-    ap (λ n. take n grown) is
-    ∙ ap (take (length page)) (e ∙ ap (λ l. l ++ behind) (take_all end page (omega (arith, is, h))))
-    ∙ take-append_seam page behind
+    rw (is, e, take_all end page (omega (arith, is, h))) (take-append_seam page behind)
 
 -- what is kept is the page, and then what was written
 pub kept_page : (page front output behind rest : List ℕ) (start written whole : ℕ) → start ≡ length page → front ≡ page → written ≤ length output
@@ -17,9 +15,5 @@ kept_page page front output behind rest start written whole is same h in_whole =
     let grown = page ++ (output ++ behind) in
     let within : length page + written ≤ length grown =
     omega (arith, h, length-append page (output ++ behind), length-append output behind) in
-    take-take (start + written) whole ((front ++ (output ++ behind)) ++ rest) in_whole
-    ∙ ap (λ l. take (start + written) ((l ++ (output ++ behind)) ++ rest)) same
-    ∙ ap (λ n. take (n + written) (grown ++ rest)) is
-    ∙ take-append-le (length page + written) grown rest within
-    ∙ take-append-add page (output ++ behind) written
-    ∙ ap (λ l. page ++ l) (take-append-le written output behind h)
+    rw (take-take (start + written) whole ((front ++ (output ++ behind)) ++ rest) in_whole, same, is, take-append-le (length page + written) grown rest within)
+    (take-append-add page (output ++ behind) written ∙ ap (λ l. page ++ l) (take-append-le written output behind h))

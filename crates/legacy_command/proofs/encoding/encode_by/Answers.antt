@@ -1,4 +1,5 @@
-use Rattle.legacy_command.proofs.Stopping.{all_kept, either, encoded_kept, failed_encoding, ok_of, some_encoded}
+use Rattle.std.proofs.Common.{inl, inr}
+use Rattle.legacy_command.proofs.Stopping.{all_kept, either, encoded_kept, failed, ok_of}
 use Rattle.legacy_command.proofs.encoding.encode_by.Goals as goal
 
 pub returns-in-Ok-clause-done : goal.returns-in-Ok-clause-done
@@ -9,5 +10,5 @@ returns-in-Ok-clause-done g c =
 pub returns-in-Err-clause-stops : goal.returns-in-Err-clause-stops
 returns-in-Err-clause-stops g c =
     let e = c.encode_text-encoded in
-    let stops = failed_encoding e.result _ _ _ _ _ _ e.ensures.read e.ensures.write in
-    encoded_kept _ _ _ _ _ c.in-Err.ensures.bytes _ (either e.result (some_encoded _ _ _ _ _ _) e.ensures.ok stops)
+    let stops = failed e.result (λ h. (_, inr (inl (e.ensures.read h)))) (λ h. (_, inr (inr (e.ensures.write h)))) in
+    encoded_kept _ _ _ _ _ c.in-Err.ensures.bytes _ (either e.result (λ all. (_, inl all)) e.ensures.ok stops)

@@ -1,6 +1,6 @@
-use Rattle.std.proofs.{Common.inl, lemmas.Result.on_ok_weaker}
+use Rattle.std.proofs.{Common.{inl, inr}, lemmas.Result.on_ok_weaker}
 use Rattle.legacy_command.specs.declared.words.OutputKind.TheVariants.{Lines, Text}
-use Rattle.legacy_command.proofs.Stopping.{either, failed_lines, failed_text, flushed_ok, input_kept, on_err, some_found, some_kept}
+use Rattle.legacy_command.proofs.Stopping.{either, failed, flushed_ok, input_kept, on_err, some_found, some_kept}
 use Rattle.legacy_command.proofs.program.recode_and_flush.Goals as goal
 
 pub returns-in-Lines-clause-done : goal.returns-in-Lines-clause-done
@@ -13,7 +13,9 @@ returns-in-Lines-clause-done g c =
 pub returns-in-Lines-clause-stops : goal.returns-in-Lines-clause-stops
 returns-in-Lines-clause-stops g c =
     let r = c.recode-recoded in
-    let some = either r.result (λ all. (_, inl all)) r.ensures.ok (failed_lines r.result _ _ _ _ _ _ r.ensures.read r.ensures.write) in
+    let some =
+    either r.result (λ all. (_, inl all)) r.ensures.ok
+    (failed r.result (λ e. (_, inr (inl (r.ensures.read e)))) (λ e. (_, inr (inr (r.ensures.write e))))) in
     rw c.in-Lines.is (on_err c.flush_after.result (some_kept _ _ _ _ _ c.flush_after.ensures.bytes Lines _ some))
 
 pub returns-in-Text-clause-done : goal.returns-in-Text-clause-done
@@ -27,5 +29,7 @@ pub returns-in-Text-clause-stops : goal.returns-in-Text-clause-stops
 returns-in-Text-clause-stops g c =
     let r = c.recode_text-recoded in
     let found = some_found _ r.result r.ensures.ok in
-    let some = either r.result (λ all. (_, inl all)) found (failed_text r.result _ _ _ _ _ _ r.ensures.read r.ensures.write) in
+    let some =
+    either r.result (λ all. (_, inl all)) found
+    (failed r.result (λ e. (_, inr (inl (r.ensures.read e)))) (λ e. (_, inr (inr (r.ensures.write e))))) in
     rw c.in-Text.is (on_err c.flush_after-in-Text.result (some_kept _ _ _ _ _ c.flush_after-in-Text.ensures.bytes Text _ some))

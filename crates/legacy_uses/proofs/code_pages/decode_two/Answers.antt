@@ -30,22 +30,18 @@ returns-in_err-korean_text-clause-fault c =
     let h = holds_euc_kr c.new-registry.ensures.indexes c.new-registry.ensures.katakana c.in_ok-read.ensures.table c.in_ok-read.ensures.line refl in
     let coders = c.in_ok-coders.coders in
     let same = c.in_ok-coders.ensures.0 ∙ ap owned_lists c.in_ok-read_single_byte.ensures.indexes ∙ h.only in
-    rw (p.1, p.2) (inl (not_decoded_by_euc_kr coders.tables.flat coders.single_bytes.now c.args.korean.now c.args.files.now.euc_kr.now
-    c.read.new.self.euc_kr.items h.of_file coders.tables.accepted same _ c.in_err-korean_text.ensures))
+    rw (p.1, p.2) (inl (not_decoded_by_euc_kr _ _ _ _ _ h.of_file coders.tables.accepted same _ c.in_err-korean_text.ensures))
 
 pub returns-in_err-western_text-clause-fault : goal.returns-in_err-western_text-clause-fault
 returns-in_err-western_text-clause-fault c =
     let r = c.from_residual-in_err-western_text in
     let p = err_from_is_err_and r.result r.ensures.1 in
-    let coders = c.in_ok-coders.coders in
     let read = rw (c.new-registry.ensures.single_bytes, ← c.in_ok-coders.ensures.1) at c.in_ok-read_single_byte.ensures.table in
-    rw (p.1, p.2) (inr (not_decoded_by_table coders.tables.flat coders.single_bytes.now c.args.files.now.windows_1252.now c.args.western.now read
-    _ c.in_err-western_text.ensures))
+    rw (p.1, p.2) (inr (not_decoded_by_table _ _ _ _ read _ c.in_err-western_text.ensures))
 
 pub returns-clause-korean : goal.returns-clause-korean
 returns-clause-korean c =
     let h = holds_euc_kr c.new-registry.ensures.indexes c.new-registry.ensures.katakana c.in_ok-read.ensures.table c.in_ok-read.ensures.line refl in
     let coders = c.in_ok-coders.coders in
     let same = c.in_ok-coders.ensures.0 ∙ ap owned_lists c.in_ok-read_single_byte.ensures.indexes ∙ h.only in
-    euc_kr_by_file coders.tables.flat coders.single_bytes.now c.args.korean.now c.args.files.now.euc_kr.now c.read.new.self.euc_kr.items _
-    h.of_file coders.tables.accepted same c.in_ok-korean_text.ensures
+    euc_kr_by_file _ _ _ _ _ h.of_file coders.tables.accepted same _ c.in_ok-korean_text.ensures
