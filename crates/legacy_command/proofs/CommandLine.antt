@@ -1,6 +1,7 @@
 -- Laws of the words of the command line.
 use Rattle.std.proofs.Math.Seq.{take_all}
-use Rattle.std.proofs.Common.{◌≡◌, ap, ℕ, ◌-◌, take, drop, IsTrue, ◌≤◌, ◌<◌, List, [], ◌∷◌, length, length-drop, refl, arith, Option, Some, Bool, true, false, ◌&&◌}
+use Rattle.std.proofs.Common.{◌≡◌, ap, ℕ, ◌-◌, take, drop, IsTrue, ◌≤◌, ◌<◌, List, [], ◌∷◌, length, length-drop, refl, arith}
+use Rattle.std.proofs.Common.{Option, Some, Bool, true, false, ◌&&◌}
 use Rattle.std.specs.Borrow.{Bor}
 use Rattle.legacy_tables.specs.Indexes.{FlatIndexes}
 use Rattle.legacy_index_files.specs.declared.codec.Codec.{Codec}
