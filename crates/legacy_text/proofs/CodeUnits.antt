@@ -57,7 +57,10 @@ pub length-code_units-wide : (form : EncodingForm) (c : ℕ) → length (code_un
 unfolding encode
 length-code_units-wide form c = grind (arith, nat_tests)
 
--- an ASCII scalar has one code unit
+-- an ASCII scalar is its own code unit
+pub code_units_ascii : (form : EncodingForm) (c : ℕ) → c < 128 → code_units form c ≡ c ∷ []
+code_units_ascii form c h = grind (arith, encode_1, utf16_1)
+
 pub length-code_units-ascii : (form : EncodingForm) (c : ℕ) → c < 128 → length (code_units form c) ≡ 1
 unfolding encode
 length-code_units-ascii form c h = grind (arith, nat_tests)

@@ -10,7 +10,7 @@ use Rattle.std.proofs.str.Utf16.{utf16_chars-drop_all}
 use Rattle.std.specs.{Str.{chars, is_utf8, IsUtf8, IsCharBoundary}, Char.len_utf8, Char.Utf16.{lone_unit_char, surrogate_pair_char, is_high_surrogate}}
 use Rattle.std.specs.{Char.Utf16.is_low_surrogate, Option.unwrap_or}
 use Rattle.std.proofs.{lemmas.Str.IsCharBoundary-from_drop, lemmas.Grind.common_steps}
-use lib.{ListN.get_or-eq_default, Utf8.{encode, encodes, scalar, scalars}}
+use lib.{ListN.get_or-eq_default, Utf8.{encode, encodes, scalars}}
 use Rattle.legacy_text.specs.{EncodingForm.{EncodingForm, Utf8, Utf16, unit_count, all_code_units}, declared.text_cursor.Next.Next, NextScalars.StandsAt}
 use Rattle.legacy_text.specs.UnitCodes.{IsNoSurrogate}
 use Rattle.legacy_text.specs.{NextScalars.{IsSized, IsNext}, Texts.{unit_scalars, IsUnitBoundary}}

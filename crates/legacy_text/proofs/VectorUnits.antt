@@ -1,10 +1,10 @@
 -- Eight code units that a destination writes at once, none of them a surrogate.
 use Rattle.std.proofs.{lemmas.Bool.Decides.nat_tests, Common.{◌≡◌, ◌∙◌, ℕ, zero, suc, ◌+◌, ◌-◌, ◌≤◌, ◌<◌, List, [], ◌∷◌, ◌++◌, length, take, get_or, refl, ap}}
-use Rattle.std.proofs.{Common.{ap₂, arith, append-nil, length-append, w16, Fits}, lemmas.List.{length-take-le, flat_map_more}, Math.Seq.take-suc}
+use Rattle.std.proofs.{Common.{ap₂, arith, append-nil, append_assoc, length-append, w16, Fits}, lemmas.List.{length-take-le, flat_map_more}, Math.Seq.take-suc}
 use Rattle.std.proofs.{lemmas.Grind.common_steps, lemmas.List.take_all}
 use lib.Lanes.{Each1}
 use Rattle.legacy_text.specs.EncodingForm.{EncodingForm, Utf16, code_units, all_code_units, unit_count, total_unit_count}
-use Rattle.legacy_text.proofs.CodeUnits.{utf16_1, length-code_units-bmp, total_unit_count-append}
+use Rattle.legacy_text.proofs.CodeUnits.{utf16_1, code_units_ascii, length-code_units-bmp, total_unit_count-append}
 
 -- the free code units after some were written up to a place
 pub free-after : (at result : ℕ) (old new units : List ℕ) → length new ≡ length old → at ≤ length old → result ≤ length old
@@ -45,3 +45,5 @@ pub ruleset room_steps = (common_steps, free-after)
 pub ruleset eight_steps = (common_steps, take_all)
 
 pub ruleset first_steps = (common_steps, append-nil, few-units, unit-below, one-more, more-units)
+
+pub ruleset ascii_steps = (common_steps, code_units_ascii, append_assoc, taken-more)

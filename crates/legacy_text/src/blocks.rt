@@ -49,18 +49,26 @@ pub(crate) fn wide_ascii_count(block: u8x64) -> usize
     (past.trailing_zeros() as usize).min(63)
 }
 
-/// Stores a wide block from the place `at` on, and returns the number of ASCII bytes at its front, but at most `most`.
+/// Stores a wide block from the place `at` on.
 #[inline(always)]
 #[tactic(auto, using(crate::proofs::Ascii::put_front))]
-pub(crate) fn store_wide_block(dst: &mut [u8], at: usize, block: u8x64, most: usize) -> usize
+pub(crate) fn store_wide(dst: &mut [u8], at: usize, block: u8x64)
     requires { at + 64 ≤ length dst.old }
-    ensures most { result ≤ most }
+    ensures { (k : ℕ) → k ≤ 64 → take (at + k) dst.new ≡ take at dst.old ++ take k block }
+{
+    block.copy_to_slice(&mut dst[at..]);
+}
+
+/// Stores a wide block from the place `at` on, and returns the number of ASCII bytes at its front.
+#[inline(always)]
+fn store_wide_block(dst: &mut [u8], at: usize, block: u8x64) -> usize
+    requires { at + 64 ≤ length dst.old }
     ensures count { result ≤ 64 }
     ensures ascii { IsAscii (take result block) }
     ensures stored { take (at + result) dst.new ≡ take at dst.old ++ take result block }
 {
-    block.copy_to_slice(&mut dst[at..]);
-    wide_ascii_count(block).min(most)
+    store_wide(dst, at, block);
+    wide_ascii_count(block)
 }
 
 /// Returns the number of bytes of a block.
@@ -84,7 +92,7 @@ fn store_front(bytes: &[u8], dst: &mut [u8], at: usize, is_wide: bool) -> usize
     ensures stored { take (at + result) dst.new ≡ take at dst.old ++ take result bytes.now }
 {
     if is_wide {
-        store_wide_block(dst, at, u8x64::from_slice(bytes), 64)
+        store_wide_block(dst, at, u8x64::from_slice(bytes))
     } else {
         store_block(dst, at, u8x16::from_slice(bytes))
     }

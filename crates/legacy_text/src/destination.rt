@@ -8,9 +8,9 @@ ghost use Rattle.legacy_text.specs.EncodingForm.{all_code_units, total_unit_coun
 ghost use Rattle.legacy_text.specs.UnitBytes.{AreShort};
 ghost use Rattle.legacy_text.specs.EncodingForm.{bmp_room, wide_room};
 
-use crate::blocks::{ascii_count, copy_blocks, store_wide_block, wide_ascii_count};
+use crate::blocks::{ascii_count, copy_blocks, store_wide, wide_ascii_count};
 use crate::eight_units::{put_eight_units, put_first_units};
-use crate::scalar_bytes::put_scalar;
+use crate::scalar_bytes::{put_byte, put_scalar};
 use crate::short_units::put_short_units;
 use std::simd::prelude::*;
 
@@ -76,11 +76,53 @@ pub trait Destination {
         0
     }
 
+    /// Writes the byte if it is ASCII, and returns the number of bytes written: 1 or 0.
+    ///
+    /// One code unit must be free: a destination may store any byte, and later output overwrites one
+    /// that does not count.
+    #[inline(always)]
+    fn put_ascii(&mut self, byte: u8) -> usize
+        requires { 1 ≤ room self.old }
+        ensures read { result ≤ 1 }
+        ensures all { byte < 0x80 → result ≡ 1 }
+        ensures ascii { IsAscii (take result (byte ∷ [])) }
+        ensures contents { contents self.new ≡ contents self.old ++ take result (byte ∷ []) }
+        ensures room { room self.new + result ≡ room self.old }
+        ensures loan { loan self.new ≡ loan self.old }
+    {
+        if byte >= 0x80 {
+            return 0;
+        }
+        self.put(char::from(byte));
+        1
+    }
+
+    /// Writes the first `count` bytes of a block of 64, which must be ASCII.
+    ///
+    /// The slice must have at least 64 bytes, and as many code units must be free: a destination may
+    /// store all of them, and later output overwrites those that do not count.
+    #[inline(always)]
+    #[tactic(auto, using(crate::proofs::VectorUnits::ascii_steps))]
+    fn put_block(&mut self, bytes: &[u8], count: usize)
+        requires block { 64 ≤ length bytes.now }
+        requires count { count ≤ 64 }
+        requires ascii { IsAscii (take count bytes.now) }
+        requires room { 64 ≤ room self.old }
+        ensures contents { contents self.new ≡ contents self.old ++ take count bytes.now }
+        ensures room { room self.new + count ≡ room self.old }
+        ensures loan { loan self.new ≡ loan self.old }
+    {
+        let mut at = 0;
+        while at < count {
+            self.put(char::from(bytes[at]));
+            at += 1;
+        }
+    }
+
     /// Writes at most `most` ASCII bytes from the front of the slice, and returns the number.
     ///
     /// The number is at most 64. The slice must have at least 64 bytes, and as many code units must
-    /// be free: a destination may store all of them, and later output overwrites those that do not
-    /// count.
+    /// be free, as for `put_block`.
     #[inline(always)]
     fn put_front(&mut self, bytes: &[u8], most: usize) -> usize
         requires block { 64 ≤ length bytes.now }
@@ -92,7 +134,9 @@ pub trait Destination {
         ensures room { room self.new + result ≡ room self.old }
         ensures loan { loan self.new ≡ loan self.old }
     {
-        self.copy_ascii(&bytes[..most.min(64)])
+        let count = wide_ascii_count(u8x64::from_slice(bytes)).min(most);
+        self.put_block(bytes, count);
+        count
     }
 
     /// Writes the code units of the first `count` of eight scalar values up to U+FFFF.
@@ -217,11 +261,17 @@ impl Destination for Utf8Destination<'_> {
     }
 
     #[inline(always)]
-    fn put_front(&mut self, bytes: &[u8], most: usize) -> usize {
-        let block = u8x64::from_slice(bytes);
-        let count = store_wide_block(self.buffer, self.filled, block, most);
+    fn put_ascii(&mut self, byte: u8) -> usize {
+        let count = usize::from(byte < 0x80);
+        put_byte(self.buffer, self.filled, byte);
         self.filled += count;
         count
+    }
+
+    #[inline(always)]
+    fn put_block(&mut self, bytes: &[u8], count: usize) {
+        store_wide(self.buffer, self.filled, u8x64::from_slice(bytes));
+        self.filled += count;
     }
 
     #[inline(always)]
@@ -252,6 +302,15 @@ fn store_units(dst: &mut [u16], at: usize, units: u16x8)
     ensures { (k : ℕ) → k ≤ 8 → take (at + k) dst.new ≡ take at dst.old ++ take k units }
 {
     units.copy_to_slice(&mut dst[at..]);
+}
+
+/// Stores the code units of a wide block of bytes from the place `at` on.
+#[inline(always)]
+fn store_bytes(dst: &mut [u16], at: usize, block: u8x64)
+    requires { at + 64 ≤ length dst.old }
+    ensures { (k : ℕ) → k ≤ 64 → take (at + k) dst.new ≡ take at dst.old ++ take k block }
+{
+    block.cast::<u16>().copy_to_slice(&mut dst[at..]);
 }
 
 /// A destination that writes UTF-16 to a slice of code units, from its beginning on.
@@ -302,27 +361,6 @@ impl<'a> Utf16Destination<'a> {
         let at = self.filled;
         block.cast::<u16>().copy_to_slice(&mut self.buffer[at..]);
         let count = ascii_count(block);
-        self.filled = at + count;
-        count
-    }
-
-    /// Stores a wide block after what was written, and keeps at most `most` of its ASCII front.
-    ///
-    /// Returns the number of bytes kept.
-    #[inline(always)]
-    #[tactic(auto, using(crate::proofs::Ascii::stored))]
-    fn put_wide_block(&mut self, block: u8x64, most: usize) -> usize
-        requires { 64 ≤ utf16_free self.old }
-        ensures most { result ≤ most }
-        ensures count { result ≤ 64 }
-        ensures ascii { IsAscii (take result block) }
-        ensures written { utf16_written self.new ≡ utf16_written self.old ++ take result block }
-        ensures free { utf16_free self.new + result ≡ utf16_free self.old }
-        ensures loan { utf16_loan self.new ≡ utf16_loan self.old }
-    {
-        let at = self.filled;
-        block.cast::<u16>().copy_to_slice(&mut self.buffer[at..]);
-        let count = wide_ascii_count(block).min(most);
         self.filled = at + count;
         count
     }
@@ -393,8 +431,18 @@ impl Destination for Utf16Destination<'_> {
     }
 
     #[inline(always)]
-    fn put_front(&mut self, bytes: &[u8], most: usize) -> usize {
-        self.put_wide_block(u8x64::from_slice(bytes), most)
+    fn put_ascii(&mut self, byte: u8) -> usize {
+        let count = usize::from(byte < 0x80);
+        let at = self.filled;
+        self.buffer[at] = u16::from(byte);
+        self.filled = at + count;
+        count
+    }
+
+    #[inline(always)]
+    fn put_block(&mut self, bytes: &[u8], count: usize) {
+        store_bytes(self.buffer, self.filled, u8x64::from_slice(bytes));
+        self.filled += count;
     }
 
     #[inline(always)]

@@ -5,7 +5,7 @@ ghost use Rattle.std.specs.Char.{IsScalar};
 
 /// Stores a byte at the place.
 #[inline(always)]
-fn put_byte(dst: &mut [u8], at: usize, byte: u8)
+pub(crate) fn put_byte(dst: &mut [u8], at: usize, byte: u8)
     requires { at < length dst.old }
     ensures written { take (at + 1) dst.new ≡ take at dst.old ++ byte ∷ [] }
     ensures kept { take at dst.new ≡ take at dst.old }

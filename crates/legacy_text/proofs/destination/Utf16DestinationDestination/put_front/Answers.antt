@@ -1,8 +1,0 @@
-use Rattle.std.proofs.lemmas.List.{take-take}
-use Rattle.legacy_text.proofs.destination.Utf16DestinationDestination.put_front.Goals as goal
-
-pub returns-clause-ascii : goal.returns-clause-ascii
-returns-clause-ascii c = let e = c.put_wide_block.ensures in rw (take-take c.put_wide_block.result 64 c.args.bytes.now e.count) at e.ascii
-
-pub returns-clause-contents : goal.returns-clause-contents
-returns-clause-contents c = let e = c.put_wide_block.ensures in rw (take-take c.put_wide_block.result 64 c.args.bytes.now e.count) at e.written
