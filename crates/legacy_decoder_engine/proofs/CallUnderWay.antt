@@ -28,6 +28,13 @@ pub holds_none : (form : EncodingForm) (free : ℕ) (state : DecoderState) → H
 unfolding HoldsBytes
 holds_none form free state = refl
 
+-- one more byte is held back
+pub holds_more : (form : EncodingForm) (free : ℕ) (a b c : DecoderState) (bytes : List ℕ) (byte : ℕ) → HoldsBytes form free a bytes b → Feeds b byte c Nothing
+    → read_room form b byte ≤ free → HoldsBytes form free a (bytes ++ byte ∷ []) c
+unfolding HoldsBytes
+holds_more form free a b c [] byte e feeds room = subst (λ s. HoldsBytes form free s (byte ∷ []) c) e (c, feeds, room, refl)
+holds_more form free a b c (x ∷ bytes) byte held feeds room = (held.0, held.1, held.2, holds_more form free held.0 b c bytes byte held.3 feeds room)
+
 front_nil : (xs ys : List ℕ) → xs ++ ys ≡ [] → xs ≡ []
 front_nil [] ys e = refl
 front_nil (x ∷ xs) ys e = cc

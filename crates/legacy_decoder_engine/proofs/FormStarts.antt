@@ -1,12 +1,12 @@
 -- The forms that are picked at their starts are the front of the block.
 use Rattle.std.proofs.Common.{◌≡◌, ◌∙◌, ℕ, zero, suc, ◌+◌, ◌-◌, ◌/◌, ◌%◌, ◌^◌, ◌<◌, ◌≤◌, ◌==◌, min, List, [], ◌∷◌, ◌++◌, Bool, true, false, cond, ltb, leb}
 use Rattle.std.proofs.Common.{length, map, take, get_or, replicate, w8, bit_and, bit_or, bit_xor, refl, sym, ap, subst, arith, append_assoc, append-nil}
-use Rattle.std.proofs.{lemmas.List.{take_more, get_or-map, length-map}, lemmas.Nat.Bits.{bit_at_lowest, bit_at-suc, bit_at-lt, bit_at_and}}
+use Rattle.std.proofs.{lemmas.List.{take_more, get_or-map, length-map}, lemmas.Nat.Bits.{bit_at_lowest, bit_at-suc, bit_at-lt, bit_at-zero, bit_at_and}}
 use Rattle.std.proofs.{lemmas.Nat.Bits.{bit_at_xor, bit_at_or, bit_at_ones, shr_and_one}, lemmas.Simd.{bit_mask_l, tops_compared, mask_l-mod, get_or-chunk}}
-use Rattle.std.proofs.lemmas.Bool.Decides.{nat_tests}
-use Rattle.std.specs.Int.{bit_at}
+use Rattle.std.proofs.{lemmas.Bool.Decides.nat_tests, lemmas.Bool.cases_lt, lemmas.Nat.pow_pos, lemmas.Nat.Bits.{bit_at_cat_high, bit_at-trailing_zeros}, Math.Nat.{mod-add-div', mod-lt}, Common.{◌*◌, w64, inl, inr}}
+use Rattle.std.specs.Int.{bit_at, trailing_zeros, Count.trailing_of_zero}
 use lib.Lanes.{mask_l, zip2, top, chunk}
-use Rattle.legacy_decoder_engine.specs.PickedForms.{places, code_at, forms_of, ArePast, AreStarts, IsEnd}
+use Rattle.legacy_decoder_engine.specs.PickedForms.{places, code_at, forms_of, ArePast, ArePastFrom, AreStarts, IsEnd}
 use Rattle.legacy_text.proofs.Ascii.{splat_zip2}
 use Rattle.legacy_decoder_engine.proofs.WrittenRuns.{take_two}
 
@@ -40,6 +40,42 @@ past_mask block long =
 pub past_bits : (block : List ℕ) (i : ℕ) → i < length block
     → ◌≡◌ {A = ℕ} (bit_at (mask_l (map (λ b. leb 128 b) block)) i) (cond (ltb (get_or block i 0) 128) 0 1)
 past_bits block i h = grind (arith, bit_mask_l, leb, get_or-map, nat_tests)
+
+-- ---- the ASCII bytes from a place on
+
+-- a bit of a number that was shifted
+shifted_bit : (n a k : ℕ) → bit_at (n / 2 ^ a) k ≡ bit_at n (a + k)
+shifted_bit n a k =
+    let q : ℕ = n / 2 ^ a in
+    let whole : q * 2 ^ a + n % 2 ^ a ≡ n = omega (arith, mod-add-div' n (2 ^ a)) in
+    let back : k ≡ a + k - a = omega arith in
+    ap (bit_at q) back ∙ sym (bit_at_cat_high q a (n % 2 ^ a) (a + k) (mod-lt n (pow_pos a)) (omega arith)) ∙ ap (λ m. bit_at m (a + k)) whole
+
+-- the bits from the place after the next byte past ASCII on
+pub past_behind : (past n at : ℕ) (bytes : List ℕ) → ArePastFrom past bytes at → ArePastFrom (past / 2 ^ n / 2 ^ 1) bytes (at + n + 1)
+past_behind past n at bytes are k h =
+    let e : n + (1 + k) + at ≡ at + n + 1 + k = omega arith in
+    let place : at + (n + (1 + k)) ≡ at + n + 1 + k = omega arith in
+    shifted_bit (past / 2 ^ n) 1 k ∙ shifted_bit past n (1 + k) ∙ are (n + (1 + k)) (omega (arith, h))
+    ∙ ap (λ i. cond (ltb (get_or bytes i 0) 128) 0 1) place
+
+module _ (past at : ℕ) (bytes : List ℕ) (small : past < 2 ^ 64) (are : ArePastFrom past bytes at) where
+  zero_before : (k : ℕ) → k < trailing_zeros w64 past → bit_at past k ≡ 0
+  zero_before k h = elim (cases_lt past 1) [ inl a ↦ (let e : past ≡ 0 = omega arith in ap (λ m. bit_at m k) e ∙ bit_at-zero k)
+                                           | inr a ↦ (bit_at-trailing_zeros w64 past a small).2 k h ]
+
+  -- the bytes before the lowest bit are ASCII
+  pub ascii_before : (k : ℕ) → k < trailing_zeros w64 past → at + k < 64 → get_or bytes (at + k) 0 < 128
+  ascii_before k h within = let bit = zero_before k h in let is = are k within in grind (arith, nat_tests)
+
+  -- and the byte at it is not
+  pub past_at : trailing_zeros w64 past < 64 → at + trailing_zeros w64 past < 64 → 128 ≤ get_or bytes (at + trailing_zeros w64 past) 0
+  past_at some within = elim (cases_lt past 1) [ inl a ↦ absurd (none a) | inr a ↦ last a ]
+    where
+      none : past < 1 → ⊥
+      none a = let e : past ≡ 0 = omega arith in let all : trailing_zeros w64 past ≡ 64 = ap (trailing_zeros w64) e ∙ trailing_of_zero 64 in omega (arith, some, all)
+      last : 1 ≤ past → 128 ≤ get_or bytes (at + trailing_zeros w64 past) 0
+      last a = let bit = (bit_at-trailing_zeros w64 past a small).1 in let is = are (trailing_zeros w64 past) within in grind (arith, nat_tests)
 
 -- ---- the forms from a place on
 

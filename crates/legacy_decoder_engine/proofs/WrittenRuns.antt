@@ -8,7 +8,7 @@ use Rattle.legacy_text.specs.declared.destination.Destination.{Ghosts}
 use Rattle.legacy_base.specs.{Grammar.{Grammar, events_of}, Lengths.query_form}
 use Rattle.legacy_base.specs.States.{DecoderState}
 use Rattle.legacy_base.proofs.{Shifts.{shift-append, shift-zero, shift-shift, shift-scalars}, SameUnits.some_unit}
-use Rattle.legacy_text.proofs.CodeUnits.{all_code_units-append, total_unit_count-append, encode_1, utf16_1, length-code_units-bmp, length-code_units-wide}
+use Rattle.legacy_text.proofs.CodeUnits.{all_code_units-append, total_unit_count-append, code_units_ascii, length-code_units-bmp, length-code_units-wide}
 use Rattle.legacy_decoder_engine.specs.ReadAhead.{HasAscii, RunsTo, Runs, WritesTo, Writes, ReadsAhead}
 use Rattle.legacy_decoder_engine.proofs.CallUnderWay.{same_rooms}
 
@@ -40,9 +40,6 @@ runs_ascii g law (x ∷ xs) h = runs_more g (x ∷ []) xs (x ∷ []) xs (law x (
 -- a scalar that is an ASCII byte
 pub runs_byte : {g : Grammar} → HasAscii g → (b c : ℕ) → b < 128 → c ≡ b → Runs g (b ∷ []) (c ∷ [])
 runs_byte {g} law b c below e = subst (λ x. Runs g (b ∷ []) (x ∷ [])) (sym e) (law b below)
-
-pub code_units_ascii : (form : EncodingForm) (c : ℕ) → c < 128 → code_units form c ≡ c ∷ []
-code_units_ascii form c h = grind (arith, encode_1, utf16_1)
 
 -- the code units of ASCII bytes are the bytes
 pub all_code_units_ascii : (form : EncodingForm) (xs : List ℕ) → IsAscii xs → all_code_units form xs ≡ xs

@@ -4,7 +4,8 @@ ghost use Rattle.std.specs.Prelude.{◌≡◌, ◌+◌, ◌<◌, ◌≤◌, ◌+
 ghost use Rattle.legacy_decoder_engine.specs.PickedForms.{forms_of};
 
 use crate::lanes::LaneCodec;
-use crate::picks::{form_starts, past_ascii, pick_forms};
+use crate::past_ascii::past_ascii;
+use crate::picks::{form_starts, pick_forms};
 use std::simd::prelude::*;
 
 /// Stores the codes of the forms in a block with many bytes past ASCII, from place `count` of a list on.

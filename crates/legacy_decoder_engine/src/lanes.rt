@@ -16,7 +16,7 @@ ghost use Rattle.legacy_decoder_engine.specs.PickedForms.{forms_of};
 use crate::block_picks::pick_blocks;
 use crate::common_forms::{CommonForm, CommonForms, FormsInTurn, read_forms};
 use crate::lane_entries::{entries_at, entry_count};
-use crate::picks::past_ascii;
+use crate::past_ascii::past_ascii;
 use crate::read_ahead::{Blocks, read_ascii, read_blocks, read_one};
 use legacy_base::Destination;
 use legacy_tables::{FlatTables, IndexName};

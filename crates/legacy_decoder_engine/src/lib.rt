@@ -6,13 +6,13 @@
 mod block_picks;
 pub mod common_forms;
 pub mod drive;
-pub mod eights;
 pub mod held_lead;
 mod lane_entries;
 pub mod lanes;
 pub mod lead_and_trail;
 pub mod lead_decoder;
 pub mod moves;
+pub mod past_ascii;
 mod pick_rows;
 mod picks;
 pub mod places;

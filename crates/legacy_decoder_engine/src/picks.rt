@@ -13,14 +13,6 @@ const ODD: u64 = 0xAAAA_AAAA_AAAA_AAAA;
 /// The bits of all bytes but the last.
 const ALL_BUT_LAST: u64 = 0x7FFF_FFFF_FFFF_FFFF;
 
-/// Returns the bits of the bytes past ASCII.
-#[inline(always)]
-pub fn past_ascii(block: u8x64) -> u64
-    ensures { ArePast result block }
-{
-    block.simd_ge(u8x64::splat(0x80)).to_bitmask()
-}
-
 /// Returns the bits of the bytes at which forms start, if each byte past ASCII that starts one is the first of two.
 // In a run of bytes past ASCII every second one starts a form: one subtraction carries through all runs at once, and
 // gives the parity of each. The bits are checked after it, so the proof needs no facts about carries.
