@@ -4,6 +4,7 @@ use Rattle.std.proofs.{Common.{sym, ap, arith}, lemmas.Bool.{cases_lt, ne_eqb}, 
 use Rattle.std.proofs.{lemmas.List.get_or-take, lemmas.List.Elements.{All-nil, All-cons, All-from_get_or}, lemmas.Str.Ascii.IsAscii-from_all}
 use Rattle.std.specs.{Prelude.{All, IfSome}, Char.IsScalar}
 use Rattle.legacy_text.specs.{declared.destination.Destination.Ghosts, EncodingForm.{EncodingForm, code_units}}
+use Rattle.legacy_text.proofs.CodeUnits.{code_units_ascii}
 use Rattle.legacy_base.specs.{Iso2022Jp.{ascii, two_byte, iso_2022_jp_front}, Grammar.{iso_2022_jp, events_of}}
 use Rattle.legacy_tables.specs.Indexes.{idx}
 use Rattle.legacy_base.proofs.Iso2022JpFronts.{step_one, step_two}
@@ -11,7 +12,7 @@ use Rattle.legacy_japanese.specs.declared.iso_2022_jp.steps.Mode.TheVariants.{As
 use Rattle.legacy_japanese.specs.declared.iso_2022_jp.places.TheConstants.{LEADS, TRAILS}
 use Rattle.legacy_japanese.specs.{Iso2022JpMoves.IsNarrowScalar, Iso2022JpRuns.{ArePlain, IsPlain, run_state}, Jis0208Places.{jis_lead_place, jis_trail_place}}
 use Rattle.legacy_decoder_engine.specs.{ReadAhead.{Runs, IsPair, ReadsAhead}, Places.IsTableOf}
-use Rattle.legacy_decoder_engine.proofs.{WrittenRuns.{runs_none, runs_more, code_units_ascii, all_code_units_ascii}, PairPlaces.idx_past}
+use Rattle.legacy_decoder_engine.proofs.{WrittenRuns.{runs_none, runs_more, all_code_units_ascii}, PairPlaces.idx_past}
 use Rattle.legacy_japanese.proofs.Iso2022JpRooms.{same_rooms, one_fits, room-falls, times_one}
 
 -- ---- the places of leads and trails in two-byte mode

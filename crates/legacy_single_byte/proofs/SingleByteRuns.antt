@@ -1,16 +1,17 @@
 -- The runs of the single-byte decoders.
-use Rattle.std.proofs.Common.{rules, IsAscii, ◌≡◌, ℕ, List, ◌+◌, ◌-◌, ◌≤◌, ◌<◌, ◌^◌, ◌++◌, zero, suc, length, take, get_or, Some, refl}
+use Rattle.std.proofs.Common.{rules, IsAscii, ◌≡◌, ℕ, List, ◌+◌, ◌-◌, ◌≤◌, ◌<◌, ◌^◌, ◌++◌, zero, suc, length, take, drop, get_or, cond, ltb, Some, refl, ap, ◌∙◌}
 use Rattle.std.proofs.{Common.{arith, All}, lemmas.Bool.Decides.nat_tests, lemmas.List.get_or_past}
-use Rattle.std.proofs.{lemmas.List.{take_all, take_more, take-take}, lemmas.List.Elements.All-from_get_or}
+use Rattle.std.proofs.{lemmas.List.{take_all, take_more, take-take, get_or-take, get_or-drop, length-drop, length-take}, lemmas.List.Elements.All-from_get_or}
 use Rattle.std.specs.Char.{IsScalar}
 use Rattle.legacy_text.specs.{declared.destination.Destination.Ghosts, EncodingForm.{code_units, all_code_units, total_unit_count}}
 use Rattle.legacy_base.specs.{States.{DecoderState, new_state}, Grammar.single_byte}
 use Rattle.legacy_tables.specs.{Indexes.{idx}, AcceptedTables.AcceptedTable}
+use Rattle.legacy_text.proofs.Ascii.{ascii_front}
 use Rattle.legacy_tables.proofs.AcceptedTable.{table-below, table-scalars}
-use Rattle.legacy_decoder_engine.specs.{ReadAhead.{Runs, IsSingle, HasAscii, ReadsAhead}, Shown.IsShown}
+use Rattle.legacy_decoder_engine.specs.{ReadAhead.{Runs, IsSingle, HasAscii, Writes, ReadsAhead}, PickedForms.{ArePast, ArePastFrom}, Shown.IsShown}
 use Rattle.legacy_single_byte.specs.{ByteEntries.IsByteEntry, SingleByteMachine.single_byte_machine}
-use Rattle.legacy_decoder_engine.proofs.{RunForms.{single_runs, has_ascii, ascii_is, past_ascii}, JoinedRuns.{reads_written, reads_ascii}}
-use Rattle.legacy_decoder_engine.proofs.WrittenRuns.{runs_none, runs_more, writes_none, writes_one, all_short, short, three_fit}
+use Rattle.legacy_decoder_engine.proofs.{RunForms.{single_runs, has_ascii, ascii_is, past_ascii}, JoinedRuns.{reads_written}}
+use Rattle.legacy_decoder_engine.proofs.WrittenRuns.{runs_none, runs_more, writes_none, writes_one, writes_run, writes_ascii, rest_of, all_short, short, three_fit}
 use Rattle.legacy_single_byte.proofs.SingleByteShown.{single_byte_shown}
 
 small : (x : ℕ) → x < 0x80 → IsScalar x
@@ -41,22 +42,22 @@ module _ (table : AcceptedTable) where
   pub entry_runs : (b e : ℕ) → b < 2 ^ 8 → IsByteEntry table.entries b e → (e ≡ 0 → ⊥) → IsSingle (single_byte table.entries) b e
   entry_runs b e byte is some = grind (arith, nat_tests, single_byte_ascii b, front_runs b e)
 
-  -- ---- ASCII, and a byte after it
+  -- ---- ASCII, and single bytes past it
 
-  module _ {D : Type 0} (T : Ghosts D) (source : List ℕ) (r : ℕ) (old mid : D) (few : r ≤ 64) (long : 64 < length source) (ascii : IsAscii (take r source))
-      (enough : 70 ≤ T.room old) (contents : T.contents mid ≡ T.contents old ++ take r source) (room : T.room mid + r ≡ T.room old)
-      (loan : T.loan mid ≡ T.loan old)
-    where
-      pub reads_front : ReadsAhead T (new_state (single_byte table.entries)) source r old mid
-      reads_front = reads_ascii single_byte_ascii (omega arith) ascii contents room loan (λ h. omega (arith, room))
-
-      pub reads_malformed : (new : D) (c : ℕ) → r < 64 → IsSingle (single_byte table.entries) (get_or source r 0) c →
-          T.contents new ≡ T.contents mid ++ code_units T.form c
-          → T.room new + length (code_units T.form c) ≡ T.room mid → T.loan new ≡ T.loan mid →
-          ReadsAhead T (new_state (single_byte table.entries)) source (r + 1) old new
-      reads_malformed new c less single more less_room same =
-          reads_written (omega arith) (writes_one T source r c (omega arith) reads_front.writes single.1 more less_room same)
-          (omega (arith, room, less_room, short T.form c single.0)) (omega arith)
+  module _ {D : Type 0} (T : Ghosts D) (source : List ℕ) (at n : ℕ) (old mid new : D) (few : at + n ≤ 64) (long : at + 64 ≤ length source) where
+    -- the ASCII bytes at a place were written after what was read
+    pub ascii_next : Writes T (single_byte table.entries) (take at source) old mid →
+        ((k : ℕ) → k < n → at + k < 64 → get_or source (at + k) 0 < 128) →
+        T.contents new ≡ T.contents mid ++ take n (take (length source - at) (drop at source)) → T.room new + n ≡ T.room mid → T.loan new ≡ T.loan mid →
+        Writes T (single_byte table.entries) (take (at + n) source) old new
+    ascii_next before ascii contents room loan =
+        let rest = drop at source in
+        let all = rest_of source at in
+        let part : take n (take (length source - at) rest) ≡ take n rest = ap (λ xs. take n xs) all in
+        let size : length (take n (take (length source - at) rest)) ≡ n = omega (arith, length-drop at source, length-take n rest, ap length part) in
+        let front : IsAscii (take n (take (length source - at) rest)) =
+            rw part (ascii_front rest n (λ k h. rw (get_or-drop at source k 0) (ascii k h (omega arith)))) in
+        writes_run T source at n before (writes_ascii T _ mid new _ single_byte_ascii front contents (omega (arith, size, room)) loan)
 
   -- ---- eight bytes at once, by their entries
 
@@ -91,6 +92,14 @@ module _ (table : AcceptedTable) where
 pub reads_padded : {D : Type 0} {T : Ghosts D} {state : DecoderState} {source padded : List ℕ} {r : ℕ} {old new : D} → r ≤ length source →
     take (length source) padded ≡ source → ReadsAhead T state padded r old new → ReadsAhead T state source r old new
 reads_padded {source = source} {padded} {r} within front reads = grind (arith, take-take r (length source) padded)
+
+
+-- the bits of the first block of a source
+pub past_of : (source : List ℕ) (past : ℕ) → ArePast past (take 64 source) → ArePastFrom past source 0
+past_of source past are i h =
+    let below : i < 64 = omega (arith, h) in
+    let place : i ≡ 0 + i = omega arith in
+    are i below ∙ ap (λ b. cond (ltb b 128) 0 1) (get_or-take 64 source i 0 below) ∙ ap (λ j. cond (ltb (get_or source j 0) 128) 0 1) place
 
 -- the lemmas for a loop that reads bytes one by one
 pub ruleset byte_steps = (writes_none, writes_one, three_fit, short)

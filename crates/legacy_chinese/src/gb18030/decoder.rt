@@ -179,6 +179,20 @@ fn read(tables: &Tables, guess: &Cell<usize>, held: Held, byte: u8) -> (Fed, Hel
     }
 }
 
+/// Returns what is held back after a byte that only continues a sequence, or `None` for any other byte.
+#[inline(always)]
+fn held_after(held: Held, byte: u8) -> Option<Held>
+    ensures { IfSome result (λ next. (is_resting held ≡ true) × ((index : List ℕ) (ranges : List (ℕ × ℕ)) →
+        Took (gb18030_step index ranges (held_bytes held) byte) (held_bytes held) byte Fed.Nothing (held_bytes next))) }
+{
+    match held {
+        Held::Nothing => Some(Held::First(Lead::new(byte)?)),
+        Held::First(first) => Some(Held::Second(first, Digit::new(byte)?)),
+        Held::Second(first, second) => Some(Held::Third(first, second, Lead::new(byte)?)),
+        Held::Third(..) | Held::Digit(_) | Held::DigitLead(..) => None,
+    }
+}
+
 /// Returns the room that an act needs.
 #[inline]
 fn room_of(held: Held, byte: u8) -> Room
@@ -278,6 +292,12 @@ impl DecoderMoves for Gb18030Decoder<'_> {
     #[inline(always)]
     #[tactic(auto, using(crate::proofs::Gb18030Held::feeds))]
     fn feed(&mut self, byte: u8) -> Fed {
+        if let Held::First(first) = self.held {
+            if let Some(scalar) = pair_scalar(self.tables, first, byte) {
+                self.held = Held::Nothing;
+                return Fed::One(scalar);
+            }
+        }
         let (fed, held) = read(self.tables, &self.guess, self.held, byte);
         self.held = held;
         fed
@@ -305,6 +325,23 @@ impl DecoderMoves for Gb18030Decoder<'_> {
             Held::Nothing => byte == 0xFF,
             _ => false,
         }
+    }
+
+    /// Holds back the first bytes of a sequence: those before the end of the input, and those that go on with held-back ones.
+    #[inline(always)]
+    fn hold_back<T: Destination>(&mut self, src: &[u8], dst: &T) -> usize {
+        if dst.free() < T::wide() {
+            return 0;
+        }
+        let mut at = 0;
+        while at < src.len() {
+            let Some(held) = held_after(self.held, src[at]) else {
+                return at;
+            };
+            self.held = held;
+            at += 1;
+        }
+        at
     }
 
     // Over packed tables only ASCII is read ahead.

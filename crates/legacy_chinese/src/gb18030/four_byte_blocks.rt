@@ -122,7 +122,8 @@ impl LaneCodec for Gb18030 {
 
     /// Reads sequences of four bytes and ASCII bytes from the front, up to two ASCII bytes in a row.
     ///
-    /// It reads whole sequences while at least four bytes are left.
+    /// It reads whole sequences while at least five bytes are left.
+    // A single ASCII byte often follows a sequence, as between words, and no processor predicts where.
     #[inline(always)]
     fn read_longer<T: Destination>(
         tables: &FlatTables<'_>,
@@ -134,7 +135,7 @@ impl LaneCodec for Gb18030 {
         let ranges = tables.ranges();
         let mut part = ranges.part_at(guess.get());
         let mut at = 0;
-        while most - at >= 4 {
+        while most - at >= 5 {
             let byte = src[at];
             if byte < 0x80 {
                 dst.put(char::from(byte));
@@ -150,6 +151,7 @@ impl LaneCodec for Gb18030 {
                 part = found;
                 dst.put(scalar);
                 at += 4;
+                at += dst.put_ascii(src[at]);
             }
         }
         at

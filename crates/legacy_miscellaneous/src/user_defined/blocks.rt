@@ -9,7 +9,7 @@ ghost use Rattle.legacy_decoder_engine.specs.ReadAhead.{ReadsAhead};
 ghost use Rattle.legacy_miscellaneous.specs.UserDefinedUnits.{unit_of_byte};
 
 use legacy_base::Destination;
-use legacy_decoder_engine::eights::has_past_ascii;
+use legacy_decoder_engine::past_ascii::has_past_ascii;
 use legacy_decoder_engine::read_ahead::{Blocks, read_blocks};
 use std::simd::prelude::*;
 

@@ -10,7 +10,7 @@ ghost use Rattle.legacy_decoder_engine.specs.ReadAhead.{ReadsAhead};
 
 use super::scalars::ByteScalars;
 use legacy_base::Destination;
-use legacy_decoder_engine::eights::has_past_ascii;
+use legacy_decoder_engine::past_ascii::{ascii_front, has_past_ascii, past_after, past_ascii};
 use legacy_text::are_all_below;
 use std::simd::prelude::*;
 
@@ -84,8 +84,8 @@ fn read_parts<P: Parts, T: Destination>(parts: &P, src: &[u8], most: usize, dst:
 }
 
 /// ASCII, and bytes past it without another one beside them.
-// A whole block is stored, and the output after its ASCII front is overwritten. So no branch depends
-// on the place of the next byte past ASCII, which no processor predicts.
+// A whole block is stored after each byte past ASCII, and the output after the next ASCII bytes is overwritten. So no
+// branch depends on the place of the next byte past ASCII, which no processor predicts.
 #[derive(Drop)]
 struct Fronts<'a> {
     scalars: &'a ByteScalars<'a>,
@@ -94,23 +94,28 @@ struct Fronts<'a> {
 impl Parts for Fronts<'_> {
     ghost grammar = { λ fronts. single_byte fronts.scalars.now.table.now.entries };
 
-    /// Reads the ASCII of the first 64 bytes, and the byte after it if the next one is ASCII.
+    /// Reads up to 64 bytes, up to two bytes past ASCII beside each other.
     #[inline(always)]
-    #[tactic(auto, using(crate::proofs::SingleByteRuns::reads_front, legacy_decoder_engine::proofs::WrittenRuns::three_fit))]
     fn read_part<T: Destination>(&self, src: &[u8], most: usize, dst: &mut T) -> (usize, bool) {
-        let count = dst.put_front(src, most);
-        if count == 64 {
-            return (count, true);
-        }
-        if count == most || src[count + 1] >= 0x80 {
-            return (count, false);
-        }
-        match self.scalars.scalar(src[count]) {
-            Some(scalar) => {
-                dst.put(scalar);
-                (count + 1, true)
+        let mut past = past_ascii(u8x64::from_slice(src));
+        let end = most.min(64);
+        let mut at = 0;
+        loop {
+            let count = ascii_front(past).min(end - at);
+            dst.put_block(&src[at..], count);
+            at += count;
+            if at == end || src[at + 1] >= 0x80 {
+                return (at, at > 0 && at == end);
             }
-            None => (count, false),
+            match self.scalars.scalar(src[at]) {
+                Some(scalar) => dst.put(scalar),
+                None => return (at, false),
+            }
+            at += 1;
+            if at == end || src.len() - at < 64 || dst.free() < 70 {
+                return (at, true);
+            }
+            past = past_after(past, count);
         }
     }
 }

@@ -1,11 +1,80 @@
-use Rattle.std.proofs.Common.{arith}
-use Rattle.legacy_single_byte.proofs.SingleByteRuns.{reads_malformed}
+use Rattle.std.proofs.Common.{◌+◌, arith}
+use Rattle.legacy_decoder_engine.proofs.{JoinedRuns.reads_front, WrittenRuns.{writes_none, writes_one, three_fit, short}}
+use Rattle.legacy_single_byte.proofs.SingleByteRuns.{ascii_next, past_of}
 use Rattle.legacy_single_byte.proofs.single_byte.blocks.FrontsParts.read_part.Goals as goal
 
-pub returns-in-Some-clause-ahead : goal.returns-in-Some-clause-ahead
-returns-in-Some-clause-ahead g c =
-    let e = c.put_front-count.ensures in
+pub loop-at-init : goal.loop-at-init
+loop-at-init g c = record {
+  within = omega arith;
+  most = omega (arith, c.min-end.ensures);
+  long = omega (arith, c.requires.source);
+  room = omega (arith, c.requires.room);
+  writes = writes_none g.T.Destination _ c.args.dst.now;
+  past = past_of c.args.src.now c.past_ascii-past.result c.past_ascii-past.ensures;
+}
+
+pub returns-then-at-gt0-clause-ahead : goal.returns-then-at-gt0-clause-ahead
+returns-then-at-gt0-clause-ahead g c =
+    let i = c.loop-at.invariant in
+    let n = c.min-count.ensures in
+    let e = c.put_block.ensures in
+    let src = c.args.src.now in
+    let front = ascii_next c.args.self.now.scalars.now.table.now g.T.Destination src c.loop-at.at c.min-count.result c.args.dst.now c.loop-at.dst
+    c.put_block.new.self (omega (arith, n, i.within, i.most)) i.long i.writes
+    (λ k h. c.ascii_front.ensures.ascii src c.loop-at.at i.past k (omega (arith, h, n))) e.contents e.room e.loan in
+    reads_front (omega (arith, n, i.within, i.most, i.long)) front (λ h. omega (arith, n, e.room, i.room, i.within, i.most)) (λ h. omega (arith, c.requires.room))
+
+pub returns-in-None-clause-ahead : goal.returns-in-None-clause-ahead
+returns-in-None-clause-ahead g c =
+    let i = c.loop-at.invariant in
+    let n = c.min-count.ensures in
+    let e = c.put_block.ensures in
+    let src = c.args.src.now in
+    let front = ascii_next c.args.self.now.scalars.now.table.now g.T.Destination src c.loop-at.at c.min-count.result c.args.dst.now c.loop-at.dst
+    c.put_block.new.self (omega (arith, n, i.within, i.most)) i.long i.writes
+    (λ k h. c.ascii_front.ensures.ascii src c.loop-at.at i.past k (omega (arith, h, n))) e.contents e.room e.loan in
+    reads_front (omega (arith, n, i.within, i.most, i.long)) front (λ h. omega (arith, n, e.room, i.room, i.within, i.most)) (λ h. omega (arith, c.requires.room))
+
+pub put-requires : goal.put-requires
+put-requires g c =
+    let i = c.loop-at.invariant in
+    three_fit g.T.Destination.form c.in-Some.scalar _ c.in-Some.ensures.0 (omega (arith, c.min-count.ensures, c.put_block.ensures.room, i.room, i.within, i.most))
+
+pub returns-then-at-end-2-clause-ahead : goal.returns-then-at-end-2-clause-ahead
+returns-then-at-end-2-clause-ahead g c =
+    let T = g.T.Destination in
+    let i = c.loop-at.invariant in
+    let n = c.min-count.ensures in
+    let e = c.put_block.ensures in
     let p = c.put.ensures in
-    reads_malformed c.args.self.now.scalars.now.table.now g.T.Destination c.args.src.now c.put_front-count.result c.args.dst.now _
-    e.read c.requires.source e.ascii c.requires.room e.contents e.room e.loan _ c.in-Some.scalar (omega (arith, e.read, c.if-count-eq64.false))
-    c.in-Some.ensures p.contents p.room p.loan
+    let x = c.in-Some.scalar in
+    let src = c.args.src.now in
+    let at = c.loop-at.at + c.min-count.result in
+    let front = ascii_next c.args.self.now.scalars.now.table.now T src c.loop-at.at c.min-count.result c.args.dst.now c.loop-at.dst
+    c.put_block.new.self (omega (arith, n, i.within, i.most)) i.long i.writes
+    (λ k h. c.ascii_front.ensures.ascii src c.loop-at.at i.past k (omega (arith, h, n))) e.contents e.room e.loan in
+    reads_front (omega (arith, n, i.within, i.most, c.requires.source))
+    (writes_one T src at x (omega (arith, n, i.within, i.most, c.requires.source)) front c.in-Some.ensures.1 p.contents p.room p.loan)
+    (λ h. omega (arith, n, e.room, p.room, short T.form x c.in-Some.ensures.0, i.room, i.within, i.most)) (λ h. omega (arith, c.requires.room))
+
+pub loop-at-preserved : goal.loop-at-preserved
+loop-at-preserved g c =
+    let T = g.T.Destination in
+    let i = c.loop-at.invariant in
+    let n = c.min-count.ensures in
+    let e = c.put_block.ensures in
+    let p = c.put.ensures in
+    let x = c.in-Some.scalar in
+    let src = c.args.src.now in
+    let at = c.loop-at.at + c.min-count.result in
+    let front = ascii_next c.args.self.now.scalars.now.table.now T src c.loop-at.at c.min-count.result c.args.dst.now c.loop-at.dst
+    c.put_block.new.self (omega (arith, n, i.within, i.most)) i.long i.writes
+    (λ k h. c.ascii_front.ensures.ascii src c.loop-at.at i.past k (omega (arith, h, n))) e.contents e.room e.loan in
+    record {
+      within = omega (arith, n, i.within, c.if-at-end.false);
+      most = i.most;
+      long = omega (arith, c.if-src-at-lt64.false);
+      room = omega (arith, c.free.ensures, c.if-free-lt70.false);
+      writes = writes_one T src at x (omega (arith, n, i.within, i.most, c.requires.source)) front c.in-Some.ensures.1 p.contents p.room p.loan;
+      past = c.past_after-past.ensures src c.loop-at.at i.past;
+    }
