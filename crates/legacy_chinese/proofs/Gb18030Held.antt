@@ -2,6 +2,7 @@
 use Rattle.std.proofs.Common.{◌≡◌, ◌≢◌, ◌∙◌, ℕ, ◌+◌, ◌/◌, ◌%◌, ◌^◌, ◌<◌, ◌≤◌, List, [], ◌∷◌, length, get_or, true, false, refl, sym, ap, arith, Some}
 use Rattle.std.proofs.{lemmas.Bool.Decides.nat_tests, lemmas.List.Elements.{All-nil, All-cons}}
 use Rattle.std.specs.{Prelude.option_to_list, Char.{IsScalar, is_ascii_digit}}
+use Rattle.legacy_text.specs.EncodingForm.{EncodingForm, wide_room}
 use Rattle.legacy_tables.specs.{Unicode.{IsByte, AreBytes}, Indexes.{idx, range}, AcceptedTables.AcceptedIndexes}
 use Rattle.legacy_base.specs.{Calls.IsMalformedByte, Gb18030.{gb18030_scalars, gb18030_range_pointer}, States.{is_lead, gb18030_may_hold, is_neutral, rests}}
 use Rattle.legacy_base.specs.{States.{DecoderState, state_of}, Grammar.{Grammar, gb18030, events_of}}
@@ -10,7 +11,7 @@ use Rattle.legacy_chinese.specs.{declared.gb18030.decoder.Gb18030Decoder.Gb18030
 use Rattle.legacy_chinese.specs.declared.gb18030.decoder.Held.TheVariants.{Nothing, First, Digit, DigitLead}
 use Rattle.legacy_chinese.specs.{declared.gb18030.digit.Digit.Digit as HeldDigit, Gb18030Decoder.gb18030_state, Gb18030Machine.{gb18030_step, gb18030_machine}}
 use Rattle.legacy_chinese.specs.{Gb18030Held.{held_bytes, is_resting}, Gb18030Places.{gb18030_place, gb18030_trail_place}}
-use Rattle.legacy_decoder_engine.specs.{declared.held_lead.Lead.Lead, declared.moves.Fed.Fed, Moves.{IsCovered, Feeds, Releases, Reports}, ReadAhead.Runs}
+use Rattle.legacy_decoder_engine.specs.{declared.held_lead.Lead.Lead, declared.moves.Fed.{Fed, TheVariants.One}, Moves.{IsCovered, Feeds, Releases, Reports, read_room}, ReadAhead.Runs}
 use Rattle.legacy_decoder_engine.specs.{ReadAhead.{HasAscii, IsIdle, IsPair}, Feeding.Took, Places.lead_place, Shown.IsShown}
 use Rattle.legacy_decoder_engine.proofs.{LeadHeld.neutral_empty, RunForms.{pair_runs, four_runs, has_ascii, ascii_is}, Widths.idx_below, LanePlaces.entry_is}
 use Rattle.legacy_decoder_engine.proofs.PairPlaces.{found}
@@ -64,6 +65,17 @@ module _ (tables : AcceptedIndexes) where
       Took (gb18030_step tables.flat.gb18030 tables.flat.ranges (held_bytes held) b) (held_bytes held) b fed kept →
       Feeds (state held) b (state_of g kept) fed
   feeds held b byte r fed kept took = moves.feeds shown (held_bytes held) (may held) (are_bytes held) b byte r fed kept took
+
+  -- a trail after a lead gives the scalar of the pair
+  pub takes_pair : (first : Lead) (b c : ℕ) → c ∷ [] ≡ gb18030_scalars tables.flat.gb18030 first.byte b → IsScalar c →
+      Took (gb18030_step tables.flat.gb18030 tables.flat.ranges (first.byte ∷ []) b) (first.byte ∷ []) b (One c) []
+  takes_pair first b c e scalar =
+      let other = trail_not_digit tables.flat.gb18030 first.byte b c (sym e) in
+      record { answer = rw (other, ← e) refl; holds = rw (other, ← e) refl; scalar = scalar }
+
+  -- reading a byte needs no more room than any scalar
+  pub reads_wide : (form : EncodingForm) (held : Held) (b : ℕ) → read_room form (state held) b ≤ wide_room form
+  reads_wide form held b = grind (arith, nat_tests)
 
   -- a held-back digit is written; the bytes after it stay held back
   pub releases-digit : (digit : HeldDigit) → Releases (state (Digit digit)) (state_of g []) digit.byte

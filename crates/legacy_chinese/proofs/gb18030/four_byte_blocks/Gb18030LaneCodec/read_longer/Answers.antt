@@ -1,6 +1,7 @@
 use Rattle.std.proofs.Common.{◌+◌, ◌<◌, length, get_or, ap, arith}
-use Rattle.legacy_decoder_engine.proofs.{JoinedRuns.reads_front, WrittenRuns.{runs_byte, code_units_ascii, writes_none, writes_one, writes_four, four_fit}}
-use Rattle.legacy_chinese.proofs.{Gb18030Held.ascii, FourPlaces.four_at}
+use Rattle.legacy_decoder_engine.proofs.{JoinedRuns.reads_front, WrittenRuns.{runs_byte, writes_none, writes_one, writes_four, four_fit}}
+use Rattle.legacy_text.proofs.CodeUnits.{code_units_ascii}
+use Rattle.legacy_chinese.proofs.{AsciiBehind.writes_behind, Gb18030Held.ascii, FourPlaces.four_at}
 use Rattle.legacy_chinese.proofs.gb18030.four_byte_blocks.Gb18030LaneCodec.read_longer.Goals as goal
 
 pub loop-at-init : goal.loop-at-init
@@ -43,6 +44,12 @@ put-requires-else-byte-lt128 g c =
     let i = c.loop-at.invariant in
     four_fit g.T.Destination.form c.in-Some.scalar _ (omega (arith, i.2, i.3, c.loop-at-test.true))
 
+pub put_ascii-at-requires : goal.put_ascii-at-requires
+put_ascii-at-requires g c =
+    let i = c.loop-at.invariant in
+    let e = c.put-else-byte-lt128.ensures in
+    omega (arith, i.2, i.3, c.loop-at-test.true, e.room, four_fit g.T.Destination.form c.in-Some.scalar 4 (omega arith))
+
 pub loop-at-preserved : goal.loop-at-preserved
 loop-at-preserved g c =
     let T = g.T.Destination in
@@ -51,15 +58,17 @@ loop-at-preserved g c =
     let at = c.loop-at.at in
     let i = c.loop-at.invariant in
     let e = c.put-else-byte-lt128.ensures in
+    let p = c.put_ascii-at.ensures in
     let x = c.in-Some.scalar in
     let found = c.in-Some.ensures in
     let run = four_at tables c.ranges-ranges.result.list.now c.four_pointer-pointer.result (get_or src at 0) (get_or src (at + 1) 0) (get_or src (at + 2) 0)
-    (get_or src (at + 3) 0) x c.ranges-ranges.ensures c.four_pointer-pointer.ensures.place found.0 in (
-      omega (arith, i.0, c.loop-at-test.true),
+    (get_or src (at + 3) 0) x c.ranges-ranges.ensures c.four_pointer-pointer.ensures.place found.0 in
+    let four = writes_four T src at x (omega (arith, i.0, i.1, c.loop-at-test.true)) i.4 run e.contents e.room e.loan in (
+      omega (arith, i.0, c.loop-at-test.true, p.read),
       i.1,
       i.2,
-      omega (arith, i.3, four_fit T.form x 4 (omega arith), e.room),
-      writes_four T src at x (omega (arith, i.0, i.1, c.loop-at-test.true)) i.4 run e.contents e.room e.loan,
+      omega (arith, i.3, four_fit T.form x 4 (omega arith), e.room, p.room),
+      writes_behind T (ascii tables) src (at + 4) (omega (arith, i.0, i.1, c.loop-at-test.true)) c.put_ascii-at.result p.read four p.ascii p.contents p.room p.loan,
       i.5,
       found.1,
     )
