@@ -61,8 +61,10 @@ past_behind past n at bytes are k h =
 
 module _ (past at : ℕ) (bytes : List ℕ) (small : past < 2 ^ 64) (are : ArePastFrom past bytes at) where
   zero_before : (k : ℕ) → k < trailing_zeros w64 past → bit_at past k ≡ 0
-  zero_before k h = elim (cases_lt past 1) [ inl a ↦ (let e : past ≡ 0 = omega arith in ap (λ m. bit_at m k) e ∙ bit_at-zero k)
-                                           | inr a ↦ (bit_at-trailing_zeros w64 past a small).2 k h ]
+  zero_before k h = elim (cases_lt past 1) [
+    | inl a ↦ (let e : past ≡ 0 = omega arith in ap (λ m. bit_at m k) e ∙ bit_at-zero k)
+    | inr a ↦ (bit_at-trailing_zeros w64 past a small).2 k h
+  ]
 
   -- the bytes before the lowest bit are ASCII
   pub ascii_before : (k : ℕ) → k < trailing_zeros w64 past → at + k < 64 → get_or bytes (at + k) 0 < 128
@@ -74,6 +76,7 @@ module _ (past at : ℕ) (bytes : List ℕ) (small : past < 2 ^ 64) (are : ArePa
     where
       none : past < 1 → ⊥
       none a = let e : past ≡ 0 = omega arith in let all : trailing_zeros w64 past ≡ 64 = ap (trailing_zeros w64) e ∙ trailing_of_zero 64 in omega (arith, some, all)
+
       last : 1 ≤ past → 128 ≤ get_or bytes (at + trailing_zeros w64 past) 0
       last a = let bit = (bit_at-trailing_zeros w64 past a small).1 in let is = are (trailing_zeros w64 past) within in grind (arith, nat_tests)
 

@@ -1,5 +1,6 @@
 -- The runs of the single-byte decoders.
-use Rattle.std.proofs.Common.{rules, IsAscii, ◌≡◌, ℕ, List, ◌+◌, ◌-◌, ◌≤◌, ◌<◌, ◌^◌, ◌++◌, zero, suc, length, take, drop, get_or, cond, ltb, Some, refl, ap, ◌∙◌}
+use Rattle.std.proofs.Common.{rules, IsAscii, ◌≡◌, ◌∙◌, ℕ, List, ◌+◌, ◌-◌, ◌≤◌, ◌<◌, ◌^◌, ◌++◌, zero, suc, length, take, drop, get_or}
+use Rattle.std.proofs.Common.{cond, ltb, Some, refl, ap}
 use Rattle.std.proofs.{Common.{arith, All}, lemmas.Bool.Decides.nat_tests, lemmas.List.get_or_past}
 use Rattle.std.proofs.{lemmas.List.{take_all, take_more, take-take, get_or-take, get_or-drop, length-drop, length-take}, lemmas.List.Elements.All-from_get_or}
 use Rattle.std.specs.Char.{IsScalar}
@@ -11,7 +12,8 @@ use Rattle.legacy_tables.proofs.AcceptedTable.{table-below, table-scalars}
 use Rattle.legacy_decoder_engine.specs.{ReadAhead.{Runs, IsSingle, HasAscii, Writes, ReadsAhead}, PickedForms.{ArePast, ArePastFrom}, Shown.IsShown}
 use Rattle.legacy_single_byte.specs.{ByteEntries.IsByteEntry, SingleByteMachine.single_byte_machine}
 use Rattle.legacy_decoder_engine.proofs.{RunForms.{single_runs, has_ascii, ascii_is, past_ascii}, JoinedRuns.{reads_written}}
-use Rattle.legacy_decoder_engine.proofs.WrittenRuns.{runs_none, runs_more, writes_none, writes_one, writes_run, writes_ascii, rest_of, all_short, short, three_fit}
+use Rattle.legacy_decoder_engine.proofs.WrittenRuns.{runs_none, runs_more, writes_none, writes_one, writes_run, writes_ascii, rest_of}
+use Rattle.legacy_decoder_engine.proofs.WrittenRuns.{all_short, short, three_fit}
 use Rattle.legacy_single_byte.proofs.SingleByteShown.{single_byte_shown}
 
 small : (x : ℕ) → x < 0x80 → IsScalar x
@@ -48,7 +50,8 @@ module _ (table : AcceptedTable) where
     -- the ASCII bytes at a place were written after what was read
     pub ascii_next : Writes T (single_byte table.entries) (take at source) old mid →
         ((k : ℕ) → k < n → at + k < 64 → get_or source (at + k) 0 < 128) →
-        T.contents new ≡ T.contents mid ++ take n (take (length source - at) (drop at source)) → T.room new + n ≡ T.room mid → T.loan new ≡ T.loan mid →
+        T.contents new ≡ T.contents mid ++ take n (take (length source - at) (drop at source)) →
+        T.room new + n ≡ T.room mid → T.loan new ≡ T.loan mid →
         Writes T (single_byte table.entries) (take (at + n) source) old new
     ascii_next before ascii contents room loan =
         let rest = drop at source in
@@ -56,7 +59,7 @@ module _ (table : AcceptedTable) where
         let part : take n (take (length source - at) rest) ≡ take n rest = ap (λ xs. take n xs) all in
         let size : length (take n (take (length source - at) rest)) ≡ n = omega (arith, length-drop at source, length-take n rest, ap length part) in
         let front : IsAscii (take n (take (length source - at) rest)) =
-            rw part (ascii_front rest n (λ k h. rw (get_or-drop at source k 0) (ascii k h (omega arith)))) in
+        rw part (ascii_front rest n (λ k h. rw (get_or-drop at source k 0) (ascii k h (omega arith)))) in
         writes_run T source at n before (writes_ascii T _ mid new _ single_byte_ascii front contents (omega (arith, size, room)) loan)
 
   -- ---- eight bytes at once, by their entries
@@ -92,7 +95,6 @@ module _ (table : AcceptedTable) where
 pub reads_padded : {D : Type 0} {T : Ghosts D} {state : DecoderState} {source padded : List ℕ} {r : ℕ} {old new : D} → r ≤ length source →
     take (length source) padded ≡ source → ReadsAhead T state padded r old new → ReadsAhead T state source r old new
 reads_padded {source = source} {padded} {r} within front reads = grind (arith, take-take r (length source) padded)
-
 
 -- the bits of the first block of a source
 pub past_of : (source : List ℕ) (past : ℕ) → ArePast past (take 64 source) → ArePastFrom past source 0
