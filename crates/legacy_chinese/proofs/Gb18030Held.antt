@@ -11,7 +11,8 @@ use Rattle.legacy_chinese.specs.{declared.gb18030.decoder.Gb18030Decoder.Gb18030
 use Rattle.legacy_chinese.specs.declared.gb18030.decoder.Held.TheVariants.{Nothing, First, Digit, DigitLead}
 use Rattle.legacy_chinese.specs.{declared.gb18030.digit.Digit.Digit as HeldDigit, Gb18030Decoder.gb18030_state, Gb18030Machine.{gb18030_step, gb18030_machine}}
 use Rattle.legacy_chinese.specs.{Gb18030Held.{held_bytes, is_resting}, Gb18030Places.{gb18030_place, gb18030_trail_place}}
-use Rattle.legacy_decoder_engine.specs.{declared.held_lead.Lead.Lead, declared.moves.Fed.{Fed, TheVariants.One}, Moves.{IsCovered, Feeds, Releases, Reports, read_room}, ReadAhead.Runs}
+use Rattle.legacy_decoder_engine.specs.{declared.held_lead.Lead.Lead, declared.moves.Fed.{Fed, TheVariants.One}, ReadAhead.Runs}
+use Rattle.legacy_decoder_engine.specs.Moves.{IsCovered, Feeds, Releases, Reports, read_room}
 use Rattle.legacy_decoder_engine.specs.{ReadAhead.{HasAscii, IsIdle, IsPair}, Feeding.Took, Places.lead_place, Shown.IsShown}
 use Rattle.legacy_decoder_engine.proofs.{LeadHeld.neutral_empty, RunForms.{pair_runs, four_runs, has_ascii, ascii_is}, Widths.idx_below, LanePlaces.entry_is}
 use Rattle.legacy_decoder_engine.proofs.PairPlaces.{found}

@@ -3,7 +3,8 @@ use Rattle.std.proofs.Common.{◌≡◌, ◌∙◌, ℕ, zero, suc, ◌+◌, ◌
 use Rattle.std.proofs.Common.{length, map, take, get_or, replicate, w8, bit_and, bit_or, bit_xor, refl, sym, ap, subst, arith, append_assoc, append-nil}
 use Rattle.std.proofs.{lemmas.List.{take_more, get_or-map, length-map}, lemmas.Nat.Bits.{bit_at_lowest, bit_at-suc, bit_at-lt, bit_at-zero, bit_at_and}}
 use Rattle.std.proofs.{lemmas.Nat.Bits.{bit_at_xor, bit_at_or, bit_at_ones, shr_and_one}, lemmas.Simd.{bit_mask_l, tops_compared, mask_l-mod, get_or-chunk}}
-use Rattle.std.proofs.{lemmas.Bool.Decides.nat_tests, lemmas.Bool.cases_lt, lemmas.Nat.pow_pos, lemmas.Nat.Bits.{bit_at_cat_high, bit_at-trailing_zeros}, Math.Nat.{mod-add-div', mod-lt}, Common.{◌*◌, w64, inl, inr}}
+use Rattle.std.proofs.{lemmas.Bool.{Decides.nat_tests, cases_lt}, lemmas.Nat.{pow_pos, Bits.{bit_at_cat_high, bit_at-trailing_zeros}}}
+use Rattle.std.proofs.{Math.Nat.{mod-add-div', mod-lt}, Common.{◌*◌, w64, inl, inr}}
 use Rattle.std.specs.Int.{bit_at, trailing_zeros, Count.trailing_of_zero}
 use lib.Lanes.{mask_l, zip2, top, chunk}
 use Rattle.legacy_decoder_engine.specs.PickedForms.{places, code_at, forms_of, ArePast, ArePastFrom, AreStarts, IsEnd}
@@ -75,7 +76,10 @@ module _ (past at : ℕ) (bytes : List ℕ) (small : past < 2 ^ 64) (are : ArePa
   past_at some within = elim (cases_lt past 1) [ inl a ↦ absurd (none a) | inr a ↦ last a ]
     where
       none : past < 1 → ⊥
-      none a = let e : past ≡ 0 = omega arith in let all : trailing_zeros w64 past ≡ 64 = ap (trailing_zeros w64) e ∙ trailing_of_zero 64 in omega (arith, some, all)
+      none a =
+          let e : past ≡ 0 = omega arith in
+          let all : trailing_zeros w64 past ≡ 64 = ap (trailing_zeros w64) e ∙ trailing_of_zero 64 in
+          omega (arith, some, all)
 
       last : 1 ≤ past → 128 ≤ get_or bytes (at + trailing_zeros w64 past) 0
       last a = let bit = (bit_at-trailing_zeros w64 past a small).1 in let is = are (trailing_zeros w64 past) within in grind (arith, nat_tests)

@@ -25,7 +25,8 @@ loop-at-preserved g c =
     let is = c.in-Some.ensures in
     let fed = feeds tables held byte (omega arith) (rests-held tables held ∙ is.0) Nothing (held_bytes next) (is.1 tables.flat.gb18030 tables.flat.ranges) in
     let after = gb18030_state (record { tables = c.loop-at.self.tables; held = next; guess = c.loop-at.self.guess }) in
-    let room : read_room form (gb18030_state c.loop-at.self) byte ≤ free = omega (arith, reads_wide tables form held byte, c.free.ensures, c.wide.ensures, c.if-free-wide.false) in
+    let room : read_room form (gb18030_state c.loop-at.self) byte ≤ free =
+    omega (arith, reads_wide tables form held byte, c.free.ensures, c.wide.ensures, c.if-free-wide.false) in
     let more = holds_more form free (gb18030_state c.args.self.now) (gb18030_state c.loop-at.self) after (take at src) byte i.holds fed room in
     record {
       within = omega (arith, c.loop-at-test.true);

@@ -63,12 +63,13 @@ loop-at-preserved g c =
     let found = c.in-Some.ensures in
     let run = four_at tables c.ranges-ranges.result.list.now c.four_pointer-pointer.result (get_or src at 0) (get_or src (at + 1) 0) (get_or src (at + 2) 0)
     (get_or src (at + 3) 0) x c.ranges-ranges.ensures c.four_pointer-pointer.ensures.place found.0 in
-    let four = writes_four T src at x (omega (arith, i.0, i.1, c.loop-at-test.true)) i.4 run e.contents e.room e.loan in (
+    let four = writes_four T src at x (omega (arith, i.0, i.1, c.loop-at-test.true)) i.4 run e.contents e.room e.loan in
+    let within : at + 4 < length src = omega (arith, i.0, i.1, c.loop-at-test.true) in (
       omega (arith, i.0, c.loop-at-test.true, p.read),
       i.1,
       i.2,
       omega (arith, i.3, four_fit T.form x 4 (omega arith), e.room, p.room),
-      writes_behind T (ascii tables) src (at + 4) (omega (arith, i.0, i.1, c.loop-at-test.true)) c.put_ascii-at.result p.read four p.ascii p.contents p.room p.loan,
+      writes_behind T (ascii tables) src (at + 4) within c.put_ascii-at.result p.read four p.ascii p.contents p.room p.loan,
       i.5,
       found.1,
     )

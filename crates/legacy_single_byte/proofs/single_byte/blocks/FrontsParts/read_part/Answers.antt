@@ -22,7 +22,8 @@ returns-then-at-gt0-clause-ahead g c =
     let front = ascii_next c.args.self.now.scalars.now.table.now g.T.Destination src c.loop-at.at c.min-count.result c.args.dst.now c.loop-at.dst
     c.put_block.new.self (omega (arith, n, i.within, i.most)) i.long i.writes
     (λ k h. c.ascii_front.ensures.ascii src c.loop-at.at i.past k (omega (arith, h, n))) e.contents e.room e.loan in
-    reads_front (omega (arith, n, i.within, i.most, i.long)) front (λ h. omega (arith, n, e.room, i.room, i.within, i.most)) (λ h. omega (arith, c.requires.room))
+    reads_front (omega (arith, n, i.within, i.most, i.long)) front (λ h. omega (arith, n, e.room, i.room, i.within, i.most))
+    (λ h. omega (arith, c.requires.room))
 
 pub returns-in-None-clause-ahead : goal.returns-in-None-clause-ahead
 returns-in-None-clause-ahead g c =
@@ -33,12 +34,14 @@ returns-in-None-clause-ahead g c =
     let front = ascii_next c.args.self.now.scalars.now.table.now g.T.Destination src c.loop-at.at c.min-count.result c.args.dst.now c.loop-at.dst
     c.put_block.new.self (omega (arith, n, i.within, i.most)) i.long i.writes
     (λ k h. c.ascii_front.ensures.ascii src c.loop-at.at i.past k (omega (arith, h, n))) e.contents e.room e.loan in
-    reads_front (omega (arith, n, i.within, i.most, i.long)) front (λ h. omega (arith, n, e.room, i.room, i.within, i.most)) (λ h. omega (arith, c.requires.room))
+    reads_front (omega (arith, n, i.within, i.most, i.long)) front (λ h. omega (arith, n, e.room, i.room, i.within, i.most))
+    (λ h. omega (arith, c.requires.room))
 
 pub put-requires : goal.put-requires
 put-requires g c =
     let i = c.loop-at.invariant in
-    three_fit g.T.Destination.form c.in-Some.scalar _ c.in-Some.ensures.0 (omega (arith, c.min-count.ensures, c.put_block.ensures.room, i.room, i.within, i.most))
+    let n = c.min-count.ensures in
+    three_fit g.T.Destination.form c.in-Some.scalar _ c.in-Some.ensures.0 (omega (arith, n, c.put_block.ensures.room, i.room, i.within, i.most))
 
 pub returns-then-at-end-2-clause-ahead : goal.returns-then-at-end-2-clause-ahead
 returns-then-at-end-2-clause-ahead g c =
