@@ -3,7 +3,7 @@ use Rattle.legacy_decoder_engine.specs.Moves.{HoldsBytes}
 use Rattle.legacy_chinese.specs.Gb18030Decoder.{gb18030_state}
 use Rattle.legacy_chinese.proofs.gb18030.decoder.Gb18030DecoderDecoderMoves.hold_back.Given as goal
 
--- the bytes so far are held back
+-- the bytes before the place are held back
 abbrev pub invariant-loop-at : goal.invariant-loop-at
 invariant-loop-at g l = record {
   within : l.at ≤ length l.fn.src;
