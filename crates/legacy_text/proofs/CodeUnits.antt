@@ -72,3 +72,6 @@ all_code_units-append form xs ys = flat_map-append (code_units form) xs ys
 
 pub total_unit_count-append : (form : EncodingForm) (xs ys : List ℕ) → total_unit_count form (xs ++ ys) ≡ total_unit_count form xs + total_unit_count form ys
 total_unit_count-append form xs ys = ap length (all_code_units-append form xs ys) ∙ length-append (all_code_units form xs) (all_code_units form ys)
+
+-- the lemma for room that is tested for any scalar
+pub ruleset bmp_fits = (length-code_units-bmp)

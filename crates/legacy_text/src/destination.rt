@@ -5,12 +5,12 @@ ghost use Rattle.std.specs.Char.{IsScalar};
 ghost use Rattle.std.specs.Borrow.{GName};
 ghost use Rattle.legacy_text.specs.EncodingForm.{EncodingForm, Utf8, Utf16, code_units, unit_count};
 ghost use Rattle.legacy_text.specs.EncodingForm.{all_code_units, total_unit_count};
-ghost use Rattle.legacy_text.specs.UnitBytes.{AreShort};
+ghost use Rattle.legacy_text.specs.UnitBytes.{AreShort, IsUtf8Entry};
 ghost use Rattle.legacy_text.specs.EncodingForm.{bmp_room, wide_room};
 
 use crate::blocks::{ascii_count, copy_blocks, store_wide, wide_ascii_count};
 use crate::eight_units::{put_eight_units, put_first_units};
-use crate::scalar_bytes::{put_byte, put_scalar};
+use crate::scalar_bytes::{put_byte, put_scalar, store_four};
 use crate::short_units::put_short_units;
 use std::simd::prelude::*;
 
@@ -61,6 +61,24 @@ pub trait Destination {
         ensures contents { contents self.new ≡ contents self.old ++ code_units form c }
         ensures room { room self.new + unit_count form c ≡ room self.old }
         ensures loan { loan self.new ≡ loan self.old };
+
+    /// Writes a scalar up to U+FFFF of which the bytes in UTF-8 are known, by `utf8_entry`.
+    ///
+    /// Four code units must be free: a destination may store four bytes, and later output overwrites
+    /// those that do not count.
+    #[inline(always)]
+    #[tactic(auto, using(crate::proofs::CodeUnits::bmp_fits))]
+    fn put_entry(&mut self, c: char, entry: u32)
+        requires below { c < 0x1_0000 }
+        requires entry { IsUtf8Entry c entry }
+        requires room { 4 ≤ room self.old }
+        ensures contents { contents self.new ≡ contents self.old ++ code_units form c }
+        ensures room { room self.new + unit_count form c ≡ room self.old }
+        ensures loan { loan self.new ≡ loan self.old }
+    {
+        let _ = entry;
+        self.put(c);
+    }
 
     /// Writes any number of ASCII bytes from the front of the slice, and returns the number.
     ///
@@ -253,6 +271,14 @@ impl Destination for Utf8Destination<'_> {
         self.filled = put_scalar(self.buffer, self.filled, c);
     }
 
+    #[inline(always)]
+    fn put_entry(&mut self, c: char, entry: u32) {
+        let _ = c;
+        let bytes = entry.to_le_bytes();
+        store_four(self.buffer, self.filled, bytes);
+        self.filled += usize::from(bytes[3]);
+    }
+
     #[inline]
     fn copy_ascii(&mut self, bytes: &[u8]) -> usize {
         let (count, _) = copy_blocks(bytes, self.buffer, self.filled, false);
@@ -414,6 +440,13 @@ impl Destination for Utf16Destination<'_> {
             self.push((0xD800 + over / 0x400) as u16);
             self.push((0xDC00 + over % 0x400) as u16);
         }
+    }
+
+    #[inline(always)]
+    #[tactic(auto, using(crate::proofs::CodeUnits::encoding_utf16))]
+    fn put_entry(&mut self, c: char, entry: u32) {
+        let _ = entry;
+        self.push(c as u16);
     }
 
     #[inline]

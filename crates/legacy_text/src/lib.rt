@@ -18,6 +18,7 @@ mod unit_rows;
 
 pub use destination::{Destination, Utf8Destination, Utf16Destination};
 pub use eight_units::first_units;
+pub use scalar_bytes::utf8_entry;
 pub use short_units::are_all_below;
 pub use source::ByteSource;
 pub use text_cursor::{Next, ReadingLoop, TextCursor};

@@ -1,7 +1,10 @@
 //! Writes one scalar value as UTF-8.
 // The functions take the output as a slice. So its address is loaded once for a scalar, and not again after each byte.
-ghost use Rattle.std.specs.Prelude.{◌≡◌, ◌+◌, ◌<◌, ◌≤◌, ◌∷◌, [], ◌++◌, length, take, encode_utf8};
+ghost use Rattle.std.specs.Prelude.{◌≡◌, ℕ, ◌+◌, ◌<◌, ◌≤◌, ◌∷◌, [], ◌++◌, length, take, encode_utf8};
 ghost use Rattle.std.specs.Char.{IsScalar};
+ghost use Rattle.legacy_text.specs.UnitBytes.{IsUtf8Entry};
+
+use std::simd::prelude::*;
 
 /// Stores a byte at the place.
 #[inline(always)]
@@ -58,4 +61,31 @@ pub(crate) fn put_scalar(dst: &mut [u8], at: usize, c: char) -> usize
     put_byte(dst, at + 2, (0x80 + code / 0x40 % 0x40) as u8);
     put_byte(dst, at + 3, (0x80 + code % 0x40) as u8);
     at + 4
+}
+
+/// Returns the entry of a scalar up to U+FFFF: its bytes from the lowest one on, and as the highest byte their number.
+#[tactic(auto, using(crate::proofs::CodeUnits::encoding))]
+pub fn utf8_entry(c: char) -> u32
+    requires { c < 0x1_0000 }
+    ensures { IsUtf8Entry c result }
+{
+    let code = c as u32;
+    let last = 0x80 + code % 0x40;
+    if code < 0x80 {
+        0x100_0000 + code
+    } else if code < 0x800 {
+        0x200_0000 + 0x100 * last + 0xC0 + code / 0x40
+    } else {
+        0x300_0000 + 0x1_0000 * last + 0x100 * (0x80 + code / 0x40 % 0x40) + 0xE0 + code / 0x1000
+    }
+}
+
+/// Stores four bytes from the place `at` on.
+#[inline(always)]
+#[tactic(auto, using(crate::proofs::Ascii::put_front))]
+pub(crate) fn store_four(dst: &mut [u8], at: usize, bytes: [u8; 4])
+    requires { at + 4 ≤ length dst.old }
+    ensures { (k : ℕ) → k ≤ 4 → take (at + k) dst.new ≡ take at dst.old ++ take k bytes }
+{
+    u8x4::from_array(bytes).copy_to_slice(&mut dst[at..]);
 }

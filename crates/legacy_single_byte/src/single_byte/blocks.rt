@@ -108,7 +108,7 @@ impl Parts for Fronts<'_> {
                 return (at, at > 0 && at == end);
             }
             match self.scalars.scalar(src[at]) {
-                Some(scalar) => dst.put(scalar),
+                Some(scalar) => dst.put_entry(scalar, self.scalars.utf8_entry(src[at])),
                 None => return (at, false),
             }
             at += 1;

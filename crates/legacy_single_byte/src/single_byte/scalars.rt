@@ -5,17 +5,24 @@
 ghost use Rattle.std.specs.Prelude.{◌≡◌, ◌<◌, ◌≤◌, ℕ, length, slice_index, IfSome};
 ghost use Rattle.legacy_base.specs.Grammar.{single_byte};
 ghost use Rattle.legacy_decoder_engine.specs.ReadAhead.{IsSingle};
-ghost use Rattle.legacy_single_byte.specs.ByteEntries.{IsByteEntry, AreByteEntries};
+ghost use Rattle.legacy_text.specs.UnitBytes.{IsUtf8Entry};
+ghost use Rattle.legacy_single_byte.specs.ByteEntries.{IsByteEntry, AreByteEntries, AreUtf8Entries};
 
 use legacy_base::SingleByteTable;
+use legacy_text::utf8_entry;
 
 /// A checked table, and the entry of each byte: its scalar, or 0 if it has none.
+///
+/// Bytes past ASCII also have an entry in UTF-8, so that the bytes of a scalar are stored at once.
 #[derive(Drop)]
 pub struct ByteScalars<'a> {
     pub table: &'a SingleByteTable,
     entries: [u16; 256],
+    utf8_entries: [u32; 128],
     ghost entry_count: { length entries ≡ 256 },
     ghost same: { AreByteEntries table.now.entries entries 256 },
+    ghost utf8_entry_count: { length utf8_entries ≡ 128 },
+    ghost same_utf8: { AreUtf8Entries table.now.entries utf8_entries 128 },
 }
 
 /// Returns the entry of a byte.
@@ -46,6 +53,21 @@ fn entries_of(table: &SingleByteTable) -> [u16; 256]
     entries
 }
 
+/// Returns the entries in UTF-8 of the bytes past ASCII.
+fn utf8_entries_of(table: &SingleByteTable) -> [u32; 128]
+    ensures count { length result ≡ 128 }
+    ensures same { AreUtf8Entries table.now.entries result 128 }
+{
+    let mut entries = [0u32; 128];
+    let mut place = 0;
+    while place < 128 {
+        let entry = u32::from(entry_of(table, 0x80 + place));
+        entries[place] = utf8_entry(unsafe { char::from_u32_unchecked(entry) });
+        place += 1;
+    }
+    entries
+}
+
 impl<'a> ByteScalars<'a> {
     /// Returns the scalars of all bytes by the table.
     pub fn new(table: &'a SingleByteTable) -> ByteScalars<'a>
@@ -54,19 +76,30 @@ impl<'a> ByteScalars<'a> {
         ByteScalars {
             table,
             entries: entries_of(table),
+            utf8_entries: utf8_entries_of(table),
         }
     }
 
     /// Returns the scalar of a byte, or `None` if it has none, and for the byte 00.
     #[inline(always)]
     pub fn scalar(&self, byte: u8) -> Option<char>
-        ensures { IfSome result (λ c. IsSingle (single_byte self.now.table.now.entries) byte c) }
+        ensures single { IfSome result (λ c. IsSingle (single_byte self.now.table.now.entries) byte c) }
+        ensures entry { IfSome result (λ c. IsByteEntry self.now.table.now.entries byte c) }
     {
         let entry = self.entries[usize::from(byte)];
         if entry == 0 {
             return None;
         }
         Some(unsafe { char::from_u32_unchecked(u32::from(entry)) })
+    }
+
+    /// Returns the entry in UTF-8 of a byte past ASCII.
+    #[inline(always)]
+    pub fn utf8_entry(&self, byte: u8) -> u32
+        requires { 0x80 ≤ byte }
+        ensures { (c : ℕ) → IsByteEntry self.now.table.now.entries byte c → IsUtf8Entry c result }
+    {
+        self.utf8_entries[usize::from(byte - 0x80)]
     }
 
     /// Returns the code units of the first eight bytes: 0 for a byte that has no scalar, and for the byte 00.

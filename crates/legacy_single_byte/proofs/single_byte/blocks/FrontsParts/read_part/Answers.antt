@@ -1,5 +1,5 @@
-use Rattle.std.proofs.Common.{◌+◌, arith}
-use Rattle.legacy_decoder_engine.proofs.{JoinedRuns.reads_front, WrittenRuns.{writes_none, writes_one, three_fit, short}}
+use Rattle.std.proofs.Common.{◌≡◌, ◌+◌, ◌≤◌, get_or, subst, arith}
+use Rattle.legacy_decoder_engine.proofs.{JoinedRuns.reads_front, WrittenRuns.{writes_none, writes_one, short}}
 use Rattle.legacy_single_byte.proofs.SingleByteRuns.{ascii_next, past_of}
 use Rattle.legacy_single_byte.proofs.single_byte.blocks.FrontsParts.read_part.Goals as goal
 
@@ -37,11 +37,24 @@ returns-in-None-clause-ahead g c =
     reads_front (omega (arith, n, i.within, i.most, i.long)) front (λ h. omega (arith, n, e.room, i.room, i.within, i.most))
     (λ h. omega (arith, c.requires.room))
 
-pub put-requires : goal.put-requires
-put-requires g c =
+pub utf8_entry-requires : goal.utf8_entry-requires
+utf8_entry-requires g c =
     let i = c.loop-at.invariant in
     let n = c.min-count.ensures in
-    three_fit g.T.Destination.form c.in-Some.scalar _ c.in-Some.ensures.0 (omega (arith, n, c.put_block.ensures.room, i.room, i.within, i.most))
+    let front : c.ascii_front.result ≡ c.min-count.result = omega (arith, n, i.within, c.if-at-end.false) in
+    subst (λ k. 0x80 ≤ get_or c.args.src.now (c.loop-at.at + k) 0) front (c.ascii_front.ensures.stops c.args.src.now c.loop-at.at i.past
+    (omega (arith, n, i.within, i.most, c.if-at-end.false)) (omega (arith, n, i.within, i.most, c.if-at-end.false)))
+
+pub put_entry-requires : goal.put_entry-requires
+put_entry-requires g c =
+    let i = c.loop-at.invariant in
+    let n = c.min-count.ensures in
+    let x = c.in-Some.ensures in
+    record {
+      below = x.single.0;
+      entry = c.utf8_entry.ensures c.in-Some.scalar x.entry;
+      room = omega (arith, n, c.put_block.ensures.room, i.room, i.within, i.most);
+    }
 
 pub returns-then-at-end-2-clause-ahead : goal.returns-then-at-end-2-clause-ahead
 returns-then-at-end-2-clause-ahead g c =
@@ -49,7 +62,7 @@ returns-then-at-end-2-clause-ahead g c =
     let i = c.loop-at.invariant in
     let n = c.min-count.ensures in
     let e = c.put_block.ensures in
-    let p = c.put.ensures in
+    let p = c.put_entry.ensures in
     let x = c.in-Some.scalar in
     let src = c.args.src.now in
     let at = c.loop-at.at + c.min-count.result in
@@ -57,8 +70,8 @@ returns-then-at-end-2-clause-ahead g c =
     c.put_block.new.self (omega (arith, n, i.within, i.most)) i.long i.writes
     (λ k h. c.ascii_front.ensures.ascii src c.loop-at.at i.past k (omega (arith, h, n))) e.contents e.room e.loan in
     reads_front (omega (arith, n, i.within, i.most, c.requires.source))
-    (writes_one T src at x (omega (arith, n, i.within, i.most, c.requires.source)) front c.in-Some.ensures.1 p.contents p.room p.loan)
-    (λ h. omega (arith, n, e.room, p.room, short T.form x c.in-Some.ensures.0, i.room, i.within, i.most)) (λ h. omega (arith, c.requires.room))
+    (writes_one T src at x (omega (arith, n, i.within, i.most, c.requires.source)) front c.in-Some.ensures.single.1 p.contents p.room p.loan)
+    (λ h. omega (arith, n, e.room, p.room, short T.form x c.in-Some.ensures.single.0, i.room, i.within, i.most)) (λ h. omega (arith, c.requires.room))
 
 pub loop-at-preserved : goal.loop-at-preserved
 loop-at-preserved g c =
@@ -66,7 +79,7 @@ loop-at-preserved g c =
     let i = c.loop-at.invariant in
     let n = c.min-count.ensures in
     let e = c.put_block.ensures in
-    let p = c.put.ensures in
+    let p = c.put_entry.ensures in
     let x = c.in-Some.scalar in
     let src = c.args.src.now in
     let at = c.loop-at.at + c.min-count.result in
@@ -78,6 +91,6 @@ loop-at-preserved g c =
       most = i.most;
       long = omega (arith, c.if-src-at-lt64.false);
       room = omega (arith, c.free.ensures, c.if-free-lt70.false);
-      writes = writes_one T src at x (omega (arith, n, i.within, i.most, c.requires.source)) front c.in-Some.ensures.1 p.contents p.room p.loan;
+      writes = writes_one T src at x (omega (arith, n, i.within, i.most, c.requires.source)) front c.in-Some.ensures.single.1 p.contents p.room p.loan;
       past = c.past_after-past.ensures src c.loop-at.at i.past;
     }

@@ -5,6 +5,9 @@ use Rattle.legacy_single_byte.proofs.single_byte.scalars.ByteScalars.scalar.Goal
 pub from_u32_unchecked-requires : goal.from_u32_unchecked-requires
 from_u32_unchecked-requires c = grind (arith, entry_below c.args.self.now.table.now c.args.byte, c.args.self.now.same c.args.byte)
 
-pub returns : goal.returns
-returns c =
+pub returns-clause-entry : goal.returns-clause-entry
+returns-clause-entry c = grind (arith, c.args.self.now.same c.args.byte)
+
+pub returns-clause-single : goal.returns-clause-single
+returns-clause-single c =
     entry_runs c.args.self.now.table.now c.args.byte c.from_u32_unchecked.result (omega arith) (grind (arith, c.args.self.now.same c.args.byte)) (grind arith)
