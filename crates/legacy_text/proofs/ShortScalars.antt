@@ -39,41 +39,38 @@ scalars_append gives text start n place m behind old mid new a b =
 
 -- ---- one scalar
 
--- a text that is not at its end has a scalar
-pub some_left : (text : List ℕ) (place : ℕ) → place < length text → is_utf8 (drop place text) ≡ true → 0 < length (chars (drop place text))
-some_left text place h u = some (chars (drop place text)) (sym (encodes-chars (drop place text) (IsUtf8-from_is_utf8 (drop place text) u)))
-  where
-    some : (l : List ℕ) → drop place text ≡ encodes l → 0 < length l
-    some [] e = absurd (omega (arith, ap length e, length-drop place text))
-    some (x ∷ l) e = omega arith
-
-module _ (text : List ℕ) (place : ℕ) (within : place + 2 ≤ length text) (u : is_utf8 (drop place text) ≡ true) (short : get_or text place 0 < 224) where
+module _ (text : List ℕ) (place : ℕ) (inside : place < length text) (u : is_utf8 (drop place text) ≡ true) where
   abbrev Left : List ℕ
   Left = chars (drop place text)
 
   abbrev C : ℕ
   C = get_or (chars (drop place text)) 0 0
 
+  -- a text that is not at its end has a scalar
   some : 0 < length (chars (drop place text))
-  some = some_left text place (omega arith) u
+  some = has Left (sym (encodes-chars (drop place text) (IsUtf8-from_is_utf8 (drop place text) u)))
+    where
+      has : (l : List ℕ) → drop place text ≡ encodes l → 0 < length l
+      has [] e = absurd (omega (arith, ap length e, length-drop place text))
+      has (x ∷ l) e = omega arith
 
-  stands : StandsAt text place (get_or (chars (drop place text)) 0 0)
+  pub stands : StandsAt text place (get_or (chars (drop place text)) 0 0)
   stands = utf8_stands text place C u (first_some Left some)
 
-  reads : (n : ℕ) → n ≡ unit_count Utf8 (get_or (chars (drop place text)) 0 0) → ReadsScalar text place (get_or (chars (drop place text)) 0 0) (place + n)
-  reads n e = grind (arith, utf8_pass text place n, first_cons, first_some Left some)
+  pub reads_here : ReadsScalar text place (get_or (chars (drop place text)) 0 0) (place + unit_count Utf8 (get_or (chars (drop place text)) 0 0))
+  reads_here = grind (arith, utf8_pass text place (unit_count Utf8 C), first_cons, first_some Left some)
 
   -- ASCII is its own scalar
   pub reads_ascii : get_or text place 0 < 128 → ReadsScalar text place (get_or text place 0) (place + 1)
-  reads_ascii h = grind (arith, stands_tells text place C stands, stands_byte text place C stands 0, encode_1, one_below, reads 1)
+  reads_ascii h = grind (arith, stands_tells text place C stands, stands_byte text place C stands 0, encode_1, one_below, reads_here)
 
   -- two bytes contain the eleven bits of a scalar
-  pub reads_pair : 128 ≤ get_or text place 0
+  pub reads_pair : 128 ≤ get_or text place 0 → get_or text place 0 < 224
       → (0x3080 ≤ get_or text place 0 * 64 + get_or text (place + 1) 0) × ReadsScalar text place (get_or text place 0 * 64 + get_or text (place + 1) 0 - 0x3080)
       (place + 2)
-  reads_pair h =
+  reads_pair h short =
       let byte = stands_byte text place C stands in
-      grind (arith, stands_tells text place C stands, byte 0, byte 1, encode_2, two_above, two_below, reads 2)
+      grind (arith, stands_tells text place C stands, byte 0, byte 1, encode_2, two_above, two_below, reads_here)
 
 -- ---- turns
 

@@ -1,8 +1,9 @@
 -- Code units below 0x800.
-use Rattle.std.proofs.Common.{◌≡◌, ℕ, zero, suc, ◌+◌, ◌-◌, ◌*◌, ◌/◌, ◌%◌, ◌^◌, ◌<◌, ◌≤◌, Bool, true, false, cond, ltb, leb, eqb, List, [], ◌∷◌, ◌++◌, length}
-use Rattle.std.proofs.{Common.{get_or, map, take, replicate, bit_and, refl, ap, ◌∙◌, ◌&&◌, arith, w8, w16, Fits, All}, lemmas.Bool.{ltb-true, leb-true}}
+use Rattle.std.proofs.Common.{◌≡◌, ℕ, suc, ◌+◌, ◌-◌, ◌*◌, ◌/◌, ◌%◌, ◌^◌, ◌<◌, ◌≤◌, Bool, true, cond, ltb, leb, eqb, List, [], ◌∷◌, ◌++◌, length}
+use Rattle.std.proofs.{Common.{get_or, map, take, replicate, bit_and, refl, ap, zero-add, ◌∙◌, ◌&&◌, arith, w8, w16, Fits, All}, lemmas.Bool.{leb-true}}
 use Rattle.std.proofs.{lemmas.Bool.{eqb-true, agree_below_at}, lemmas.Bool.Decides.nat_tests, lemmas.Grind.common_steps, lemmas.List.{map-append, length-map}}
-use Rattle.std.proofs.{lemmas.List.{take-take, take-map}, Math.Seq.take-append_seam, lemmas.Nat.and_mask, lemmas.Simd.{bitmask_splat, mask_l-lt, swz_l}}
+use Rattle.std.proofs.{lemmas.List.{take-take, take-map}, Math.Seq.take-append_seam, lemmas.Nat.and_mask, lemmas.Simd.{bitmask_splat, bit_mask_l, mask_l-lt, swz_l}, Math.ListN.get_or-map}
+use Rattle.std.proofs.lemmas.Nat.Bits.{bit_at_ones}
 use Rattle.std.specs.{Char.encode_utf8, Int.RustNames.count_ones, List.range_with_len}
 use lib.Lanes.{Each1, zip2, sel_l, mask_l, top, number_l, digits_l, all_below}
 use Rattle.legacy_text.specs.{declared.unit_rows.TheConstants.SHORT_WRITTEN, UnitBytes.{short_bytes, short_lanes, short_pattern, short_places, short_row}}
@@ -78,10 +79,6 @@ short_written xs r h =
 
 -- ---- the bytes that are written are the text
 
-abbrev ReadsShort : (ℕ → ℕ) → ℕ → List ℕ → Type 0
-ReadsShort f base [] = Unit {0}
-ReadsShort f base (u ∷ us) = (f base ≡ short_bytes u % 256) × (f (base + 1) ≡ short_bytes u / 256) × ReadsShort f (base + 2) us
-
 digit : (s : Bool) (m : ℕ) → (eqb ((cond s 1 0 + 2 * m) % 2) 1 ≡ s) × ((cond s 1 0 + 2 * m) / 2 ≡ m)
 digit s m = grind arith
 
@@ -89,35 +86,27 @@ short_unit : (u a b : ℕ) → u < 2048 → a ≡ short_bytes u % 256 → b ≡ 
 unfolding encode_utf8
 short_unit u a b small p q = grind arith
 
-short_text : (f : ℕ → ℕ) (base : ℕ) (us : List ℕ) → All (λ u. u < 2048) us → ReadsShort f base us →
+short_text : (f : ℕ → ℕ) (base : ℕ) (us : List ℕ) → All (λ u. u < 2048) us → ((k : ℕ) → f (base + k) ≡ get_or (short_lanes us) k 0) →
     map f (short_places base (length us) (short_pattern us)) ≡ utf8_bytes us
 unfolding short_places short_pattern
 short_text f base [] small reads = refl
 short_text f base (u ∷ us) small reads =
     let d = digit (ltb u 128) (short_pattern us) in
-    let rest = short_text f (base + 2) us (λ k d' h. small (suc k) d' (omega arith)) reads.2 in
-    grind (arith, map-append, short_unit u (f base) (f (base + 1)), small 0 0)
+    let rest = short_text f (base + 2) us (λ k d' h. small (suc k) d' (omega arith)) (λ k.
+    let at : base + 2 + k ≡ base + suc (suc k) = omega arith in
+    rw at (reads (suc (suc k)))) in
+    grind (arith, map-append, short_unit u (f base) (f (base + 1)), small 0 0, reads 0, reads 1)
 
 pub short_text_of_eight : (v : List ℕ) → length v ≡ 8 → Each1 (Fits w16) v → AreShort v →
     map (λ k. get_or (short_lanes v) k 0) (short_places 0 8 (short_pattern v)) ≡ utf8_bytes v
 short_text_of_eight = of_eight _ (λ a b c d e f g h sa sb sc sd se sf sg sh short.
-    short_text (λ k. get_or (short_lanes (a ∷ b ∷ c ∷ d ∷ e ∷ f ∷ g ∷ h ∷ [])) k 0) 0 (a ∷ b ∷ c ∷ d ∷ e ∷ f ∷ g ∷ h ∷ []) short
-    (refl, refl, (refl, refl, (refl, refl, (refl, refl, (refl, refl, (refl, refl, (refl, refl, (refl, refl, tt)))))))))
+    short_text (λ k. get_or (short_lanes (a ∷ b ∷ c ∷ d ∷ e ∷ f ∷ g ∷ h ∷ [])) k 0) 0 (a ∷ b ∷ c ∷ d ∷ e ∷ f ∷ g ∷ h ∷ []) short (λ k. rw (zero-add k) refl))
 
 -- ---- a mask with all bits set
 
-double : (bits : List Bool) → 2 ^ suc (length bits) ≡ 2 * 2 ^ length bits
-double bits = omega arith
-
-all_set : (bits : List Bool) → mask_l bits + 1 ≡ 2 ^ length bits → (k : ℕ) → k < length bits → get_or bits k false ≡ true
-all_set [] whole k h = absurd (omega arith)
-all_set (true ∷ bits) whole zero h = refl
-all_set (true ∷ bits) whole (suc k) h = all_set bits (omega (arith, double bits)) k (omega arith)
-all_set (false ∷ bits) whole k h = absurd (omega (arith, double bits))
-
 pub units_below : (n : ℕ) (xs : List ℕ) → length xs ≡ 8
     → eqb (mask_l (map (top 15) (zip2 (λ a b. cond (ltb a b) (2 ^ 16 - 1) 0) xs (replicate 8 n))) % 2 ^ 64) 255 ≡ true → All (λ x. x < n) xs
-units_below n xs long whole = grind (arith, common_steps, bitmask_splat, length-map, all_set, eqb-true, ltb-true)
+units_below n xs long whole = grind (arith, common_steps, nat_tests, bitmask_splat w16 ltb xs 8 n, bit_mask_l (map (λ x. ltb x n) xs), bit_at_ones 8, get_or-map)
 
 pub units_all_below : (n : ℕ) (xs : List ℕ) → length xs ≡ 8 → All (λ x. x < n) xs
     → eqb (mask_l (map (top 15) (zip2 (λ a b. cond (ltb a b) (2 ^ 16 - 1) 0) xs (replicate 8 n))) % 2 ^ 64) 255 ≡ true
