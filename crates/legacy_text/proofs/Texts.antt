@@ -1,10 +1,10 @@
 -- The scalars of texts, one by one from the front, and the places between them.
-use Rattle.std.proofs.{lemmas.Bool.Decides.nat_tests, Common.{◌≡◌, ◌∙◌, ℕ, suc, ◌+◌, ◌-◌, ◌≤◌, ◌<◌, List, [], ◌∷◌, ◌++◌, length, take, drop, get_or, refl, sym}}
+use Rattle.std.proofs.{lemmas.Bool.Decides.nat_tests, Common.{◌≡◌, ◌∙◌, ℕ, suc, ◌+◌, ◌≤◌, ◌<◌, List, [], ◌∷◌, ◌++◌, length, take, drop, get_or, refl, sym}}
 use Rattle.std.proofs.Common.{◌*◌, ◌%◌, ap, subst, arith, length-append, length-drop, Some, None, Option, true, false, ◌⊎◌, ◌&&◌, map}
-use Rattle.std.proofs.{Common.{slice_get, IsAscii}, lemmas.List.{drop-drop, take-append-drop, length-take-le, take_all, get_or-drop}}
+use Rattle.std.proofs.{Common.{slice_get, IsAscii}, lemmas.List.{drop-drop, take-append-drop, length-take-le, get_or-take, get_or-drop}}
 use Rattle.std.proofs.{Math.Seq.{drop-append_seam, take-append_seam}, lemmas.Str.{IsUtf8-from_is_utf8, is_utf8-from_IsUtf8, encodes-chars, chars_past_char}}
 use Rattle.std.proofs.lemmas.Str.{IsUtf8-past_char, drop_past_char, length-encode, utf16_chars-nil, len_utf8_bounds, utf16_chars_lone, utf16_chars_pair}
-use Rattle.std.proofs.lemmas.Str.{encodes-append, scalars-chars, chars-encodes, IsCharBoundary-at_seam, chars-append, chars-IsAscii, IsUtf8-from_ascii}
+use Rattle.std.proofs.lemmas.Str.{encodes-append, scalars-chars, chars-encodes, IsCharBoundary-at_seam, chars-append, chars-IsAscii, IsUtf8-from_ascii, IsUtf8-drop, IsCharBoundary-from_take}
 use Rattle.std.proofs.str.Utf16.{IsPair, lone_unit_char_low, lone_unit_char_high, lone_unit_char_surrogate, utf16_chars-drop_lone, utf16_chars-drop_pair}
 use Rattle.std.proofs.str.Utf16.{utf16_chars-drop_all}
 use Rattle.std.specs.{Str.{chars, is_utf8, IsUtf8, IsCharBoundary}, Char.len_utf8, Char.Utf16.{lone_unit_char, surrogate_pair_char, is_high_surrogate}}
@@ -22,11 +22,11 @@ first_cons xs x h = grind arith
 
 -- ---- UTF-8
 
--- the bytes of the scalar c are at the place of the text
-pub utf8_bytes : (text : List ℕ) (place c : ℕ) → is_utf8 (drop place text) ≡ true → Some c ≡ slice_get (chars (drop place text)) 0
-    → drop place text ≡ encode c ++ encodes (drop 1 (chars (drop place text)))
-utf8_bytes text place c u e =
-    sym (encodes-chars (drop place text) (IsUtf8-from_is_utf8 (drop place text) u)) ∙ ap encodes (first_cons (chars (drop place text)) c e)
+pub utf8_stands : (text : List ℕ) (place c : ℕ) → is_utf8 (drop place text) ≡ true → Some c ≡ slice_get (chars (drop place text)) 0 → StandsAt text place c
+utf8_stands text place c u e = record {
+  rest = encodes (drop 1 (chars (drop place text)));
+  is = sym (encodes-chars (drop place text) (IsUtf8-from_is_utf8 (drop place text) u)) ∙ ap encodes (first_cons (chars (drop place text)) c e);
+}
 
 -- the scalar c is at the place of the text
 pub record Utf8Step (text : List ℕ) (place c : ℕ) : Type 0 where
@@ -40,8 +40,8 @@ pub utf8_step : (text : List ℕ) (place c : ℕ) → place ≤ length text → 
 utf8_step text place c p u e =
     let bs = drop place text in
     let is = IsUtf8-from_is_utf8 bs u in
-    let rest = encodes (drop 1 (chars bs)) in
-    let split : bs ≡ encode c ++ rest = utf8_bytes text place c u e in
+    let rest = (utf8_stands text place c u e).rest in
+    let split : bs ≡ encode c ++ rest = (utf8_stands text place c u e).is in
     let is_text = is_utf8-from_IsUtf8 rest (IsUtf8-past_char bs rest c is split) in
     let past = drop_past_char text rest place c split in
     let all = chars_past_char bs rest c is split in
@@ -64,9 +64,6 @@ pub record TellsCount (c first : ℕ) : Type 0 where
 -- the bytes at a place are those of the scalar
 pub stands_byte : (text : List ℕ) (place c : ℕ) → (s : StandsAt text place c) → (k : ℕ) → get_or text (place + k) 0 ≡ get_or (encode c ++ s.rest) k 0
 stands_byte text place c s k = sym (get_or-drop place text k 0) ∙ ap (λ l. get_or l k 0) s.is
-
-pub utf8_stands : (text : List ℕ) (place c : ℕ) → is_utf8 (drop place text) ≡ true → Some c ≡ slice_get (chars (drop place text)) 0 → StandsAt text place c
-utf8_stands text place c u e = record { rest = encodes (drop 1 (chars (drop place text))); is = utf8_bytes text place c u e }
 
 pub stands_tells : (text : List ℕ) (place c : ℕ) → StandsAt text place c → TellsCount c (get_or text place 0)
 stands_tells text place c s = grind (arith, nat_tests, stands_byte text place c s 0, encode_1, encode_2, encode_3, encode_4)
@@ -162,14 +159,6 @@ pub record CutAt (text taken left : List ℕ) (place : ℕ) : Type 0 where
   pub left_is : chars (drop place text) ≡ left
   pub boundary : IsCharBoundary text place
 
-pub utf8_cut : (text taken left : List ℕ) (place : ℕ) → IsUtf8 text → chars text ≡ taken ++ left → place ≡ length (all_code_units Utf8 taken) →
-    CutAt text taken left place
-utf8_cut text taken left place u e p =
-    let all : text ≡ encodes taken ++ encodes left = sym (encodes-chars text u) ∙ ap encodes e ∙ encodes-append taken left in
-    let good : scalars left ≡ true = scalars-right taken left (ap scalars (sym e) ∙ scalars-chars text u) in
-    let boundary = IsCharBoundary-at_seam text (encodes taken) (encodes left) all (left, (good, refl)) in
-    grind (arith, encodes-code_units taken, drop-append_seam (encodes taken) (encodes left), chars-encodes left good)
-
 -- how many units were passed
 pub passed_is : (form : EncodingForm) (all taken left : List ℕ) (place : ℕ) → all ≡ taken ++ left →
     place + length (all_code_units form left) ≡ 0 + length (all_code_units form all) → place ≡ length (all_code_units form taken)
@@ -204,7 +193,12 @@ utf16_cut (u ∷ v ∷ list) (c ∷ taken) left b e =
 -- what a call left of a whole text
 pub utf8_read : (text taken left : List ℕ) (read : ℕ) → IsUtf8 text → chars text ≡ taken ++ left →
     read + length (all_code_units Utf8 left) ≡ 0 + length (all_code_units Utf8 (chars text)) → CutAt text taken left read
-utf8_read text taken left read u e p = utf8_cut text taken left read u e (passed_is Utf8 (chars text) taken left read e p)
+utf8_read text taken left read u e p =
+    let all : text ≡ encodes taken ++ encodes left = sym (encodes-chars text u) ∙ ap encodes e ∙ encodes-append taken left in
+    let good : scalars left ≡ true = scalars-right taken left (ap scalars (sym e) ∙ scalars-chars text u) in
+    let boundary = IsCharBoundary-at_seam text (encodes taken) (encodes left) all (left, (good, refl)) in
+    let place = passed_is Utf8 (chars text) taken left read e p in
+    grind (arith, encodes-code_units taken, drop-append_seam (encodes taken) (encodes left), chars-encodes left good)
 
 pub utf16_read : (list taken left : List ℕ) (read : ℕ) → Bounded list → unit_scalars list ≡ taken ++ left
     → read + length (all_code_units Utf16 left) ≡ 0 + length (all_code_units Utf16 (unit_scalars list)) → CutUnits list left read
@@ -215,12 +209,6 @@ pub unit_boundary : (list left : List ℕ) (place : ℕ) → CutUnits list left 
 unit_boundary list left place h = grind arith
 
 -- ---- a front that is ASCII
-
--- what comes after ASCII in a text is a text
-ascii_past : (xs ys : List ℕ) → IsAscii xs → IsUtf8 (xs ++ ys) → IsUtf8 ys
-ascii_past [] ys a u = u
-ascii_past (x ∷ xs) ys a u =
-    ascii_past xs ys (λ i. a (suc i)) (IsUtf8-past_char (x ∷ (xs ++ ys)) (xs ++ ys) x u (sym (ap (λ l. l ++ (xs ++ ys)) (encode_1 x (a 0)))))
 
 -- code units that are not surrogates are their own scalars
 pub bmp_scalars : (front others : List ℕ) → ((k : ℕ) → k < length front → IsNoSurrogate (get_or front k 0)) →
@@ -238,40 +226,28 @@ pub record IsFront (all front others : List ℕ) (n : ℕ) : Type 0 where
 pub front_of : (all front others : List ℕ) (n : ℕ) → length front ≡ n → all ≡ front ++ others → IsFront all front others n
 front_of all front others n long e = grind (arith, nat_tests, length-append, drop-append_seam, take-append_seam)
 
--- n numbers at the front of what a list has from a place on are ASCII
-pub record AsciiAt (list : List ℕ) (place n : ℕ) : Type 0 where
-  pub within : n ≤ length (drop place list)
-  pub fits : place + n ≤ length list
-  pub ascii : IsAscii (take n (drop place list))
-  pub same : take n (take (length list - place) (drop place list)) ≡ take n (drop place list)
+-- ASCII from a place on
+pub utf8_ascii : (text : List ℕ) (place n : ℕ) → n ≤ length (drop place text) → IsAscii (take n (drop place text)) → is_utf8 (drop place text) ≡ true
+    → (is_utf8 (drop (place + n) text) ≡ true) × IsFront (chars (drop place text)) (take n (drop place text)) (chars (drop (place + n) text)) n
+utf8_ascii text place n within ascii u =
+    let rest = drop place text in
+    let is = IsUtf8-from_is_utf8 rest u in
+    let front = IsUtf8-from_ascii (take n rest) ascii in
+    let split = ap chars (sym (take-append-drop n rest)) ∙ chars-append (take n rest) (drop n rest) front in
+    let is_text = is_utf8-from_IsUtf8 (drop n rest) (IsUtf8-drop rest n is (IsCharBoundary-from_take rest n is within front)) in
+    let own = rw (chars-IsAscii (take n rest) ascii) at split in
+    let is_front = front_of (chars rest) (take n rest) (chars (drop n rest)) n (length-take-le n rest within) own in
+    (rw (drop-drop n place text) at is_text, rw (drop-drop n place text) at is_front)
 
--- so it is where they were found in the slice from the place on
-pub ascii_at : (list : List ℕ) (place n : ℕ) → place ≤ length list → n ≤ length (take (length list - place) (drop place list))
-    → IsAscii (take n (take (length list - place) (drop place list))) → AsciiAt list place n
-ascii_at list place n h within ascii = grind (arith, nat_tests, take_all, length-drop)
-
-module _ (list : List ℕ) (place n : ℕ) (within : n ≤ length (drop place list)) (ascii : IsAscii (take n (drop place list))) where
-  abbrev Rest : List ℕ
-  Rest = drop place list
-
-  parts : Rest ≡ take n Rest ++ drop (place + n) list
-  parts = sym (take-append-drop n Rest) ∙ ap (λ l. take n Rest ++ l) (drop-drop n place list)
-
-  pub utf8_ascii-text : is_utf8 Rest ≡ true → is_utf8 (drop (place + n) list) ≡ true
-  utf8_ascii-text u =
-      is_utf8-from_IsUtf8 (drop (place + n) list) (ascii_past (take n Rest) (drop (place + n) list) ascii (subst IsUtf8 parts (IsUtf8-from_is_utf8 Rest u)))
-
-  pub utf8_ascii : IsFront (chars Rest) (take n Rest) (chars (drop (place + n) list)) n
-  utf8_ascii =
-      let split = chars-append (take n Rest) (drop (place + n) list) (IsUtf8-from_ascii (take n Rest) ascii) in
-      let front = front_of (chars Rest) (take n Rest) (chars (drop (place + n) list)) n in
-      grind (arith, length-take-le n Rest within, ap chars parts, chars-IsAscii (take n Rest) ascii)
-
-  pub utf16_ascii : IsFront (unit_scalars Rest) (take n Rest) (unit_scalars (drop (place + n) list)) n
-  utf16_ascii =
-      let own = bmp_scalars (take n Rest) (drop (place + n) list) (λ k h. let low = ascii k in omega arith) in
-      let front = front_of (unit_scalars Rest) (take n Rest) (unit_scalars (drop (place + n) list)) n in
-      grind (arith, length-take-le n Rest within, ap unit_scalars parts, own)
+-- code units from a place on that are no surrogates
+pub bmp_front : (list : List ℕ) (place n : ℕ) → n ≤ length (drop place list) → ((k : ℕ) → k < n → IsNoSurrogate (get_or (drop place list) k 0))
+    → IsFront (unit_scalars (drop place list)) (take n (drop place list)) (unit_scalars (drop (place + n) list)) n
+bmp_front list place n within bmp =
+    let rest = drop place list in
+    let long = length-take-le n rest within in
+    let own = bmp_scalars (take n rest) (drop n rest) (λ k h. grind (arith, bmp k, get_or-take)) in
+    rw (drop-drop n place list) at
+    (front_of (unit_scalars rest) (take n rest) (unit_scalars (drop n rest)) n long (ap unit_scalars (sym (take-append-drop n rest)) ∙ own))
 
 -- ---- the next scalar
 

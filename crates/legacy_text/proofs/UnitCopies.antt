@@ -1,10 +1,11 @@
 -- The bytes written for blocks of code units.
 use Rattle.std.proofs.{lemmas.Bool.Decides.nat_tests, Common.{◌≡◌, ◌∙◌, ℕ, suc, ◌+◌, ◌-◌, ◌≤◌, ◌<◌, List, [], ◌∷◌, ◌++◌, length, get_or, take, drop, refl}}
 use Rattle.std.proofs.{Common.{sym, ap, subst, arith, append_assoc, append-nil, length-append, length-drop, IsAscii}}
-use Rattle.std.proofs.lemmas.List.{get_or_append_left, get_or-append-add, get_or-drop, length-take-le, get_or-take, take_all, take-append-drop, drop-drop}
+use Rattle.std.proofs.lemmas.List.{get_or_append_left, get_or-append-add, get_or-drop, length-take-le, get_or-take, take_all, take-append-drop}
 use Rattle.std.proofs.Common.{add-zero}
 use Rattle.legacy_text.specs.{EncodingForm.{Utf16, total_unit_count}, Texts.unit_scalars, UnitCodes.{IsNoSurrogate, WritesCodes}}
-use Rattle.legacy_text.proofs.{Ascii.all_behind, CodeUnits.utf16_1, Texts.{IsFront, front_of, bmp_scalars}}
+use Rattle.legacy_text.specs.UnitTurns.{AreNoSurrogates, TakesUnits}
+use Rattle.legacy_text.proofs.{CodeUnits.utf16_1, Texts.{bmp_front}}
 
 -- ---- blocks
 
@@ -41,30 +42,23 @@ narrow_units : (front : List ℕ) → ((k : ℕ) → k < length front → get_or
 narrow_units [] b = refl
 narrow_units (u ∷ front) b = grind (arith, utf16_1, b 0, length-append, narrow_units front (λ k h. b (suc k) (omega arith)))
 
-module _ (gives : ℕ → ℕ → Type 0) (list : List ℕ) (place n : ℕ) (start : place ≤ length list) (bound : (k : ℕ) → get_or list k 0 < 65536)
-    (within : n ≤ length (take (length list - place) (drop place list)))
-    (bmp : (k : ℕ) → k < n → IsNoSurrogate (get_or (take (length list - place) (drop place list)) k 0)) where
-  abbrev Rest : List ℕ
-  Rest = drop place list
+module _ (list : List ℕ) (place n : ℕ) (bound : (k : ℕ) → get_or list k 0 < 65536) (within : n ≤ length (drop place list))
+    (bmp : (k : ℕ) → k < n → IsNoSurrogate (get_or (drop place list) k 0)) where
+  pub bmp_count : total_unit_count Utf16 (take n (unit_scalars (drop place list))) ≡ n
+  bmp_count = grind (arith, nat_tests, bmp_front list place n within bmp, narrow_units, length-take-le, get_or-take, get_or-drop)
 
-  few : n ≤ length Rest
-  few = rw (all_behind place list) at within
+  pub bmp_writes : (gives : ℕ → ℕ → Type 0) (old new : List ℕ) → WritesCodes gives (drop place list) n old new
+      → WritesCodes gives (unit_scalars (drop place list)) n old new
+  bmp_writes gives old new w = grind (arith, nat_tests, get_or-take, bmp_front list place n within bmp)
 
-  front_long : length (take n Rest) ≡ n
-  front_long = length-take-le n Rest few
-
-  pub bmp_front : IsFront (unit_scalars Rest) (take n Rest) (unit_scalars (drop (place + n) list)) n
-  bmp_front =
-      let parts : Rest ≡ take n Rest ++ drop (place + n) list = sym (take-append-drop n Rest) ∙ ap (λ l. take n Rest ++ l) (drop-drop n place list) in
-      front_of (unit_scalars Rest) (take n Rest) (unit_scalars (drop (place + n) list)) n front_long
-      (ap unit_scalars parts ∙ bmp_scalars (take n Rest) (drop (place + n) list) (λ k h.
-      let below : k < n = omega (arith, h, front_long) in
-      subst IsNoSurrogate (ap (λ l. get_or l k 0) (all_behind place list) ∙ sym (get_or-take n Rest k 0 below)) (bmp k below)))
-
-  pub bmp_count : total_unit_count Utf16 (take n (unit_scalars Rest)) ≡ n
-  bmp_count = grind (arith, nat_tests, bmp_front, narrow_units, front_long, get_or-take, get_or-drop)
-
-  pub bmp_writes : (old new : List ℕ) → WritesCodes gives (take (length list - place) Rest) n old new → WritesCodes gives (unit_scalars Rest) n old new
-  bmp_writes old new w = grind (arith, nat_tests, get_or-take, bmp_front, all_behind)
+pub takes_units : (list : List ℕ) (place n : ℕ) → place + n ≤ length list → ((k : ℕ) → get_or list k 0 < 65536) → (units : List ℕ)
+    → units ≡ take n (drop place list) → TakesUnits Utf16 (unit_scalars (drop place list)) place units (unit_scalars (drop (place + n) list)) (place + n)
+takes_units list place n fits bound units is =
+    let long : n ≤ length (drop place list) = omega (arith, length-drop place list) in
+    let count : length units ≡ n = ap length is ∙ length-take-le n (drop place list) long in
+    let bmp : AreNoSurrogates units → (k : ℕ) → k < n → IsNoSurrogate (get_or (drop place list) k 0) = λ own k h. grind (arith, get_or-take, own k) in
+    let front = λ (own : AreNoSurrogates units). bmp_front list place n long (bmp own) in
+    let many = λ (own : AreNoSurrogates units). bmp_count list place n bound long (bmp own) in
+    grind (arith, front, many, count, take-append-drop n (unit_scalars (drop place list)))
 
 pub ruleset none_steps = (writes_none, add-zero)

@@ -423,7 +423,7 @@ impl TextCursor for Utf16Source<'_> {
     }
 
     #[inline(always)]
-    #[tactic(auto, using(crate::proofs::UnitTurns::takes_units))]
+    #[tactic(auto, using(crate::proofs::UnitCopies::takes_units))]
     fn take_ten(&mut self) -> Option<[u16; 10]> {
         if self.units.len() - self.place < 10 {
             return None;
