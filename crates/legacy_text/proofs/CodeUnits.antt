@@ -1,6 +1,6 @@
 -- The bytes of a scalar, by its range.
 use Rattle.std.proofs.Common.{◌≡◌, ◌∙◌, ℕ, ◌+◌, ◌-◌, ◌/◌, ◌%◌, ◌≤◌, ◌<◌, List, [], ◌∷◌, ◌++◌, length, refl, ap, arith, append_assoc, length-append, inl, inr}
-use Rattle.std.proofs.{lemmas.List.Concat.flat_map-append, lemmas.Bool.{cases_lt, lt-ltb, le-ltb}, lemmas.Bool.Decides.nat_tests}
+use Rattle.std.proofs.{lemmas.List.Concat.flat_map-append, lemmas.Bool.{lt-ltb, le-ltb}, lemmas.Bool.Decides.nat_tests}
 use lib.Utf8.{encode}
 use Rattle.legacy_text.specs.EncodingForm.{EncodingForm, code_units, all_code_units, unit_count, total_unit_count, Utf8, bmp_room, wide_room}
 use Rattle.std.specs.Char.Escape.{encode_utf16}
@@ -21,21 +21,10 @@ pub encode_4 : (c : ℕ) → 65536 ≤ c → encode c ≡ (240 + c / 262144) ∷
 unfolding encode
 encode_4 c a = let b : 128 ≤ c = omega arith in let d : 2048 ≤ c = omega arith in rw (le-ltb c 128 b, le-ltb c 2048 d, le-ltb c 65536 a) refl
 
-pub one_below : (c : ℕ) → unit_count Utf8 c ≡ 1 → c < 128
-one_below c e = grind (arith, nat_tests, encode_2, encode_3, encode_4)
-
--- a scalar of two or three bytes in UTF-8 is below a power of two
-pub two_below : (c : ℕ) → unit_count Utf8 c ≡ 2 → c < 2048
-two_below c e = grind (arith, nat_tests, encode_3, encode_4)
-
-pub two_above : (c : ℕ) → unit_count Utf8 c ≡ 2 → 128 ≤ c
-two_above c e = elim (cases_lt c 128) [ inl a ↦ absurd (omega (arith, ap length (encode_1 c a))) | inr a ↦ a ]
-
-pub three_above : (c : ℕ) → unit_count Utf8 c ≡ 3 → 2048 ≤ c
-three_above c e = grind (arith, nat_tests, encode_1, encode_2)
-
-pub three_below : (c : ℕ) → unit_count Utf8 c ≡ 3 → c < 65536
-three_below c e = elim (cases_lt c 65536) [ inl a ↦ a | inr a ↦ absurd (omega (arith, ap length (encode_4 c a))) ]
+-- the range of a scalar, by its number of bytes in UTF-8
+pub by_count : (c : ℕ) → (unit_count Utf8 c ≡ 1 → c < 128) × (unit_count Utf8 c ≡ 2 → (128 ≤ c) × (c < 2048))
+    × (unit_count Utf8 c ≡ 3 → (2048 ≤ c) × (c < 65536))
+by_count c = grind (arith, nat_tests, encode_1, encode_2, encode_3, encode_4)
 
 pub utf16_1 : (c : ℕ) → c < 65536 → encode_utf16 c ≡ c ∷ []
 utf16_1 c a = rw (lt-ltb c 65536 a) refl

@@ -1,14 +1,14 @@
 -- Code units below 0x800.
-use Rattle.std.proofs.Common.{◌≡◌, ℕ, suc, ◌+◌, ◌-◌, ◌*◌, ◌/◌, ◌%◌, ◌^◌, ◌<◌, ◌≤◌, Bool, true, cond, ltb, leb, eqb, List, [], ◌∷◌, ◌++◌, length}
-use Rattle.std.proofs.{Common.{get_or, map, take, replicate, bit_and, refl, ap, zero-add, ◌∙◌, ◌&&◌, arith, w8, w16, Fits, All}, lemmas.Bool.{leb-true}}
+use Rattle.std.proofs.Common.{◌≡◌, ℕ, suc, ◌+◌, ◌-◌, ◌*◌, ◌/◌, ◌%◌, ◌^◌, ◌<◌, Bool, true, cond, ltb, eqb, List, [], ◌∷◌, length}
+use Rattle.std.proofs.{Common.{get_or, map, replicate, bit_and, refl, ap, zero-add, ◌∙◌, ◌&&◌, arith, w16, Fits, All}, lemmas.Bool.{and_parts}}
 use Rattle.std.proofs.{lemmas.Bool.{eqb-true, agree_below_at}, lemmas.Bool.Decides.nat_tests, lemmas.Grind.common_steps, lemmas.List.{map-append, length-map}}
-use Rattle.std.proofs.{lemmas.List.{take-take, take-map}, Math.Seq.take-append_seam, lemmas.Nat.and_mask, lemmas.Simd.{bitmask_splat, bit_mask_l, mask_l-lt, swz_l}, Math.ListN.get_or-map}
+use Rattle.std.proofs.{lemmas.Nat.and_mask, lemmas.Simd.{bitmask_splat, bit_mask_l, mask_l-lt}, Math.ListN.get_or-map}
 use Rattle.std.proofs.lemmas.Nat.Bits.{bit_at_ones}
 use Rattle.std.specs.{Char.encode_utf8, Int.RustNames.count_ones, List.range_with_len}
 use lib.Lanes.{Each1, zip2, sel_l, mask_l, top, number_l, digits_l, all_below}
 use Rattle.legacy_text.specs.{declared.unit_rows.TheConstants.SHORT_WRITTEN, UnitBytes.{short_bytes, short_lanes, short_pattern, short_places, short_row}}
 use Rattle.legacy_text.specs.UnitBytes.{AreShort, utf8_bytes}
-use Rattle.legacy_text.proofs.UnitLanes.{of_eight, le_bytes_map, shuffled, each_below}
+use Rattle.legacy_text.proofs.UnitLanes.{of_eight, le_bytes_map, each_below}
 
 -- ---- two bytes of each code unit
 
@@ -50,32 +50,12 @@ pub short_rows_are : SHORT_WRITTEN ≡ map short_row (range_with_len 0 256)
 unfolding short_row short_places
 short_rows_are = refl
 
-pub short_row_within : (r : ℕ) → r < 256 → Each1 (λ j. j < 16) (short_row r)
-unfolding short_row short_places
-short_row_within r h = each_below 16 (short_row r) (agree_below_at (λ n. all_below 16 (short_row n)) (λ _. true) 256 r refl h)
-
-pub short_row_long : (r : ℕ) → r < 256 → length (short_row r) ≡ 16
-unfolding short_row short_places
-short_row_long r h = eqb-true _ _ (agree_below_at (λ n. eqb (length (short_row n)) 16) (λ _. true) 256 r refl h)
-
-pub short_counted : (at r : ℕ) → r < 256 → at + 16 - count_ones r ≡ at + length (short_places 0 8 r)
-unfolding short_places count_ones
-short_counted at r h =
-    let count = agree_below_at (λ n. eqb (16 - count_ones n) (length (short_places 0 8 n)) && leb (count_ones n) 8) (λ _. true) 256 r refl h in
-    grind (arith, nat_tests)
-
-pub short_places_most : (r : ℕ) → r < 256 → length (short_places 0 8 r) ≤ 16
-unfolding short_places
-short_places_most r h = leb-true _ _ (agree_below_at (λ n. leb (length (short_places 0 8 n)) 16) (λ _. true) 256 r refl h)
-
-pub short_written : (xs : List ℕ) (r : ℕ) → r < 256 →
-    take (length (short_places 0 8 r)) (swz_l w8 16 xs 0 (short_row r)) ≡ map (λ j. get_or xs j 0) (short_places 0 8 r)
-unfolding short_row
-short_written xs r h =
-    let n = length (short_places 0 8 r) in
-    let front = take-append_seam (short_places 0 8 r) (replicate 16 0) in
-    let cut = take-take n 16 (short_places 0 8 r ++ replicate 16 0) (short_places_most r h) in
-    grind (arith, shuffled xs 0 (short_row r), short_row_long r, short_row_within r, take-map (λ j. get_or xs j 0) n (short_row r))
+pub short_rows_fit : (r : ℕ) → r < 256 → Each1 (λ j. j < 16) (short_row r) × (length (short_places 0 8 r) + count_ones r ≡ 16)
+unfolding short_row short_places count_ones
+short_rows_fit r h =
+    let fit = agree_below_at (λ n. all_below 16 (short_row n) && eqb (length (short_places 0 8 n) + count_ones n) 16) (λ _. true) 256 r refl h in
+    let p = and_parts _ _ fit in
+    (each_below 16 (short_row r) p.0, eqb-true _ _ p.1)
 
 -- ---- the bytes that are written are the text
 

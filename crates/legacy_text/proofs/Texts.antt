@@ -14,7 +14,7 @@ use lib.{ListN.get_or-eq_default, Utf8.{encode, encodes, scalars}}
 use Rattle.legacy_text.specs.{EncodingForm.{EncodingForm, Utf8, Utf16, unit_count, all_code_units}, declared.text_cursor.Next.Next, NextScalars.StandsAt}
 use Rattle.legacy_text.specs.UnitCodes.{IsNoSurrogate}
 use Rattle.legacy_text.specs.{NextScalars.{IsSized, IsNext}, Texts.{unit_scalars, IsUnitBoundary}}
-use Rattle.legacy_text.proofs.CodeUnits.{encode_1, encode_2, encode_3, encode_4, two_above, two_below, three_above, three_below, utf16_1, utf16_2}
+use Rattle.legacy_text.proofs.CodeUnits.{encode_1, encode_2, encode_3, encode_4, by_count, utf16_1, utf16_2}
 use Rattle.legacy_text.proofs.CodeUnits.{total_unit_count-append}
 
 pub first_cons : {A : Type 0} (xs : List A) (x : A) → Some x ≡ slice_get xs 0 → xs ≡ x ∷ drop 1 xs
@@ -80,7 +80,7 @@ pub record MadeOfTwo (text : List ℕ) (place c : ℕ) : Type 0 where
 pub made_of_two : {text : List ℕ} {place c : ℕ} → StandsAt text place c → 0x80 ≤ get_or text place 0 → get_or text place 0 < 0xE0 → MadeOfTwo text place c
 made_of_two {text} {place} {c} s low high =
     let byte = stands_byte text place c s in
-    grind (arith, stands_tells text place c s, byte 0, byte 1, encode_2, two_above, two_below, stands_within text place c s)
+    grind (arith, stands_tells text place c s, byte 0, byte 1, encode_2, by_count, stands_within text place c s)
 
 pub record MadeOfThree (text : List ℕ) (place c : ℕ) : Type 0 where
   pub within : place + 3 ≤ length text
@@ -90,7 +90,7 @@ pub record MadeOfThree (text : List ℕ) (place c : ℕ) : Type 0 where
 pub made_of_three : {text : List ℕ} {place c : ℕ} → StandsAt text place c → 0xE0 ≤ get_or text place 0 → get_or text place 0 < 0xF0 → MadeOfThree text place c
 made_of_three {text} {place} {c} s low high =
     let byte = stands_byte text place c s in
-    grind (arith, stands_tells text place c s, byte 0, byte 1, byte 2, encode_3, three_above, three_below, stands_within text place c s)
+    grind (arith, stands_tells text place c s, byte 0, byte 1, byte 2, encode_3, by_count, stands_within text place c s)
 
 -- ---- UTF-16
 

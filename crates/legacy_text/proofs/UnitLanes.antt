@@ -1,9 +1,9 @@
 -- Vectors lane by lane: a vector is written out as the list of its lanes.
 use Rattle.std.proofs.Common.{◌≡◌, ℕ, zero, suc, ◌+◌, ◌-◌, ◌*◌, ◌/◌, ◌%◌, ◌^◌, ◌<◌, ◌≤◌, Bool, true, cond, ltb, leb, eqb, List, [], ◌∷◌, ◌++◌, length}
 use Rattle.std.proofs.Common.{get_or, map, take, drop, replicate, bit_and, refl, sym, ap, ap₂, ◌∙◌, arith, subst, zero-add, w8, w16, Fits, ◌&&◌, mod-lt, zero-lt-suc, mul_assoc}
-use Rattle.std.proofs.{Common.length-append, lemmas.Bool.{leb-true, eqb-true, and_parts, agree_below_at}, lemmas.List.map-append, lemmas.List.FromFn.get_or-range_with_len}
-use Rattle.std.proofs.lemmas.List.{append_assoc, length-replicate, length-take-le, take-take, take-append-drop, take-map}
-use Rattle.std.proofs.{Math.Seq.{take-append_seam}, lemmas.Nat.and_mask, lemmas.Nat.Bits.and_high, lemmas.Simd.{mask_l-lt, mask_l-mod, swz_l, Each1-get_or, pick_l_whole}}
+use Rattle.std.proofs.{Common.length-append, lemmas.Bool.{leb-true, and_parts, agree_below_at}, lemmas.List.map-append, lemmas.List.FromFn.get_or-range_with_len}
+use Rattle.std.proofs.lemmas.List.{append_assoc, length-replicate, length-take-le, take-take, take-map}
+use Rattle.std.proofs.{Math.Seq.{take-append_seam}, lemmas.Nat.and_mask, lemmas.Nat.Bits.and_high, lemmas.Simd.{mask_l-lt, mask_l-mod, swz_l, SwzOk, SwzOk-from_below, Each1-get_or, pick_l_whole}}
 use Rattle.std.proofs.{lemmas.Grind.{flat_map-append, common_steps}, lemmas.Bool.Decides.nat_tests}
 use Rattle.std.specs.{Char.encode_utf8, List.range_with_len}
 use lib.Lanes.{Each1, zip2, sel_l, mask_l, top, number_l, digits_l, pick_l, all_below}
@@ -139,10 +139,6 @@ patterns_are = of_eight _ (λ a b c d e f g h sa sb sc sd se sf sg sh.
 
 -- ---- the table
 
-all_rows : (r : ℕ) → r < 256 → (all_below 16 (row r) && (eqb (length (row r)) 16 && leb (length (places 0 4 r)) 12)) ≡ true
-unfolding row places
-all_rows r h = agree_below_at (λ n. all_below 16 (row n) && (eqb (length (row n)) 16 && leb (length (places 0 4 n)) 12)) (λ _. true) 256 r refl h
-
 pub rows_are : WRITTEN ≡ map row (range_with_len 0 256)
 unfolding row places
 rows_are = refl
@@ -155,26 +151,30 @@ pub each_below : (n : ℕ) (js : List ℕ) → all_below n js ≡ true → Each1
 each_below n [] e = tt
 each_below n (j ∷ js) e = grind (arith, nat_tests, each_below n js)
 
-pub row_within : (r : ℕ) → r < 256 → Each1 (λ j. j < 16) (row r)
-row_within r h = each_below 16 (row r) (and_parts _ _ (all_rows r h)).0
-
-pub row_long : (r : ℕ) → r < 256 → length (row r) ≡ 16
-row_long r h = eqb-true _ _ (and_parts _ _ (and_parts _ _ (all_rows r h)).1).0
-
-pub count_most : (r : ℕ) → r < 256 → length (places 0 4 r) ≤ 12
-count_most r h = leb-true _ _ (and_parts _ _ (and_parts _ _ (all_rows r h)).1).1
+pub rows_fit : (r : ℕ) → r < 256 → Each1 (λ j. j < 16) (row r) × (length (places 0 4 r) ≤ 12)
+unfolding row places
+rows_fit r h =
+    let p = and_parts _ _ (agree_below_at (λ n. all_below 16 (row n) && leb (length (places 0 4 n)) 12) (λ _. true) 256 r refl h) in
+    (each_below 16 (row r) p.0, leb-true _ _ p.1)
 
 -- a shuffle of sixteen bytes by places within them
 pub shuffled : (xs : List ℕ) (i : ℕ) (js : List ℕ) → i + length js ≤ 16 → Each1 (λ j. j < 16) js → swz_l w8 16 xs i js ≡ map (λ j. get_or xs j 0) js
 shuffled xs i [] room s = refl
 shuffled xs i (j ∷ js) room s = grind (arith, nat_tests, s.0, shuffled xs (suc i) js)
 
-row_begins : (r : ℕ) → r < 256 → take (length (places 0 4 r)) (row r) ≡ places 0 4 r
-unfolding row
-row_begins r h = take-take (length (places 0 4 r)) 16 _ (omega (arith, count_most r h)) ∙ take-append_seam (places 0 4 r) (replicate 16 0)
+-- such places, with others after them
+module _ (js : List ℕ) (within : Each1 (λ j. j < 16) (take 16 (js ++ replicate 16 0))) where
+  row_long : length (take 16 (js ++ replicate 16 0)) ≡ 16
+  row_long = length-take-le 16 (js ++ replicate 16 0) (omega (arith, length-append js (replicate 16 0)))
 
-pub written_places : (xs : List ℕ) (r : ℕ) → r < 256 → take (length (places 0 4 r)) (swz_l w8 16 xs 0 (row r)) ≡ map (λ j. get_or xs j 0) (places 0 4 r)
-written_places xs r h = grind (arith, nat_tests, shuffled, row_long, row_within, take-map, row_begins)
+  pub row_ok : SwzOk w8 16 16 0 (take 16 (js ++ replicate 16 0))
+  row_ok = SwzOk-from_below w8 16 1 16 0 (take 16 (js ++ replicate 16 0)) refl (omega (arith, row_long)) within
+
+  pub row_written : (xs : List ℕ) → length js ≤ 16 → take (length js) (swz_l w8 16 xs 0 (take 16 (js ++ replicate 16 0))) ≡ map (λ j. get_or xs j 0) js
+  row_written xs few =
+      let row = take 16 (js ++ replicate 16 0) in
+      let begins : take (length js) row ≡ js = take-take (length js) 16 (js ++ replicate 16 0) few ∙ take-append_seam js (replicate 16 0) in
+      grind (arith, shuffled xs 0 row, row_long, within, take-map (λ j. get_or xs j 0) (length js) row)
 
 -- ---- the bytes that are written are the text
 
@@ -194,26 +194,15 @@ text_written f base (u ∷ us) small reads =
     grind (arith, map-append, unit_is u small.0, reads 0, reads 2, reads 3)
 
 -- both halves of eight code units
-pub text_of_eight : (v : List ℕ) → length v ≡ 8 → Each1 (Fits w16) v
-    → (map (λ k. get_or (lanes (take 4 v)) k 0) (places 0 4 (pattern (take 4 v))) ≡ utf8_bytes (take 4 v))
-    × (map (λ k. get_or (lanes (drop 4 v)) k 0) (places 0 4 (pattern (drop 4 v))) ≡ utf8_bytes (drop 4 v))
-text_of_eight = of_eight _ (λ a b c d e f g h sa sb sc sd se sf sg sh. (
-  text_written (λ k. get_or (lanes (a ∷ b ∷ c ∷ d ∷ [])) k 0) 0 (a ∷ b ∷ c ∷ d ∷ []) (sa, (sb, (sc, (sd, tt)))) (λ k. rw (zero-add k) refl),
-  text_written (λ k. get_or (lanes (e ∷ f ∷ g ∷ h ∷ [])) k 0) 0 (e ∷ f ∷ g ∷ h ∷ []) (se, (sf, (sg, (sh, tt)))) (λ k. rw (zero-add k) refl),
-))
-
-pub joined_text : (us : List ℕ) → utf8_bytes (take 4 us) ++ utf8_bytes (drop 4 us) ≡ utf8_bytes us
-joined_text us = sym (flat_map-append encode_utf8 (take 4 us) (drop 4 us)) ∙ ap utf8_bytes (take-append-drop 4 us)
-
--- two stores, one after the other
-pub both_stored : (old old_front : List ℕ) (front back : List ℕ) (p q : ℕ) (v new : List ℕ) → length v ≡ 8 → Each1 (Fits w16) v
-    → front ≡ lanes (take 4 v) → back ≡ lanes (drop 4 v) → p ≡ pattern (take 4 v) → q ≡ pattern (drop 4 v)
-    → old_front ≡ old ++ map (λ k. get_or front k 0) (places 0 4 p) → new ≡ old_front ++ map (λ k. get_or back k 0) (places 0 4 q) → new ≡ old ++ utf8_bytes v
-both_stored old old_front front back p q v new long fits fe be pe qe first second =
-    let t = text_of_eight v long fits in
-    let a : map (λ k. get_or front k 0) (places 0 4 p) ≡ utf8_bytes (take 4 v) = rw (fe, pe) t.0 in
-    let b : map (λ k. get_or back k 0) (places 0 4 q) ≡ utf8_bytes (drop 4 v) = rw (be, qe) t.1 in
-    rw (second, first, append_assoc, a, b) (ap (λ (l : List ℕ). old ++ l) (joined_text v))
+pub text_of_eight : (v : List ℕ) → length v ≡ 8 → Each1 (Fits w16) v → map (λ k. get_or (lanes (take 4 v)) k 0) (places 0 4 (pattern (take 4 v)))
+    ++ map (λ k. get_or (lanes (drop 4 v)) k 0) (places 0 4 (pattern (drop 4 v))) ≡ utf8_bytes v
+text_of_eight = of_eight _ (λ a b c d e f g h sa sb sc sd se sf sg sh.
+    let front = a ∷ b ∷ c ∷ d ∷ [] in
+    let back = e ∷ f ∷ g ∷ h ∷ [] in
+    ap₂ (λ (x y : List ℕ). x ++ y)
+    (text_written (λ k. get_or (lanes front) k 0) 0 front (sa, (sb, (sc, (sd, tt)))) (λ k. rw (zero-add k) refl))
+    (text_written (λ k. get_or (lanes back) k 0) 0 back (se, (sf, (sg, (sh, tt)))) (λ k. rw (zero-add k) refl))
+    ∙ sym (flat_map-append encode_utf8 front back))
 
 -- ---- the first code units, with U+0000 for the others
 
