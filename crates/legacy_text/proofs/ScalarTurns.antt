@@ -1,19 +1,19 @@
 -- Bits that say where scalars begin, and the scalars of one and three bytes of UTF-8 between them.
 use Rattle.std.proofs.{lemmas.Bool.Decides.nat_tests, Common.{◌≡◌, ◌↔◌, ◌∙◌, ℕ, zero, suc, ◌+◌, ◌-◌, ◌*◌, ◌/◌, ◌%◌, ◌^◌, ◌≤◌, ◌<◌, List, [], ◌∷◌, ◌++◌, length}}
 use Rattle.std.proofs.Common.{get_or, true, max, map, take, drop, replicate, refl, ap, ap₂, sym, subst, arith, append_assoc}
-use Rattle.std.proofs.{Common.{length-append, add-zero, slice_set, w8, w32, Fits, bit_and, bit_or}}
+use Rattle.std.proofs.{Common.{length-append, add-zero, slice_set, w8, w32, Fits, bit_and, bit_or, cond, leb}}
 use Rattle.std.proofs.{lemmas.Bool.cases_lt, lemmas.List.{get_or-set_same, get_or-set_other, get_or_past, length-drop, get_or_append_left, get_or-append-add}}
-use Rattle.std.proofs.{lemmas.List.{get_or-drop, get_or-take, length-map, length-take-le}, lemmas.Nat.Bits.bit_at-trailing_zeros}
+use Rattle.std.proofs.{lemmas.List.{get_or-drop, length-map}, lemmas.Nat.Bits.bit_at-trailing_zeros}
 use Rattle.std.proofs.lemmas.{Nat.Bits.{bit_at_lowest, bit_at-suc, bit_at_and, bit_at_or, bit_at_not}, List.FromFn.get_or-map-range_with_len, Grind.common_steps}
 use Rattle.std.proofs.{lemmas.Nat.Bits.{bit_at-lt}, lemmas.Simd.{mask_l-lt, get_or_wider, Each1-from_get_or, Each1-get_or}}
-use Rattle.std.proofs.lemmas.Simd.{below_from_Fits, get_or-put_chunk_below, get_or-put_chunk_at, length-put_chunk, get_or-zip2, get_or-replicate}
+use Rattle.std.proofs.lemmas.Simd.{get_or-chunk, length-chunk, below_from_Fits, get_or-put_chunk_below, get_or-put_chunk_at, length-put_chunk, get_or-zip2, get_or-replicate}
 use Rattle.std.proofs.lemmas.Str.{length-encode, len_utf8_bounds}
-use Rattle.std.specs.{List.range_with_len, Int.{bit_at, bit_not, trailing_zeros}, Simd.Lanes.{zip2, number_l, digits_l, put_chunk, Each1}, Str.{chars, is_utf8}}
+use Rattle.std.specs.{List.range_with_len, Int.{bit_at, bit_not, trailing_zeros}, Simd.Lanes.{zip2, number_l, digits_l, put_chunk, chunk, Each1}, Str.{chars, is_utf8}}
 use lib.Utf8.{encode}
 use Rattle.legacy_text.specs.{EncodingForm.{Utf8, unit_count}, ShortScalars.ReadsScalar}
 use Rattle.legacy_text.specs.{ScalarTurns.{IsStart, IsUnitAt, ReadsUnits}, UnitCodes.IsNoSurrogate, UnitTurns.AreNoSurrogates}
 use Rattle.legacy_text.proofs.{Ascii.{mask_from, mask_from-is, mask_bit}, CodeUnits.{encode_1, encode_2, encode_3, encode_4, total_unit_count-append}}
-use Rattle.legacy_text.proofs.Texts.{made_of_three, stands_byte}
+use Rattle.legacy_text.proofs.Texts.{by_first, stands_byte}
 use Rattle.legacy_text.proofs.ShortScalars.{stands, reads_here, reads_ascii, one_count}
 
 -- ---- the lowest bit
@@ -31,20 +31,14 @@ less (suc t) n m e one none (suc k) =
     let rest = less t (n / 2) (m / 2) half (sym (bit_at-suc n t) ∙ one) (λ i h. sym (bit_at-suc n i) ∙ none (suc i) (omega arith)) k in
     rw (bit_at-suc m k, bit_at-suc n k) (λ h. rest.0 (omega arith), λ h. rest.1 (omega arith))
 
-one_less : (n : ℕ) → 0 < n → n < 2 ^ 32 → (k : ℕ) → (k ≡ trailing_zeros w32 n → bit_at ((n + 4294967295) % 4294967296) k ≡ 0)
-    × (trailing_zeros w32 n < k → bit_at ((n + 4294967295) % 4294967296) k ≡ bit_at n k)
-one_less n some fits k =
+-- without the lowest bit, no bit up to it is set, and all others are unchanged
+pub lowest : (n : ℕ) → 0 < n → n < 2 ^ 32 → (k : ℕ)
+    → bit_at (bit_and n ((n + 4294967295) % 4294967296)) k ≡ cond (leb k (trailing_zeros w32 n)) 0 (bit_at n k)
+lowest n some fits k =
     let at = bit_at-trailing_zeros w32 n some fits in
     let m : (n + 4294967295) % 4294967296 ≡ n - 1 = omega arith in
-    rw m (less (trailing_zeros w32 n) n (n - 1) (omega arith) at.1 at.2 k)
-
--- without the lowest bit, no bit up to it is set
-pub lowest_gone : (n : ℕ) → 0 < n → n < 2 ^ 32 → (k : ℕ) → k ≤ trailing_zeros w32 n → bit_at (bit_and n ((n + 4294967295) % 4294967296)) k ≡ 0
-lowest_gone n some fits k le = grind (arith, nat_tests, bit_at_and, bit_at-trailing_zeros w32 n some fits, one_less n some fits k)
-
--- all bits above it are unchanged
-pub others_stay : (n : ℕ) → 0 < n → n < 2 ^ 32 → (k : ℕ) → trailing_zeros w32 n < k → bit_at (bit_and n ((n + 4294967295) % 4294967296)) k ≡ bit_at n k
-others_stay n some fits k l = grind (arith, nat_tests, bit_at_and, one_less n some fits k)
+    let bits = less (trailing_zeros w32 n) n (n - 1) (omega arith) at.1 at.2 k in
+    grind (arith, nat_tests, bit_at_and)
 
 -- ---- the bits of starts
 
@@ -54,19 +48,15 @@ mask_from-lt x lanes v few long = grind (arith, mask_from-is, mask_l-lt, length-
 starts_from : (byte p l r : ℕ) → ((p ≡ 1) ↔ (128 ≤ byte)) → ((l ≡ 1) ↔ (192 ≤ byte)) → p < 2 → l < 2 → r ≡ max (1 - p) l → (r ≡ 1) ↔ IsStart byte
 starts_from byte p l r past leads few few_leads is = grind arith
 
-pub block_long : (bytes : List ℕ) (place : ℕ) → place + 32 ≤ length bytes → length (take 32 (drop place bytes)) ≡ 32
-block_long bytes place h = length-take-le 32 (drop place bytes) (omega (arith, length-drop place bytes))
-
 -- a bit that is not set for a byte of at least 128, or set for one of at least 192, among the next 32 bytes
 pub starts_here : (bytes : List ℕ) (place : ℕ) → place + 32 ≤ length bytes → (k : ℕ) → k < 32
     → (bit_at (bit_or (bit_not w32 (mask_from 128 32 (take 32 (drop place bytes)))) (mask_from 192 32 (take 32 (drop place bytes)))) k ≡ 1)
     ↔ IsStart (get_or bytes (place + k) 0)
 starts_here bytes place within k h =
-    let v = take 32 (drop place bytes) in
-    let long = block_long bytes place within in
-    let same : get_or v k 0 ≡ get_or bytes (place + k) 0 = get_or-take 32 (drop place bytes) k 0 h ∙ get_or-drop place bytes k 0 in
-    rw same at (starts_from (get_or v k 0) _ _ _ (mask_bit 128 refl 32 v (omega arith) long k) (mask_bit 192 refl 32 v (omega arith) long k)
-    (bit_at-lt _ k) (bit_at-lt _ k)
+    let v = chunk place 32 bytes in
+    let long = length-chunk place 32 bytes within in
+    rw (get_or-chunk place 32 bytes k 0 h) at (starts_from (get_or v k 0) _ _ _
+    (mask_bit 128 refl 32 v (omega arith) long k) (mask_bit 192 refl 32 v (omega arith) long k) (bit_at-lt _ k) (bit_at-lt _ k)
     (bit_at_or _ _ k ∙ ap (λ n. max n (bit_at (mask_from 192 32 v) k)) (bit_at_not w32 (mask_from 128 32 v) k (mask_from-lt 128 32 v (omega arith) long) h)))
 
 -- ---- lanes of two bytes
@@ -92,9 +82,8 @@ filled P lows highs k low high a b before here j h = grind (arith, nat_tests, ge
 pub each_sixteenth : (f : ℕ → ℕ → ℕ) (x : ℕ) (bytes : List ℕ) (place : ℕ) → place + 16 ≤ length bytes → (k : ℕ) → k < 16
     → get_or (zip2 f (take 16 (drop place bytes)) (replicate 16 x)) k 0 ≡ f (get_or bytes (place + k) 0) x
 each_sixteenth f x bytes place within k h =
-    let long : length (take 16 (drop place bytes)) ≡ 16 = length-take-le 16 (drop place bytes) (omega (arith, length-drop place bytes)) in
-    get_or-zip2 f (take 16 (drop place bytes)) (replicate 16 x) k 0 0 0 (omega (arith, long)) h
-    ∙ ap₂ f (get_or-take 16 (drop place bytes) k 0 h ∙ get_or-drop place bytes k 0) (get_or-replicate 16 k x 0 h)
+    get_or-zip2 f (chunk place 16 bytes) (replicate 16 x) k 0 0 0 (omega (arith, length-chunk place 16 bytes within)) h
+    ∙ ap₂ f (get_or-chunk place 16 bytes k 0 h) (get_or-replicate 16 k x 0 h)
 
 -- the lanes of a vector of bytes
 pub below_256 : (v : List ℕ) → Each1 (Fits w8) v → (i : ℕ) → get_or v i 0 < 256
@@ -121,15 +110,12 @@ module _ (lows highs : List ℕ) (count : length lows ≡ 16) (are_low : (i : �
   are i = grind (arith, nat_tests, low_at, high_at (i - 16))
 
   -- a lane of eight of them, from one on
-  pub joined_lane : (a k : ℕ) → a + k < 16 → k < 8
-      → get_or (digits_l 65536 8 (number_l 256 (woven 8 a (lows ++ highs)))) k 0 ≡ get_or lows (a + k) 0 + 256 * get_or highs (a + k) 0
-  joined_lane a k within h =
+  pub joined_lane : (a k i : ℕ) → a + k ≡ i → i < 16 → k < 8
+      → get_or (digits_l 65536 8 (number_l 256 (woven 8 a (lows ++ highs)))) k 0 ≡ get_or lows i 0 + 256 * get_or highs i 0
+  joined_lane a k i is within h =
       ap (λ l. get_or l k 0) (words 8 a (lows ++ highs) are)
-      ∙ get_or-map-range_with_len (λ i. get_or (lows ++ highs) i 0 + 256 * get_or (lows ++ highs) (i + 16) 0) a 8 k (a + k) 0 h refl
-      ∙ rw (low_at (a + k) within, high_at (a + k)) refl
-
-  pub joined_front : (k : ℕ) → k < 8 → get_or (digits_l 65536 8 (number_l 256 (woven 8 0 (lows ++ highs)))) k 0 ≡ get_or lows k 0 + 256 * get_or highs k 0
-  joined_front k h = grind (arith, joined_lane 0 k)
+      ∙ get_or-map-range_with_len (λ i. get_or (lows ++ highs) i 0 + 256 * get_or (lows ++ highs) (i + 16) 0) a 8 k i 0 h is
+      ∙ rw (low_at i within, high_at i) refl
 
 -- two vectors that are stored from a place on change nothing before it
 pub stored_before : (all front back : List ℕ) (at k : ℕ) → k < at → get_or (put_chunk (at + 8) (put_chunk at all front) back) k 0 ≡ get_or all k 0
@@ -164,7 +150,7 @@ module _ (text : List ℕ) (place : ℕ) (inside : place < length text) (u : is_
 
   -- the code unit at the beginning of a scalar is this scalar, if it is not a surrogate
   pub unit_is : place + 2 ≤ length text → (unit : ℕ) → IsUnitAt text place unit → IsNoSurrogate unit → unit ≡ get_or (chars (drop place text)) 0 0
-  unit_is two unit made bmp = grind (arith, reads_ascii text place inside u, made_of_three (stands text place inside u))
+  unit_is two unit made bmp = grind (arith, reads_ascii text place inside u, stands text place inside u, by_first, get_or-drop)
 
 -- the next place at which a scalar begins is the one after the scalar
 next_is : (text : List ℕ) (start p q : ℕ) → start + 32 ≤ length text → p < q → q < 32 → is_utf8 (drop (start + p) text) ≡ true →
@@ -225,4 +211,4 @@ stands_more text start units bits rest unit long some fits some_rest fits_rest g
       starts = λ k l h. grind (arith, others k, s.starts k);
     }
 
-pub ruleset lowest_steps = (lowest_gone, others_stay)
+pub ruleset lowest_steps = (lowest, nat_tests)

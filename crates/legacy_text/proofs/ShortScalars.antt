@@ -8,7 +8,7 @@ use lib.Utf8.{encodes}
 use Rattle.legacy_text.specs.{EncodingForm.{Utf8, code_units, unit_count, total_unit_count}, ShortScalars.{ReadsScalar, WritesScalars}, UnitCodes.WritesCodes}
 use Rattle.legacy_text.specs.NextScalars.{StandsAt}
 use Rattle.legacy_text.proofs.{CodeUnits.{encode_1, encode_2, total_unit_count-append, by_count}, Texts.{first_some}}
-use Rattle.legacy_text.proofs.{Texts.{first_cons, utf8_pass, utf8_stands, stands_byte, stands_tells}, UnitCopies.writes_none}
+use Rattle.legacy_text.proofs.{Texts.{first_cons, utf8_pass, utf8_stands, stands_byte, by_first}, UnitCopies.writes_none}
 
 -- ---- runs
 
@@ -62,7 +62,7 @@ module _ (text : List ℕ) (place : ℕ) (inside : place < length text) (u : is_
 
   -- ASCII is its own scalar
   pub reads_ascii : get_or text place 0 < 128 → ReadsScalar text place (get_or text place 0) (place + 1)
-  reads_ascii h = grind (arith, stands_tells text place C stands, stands_byte text place C stands 0, encode_1, by_count, reads_here)
+  reads_ascii h = grind (arith, by_first, get_or-drop, stands, stands_byte text place C stands 0, encode_1, by_count, reads_here)
 
   -- two bytes contain the eleven bits of a scalar
   pub reads_pair : 128 ≤ get_or text place 0 → get_or text place 0 < 224
@@ -70,7 +70,7 @@ module _ (text : List ℕ) (place : ℕ) (inside : place < length text) (u : is_
       (place + 2)
   reads_pair h short =
       let byte = stands_byte text place C stands in
-      grind (arith, stands_tells text place C stands, byte 0, byte 1, encode_2, by_count, reads_here)
+      grind (arith, by_first, get_or-drop, stands, byte 0, byte 1, encode_2, by_count, reads_here)
 
 -- ---- turns
 

@@ -14,7 +14,7 @@ use lib.{ListN.get_or-eq_default, Utf8.{encode, encodes, scalars}}
 use Rattle.legacy_text.specs.{EncodingForm.{EncodingForm, Utf8, Utf16, unit_count, all_code_units}, declared.text_cursor.Next.Next, NextScalars.StandsAt}
 use Rattle.legacy_text.specs.UnitCodes.{IsNoSurrogate}
 use Rattle.legacy_text.specs.{NextScalars.{IsSized, IsNext}, Texts.{unit_scalars, IsUnitBoundary}}
-use Rattle.legacy_text.proofs.CodeUnits.{encode_1, encode_2, encode_3, encode_4, by_count, utf16_1, utf16_2}
+use Rattle.legacy_text.proofs.CodeUnits.{encode_1, encode_2, encode_3, encode_4, utf16_1, utf16_2}
 use Rattle.legacy_text.proofs.CodeUnits.{total_unit_count-append}
 
 pub first_cons : {A : Type 0} (xs : List A) (x : A) → Some x ≡ slice_get xs 0 → xs ≡ x ∷ drop 1 xs
@@ -52,45 +52,22 @@ pub utf8_inside : (text : List ℕ) (place c : ℕ) → place ≤ length text �
     place < length text
 utf8_inside text place c p u e = let some = (len_utf8_bounds c).0 in omega (arith, some, (utf8_step text place c p u e).within)
 
--- the first byte of the scalar c in UTF-8 gives its number of bytes
-pub record TellsCount (c first : ℕ) : Type 0 where
-  pub one : first < 0x80 → unit_count Utf8 c ≡ 1
-  pub two : 0x80 ≤ first → first < 0xE0 → unit_count Utf8 c ≡ 2
-  pub three : 0xE0 ≤ first → first < 0xF0 → unit_count Utf8 c ≡ 3
-  pub four : 0xF0 ≤ first → unit_count Utf8 c ≡ 4
-
--- ---- scalars of two and of three bytes, made of these
-
 -- the bytes at a place are those of the scalar
 pub stands_byte : (text : List ℕ) (place c : ℕ) → (s : StandsAt text place c) → (k : ℕ) → get_or text (place + k) 0 ≡ get_or (encode c ++ s.rest) k 0
 stands_byte text place c s k = sym (get_or-drop place text k 0) ∙ ap (λ l. get_or l k 0) s.is
 
-pub stands_tells : (text : List ℕ) (place c : ℕ) → StandsAt text place c → TellsCount c (get_or text place 0)
-stands_tells text place c s = grind (arith, nat_tests, stands_byte text place c s 0, encode_1, encode_2, encode_3, encode_4)
+-- the number of bytes of the scalar c by the first of these bytes, and the scalars of two and of three bytes that are made of them
+pub record ByFirst (c : ℕ) (bytes : List ℕ) : Type 0 where
+  pub one : get_or bytes 0 0 < 0x80 → unit_count Utf8 c ≡ 1
+  pub two : 0x80 ≤ get_or bytes 0 0 → get_or bytes 0 0 < 0xE0 →
+      (unit_count Utf8 c ≡ 2) × (get_or bytes 0 0 % 0x20 * 0x40 + get_or bytes 1 0 % 0x40 ≡ c)
+  pub three : 0xE0 ≤ get_or bytes 0 0 → get_or bytes 0 0 < 0xF0 →
+      (unit_count Utf8 c ≡ 3) × (get_or bytes 0 0 % 0x10 * 0x1000 + get_or bytes 1 0 % 0x40 * 0x40 + get_or bytes 2 0 % 0x40 ≡ c)
+  pub four : 0xF0 ≤ get_or bytes 0 0 → unit_count Utf8 c ≡ 4
+  pub long : length bytes ≡ unit_count Utf8 c + length (drop (unit_count Utf8 c) bytes)
 
-stands_within : (text : List ℕ) (place c : ℕ) → StandsAt text place c → place + unit_count Utf8 c ≤ length text
-stands_within text place c s =
-    omega (arith, (len_utf8_bounds c).0, length-encode c, ap length s.is, length-append (encode c) s.rest, length-drop place text)
-
-pub record MadeOfTwo (text : List ℕ) (place c : ℕ) : Type 0 where
-  pub within : place + 2 ≤ length text
-  pub count : unit_count Utf8 c ≡ 2
-  pub made : get_or text place 0 % 0x20 * 0x40 + get_or text (place + 1) 0 % 0x40 ≡ c
-
-pub made_of_two : {text : List ℕ} {place c : ℕ} → StandsAt text place c → 0x80 ≤ get_or text place 0 → get_or text place 0 < 0xE0 → MadeOfTwo text place c
-made_of_two {text} {place} {c} s low high =
-    let byte = stands_byte text place c s in
-    grind (arith, stands_tells text place c s, byte 0, byte 1, encode_2, by_count, stands_within text place c s)
-
-pub record MadeOfThree (text : List ℕ) (place c : ℕ) : Type 0 where
-  pub within : place + 3 ≤ length text
-  pub count : unit_count Utf8 c ≡ 3
-  pub made : get_or text place 0 % 0x10 * 0x1000 + get_or text (place + 1) 0 % 0x40 * 0x40 + get_or text (place + 2) 0 % 0x40 ≡ c
-
-pub made_of_three : {text : List ℕ} {place c : ℕ} → StandsAt text place c → 0xE0 ≤ get_or text place 0 → get_or text place 0 < 0xF0 → MadeOfThree text place c
-made_of_three {text} {place} {c} s low high =
-    let byte = stands_byte text place c s in
-    grind (arith, stands_tells text place c s, byte 0, byte 1, byte 2, encode_3, by_count, stands_within text place c s)
+pub by_first : (c : ℕ) (rest : List ℕ) → (encode c ++ rest ≡ encode c ++ rest) × ByFirst c (encode c ++ rest)
+by_first c rest = grind (arith, nat_tests, encode_1, encode_2, encode_3, encode_4)
 
 -- ---- UTF-16
 
@@ -282,3 +259,5 @@ pub ruleset next_steps = (is_next, first_cons, none_left, utf8_inside, utf8_stan
 pub ruleset boundary_steps = (IsCharBoundary-from_drop, IsUtf8-from_is_utf8)
 
 pub ruleset whole_text = (is_utf8-from_IsUtf8)
+
+pub ruleset by_bytes_steps = (by_first, get_or-drop, length-drop)

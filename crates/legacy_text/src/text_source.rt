@@ -126,6 +126,7 @@ fn scalar_of(number: u32) -> char
 // bytes are made here: so the compiler knows that they are below U+0800 or U+10000, and their quotient by
 // 64, by which they are looked up.
 #[inline(always)]
+#[tactic(auto, using(crate::proofs::Texts::by_bytes_steps))]
 fn by_bytes(bytes: &[u8], place: usize, c: char) -> Next
     requires within { place < length bytes.now }
     requires stands { StandsAt bytes.now place c }
