@@ -1,20 +1,19 @@
 -- Bits that say where scalars begin, and the scalars of one and three bytes of UTF-8 between them.
 use Rattle.std.proofs.{lemmas.Bool.Decides.nat_tests, Common.{◌≡◌, ◌↔◌, ◌∙◌, ℕ, zero, suc, ◌+◌, ◌-◌, ◌*◌, ◌/◌, ◌%◌, ◌^◌, ◌≤◌, ◌<◌, List, [], ◌∷◌, ◌++◌, length}}
-use Rattle.std.proofs.Common.{get_or, true, max, map, take, drop, replicate, refl, ap, ap₂, sym, subst, arith, append_assoc}
-use Rattle.std.proofs.{Common.{length-append, add-zero, slice_set, w8, w32, Fits, bit_and, bit_or, cond, leb}}
-use Rattle.std.proofs.{lemmas.Bool.cases_lt, lemmas.List.{get_or-set_same, get_or-set_other, get_or_past, length-drop, get_or_append_left, get_or-append-add}}
-use Rattle.std.proofs.{lemmas.List.{get_or-drop, length-map}, lemmas.Nat.Bits.bit_at-trailing_zeros}
-use Rattle.std.proofs.lemmas.{Nat.Bits.{bit_at_lowest, bit_at-suc, bit_at_and, bit_at_or, bit_at_not}, List.FromFn.get_or-map-range_with_len, Grind.common_steps}
-use Rattle.std.proofs.{lemmas.Nat.Bits.{bit_at-lt}, lemmas.Simd.{mask_l-lt, get_or_wider, Each1-from_get_or, Each1-get_or}}
-use Rattle.std.proofs.lemmas.Simd.{get_or-chunk, length-chunk, below_from_Fits, get_or-put_chunk_below, get_or-put_chunk_at, length-put_chunk, get_or-zip2, get_or-replicate}
+use Rattle.std.proofs.Common.{get_or, true, max, map, take, drop, replicate, refl, ap, ap₂, sym, subst, arith, append_assoc, length-append, add-zero, slice_set}
+use Rattle.std.proofs.{Common.{w8, w32, Fits, bit_and, bit_or, cond, leb}, lemmas.Bool.cases_lt, lemmas.List.{get_or-set_same, get_or-set_other, get_or_past}}
+use Rattle.std.proofs.{lemmas.List.{length-drop, get_or_append_left, get_or-append-add, get_or-drop, length-map}, lemmas.Nat.Bits.bit_at-trailing_zeros}
+use Rattle.std.proofs.{lemmas.Nat.Bits.{bit_at_lowest, bit_at-suc, bit_at_and, bit_at_or, bit_at_not, bit_at-lt}, lemmas.List.FromFn.get_or-map-range_with_len}
+use Rattle.std.proofs.{lemmas.Grind.common_steps, lemmas.Simd.{mask_l-lt, get_or_wider, Each1-from_get_or, Each1-get_or, get_or-chunk, length-chunk}}
+use Rattle.std.proofs.lemmas.Simd.{below_from_Fits, get_or-put_chunk_below, get_or-put_chunk_at, length-put_chunk, get_or-zip2, get_or-replicate}
 use Rattle.std.proofs.lemmas.Str.{length-encode, len_utf8_bounds}
-use Rattle.std.specs.{List.range_with_len, Int.{bit_at, bit_not, trailing_zeros}, Simd.Lanes.{zip2, number_l, digits_l, put_chunk, chunk, Each1}, Str.{chars, is_utf8}}
+use Rattle.std.specs.{List.range_with_len, Int.{bit_at, bit_not, trailing_zeros}, Simd.Lanes.{zip2, number_l, digits_l, put_chunk, chunk, Each1}, Str.chars}
+use Rattle.std.specs.Str.{is_utf8}
 use lib.Utf8.{encode}
-use Rattle.legacy_text.specs.{EncodingForm.{Utf8, unit_count}, ShortScalars.ReadsScalar}
-use Rattle.legacy_text.specs.{ScalarTurns.{IsStart, IsUnitAt, ReadsUnits}, UnitCodes.IsNoSurrogate, UnitTurns.AreNoSurrogates}
+use Rattle.legacy_text.specs.{EncodingForm.{Utf8, unit_count}, ShortScalars.ReadsScalar, ScalarTurns.{IsStart, IsUnitAt, ReadsUnits}, UnitCodes.IsNoSurrogate}
+use Rattle.legacy_text.specs.UnitTurns.{AreNoSurrogates}
 use Rattle.legacy_text.proofs.{Ascii.{mask_from, mask_from-is, mask_bit}, CodeUnits.{encode_1, encode_2, encode_3, encode_4, total_unit_count-append}}
-use Rattle.legacy_text.proofs.Texts.{by_first, stands_byte}
-use Rattle.legacy_text.proofs.ShortScalars.{stands, reads_here, reads_ascii, one_count}
+use Rattle.legacy_text.proofs.{Texts.{by_first, stands_byte}, ShortScalars.{stands, reads_here, reads_ascii, one_count}}
 
 -- ---- the lowest bit
 

@@ -1,14 +1,14 @@
 -- Runs of scalars that were written as one byte each, and the scalars of one and two bytes of UTF-8.
-use Rattle.std.proofs.{lemmas.Bool.Decides.nat_tests, lemmas.Grind.common_steps, Common.{◌≡◌, ℕ, ◌+◌, ◌-◌, ◌*◌, ◌≤◌, ◌<◌, List, [], ◌∷◌, ◌++◌}}
-use Rattle.std.proofs.Common.{length, get_or, Bool, true, ◌&&◌, drop, sym, ap, arith, append_assoc, append-nil, length-append, length-drop, add-zero}
+use Rattle.std.proofs.{lemmas.Bool.Decides.nat_tests, lemmas.Grind.common_steps, Common.{◌≡◌, ℕ, ◌+◌, ◌-◌, ◌*◌, ◌≤◌, ◌<◌, List, [], ◌∷◌, ◌++◌, length, get_or}}
+use Rattle.std.proofs.Common.{Bool, true, ◌&&◌, drop, sym, ap, arith, append_assoc, append-nil, length-append, length-drop, add-zero}
 use Rattle.std.proofs.{lemmas.List.{get_or_append_left, get_or-append-add, get_or-drop, drop-drop}, lemmas.Str.{encodes-chars, IsUtf8-from_is_utf8}}
 use Rattle.std.proofs.Math.Seq.{take-add}
 use Rattle.std.specs.Str.{chars, is_utf8}
 use lib.Utf8.{encodes}
 use Rattle.legacy_text.specs.{EncodingForm.{Utf8, code_units, unit_count, total_unit_count}, ShortScalars.{ReadsScalar, WritesScalars}, UnitCodes.WritesCodes}
 use Rattle.legacy_text.specs.NextScalars.{StandsAt}
-use Rattle.legacy_text.proofs.{CodeUnits.{encode_1, encode_2, total_unit_count-append, by_count}, Texts.{first_some}}
-use Rattle.legacy_text.proofs.{Texts.{first_cons, utf8_pass, utf8_stands, stands_byte, by_first}, UnitCopies.writes_none}
+use Rattle.legacy_text.proofs.{CodeUnits.{encode_1, encode_2, total_unit_count-append, by_count}, Texts.{first_some, utf8_next, utf8_stands, stands_byte}}
+use Rattle.legacy_text.proofs.{Texts.by_first, UnitCopies.writes_none}
 
 -- ---- runs
 
@@ -58,7 +58,7 @@ module _ (text : List ℕ) (place : ℕ) (inside : place < length text) (u : is_
   stands = utf8_stands text place C u (first_some Left some)
 
   pub reads_here : ReadsScalar text place (get_or (chars (drop place text)) 0 0) (place + unit_count Utf8 (get_or (chars (drop place text)) 0 0))
-  reads_here = grind (arith, utf8_pass text place (unit_count Utf8 C), first_cons, first_some Left some)
+  reads_here = utf8_next text place (omega arith) u some
 
   -- ASCII is its own scalar
   pub reads_ascii : get_or text place 0 < 128 → ReadsScalar text place (get_or text place 0) (place + 1)

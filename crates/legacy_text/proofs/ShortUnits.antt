@@ -1,9 +1,8 @@
 -- Code units below 0x800.
-use Rattle.std.proofs.Common.{◌≡◌, ℕ, suc, ◌+◌, ◌-◌, ◌*◌, ◌/◌, ◌%◌, ◌^◌, ◌<◌, Bool, true, cond, ltb, eqb, List, [], ◌∷◌, length}
-use Rattle.std.proofs.{Common.{get_or, map, replicate, bit_and, refl, ap, zero-add, ◌∙◌, ◌&&◌, arith, w16, Fits, All}, lemmas.Bool.{and_parts}}
-use Rattle.std.proofs.{lemmas.Bool.{eqb-true, agree_below_at}, lemmas.Bool.Decides.nat_tests, lemmas.Grind.common_steps, lemmas.List.{map-append, length-map}}
-use Rattle.std.proofs.{lemmas.Nat.and_mask, lemmas.Simd.{bitmask_splat, bit_mask_l, mask_l-lt}, Math.ListN.get_or-map}
-use Rattle.std.proofs.lemmas.Nat.Bits.{bit_at_ones}
+use Rattle.std.proofs.Common.{◌≡◌, ℕ, suc, ◌+◌, ◌-◌, ◌*◌, ◌/◌, ◌%◌, ◌^◌, ◌<◌, Bool, true, cond, ltb, eqb, List, [], ◌∷◌, length, get_or, map, replicate}
+use Rattle.std.proofs.{Common.{bit_and, refl, sym, ap, zero-add, ◌∙◌, ◌&&◌, arith, w16, Fits, All}, lemmas.Bool.{and_parts, eqb-true, agree_below_at}}
+use Rattle.std.proofs.{lemmas.Bool.Decides.nat_tests, lemmas.Grind.common_steps, lemmas.List.{map-append, length-map}, lemmas.Nat.and_mask}
+use Rattle.std.proofs.{lemmas.Simd.{bitmask_splat, bit_mask_l, mask_l-lt}, Math.ListN.get_or-map, lemmas.Nat.Bits.bit_at_ones}
 use Rattle.std.specs.{Char.encode_utf8, Int.RustNames.count_ones, List.range_with_len}
 use lib.Lanes.{Each1, zip2, sel_l, mask_l, top, number_l, digits_l, all_below}
 use Rattle.legacy_text.specs.{declared.unit_rows.TheConstants.SHORT_WRITTEN, UnitBytes.{short_bytes, short_lanes, short_pattern, short_places, short_row}}
@@ -36,13 +35,9 @@ vector_short_lanes = of_eight _ (λ a b c d e f g h sa sb sc sd se sf sg sh.
 -- ---- the code units of one byte
 
 pub short_bits_are : (v : List ℕ) → length v ≡ 8
-    → mask_l (map (top 15) (zip2 (λ a b. cond (ltb a b) (2 ^ 16 - 1) 0) v (replicate 8 128))) % 2 ^ 64 ≡ short_pattern v
+    → (short_pattern v ≡ mask_l (map (top 15) (zip2 (λ a b. cond (ltb a b) (2 ^ 16 - 1) 0) v (replicate 8 128))) % 2 ^ 64) × (short_pattern v < 256)
 unfolding short_pattern
-short_bits_are v long = bitmask_splat w16 ltb v 8 128 long (omega arith)
-
-pub short_pattern_lt : (v : List ℕ) → length v ≡ 8 → short_pattern v < 256
-unfolding short_pattern
-short_pattern_lt v long = grind (arith, nat_tests, length-map, mask_l-lt)
+short_bits_are v long = (sym (bitmask_splat w16 ltb v 8 128 long (omega arith)), grind (arith, nat_tests, length-map, mask_l-lt))
 
 -- ---- the table
 

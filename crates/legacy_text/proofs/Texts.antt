@@ -1,21 +1,18 @@
 -- The scalars of texts, one by one from the front, and the places between them.
-use Rattle.std.proofs.{lemmas.Bool.Decides.nat_tests, Common.{◌≡◌, ◌∙◌, ℕ, suc, ◌+◌, ◌≤◌, ◌<◌, List, [], ◌∷◌, ◌++◌, length, take, drop, get_or, refl, sym}}
-use Rattle.std.proofs.Common.{◌*◌, ◌%◌, ap, subst, arith, length-append, length-drop, Some, None, Option, true, false, ◌⊎◌, ◌&&◌, map}
-use Rattle.std.proofs.{Common.{slice_get, IsAscii}, lemmas.List.{drop-drop, take-append-drop, length-take-le, get_or-take, get_or-drop}}
-use Rattle.std.proofs.{Math.Seq.{drop-append_seam, take-append_seam}, lemmas.Str.{IsUtf8-from_is_utf8, is_utf8-from_IsUtf8, encodes-chars, chars_past_char}}
-use Rattle.std.proofs.lemmas.Str.{IsUtf8-past_char, drop_past_char, length-encode, utf16_chars-nil, len_utf8_bounds, utf16_chars_lone, utf16_chars_pair}
-use Rattle.std.proofs.lemmas.Str.{encodes-append, scalars-chars, chars-encodes, IsCharBoundary-at_seam, chars-append, chars-IsAscii, IsUtf8-from_ascii, IsUtf8-drop, IsCharBoundary-from_take}
-use Rattle.std.proofs.str.Utf16.{IsPair, lone_unit_char_low, lone_unit_char_high, lone_unit_char_surrogate, utf16_chars-drop_lone, utf16_chars-drop_pair}
-use Rattle.std.proofs.str.Utf16.{utf16_chars-drop_all}
-use Rattle.std.specs.{Str.{chars, is_utf8, IsUtf8, IsCharBoundary}, Char.len_utf8, Char.Utf16.{lone_unit_char, surrogate_pair_char, is_high_surrogate}}
-use Rattle.std.specs.{Char.Utf16.is_low_surrogate, Option.unwrap_or}
-use Rattle.std.proofs.{lemmas.Str.IsCharBoundary-from_drop, lemmas.Grind.common_steps}
+use Rattle.std.proofs.{lemmas.Bool.Decides.nat_tests, Common.{◌≡◌, ◌∙◌, ℕ, suc, ◌+◌, ◌≤◌, ◌<◌, List, [], ◌∷◌, ◌++◌, length, take, drop, get_or, refl, sym, ◌*◌}}
+use Rattle.std.proofs.Common.{◌%◌, ap, subst, arith, length-append, length-drop, Some, None, Option, true, false, ◌⊎◌, ◌&&◌, map, slice_get, IsAscii, cond, ltb}
+use Rattle.std.proofs.{lemmas.List.{drop-drop, take-append-drop, length-take-le, get_or-take, get_or-drop}, Math.Seq.{drop-append_seam, take-append_seam}}
+use Rattle.std.proofs.lemmas.Str.{IsUtf8-from_is_utf8, is_utf8-from_IsUtf8, encodes-chars, chars_past_char, IsUtf8-past_char, drop_past_char, length-encode}
+use Rattle.std.proofs.lemmas.Str.{utf16_chars-nil, len_utf8_bounds, utf16_chars_lone, utf16_chars_pair, encodes-append, scalars-chars, chars-encodes}
+use Rattle.std.proofs.lemmas.Str.{IsCharBoundary-at_seam, chars-append, chars-IsAscii, IsUtf8-from_ascii, IsUtf8-drop, IsCharBoundary-from_take}
+use Rattle.std.proofs.{lemmas.Str.IsCharBoundary-from_drop, str.Utf16.{IsPair, lone_unit_char_low, lone_unit_char_high, lone_unit_char_surrogate}}
+use Rattle.std.proofs.{str.Utf16.{utf16_chars-drop_lone, utf16_chars-drop_pair, utf16_chars-drop_all}, lemmas.Grind.common_steps}
+use Rattle.std.specs.{Str.{chars, is_utf8, IsUtf8, IsCharBoundary}, Char.Utf16.{lone_unit_char, surrogate_pair_char, is_high_surrogate, is_low_surrogate}}
+use Rattle.std.specs.Option.{unwrap_or}
 use lib.{ListN.get_or-eq_default, Utf8.{encode, encodes, scalars}}
 use Rattle.legacy_text.specs.{EncodingForm.{EncodingForm, Utf8, Utf16, unit_count, all_code_units}, declared.text_cursor.Next.Next, NextScalars.StandsAt}
-use Rattle.legacy_text.specs.UnitCodes.{IsNoSurrogate}
-use Rattle.legacy_text.specs.{NextScalars.{IsSized, IsNext}, Texts.{unit_scalars, IsUnitBoundary}}
-use Rattle.legacy_text.proofs.CodeUnits.{encode_1, encode_2, encode_3, encode_4, utf16_1, utf16_2}
-use Rattle.legacy_text.proofs.CodeUnits.{total_unit_count-append}
+use Rattle.legacy_text.specs.{NextScalars.{IsSized, IsNext}, UnitCodes.IsNoSurrogate, Texts.{unit_scalars, IsUnitBoundary}, ShortScalars.ReadsScalar}
+use Rattle.legacy_text.proofs.{Ascii.all_behind, CodeUnits.{encode_1, encode_2, encode_3, encode_4, utf16_1, utf16_2, total_unit_count-append}}
 
 pub first_cons : {A : Type 0} (xs : List A) (x : A) → Some x ≡ slice_get xs 0 → xs ≡ x ∷ drop 1 xs
 first_cons xs x h = grind arith
@@ -28,16 +25,9 @@ utf8_stands text place c u e = record {
   is = sym (encodes-chars (drop place text) (IsUtf8-from_is_utf8 (drop place text) u)) ∙ ap encodes (first_cons (chars (drop place text)) c e);
 }
 
--- the scalar c is at the place of the text
-pub record Utf8Step (text : List ℕ) (place c : ℕ) : Type 0 where
-  pub within : place + len_utf8 c ≤ length text
-  pub is_text : is_utf8 (drop (place + len_utf8 c) text) ≡ true
-  pub behind : chars (drop (place + len_utf8 c) text) ≡ drop 1 (chars (drop place text))
-  pub first : get_or (chars (drop place text)) 0 0 ≡ c
-
-pub utf8_step : (text : List ℕ) (place c : ℕ) → place ≤ length text → is_utf8 (drop place text) ≡ true → Some c ≡ slice_get (chars (drop place text)) 0 →
-    Utf8Step text place c
-utf8_step text place c p u e =
+pub utf8_reads : (text : List ℕ) (place c : ℕ) → place ≤ length text → is_utf8 (drop place text) ≡ true → Some c ≡ slice_get (chars (drop place text)) 0 →
+    ReadsScalar text place c (place + unit_count Utf8 c)
+utf8_reads text place c p u e =
     let bs = drop place text in
     let is = IsUtf8-from_is_utf8 bs u in
     let rest = (utf8_stands text place c u e).rest in
@@ -50,7 +40,7 @@ utf8_step text place c p u e =
 -- the place is not the end
 pub utf8_inside : (text : List ℕ) (place c : ℕ) → place ≤ length text → is_utf8 (drop place text) ≡ true → Some c ≡ slice_get (chars (drop place text)) 0 →
     place < length text
-utf8_inside text place c p u e = let some = (len_utf8_bounds c).0 in omega (arith, some, (utf8_step text place c p u e).within)
+utf8_inside text place c p u e = let some = (len_utf8_bounds c).0 in omega (arith, some, length-encode c, (utf8_reads text place c p u e).within)
 
 -- the bytes at a place are those of the scalar
 pub stands_byte : (text : List ℕ) (place c : ℕ) → (s : StandsAt text place c) → (k : ℕ) → get_or text (place + k) 0 ≡ get_or (encode c ++ s.rest) k 0
@@ -196,16 +186,16 @@ bmp_scalars (u ∷ front) others bmp =
 
 -- The first n of the scalars that are left are these, and the others come after them.
 pub record IsFront (all front others : List ℕ) (n : ℕ) : Type 0 where
-  pub within : n ≤ length all
-  pub others_is : others ≡ drop n all
   pub front_is : front ≡ take n all
+  pub others_is : others ≡ drop n all
+  pub within : n ≤ length all
 
 pub front_of : (all front others : List ℕ) (n : ℕ) → length front ≡ n → all ≡ front ++ others → IsFront all front others n
 front_of all front others n long e = grind (arith, nat_tests, length-append, drop-append_seam, take-append_seam)
 
 -- ASCII from a place on
 pub utf8_ascii : (text : List ℕ) (place n : ℕ) → n ≤ length (drop place text) → IsAscii (take n (drop place text)) → is_utf8 (drop place text) ≡ true
-    → (is_utf8 (drop (place + n) text) ≡ true) × IsFront (chars (drop place text)) (take n (drop place text)) (chars (drop (place + n) text)) n
+    → IsFront (chars (drop place text)) (take n (drop place text)) (chars (drop (place + n) text)) n × (is_utf8 (drop (place + n) text) ≡ true)
 utf8_ascii text place n within ascii u =
     let rest = drop place text in
     let is = IsUtf8-from_is_utf8 rest u in
@@ -214,7 +204,7 @@ utf8_ascii text place n within ascii u =
     let is_text = is_utf8-from_IsUtf8 (drop n rest) (IsUtf8-drop rest n is (IsCharBoundary-from_take rest n is within front)) in
     let own = rw (chars-IsAscii (take n rest) ascii) at split in
     let is_front = front_of (chars rest) (take n rest) (chars (drop n rest)) n (length-take-le n rest within) own in
-    (rw (drop-drop n place text) at is_text, rw (drop-drop n place text) at is_front)
+    (rw (drop-drop n place text) at is_front, rw (drop-drop n place text) at is_text)
 
 -- code units from a place on that are no surrogates
 pub bmp_front : (list : List ℕ) (place n : ℕ) → n ≤ length (drop place list) → ((k : ℕ) → k < n → IsNoSurrogate (get_or (drop place list) k 0))
@@ -225,6 +215,10 @@ bmp_front list place n within bmp =
     let own = bmp_scalars (take n rest) (drop n rest) (λ k h. grind (arith, bmp k, get_or-take)) in
     rw (drop-drop n place list) at
     (front_of (unit_scalars rest) (take n rest) (unit_scalars (drop n rest)) n long (ap unit_scalars (sym (take-append-drop n rest)) ∙ own))
+
+pub utf16_ascii : (list : List ℕ) (place n : ℕ) → n ≤ length (drop place list) → IsAscii (take n (drop place list))
+    → IsFront (unit_scalars (drop place list)) (take n (drop place list)) (unit_scalars (drop (place + n) list)) n
+utf16_ascii list place n within ascii = bmp_front list place n within (λ k h. let low = ascii k in grind (arith, get_or-take))
 
 -- ---- the next scalar
 
@@ -239,18 +233,29 @@ pub none_left : (xs : List ℕ) → None ≡ slice_get xs 0 → xs ≡ []
 none_left [] e = refl
 none_left (x ∷ xs) e = cc
 
--- going past the scalar at a place by the number of its code units
-pub utf8_pass : (text : List ℕ) (place n : ℕ) → place ≤ length text → is_utf8 (drop place text) ≡ true → 0 < length (chars (drop place text))
-    → n ≡ unit_count Utf8 (get_or (chars (drop place text)) 0 0) →
-    (place + n ≤ length text) × (is_utf8 (drop (place + n) text) ≡ true) × (chars (drop (place + n) text) ≡ drop 1 (chars (drop place text)))
-utf8_pass text place n p u some e = grind (arith, utf8_step text place (get_or (chars (drop place text)) 0 0) p u (first_some _ some), length-encode)
+-- the scalar at a place, and the text after it
+pub utf8_next : (text : List ℕ) (place : ℕ) → place ≤ length text → is_utf8 (drop place text) ≡ true → 0 < length (chars (drop place text))
+    → ReadsScalar text place (get_or (chars (drop place text)) 0 0) (place + unit_count Utf8 (get_or (chars (drop place text)) 0 0))
+utf8_next text place p u some = utf8_reads text place (get_or (chars (drop place text)) 0 0) p u (first_some _ some)
 
-pub utf16_pass : (list : List ℕ) (place n : ℕ) → ((i : ℕ) → get_or list i 0 < 65536) → 0 < length (unit_scalars (drop place list))
-    → n ≡ unit_count Utf16 (get_or (unit_scalars (drop place list)) 0 0) →
-    (place + n ≤ length list) × (unit_scalars (drop (place + n) list) ≡ drop 1 (unit_scalars (drop place list)))
-utf16_pass list place n bound some e =
-    let f = first_some (unit_scalars (drop place list)) some in
-    grind (arith, utf16_step list place (get_or (unit_scalars (drop place list)) 0 0) n bound (some_within list place _ f) f, utf16_1, utf16_2)
+pub utf16_next : (list : List ℕ) (place : ℕ) → ((i : ℕ) → get_or list i 0 < 65536) → 0 < length (unit_scalars (drop place list))
+    → let c = get_or (unit_scalars (drop place list)) 0 0 in
+    (unit_scalars (drop place list) ≡ c ∷ unit_scalars (drop (place + unit_count Utf16 c) list)) × (place + unit_count Utf16 c ≤ length list)
+utf16_next list place bound some =
+    let left = unit_scalars (drop place list) in
+    let f = first_some left some in
+    let step = utf16_step list place (get_or left 0 0) (unit_count Utf16 (get_or left 0 0)) bound (some_within list place _ f) f in
+    grind (arith, first_cons left (get_or left 0 0) f, step, utf16_1, utf16_2)
+
+pub first_is : (xs : List ℕ) → slice_get xs 0 ≡ cond (ltb 0 (length xs)) (Some (get_or xs 0 0)) None
+first_is [] = refl
+first_is (x ∷ xs) = grind arith
+
+pub ruleset utf8_advance_steps = (first_is, nat_tests, utf8_next, length-encode)
+
+pub ruleset utf16_advance_steps = (first_is, nat_tests, utf16_next, utf16_1, utf16_2)
+
+pub ruleset ascii_steps = (all_behind, length-drop, utf8_ascii, utf16_ascii)
 
 pub ruleset unit_steps = (common_steps, scalars_lone, scalars_pair, scalars_end, lone_unit_char_low, lone_unit_char_high, lone_unit_char_surrogate)
 

@@ -1,11 +1,10 @@
 -- The bytes written for blocks of code units.
-use Rattle.std.proofs.{lemmas.Bool.Decides.nat_tests, Common.{◌≡◌, ◌∙◌, ℕ, suc, ◌+◌, ◌-◌, ◌≤◌, ◌<◌, List, [], ◌∷◌, ◌++◌, length, get_or, take, drop, refl}}
-use Rattle.std.proofs.{Common.{sym, ap, subst, arith, append_assoc, append-nil, length-append, length-drop, IsAscii}}
-use Rattle.std.proofs.lemmas.List.{get_or_append_left, get_or-append-add, get_or-drop, length-take-le, get_or-take, take_all, take-append-drop}
-use Rattle.std.proofs.Common.{add-zero}
-use Rattle.legacy_text.specs.{EncodingForm.{Utf16, total_unit_count}, Texts.unit_scalars, UnitCodes.{IsNoSurrogate, WritesCodes}}
-use Rattle.legacy_text.specs.UnitTurns.{AreNoSurrogates, TakesUnits}
-use Rattle.legacy_text.proofs.{CodeUnits.utf16_1, Texts.{bmp_front}}
+use Rattle.std.proofs.{lemmas.Bool.Decides.nat_tests, Common.{◌≡◌, ◌∙◌, ℕ, suc, ◌+◌, ◌-◌, ◌≤◌, ◌<◌, List, [], ◌∷◌, ◌++◌, length, get_or, take, drop, refl, sym}}
+use Rattle.std.proofs.{Common.{ap, subst, arith, append_assoc, append-nil, length-append, length-drop, IsAscii, add-zero}, lemmas.List.get_or_append_left}
+use Rattle.std.proofs.lemmas.List.{get_or-append-add, get_or-drop, length-take-le, get_or-take, take_all, take-append-drop}
+use Rattle.legacy_text.specs.{EncodingForm.{Utf16, total_unit_count}, Texts.unit_scalars, UnitCodes.{IsNoSurrogate, WritesCodes}, UnitTurns.AreNoSurrogates}
+use Rattle.legacy_text.specs.UnitTurns.{TakesUnits}
+use Rattle.legacy_text.proofs.{CodeUnits.utf16_1, Texts.bmp_front}
 
 -- ---- blocks
 

@@ -123,7 +123,7 @@ mask_append [] ys = omega arith
 mask_append (x ∷ xs) ys = grind (arith, nat_tests, mask_append xs ys, mul_assoc)
 
 pub patterns_are : (v : List ℕ) → length v ≡ 8 → Each1 (Fits w16) v
-    → (vector_bits v % 256 ≡ pattern (take 4 v)) × (vector_bits v / 256 ≡ pattern (drop 4 v)) × (vector_bits v / 256 < 256)
+    → (pattern (take 4 v) ≡ vector_bits v % 256) × (pattern (drop 4 v) ≡ vector_bits v / 256) × (vector_bits v / 256 < 256)
 unfolding pattern
 patterns_are = of_eight _ (λ a b c d e f g h sa sb sc sd se sf sg sh.
     let all = a ∷ b ∷ c ∷ d ∷ e ∷ f ∷ g ∷ h ∷ [] in

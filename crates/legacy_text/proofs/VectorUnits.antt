@@ -1,7 +1,7 @@
 -- Eight code units that a destination writes at once, none of them a surrogate.
 use Rattle.std.proofs.{lemmas.Bool.Decides.nat_tests, Common.{◌≡◌, ◌∙◌, ℕ, zero, suc, ◌+◌, ◌-◌, ◌≤◌, ◌<◌, List, [], ◌∷◌, ◌++◌, length, take, get_or, refl, ap}}
-use Rattle.std.proofs.{Common.{ap₂, arith, append-nil, append_assoc, length-append, w16, Fits}, lemmas.List.{length-take-le, flat_map_more}, Math.Seq.take-suc}
-use Rattle.std.proofs.{lemmas.Grind.common_steps, lemmas.List.take_all}
+use Rattle.std.proofs.{Common.{ap₂, arith, append-nil, append_assoc, length-append, w16, Fits}, lemmas.List.{length-take-le, flat_map_more, take_all}}
+use Rattle.std.proofs.{Math.Seq.take-suc, lemmas.Grind.common_steps}
 use lib.Lanes.{Each1}
 use Rattle.legacy_text.specs.EncodingForm.{EncodingForm, Utf16, code_units, all_code_units, unit_count, total_unit_count}
 use Rattle.legacy_text.proofs.CodeUnits.{utf16_1, code_units_ascii, length-code_units-bmp, total_unit_count-append}

@@ -189,7 +189,7 @@ impl Source for Utf8Source<'_> {
     }
 
     #[inline]
-    #[tactic(auto, using(crate::proofs::Texts::utf8_step))]
+    #[tactic(auto, using(crate::proofs::Texts::utf8_advance_steps))]
     fn advance(&mut self) {
         if let Some(c) = scalar_at(self.text, self.place) {
             self.place += c.len_utf8();
@@ -225,7 +225,7 @@ impl TextCursor for Utf8Source<'_> {
     }
 
     #[inline(always)]
-    #[tactic(auto, using(crate::proofs::Texts::utf8_pass))]
+    #[tactic(auto, using(crate::proofs::Texts::utf8_next))]
     fn pass(&mut self, count: usize) {
         self.place = place_behind(self.text, self.place, count);
     }
@@ -236,6 +236,7 @@ impl TextCursor for Utf8Source<'_> {
     }
 
     #[inline(always)]
+    #[tactic(auto, using(crate::proofs::Texts::ascii_steps))]
     fn copy_ascii(&mut self, dst: &mut [u8], at: usize) -> usize {
         let count = copy_ascii_bytes(&self.text.as_bytes()[self.place..], dst, at);
         self.place += count;
@@ -361,6 +362,7 @@ impl Source for Utf16Source<'_> {
     }
 
     #[inline]
+    #[tactic(auto, using(crate::proofs::Texts::utf16_advance_steps))]
     fn advance(&mut self) {
         if let Some(c) = unit_scalar_at(self.units, self.place) {
             self.place += c.len_utf16();
@@ -400,7 +402,7 @@ impl TextCursor for Utf16Source<'_> {
     }
 
     #[inline(always)]
-    #[tactic(auto, using(crate::proofs::Texts::utf16_pass))]
+    #[tactic(auto, using(crate::proofs::Texts::utf16_next))]
     fn pass(&mut self, count: usize) {
         self.place += count;
     }
@@ -412,6 +414,7 @@ impl TextCursor for Utf16Source<'_> {
     }
 
     #[inline(always)]
+    #[tactic(auto, using(crate::proofs::Texts::ascii_steps))]
     fn copy_ascii(&mut self, dst: &mut [u8], at: usize) -> usize {
         let count = copy_ascii_units(&self.units[self.place..], dst, at);
         self.place += count;
