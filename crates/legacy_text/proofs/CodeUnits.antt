@@ -21,6 +21,9 @@ pub encode_4 : (c : ℕ) → 65536 ≤ c → encode c ≡ (240 + c / 262144) ∷
 unfolding encode
 encode_4 c a = let b : 128 ≤ c = omega arith in let d : 2048 ≤ c = omega arith in rw (le-ltb c 128 b, le-ltb c 2048 d, le-ltb c 65536 a) refl
 
+pub some_units : (c : ℕ) → 0 < unit_count Utf8 c
+some_units c = grind (arith, nat_tests, encode_1, encode_2, encode_3, encode_4)
+
 -- the range of a scalar, by its number of bytes in UTF-8
 pub by_count : (c : ℕ) → (unit_count Utf8 c ≡ 1 → c < 128) × (unit_count Utf8 c ≡ 2 → (128 ≤ c) × (c < 2048))
     × (unit_count Utf8 c ≡ 3 → (2048 ≤ c) × (c < 65536))

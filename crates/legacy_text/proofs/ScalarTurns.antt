@@ -6,14 +6,13 @@ use Rattle.std.proofs.{lemmas.List.{length-drop, get_or_append_left, get_or-appe
 use Rattle.std.proofs.{lemmas.Nat.Bits.{bit_at_lowest, bit_at-suc, bit_at_and, bit_at_or, bit_at_not, bit_at-lt}, lemmas.List.FromFn.get_or-map-range_with_len}
 use Rattle.std.proofs.{lemmas.Grind.common_steps, lemmas.Simd.{mask_l-lt, get_or_wider, Each1-from_get_or, Each1-get_or, get_or-chunk, length-chunk}}
 use Rattle.std.proofs.lemmas.Simd.{below_from_Fits, get_or-put_chunk_below, get_or-put_chunk_at, length-put_chunk, get_or-zip2, get_or-replicate}
-use Rattle.std.proofs.lemmas.Str.{length-encode, len_utf8_bounds}
 use Rattle.std.specs.{List.range_with_len, Int.{bit_at, bit_not, trailing_zeros}, Simd.Lanes.{zip2, number_l, digits_l, put_chunk, chunk, Each1}, Str.chars}
 use Rattle.std.specs.Str.{is_utf8}
 use lib.Utf8.{encode}
 use Rattle.legacy_text.specs.{EncodingForm.{Utf8, unit_count}, ShortScalars.ReadsScalar, ScalarTurns.{IsStart, IsUnitAt, ReadsUnits}, UnitCodes.IsNoSurrogate}
 use Rattle.legacy_text.specs.UnitTurns.{AreNoSurrogates}
-use Rattle.legacy_text.proofs.{Ascii.{mask_from, mask_from-is, mask_bit}, CodeUnits.{encode_1, encode_2, encode_3, encode_4, total_unit_count-append}}
-use Rattle.legacy_text.proofs.{Texts.{by_first, stands_byte}, ShortScalars.{stands, reads_here, reads_ascii, one_count}}
+use Rattle.legacy_text.proofs.{Ascii.{mask_from, mask_from-is, mask_bit}, CodeUnits.{some_units, encode_1, encode_2, encode_3, encode_4, total_unit_count-append}}
+use Rattle.legacy_text.proofs.{Texts.{by_first}, ShortScalars.{stands, reads_here, reads_ascii, one_count}}
 
 -- ---- the lowest bit
 
@@ -136,16 +135,13 @@ module _ (text : List ℕ) (place : ℕ) (inside : place < length text) (u : is_
   abbrev C : ℕ
   C = get_or (chars (drop place text)) 0 0
 
-  pub some_units : 0 < unit_count Utf8 (get_or (chars (drop place text)) 0 0)
-  some_units = let l = (len_utf8_bounds C).0 in omega (arith, length-encode C, l)
-
   -- a scalar begins with such a byte
   pub start_here : IsStart (get_or text place 0)
-  start_here = grind (arith, nat_tests, stands_byte text place C (stands text place inside u) 0, stands text place inside u, encode_1, encode_2, encode_3, encode_4)
+  start_here = grind (arith, by_first, get_or-drop, stands text place inside u)
 
   -- no other byte of the scalar is such a byte
   pub no_start : (k : ℕ) → 0 < k → k < unit_count Utf8 (get_or (chars (drop place text)) 0 0) → IsStart (get_or text (place + k) 0) → ⊥
-  no_start k some_k few start = grind (arith, stands_byte text place C (stands text place inside u) k, get_or_append_left, tail_at)
+  no_start k some_k few start = grind (arith, get_or-drop place text k 0, stands text place inside u, get_or_append_left, tail_at)
 
   -- the code unit at the beginning of a scalar is this scalar, if it is not a surrogate
   pub unit_is : place + 2 ≤ length text → (unit : ℕ) → IsUnitAt text place unit → IsNoSurrogate unit → unit ≡ get_or (chars (drop place text)) 0 0

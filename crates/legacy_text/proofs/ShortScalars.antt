@@ -7,7 +7,7 @@ use Rattle.std.specs.Str.{chars, is_utf8}
 use lib.Utf8.{encodes}
 use Rattle.legacy_text.specs.{EncodingForm.{Utf8, code_units, unit_count, total_unit_count}, ShortScalars.{ReadsScalar, WritesScalars}, UnitCodes.WritesCodes}
 use Rattle.legacy_text.specs.NextScalars.{StandsAt}
-use Rattle.legacy_text.proofs.{CodeUnits.{encode_1, encode_2, total_unit_count-append, by_count}, Texts.{first_some, utf8_next, utf8_stands, stands_byte}}
+use Rattle.legacy_text.proofs.{CodeUnits.{total_unit_count-append}, Texts.{first_some, utf8_next, utf8_stands}}
 use Rattle.legacy_text.proofs.{Texts.by_first, UnitCopies.writes_none}
 
 -- ---- runs
@@ -62,15 +62,13 @@ module _ (text : List ℕ) (place : ℕ) (inside : place < length text) (u : is_
 
   -- ASCII is its own scalar
   pub reads_ascii : get_or text place 0 < 128 → ReadsScalar text place (get_or text place 0) (place + 1)
-  reads_ascii h = grind (arith, by_first, get_or-drop, stands, stands_byte text place C stands 0, encode_1, by_count, reads_here)
+  reads_ascii h = grind (arith, by_first, get_or-drop, stands, reads_here)
 
   -- two bytes contain the eleven bits of a scalar
   pub reads_pair : 128 ≤ get_or text place 0 → get_or text place 0 < 224
       → (0x3080 ≤ get_or text place 0 * 64 + get_or text (place + 1) 0) × ReadsScalar text place (get_or text place 0 * 64 + get_or text (place + 1) 0 - 0x3080)
       (place + 2)
-  reads_pair h short =
-      let byte = stands_byte text place C stands in
-      grind (arith, by_first, get_or-drop, stands, byte 0, byte 1, encode_2, by_count, reads_here)
+  reads_pair h short = grind (arith, by_first, get_or-drop, stands, reads_here)
 
 -- ---- turns
 

@@ -12,7 +12,7 @@ use Rattle.std.specs.Option.{unwrap_or}
 use lib.{ListN.get_or-eq_default, Utf8.{encode, encodes, scalars}}
 use Rattle.legacy_text.specs.{EncodingForm.{EncodingForm, Utf8, Utf16, unit_count, all_code_units}, declared.text_cursor.Next.Next, NextScalars.StandsAt}
 use Rattle.legacy_text.specs.{NextScalars.{IsSized, IsNext}, UnitCodes.IsNoSurrogate, Texts.{unit_scalars, IsUnitBoundary}, ShortScalars.ReadsScalar}
-use Rattle.legacy_text.proofs.{Ascii.all_behind, CodeUnits.{encode_1, encode_2, encode_3, encode_4, utf16_1, utf16_2, total_unit_count-append}}
+use Rattle.legacy_text.proofs.{Ascii.all_behind, CodeUnits.{some_units, encode_1, encode_2, encode_3, encode_4, utf16_1, utf16_2, total_unit_count-append}}
 
 pub first_cons : {A : Type 0} (xs : List A) (x : A) → Some x ≡ slice_get xs 0 → xs ≡ x ∷ drop 1 xs
 first_cons xs x h = grind arith
@@ -37,23 +37,15 @@ utf8_reads text place c p u e =
     let all = chars_past_char bs rest c is split in
     grind (arith, length-encode c, ap length split, length-append (encode c) rest, length-drop place text)
 
--- the place is not the end
-pub utf8_inside : (text : List ℕ) (place c : ℕ) → place ≤ length text → is_utf8 (drop place text) ≡ true → Some c ≡ slice_get (chars (drop place text)) 0 →
-    place < length text
-utf8_inside text place c p u e = let some = (len_utf8_bounds c).0 in omega (arith, some, length-encode c, (utf8_reads text place c p u e).within)
-
--- the bytes at a place are those of the scalar
-pub stands_byte : (text : List ℕ) (place c : ℕ) → (s : StandsAt text place c) → (k : ℕ) → get_or text (place + k) 0 ≡ get_or (encode c ++ s.rest) k 0
-stands_byte text place c s k = sym (get_or-drop place text k 0) ∙ ap (λ l. get_or l k 0) s.is
-
--- the number of bytes of the scalar c by the first of these bytes, and the scalars of two and of three bytes that are made of them
+-- what the bytes say of the scalar c with which they begin: its number of bytes by the first, and what it is made of
 pub record ByFirst (c : ℕ) (bytes : List ℕ) : Type 0 where
-  pub one : get_or bytes 0 0 < 0x80 → unit_count Utf8 c ≡ 1
+  pub one : get_or bytes 0 0 < 0x80 → (unit_count Utf8 c ≡ 1) × (get_or bytes 0 0 ≡ c)
   pub two : 0x80 ≤ get_or bytes 0 0 → get_or bytes 0 0 < 0xE0 →
-      (unit_count Utf8 c ≡ 2) × (get_or bytes 0 0 % 0x20 * 0x40 + get_or bytes 1 0 % 0x40 ≡ c)
+      (unit_count Utf8 c ≡ 2) × (get_or bytes 0 0 % 0x20 * 0x40 + get_or bytes 1 0 % 0x40 ≡ c) × (get_or bytes 0 0 * 0x40 + get_or bytes 1 0 ≡ c + 0x3080)
   pub three : 0xE0 ≤ get_or bytes 0 0 → get_or bytes 0 0 < 0xF0 →
       (unit_count Utf8 c ≡ 3) × (get_or bytes 0 0 % 0x10 * 0x1000 + get_or bytes 1 0 % 0x40 * 0x40 + get_or bytes 2 0 % 0x40 ≡ c)
   pub four : 0xF0 ≤ get_or bytes 0 0 → unit_count Utf8 c ≡ 4
+  pub start : 0x80 ≤ get_or bytes 0 0 → 0xC0 ≤ get_or bytes 0 0
   pub long : length bytes ≡ unit_count Utf8 c + length (drop (unit_count Utf8 c) bytes)
 
 pub by_first : (c : ℕ) (rest : List ℕ) → (encode c ++ rest ≡ encode c ++ rest) × ByFirst c (encode c ++ rest)
@@ -81,9 +73,6 @@ scalars_pair units at h p = ap (map replaced) (utf16_chars-drop_pair units at h 
 pub scalars_end : (units : List ℕ) (at : ℕ) → length units ≤ at → unit_scalars (drop at units) ≡ []
 scalars_end units at h = ap (map replaced) (utf16_chars-drop_all units at h)
 
-pub first_none : (units : List ℕ) (at : ℕ) → length units ≤ at → slice_get (unit_scalars (drop at units)) 0 ≡ None
-first_none units at h = ap (λ l. slice_get l 0) (scalars_end units at h)
-
 -- the scalar c is at the place of the units
 pub record Utf16Step (list : List ℕ) (place c n : ℕ) : Type 0 where
   pub width : n ≡ unit_count Utf16 c
@@ -109,7 +98,7 @@ utf16_step list place c n bound h e short long =
 
 -- there is a scalar only before the end
 pub some_within : (units : List ℕ) (place c : ℕ) → Some c ≡ slice_get (unit_scalars (drop place units)) 0 → place < length units
-some_within units place c e = grind (arith, nat_tests, first_none)
+some_within units place c e = grind (arith, nat_tests, scalars_end)
 
 -- ---- what was taken off the front of a text
 
@@ -222,9 +211,12 @@ utf16_ascii list place n within ascii = bmp_front list place n within (λ k h. l
 
 -- ---- the next scalar
 
+pub first_is : (xs : List ℕ) → slice_get xs 0 ≡ cond (ltb 0 (length xs)) (Some (get_or xs 0 0)) None
+first_is [] = refl
+first_is (x ∷ xs) = grind arith
+
 pub first_some : (xs : List ℕ) → 0 < length xs → Some (get_or xs 0 0) ≡ slice_get xs 0
-first_some [] h = absurd (omega arith)
-first_some (x ∷ xs) h = refl
+first_some xs h = grind (arith, nat_tests, first_is xs)
 
 pub is_next : (form : EncodingForm) (left : List ℕ) (c : ℕ) (next : Next) → left ≡ c ∷ drop 1 left → IsSized form c next → IsNext form left next
 is_next form left c next h k = grind arith
@@ -247,10 +239,6 @@ utf16_next list place bound some =
     let step = utf16_step list place (get_or left 0 0) (unit_count Utf16 (get_or left 0 0)) bound (some_within list place _ f) f in
     grind (arith, first_cons left (get_or left 0 0) f, step, utf16_1, utf16_2)
 
-pub first_is : (xs : List ℕ) → slice_get xs 0 ≡ cond (ltb 0 (length xs)) (Some (get_or xs 0 0)) None
-first_is [] = refl
-first_is (x ∷ xs) = grind arith
-
 pub ruleset utf8_advance_steps = (first_is, nat_tests, utf8_next, length-encode)
 
 pub ruleset utf16_advance_steps = (first_is, nat_tests, utf16_next, utf16_1, utf16_2)
@@ -259,7 +247,7 @@ pub ruleset ascii_steps = (all_behind, length-drop, utf8_ascii, utf16_ascii)
 
 pub ruleset unit_steps = (common_steps, scalars_lone, scalars_pair, scalars_end, lone_unit_char_low, lone_unit_char_high, lone_unit_char_surrogate)
 
-pub ruleset next_steps = (is_next, first_cons, none_left, utf8_inside, utf8_stands)
+pub ruleset next_steps = (is_next, first_cons, none_left, first_is, nat_tests, utf8_next, some_units, utf8_stands)
 
 pub ruleset boundary_steps = (IsCharBoundary-from_drop, IsUtf8-from_is_utf8)
 

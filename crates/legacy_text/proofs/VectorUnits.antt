@@ -29,10 +29,6 @@ pub more-units : (form : EncodingForm) (units : List ℕ) (k : ℕ) → k < leng
     → total_unit_count form (take (k + 1) units) ≡ total_unit_count form (take k units) + unit_count form (get_or units k 0)
 more-units form units k within = grind (arith, nat_tests, taken-more, total_unit_count-append, append-nil)
 
--- a scalar of 16 bits has at most three code units
-pub few-units : (form : EncodingForm) (u : ℕ) → u < 65536 → unit_count form u ≤ 3
-few-units form u h = grind (arith, length-code_units-bmp)
-
 pub unit-below : (units : List ℕ) (k : ℕ) → Each1 (Fits w16) units → get_or units k 0 < 65536
 unit-below [] k fits = omega arith
 unit-below (u ∷ units) zero fits = fits.0.fits
@@ -44,6 +40,6 @@ pub ruleset room_steps = (common_steps, free-after)
 
 pub ruleset eight_steps = (common_steps, take_all)
 
-pub ruleset first_steps = (common_steps, append-nil, few-units, unit-below, one-more, more-units)
+pub ruleset first_steps = (common_steps, append-nil, length-code_units-bmp, unit-below, one-more, more-units)
 
 pub ruleset ascii_steps = (common_steps, code_units_ascii, append_assoc, taken-more)
