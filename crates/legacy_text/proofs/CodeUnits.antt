@@ -1,13 +1,10 @@
 -- The bytes of a scalar, by its range.
 use Rattle.std.proofs.Common.{◌≡◌, ◌∙◌, ℕ, ◌+◌, ◌-◌, ◌/◌, ◌%◌, ◌≤◌, ◌<◌, List, [], ◌∷◌, ◌++◌, length, refl, ap, arith, append_assoc, length-append, inl, inr}
 use Rattle.std.proofs.{lemmas.List.Concat.flat_map-append, lemmas.Bool.{lt-ltb, le-ltb}, lemmas.Bool.Decides.nat_tests}
+use Rattle.std.proofs.lemmas.Str.{encode_ascii}
 use lib.Utf8.{encode}
 use Rattle.legacy_text.specs.EncodingForm.{EncodingForm, code_units, all_code_units, unit_count, total_unit_count, Utf8, bmp_room, wide_room}
 use Rattle.std.specs.Char.Escape.{encode_utf16}
-
-pub encode_1 : (c : ℕ) → c < 128 → encode c ≡ c ∷ []
-unfolding encode
-encode_1 c a = rw (lt-ltb c 128 a) refl
 
 pub encode_2 : (c : ℕ) → 128 ≤ c → c < 2048 → encode c ≡ (192 + c / 64) ∷ (128 + c % 64) ∷ []
 unfolding encode
@@ -22,12 +19,7 @@ unfolding encode
 encode_4 c a = let b : 128 ≤ c = omega arith in let d : 2048 ≤ c = omega arith in rw (le-ltb c 128 b, le-ltb c 2048 d, le-ltb c 65536 a) refl
 
 pub some_units : (c : ℕ) → 0 < unit_count Utf8 c
-some_units c = grind (arith, nat_tests, encode_1, encode_2, encode_3, encode_4)
-
--- the range of a scalar, by its number of bytes in UTF-8
-pub by_count : (c : ℕ) → (unit_count Utf8 c ≡ 1 → c < 128) × (unit_count Utf8 c ≡ 2 → (128 ≤ c) × (c < 2048))
-    × (unit_count Utf8 c ≡ 3 → (2048 ≤ c) × (c < 65536))
-by_count c = grind (arith, nat_tests, encode_1, encode_2, encode_3, encode_4)
+some_units c = grind (arith, nat_tests, encode_ascii, encode_2, encode_3, encode_4)
 
 pub utf16_1 : (c : ℕ) → c < 65536 → encode_utf16 c ≡ c ∷ []
 utf16_1 c a = rw (lt-ltb c 65536 a) refl
@@ -37,7 +29,7 @@ utf16_2 c a = rw (le-ltb c 65536 a) refl
 
 pub ruleset encoding_utf16 = (utf16_1, utf16_2)
 
-pub ruleset encoding = (encode_1, encode_2, encode_3, encode_4, append_assoc)
+pub ruleset encoding = (encode_ascii, encode_2, encode_3, encode_4, append_assoc)
 
 -- a scalar up to U+FFFF fits into the room for one
 pub length-code_units-bmp : (form : EncodingForm) (c : ℕ) → c < 65536 → length (code_units form c) ≤ bmp_room form
@@ -51,11 +43,10 @@ length-code_units-wide form c = grind (arith, nat_tests)
 
 -- an ASCII scalar is its own code unit
 pub code_units_ascii : (form : EncodingForm) (c : ℕ) → c < 128 → code_units form c ≡ c ∷ []
-code_units_ascii form c h = grind (arith, encode_1, utf16_1)
+code_units_ascii form c h = grind (arith, encode_ascii, utf16_1)
 
 pub length-code_units-ascii : (form : EncodingForm) (c : ℕ) → c < 128 → length (code_units form c) ≡ 1
-unfolding encode
-length-code_units-ascii form c h = grind (arith, nat_tests)
+length-code_units-ascii form c h = ap length (code_units_ascii form c h)
 
 -- ---- more scalars at the end
 

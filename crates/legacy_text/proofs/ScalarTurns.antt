@@ -11,7 +11,8 @@ use Rattle.std.specs.Str.{is_utf8}
 use lib.Utf8.{encode}
 use Rattle.legacy_text.specs.{EncodingForm.{Utf8, unit_count}, ShortScalars.ReadsScalar, ScalarTurns.{IsStart, IsUnitAt, ReadsUnits}, UnitCodes.IsNoSurrogate}
 use Rattle.legacy_text.specs.UnitTurns.{AreNoSurrogates}
-use Rattle.legacy_text.proofs.{Ascii.{mask_from, mask_from-is, mask_bit}, CodeUnits.{some_units, encode_1, encode_2, encode_3, encode_4, total_unit_count-append}}
+use Rattle.legacy_text.proofs.{Ascii.{mask_from, mask_from-is, mask_bit}, CodeUnits.{some_units, encode_2, encode_3, encode_4, total_unit_count-append}}
+use Rattle.std.proofs.lemmas.Str.{encode_ascii}
 use Rattle.legacy_text.proofs.{Texts.{by_first}, ShortScalars.{stands, reads_here, reads_ascii, one_count}}
 
 -- ---- the lowest bit
@@ -129,7 +130,7 @@ stored_at P all front back at long long_back room first others k h = grind (arit
 
 -- a byte that is not the first of a scalar
 tail_at : (c k : ℕ) → 0 < k → k < unit_count Utf8 c → (128 ≤ get_or (encode c) k 0) × (get_or (encode c) k 0 < 192)
-tail_at c k some few = grind (arith, nat_tests, common_steps, encode_1, encode_2, encode_3, encode_4)
+tail_at c k some few = grind (arith, nat_tests, common_steps, encode_ascii, encode_2, encode_3, encode_4)
 
 module _ (text : List ℕ) (place : ℕ) (inside : place < length text) (u : is_utf8 (drop place text) ≡ true) where
   abbrev C : ℕ

@@ -12,7 +12,8 @@ use Rattle.std.specs.Option.{unwrap_or}
 use lib.{ListN.get_or-eq_default, Utf8.{encode, encodes, scalars}}
 use Rattle.legacy_text.specs.{EncodingForm.{EncodingForm, Utf8, Utf16, unit_count, all_code_units}, declared.text_cursor.Next.Next, NextScalars.StandsAt}
 use Rattle.legacy_text.specs.{NextScalars.{IsSized, IsNext}, UnitCodes.IsNoSurrogate, Texts.{unit_scalars, IsUnitBoundary}, ShortScalars.ReadsScalar}
-use Rattle.legacy_text.proofs.{Ascii.all_behind, CodeUnits.{some_units, encode_1, encode_2, encode_3, encode_4, utf16_1, utf16_2, total_unit_count-append}}
+use Rattle.legacy_text.proofs.{Ascii.all_behind, CodeUnits.{some_units, encode_2, encode_3, encode_4, utf16_1, utf16_2, total_unit_count-append}}
+use Rattle.std.proofs.lemmas.Str.{encode_ascii}
 
 pub first_cons : {A : Type 0} (xs : List A) (x : A) → Some x ≡ slice_get xs 0 → xs ≡ x ∷ drop 1 xs
 first_cons xs x h = grind arith
@@ -49,7 +50,7 @@ pub record ByFirst (c : ℕ) (bytes : List ℕ) : Type 0 where
   pub long : length bytes ≡ unit_count Utf8 c + length (drop (unit_count Utf8 c) bytes)
 
 pub by_first : (c : ℕ) (rest : List ℕ) → (encode c ++ rest ≡ encode c ++ rest) × ByFirst c (encode c ++ rest)
-by_first c rest = grind (arith, nat_tests, encode_1, encode_2, encode_3, encode_4)
+by_first c rest = grind (arith, nat_tests, encode_ascii, encode_2, encode_3, encode_4)
 
 -- ---- UTF-16
 
@@ -86,15 +87,10 @@ pair_or_not u v = grind arith
 unpaired_bound : (u : ℕ) → u < 65536 → replaced (lone_unit_char u) < 65536
 unpaired_bound u h = grind arith
 
--- by the scalar at the place and its number of units
-step_of : (list : List ℕ) (place c n s k : ℕ) → unit_scalars (drop place list) ≡ s ∷ unit_scalars (drop (place + k) list) →
-    Some c ≡ slice_get (unit_scalars (drop place list)) 0 → n ≡ k → k ≡ unit_count Utf16 s → place + k ≤ length list → Utf16Step list place c n
-step_of list place c n s k all e same width within = grind arith
-
 pub utf16_step : (list : List ℕ) (place c n : ℕ) → ((i : ℕ) → get_or list i 0 < 65536) → place < length list →
     Some c ≡ slice_get (unit_scalars (drop place list)) 0 → (c < 65536 → n ≡ 1) → (65536 ≤ c → n ≡ 2) → Utf16Step list place c n
 utf16_step list place c n bound h e short long =
-    grind (arith, pair_or_not, get_or-eq_default, scalars_pair, step_of, utf16_2, scalars_lone, unpaired_bound, utf16_1)
+    grind (arith, pair_or_not, get_or-eq_default, scalars_pair, utf16_2, scalars_lone, unpaired_bound, utf16_1)
 
 -- there is a scalar only before the end
 pub some_within : (units : List ℕ) (place c : ℕ) → Some c ≡ slice_get (unit_scalars (drop place units)) 0 → place < length units
