@@ -1,7 +1,7 @@
 -- Eight code units that a destination writes at once, none of them a surrogate.
 use Rattle.std.proofs.{Common.{◌≡◌, ◌∙◌, ℕ, zero, suc, ◌+◌, ◌-◌, ◌≤◌, ◌<◌, List, [], ◌∷◌, ◌++◌, length, take, get_or, refl, ap}}
 use Rattle.std.proofs.{Common.{ap₂, arith, append-nil, append_assoc, length-append, w16, Fits}, lemmas.List.{length-take-le, flat_map_more, take_all}}
-use Rattle.std.proofs.{Math.Seq.take-suc, lemmas.Grind.common_steps}
+use Rattle.std.proofs.{lemmas.Grind.common_steps}
 use Rattle.std.proofs.{lemmas.Bool.cases_lt, lemmas.List.get_or_past, lemmas.Simd.{Each1-get_or, below_from_Fits}}
 use lib.Lanes.{Each1}
 use Rattle.legacy_text.specs.EncodingForm.{Utf16, all_code_units}
@@ -18,10 +18,6 @@ own-units zero units fits = refl
 own-units (suc n) [] fits = refl
 own-units (suc n) (u ∷ units) fits = ap₂ (λ (x y : List ℕ). x ++ y) (utf16_1 u fits.0.fits) (own-units n units fits.1)
 
--- one more code unit
-pub taken-more : (units : List ℕ) (k : ℕ) → k < length units → take (k + 1) units ≡ take k units ++ get_or units k 0 ∷ []
-taken-more units k within = let n : k + 1 ≡ suc k = omega arith in ap (λ m. take m units) n ∙ take-suc units k 0 within
-
 pub unit-below : (units : List ℕ) (k : ℕ) → Each1 (Fits w16) units → get_or units k 0 < 65536
 unit-below units k fits = grind (arith, cases_lt, Each1-get_or, below_from_Fits, w16, get_or_past)
 
@@ -31,6 +27,6 @@ pub ruleset room_steps = (common_steps, free-after)
 
 pub ruleset eight_steps = (common_steps, take_all)
 
-pub ruleset first_steps = (common_steps, append-nil, append_assoc, length-code_units-bmp, unit-below, flat_map_more, taken-more, total_unit_count-append)
+pub ruleset first_steps = (common_steps, append-nil, append_assoc, length-code_units-bmp, unit-below, flat_map_more, total_unit_count-append)
 
-pub ruleset ascii_steps = (common_steps, code_units_ascii, append_assoc, taken-more)
+pub ruleset ascii_steps = (common_steps, code_units_ascii, append_assoc)
