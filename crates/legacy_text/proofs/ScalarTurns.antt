@@ -6,14 +6,14 @@ use Rattle.std.proofs.{lemmas.List.{length-drop, get_or_append_left, get_or-appe
 use Rattle.std.proofs.{lemmas.Nat.Bits.{bit_at_lowest, bit_at-suc, bit_at_and, bit_at_or, bit_at_not, bit_at-lt}, lemmas.List.FromFn.get_or-map-range_with_len}
 use Rattle.std.proofs.{lemmas.Grind.common_steps, lemmas.Simd.{mask_l-lt, get_or_wider, Each1-from_get_or, Each1-get_or, get_or-chunk, length-chunk}}
 use Rattle.std.proofs.lemmas.Simd.{below_from_Fits, get_or-put_chunk_below, get_or-put_chunk_at, length-put_chunk, get_or-zip2, get_or-replicate}
+use Rattle.std.proofs.lemmas.Str.{encode_ascii}
 use Rattle.std.specs.{List.range_with_len, Int.{bit_at, bit_not, trailing_zeros}, Simd.Lanes.{zip2, number_l, digits_l, put_chunk, chunk, Each1}, Str.chars}
 use Rattle.std.specs.Str.{is_utf8}
 use lib.Utf8.{encode}
 use Rattle.legacy_text.specs.{EncodingForm.{Utf8, unit_count}, ShortScalars.ReadsScalar, ScalarTurns.{IsStart, IsUnitAt, ReadsUnits}, UnitCodes.IsNoSurrogate}
 use Rattle.legacy_text.specs.UnitTurns.{AreNoSurrogates}
 use Rattle.legacy_text.proofs.{Ascii.{mask_from, mask_from-is, mask_bit}, CodeUnits.{some_units, encode_2, encode_3, encode_4, total_unit_count-append}}
-use Rattle.std.proofs.lemmas.Str.{encode_ascii}
-use Rattle.legacy_text.proofs.{Texts.{by_first}, ShortScalars.{stands, reads_here, reads_ascii, one_count}}
+use Rattle.legacy_text.proofs.{Texts.by_first, ShortScalars.{stands, reads_here, reads_ascii, one_count}}
 
 -- ---- the lowest bit
 
@@ -21,9 +21,7 @@ use Rattle.legacy_text.proofs.{Texts.{by_first}, ShortScalars.{stands, reads_her
 less : (t n m : ℕ) → n ≡ suc m → bit_at n t ≡ 1 → ((i : ℕ) → i < t → bit_at n i ≡ 0) → (k : ℕ)
     → (k ≡ t → bit_at m k ≡ 0) × (t < k → bit_at m k ≡ bit_at n k)
 less zero n m e one none zero = grind (arith, bit_at_lowest)
-less zero n m e one none (suc k) =
-    let half : m / 2 ≡ n / 2 = omega (arith, bit_at_lowest n) in
-    (λ h. absurd (omega arith), λ h. bit_at-suc m k ∙ ap (λ x. bit_at x k) half ∙ sym (bit_at-suc n k))
+less zero n m e one none (suc k) = grind (arith, bit_at_lowest n, bit_at-suc)
 less (suc t) n m e one none zero = (λ h. absurd (omega arith), λ h. absurd (omega arith))
 less (suc t) n m e one none (suc k) =
     let half : n / 2 ≡ suc (m / 2) = omega (arith, bit_at_lowest n, none 0 (omega arith)) in
@@ -133,9 +131,6 @@ tail_at : (c k : ℕ) → 0 < k → k < unit_count Utf8 c → (128 ≤ get_or (e
 tail_at c k some few = grind (arith, nat_tests, common_steps, encode_ascii, encode_2, encode_3, encode_4)
 
 module _ (text : List ℕ) (place : ℕ) (inside : place < length text) (u : is_utf8 (drop place text) ≡ true) where
-  abbrev C : ℕ
-  C = get_or (chars (drop place text)) 0 0
-
   -- a scalar begins with such a byte
   pub start_here : IsStart (get_or text place 0)
   start_here = grind (arith, by_first, get_or-drop, stands text place inside u)

@@ -1,14 +1,12 @@
 -- Runs of scalars that were written as one byte each, and the scalars of one and two bytes of UTF-8.
 use Rattle.std.proofs.{lemmas.Bool.Decides.nat_tests, lemmas.Grind.common_steps, Common.{◌≡◌, ℕ, ◌+◌, ◌-◌, ◌*◌, ◌≤◌, ◌<◌, List, [], ◌∷◌, ◌++◌, length, get_or}}
-use Rattle.std.proofs.Common.{Bool, true, ◌&&◌, drop, sym, ap, arith, append_assoc, append-nil, length-append, length-drop, add-zero}
-use Rattle.std.proofs.{lemmas.List.{get_or_append_left, get_or-append-add, get_or-drop, drop-drop}, lemmas.Str.{encodes-chars, IsUtf8-from_is_utf8}}
-use Rattle.std.proofs.Math.Seq.{take-add}
+use Rattle.std.proofs.{Common.{true, drop, sym, ap, arith, append_assoc, append-nil, length-append, length-drop, add-zero}, lemmas.List.get_or_append_left}
+use Rattle.std.proofs.{lemmas.List.{get_or-append-add, get_or-drop, drop-drop}, lemmas.Str.{encodes-chars, IsUtf8-from_is_utf8}, Math.Seq.take-add}
 use Rattle.std.specs.Str.{chars, is_utf8}
 use lib.Utf8.{encodes}
 use Rattle.legacy_text.specs.{EncodingForm.{Utf8, code_units, unit_count, total_unit_count}, ShortScalars.{ReadsScalar, WritesScalars}, UnitCodes.WritesCodes}
 use Rattle.legacy_text.specs.NextScalars.{StandsAt}
-use Rattle.legacy_text.proofs.{CodeUnits.{total_unit_count-append}, Texts.{first_some, utf8_next, utf8_stands}}
-use Rattle.legacy_text.proofs.{Texts.by_first, UnitCopies.writes_none}
+use Rattle.legacy_text.proofs.{CodeUnits.total_unit_count-append, Texts.{first_some, utf8_next, utf8_stands, by_first}, UnitCopies.writes_none}
 
 -- ---- runs
 
@@ -40,22 +38,16 @@ scalars_append gives text start n place m behind old mid new a b =
 -- ---- one scalar
 
 module _ (text : List ℕ) (place : ℕ) (inside : place < length text) (u : is_utf8 (drop place text) ≡ true) where
-  abbrev Left : List ℕ
-  Left = chars (drop place text)
-
-  abbrev C : ℕ
-  C = get_or (chars (drop place text)) 0 0
-
   -- a text that is not at its end has a scalar
   some : 0 < length (chars (drop place text))
-  some = has Left (sym (encodes-chars (drop place text) (IsUtf8-from_is_utf8 (drop place text) u)))
+  some = has (chars (drop place text)) (sym (encodes-chars (drop place text) (IsUtf8-from_is_utf8 (drop place text) u)))
     where
       has : (l : List ℕ) → drop place text ≡ encodes l → 0 < length l
       has [] e = absurd (omega (arith, ap length e, length-drop place text))
       has (x ∷ l) e = omega arith
 
   pub stands : StandsAt text place (get_or (chars (drop place text)) 0 0)
-  stands = utf8_stands text place C u (first_some Left some)
+  stands = utf8_stands text place _ u (first_some (chars (drop place text)) some)
 
   pub reads_here : ReadsScalar text place (get_or (chars (drop place text)) 0 0) (place + unit_count Utf8 (get_or (chars (drop place text)) 0 0))
   reads_here = utf8_next text place (omega arith) u some
@@ -69,9 +61,3 @@ module _ (text : List ℕ) (place : ℕ) (inside : place < length text) (u : is_
       → (0x3080 ≤ get_or text place 0 * 64 + get_or text (place + 1) 0) × ReadsScalar text place (get_or text place 0 * 64 + get_or text (place + 1) 0 - 0x3080)
       (place + 2)
   reads_pair h short = grind (arith, by_first, get_or-drop, stands, reads_here)
-
--- ---- turns
-
--- each of three flags is set
-pub all_set : (a b c : Bool) → (a && b && c) ≡ true → (a ≡ true) × (b ≡ true) × (c ≡ true)
-all_set a b c h = grind arith

@@ -5,15 +5,14 @@ use Rattle.std.proofs.{lemmas.List.{drop-drop, take-append-drop, length-take-le,
 use Rattle.std.proofs.lemmas.Str.{IsUtf8-from_is_utf8, is_utf8-from_IsUtf8, encodes-chars, chars_past_char, IsUtf8-past_char, drop_past_char, length-encode}
 use Rattle.std.proofs.lemmas.Str.{utf16_chars-nil, len_utf8_bounds, utf16_chars_lone, utf16_chars_pair, encodes-append, scalars-chars, chars-encodes}
 use Rattle.std.proofs.lemmas.Str.{IsCharBoundary-at_seam, chars-append, chars-IsAscii, IsUtf8-from_ascii, IsUtf8-drop, IsCharBoundary-from_take}
-use Rattle.std.proofs.{lemmas.Str.IsCharBoundary-from_drop, str.Utf16.{IsPair, lone_unit_char_low, lone_unit_char_high, lone_unit_char_surrogate}}
-use Rattle.std.proofs.{str.Utf16.{utf16_chars-drop_lone, utf16_chars-drop_pair, utf16_chars-drop_all}, lemmas.Grind.common_steps}
+use Rattle.std.proofs.{lemmas.Str.{IsCharBoundary-from_drop, encode_ascii}, str.Utf16.{IsPair, lone_unit_char_low, lone_unit_char_high}}
+use Rattle.std.proofs.{str.Utf16.{lone_unit_char_surrogate, utf16_chars-drop_lone, utf16_chars-drop_pair, utf16_chars-drop_all}, lemmas.Grind.common_steps}
 use Rattle.std.specs.{Str.{chars, is_utf8, IsUtf8, IsCharBoundary}, Char.Utf16.{lone_unit_char, surrogate_pair_char, is_high_surrogate, is_low_surrogate}}
 use Rattle.std.specs.Option.{unwrap_or}
 use lib.{ListN.get_or-eq_default, Utf8.{encode, encodes, scalars}}
 use Rattle.legacy_text.specs.{EncodingForm.{EncodingForm, Utf8, Utf16, unit_count, all_code_units}, declared.text_cursor.Next.Next, NextScalars.StandsAt}
 use Rattle.legacy_text.specs.{NextScalars.{IsSized, IsNext}, UnitCodes.IsNoSurrogate, Texts.{unit_scalars, IsUnitBoundary}, ShortScalars.ReadsScalar}
 use Rattle.legacy_text.proofs.{Ascii.all_behind, CodeUnits.{some_units, encode_2, encode_3, encode_4, utf16_1, utf16_2, total_unit_count-append}}
-use Rattle.std.proofs.lemmas.Str.{encode_ascii}
 
 pub first_cons : {A : Type 0} (xs : List A) (x : A) → Some x ≡ slice_get xs 0 → xs ≡ x ∷ drop 1 xs
 first_cons xs x h = grind arith
@@ -56,12 +55,6 @@ by_first c rest = grind (arith, nat_tests, encode_ascii, encode_2, encode_3, enc
 
 abbrev pub replaced : Option ℕ → ℕ
 replaced o = unwrap_or o 0xFFFD
-
-pub scalars_one : (u : ℕ) (rest : List ℕ) → (IsPair u (get_or rest 0 0) → ⊥) → unit_scalars (u ∷ rest) ≡ replaced (lone_unit_char u) ∷ unit_scalars rest
-scalars_one u rest n = ap (map replaced) (utf16_chars_lone u rest n)
-
-scalars_two : (u v : ℕ) (rest : List ℕ) → IsPair u v → unit_scalars (u ∷ v ∷ rest) ≡ surrogate_pair_char u v ∷ unit_scalars rest
-scalars_two u v rest p = ap (map replaced) (utf16_chars_pair u v rest p)
 
 pub scalars_lone : (units : List ℕ) (at : ℕ) → at < length units → (IsPair (get_or units at 0) (get_or units (at + 1) 0) → ⊥) →
     unit_scalars (drop at units) ≡ unwrap_or (lone_unit_char (get_or units at 0)) 0xFFFD ∷ unit_scalars (drop (at + 1) units)
@@ -136,11 +129,11 @@ pub utf16_cut : (list taken left : List ℕ) → Bounded list → unit_scalars l
 utf16_cut list [] left b e = grind arith
 utf16_cut [] (c ∷ taken) left b e = let n : unit_scalars [] ≡ [] = ap (map replaced) utf16_chars-nil in let f : [] ≡ c ∷ (taken ++ left) = sym n ∙ e in cc
 utf16_cut (u ∷ []) (c ∷ taken) left b e =
-    grind (arith, scalars_one u [], unpaired_bound u (b 0), utf16_1 c, cut_lone u [] left, utf16_cut [] taken left (λ i. b (suc i)))
+    grind (arith, scalars_lone (u ∷ []) 0, unpaired_bound u (b 0), utf16_1 c, cut_lone u [] left, utf16_cut [] taken left (λ i. b (suc i)))
 utf16_cut (u ∷ v ∷ list) (c ∷ taken) left b e =
     let pair = utf16_cut list taken left (λ i. b (suc (suc i))) in
     let lone = utf16_cut (v ∷ list) taken left (λ i. b (suc i)) in
-    grind (arith, pair_or_not u v, scalars_one, scalars_two, unpaired_bound u (b 0), utf16_1 c, utf16_2 c, cut_lone, cut_pair)
+    grind (arith, pair_or_not u v, scalars_lone (u ∷ v ∷ list) 0, scalars_pair (u ∷ v ∷ list) 0, unpaired_bound u (b 0), utf16_1 c, utf16_2 c, cut_lone, cut_pair)
 
 -- what a call left of a whole text
 pub utf8_read : (text taken left : List ℕ) (read : ℕ) → IsUtf8 text → chars text ≡ taken ++ left →
@@ -167,7 +160,15 @@ pub bmp_scalars : (front others : List ℕ) → ((k : ℕ) → k < length front 
     unit_scalars (front ++ others) ≡ front ++ unit_scalars others
 bmp_scalars [] others bmp = refl
 bmp_scalars (u ∷ front) others bmp =
-    grind (arith, nat_tests, bmp 0, scalars_one, lone_unit_char_low, lone_unit_char_high, bmp_scalars front others (λ k h. bmp (suc k) (omega arith)))
+    grind (
+      arith,
+      nat_tests,
+      bmp 0,
+      scalars_lone (u ∷ (front ++ others)) 0,
+      lone_unit_char_low,
+      lone_unit_char_high,
+      bmp_scalars front others (λ k h. bmp (suc k) (omega arith)),
+    )
 
 -- The first n of the scalars that are left are these, and the others come after them.
 pub record IsFront (all front others : List ℕ) (n : ℕ) : Type 0 where
