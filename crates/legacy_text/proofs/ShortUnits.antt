@@ -16,9 +16,6 @@ short_is : (u : ℕ) → u < 65536
     ≡ short_bytes u
 short_is u small = grind (arith, common_steps, and_mask)
 
-short_small : (u : ℕ) → u < 65536 → short_bytes u < 65536
-short_small u small = grind arith
-
 abbrev vector_short : List ℕ → List ℕ
 vector_short v =
     sel_l (map (top 15) (zip2 (λ a b. cond (ltb a b) (2 ^ 16 - 1) 0) v (replicate 8 128))) v
@@ -30,7 +27,7 @@ pub vector_short_lanes : (v : List ℕ) → length v ≡ 8 → Each1 (Fits w16) 
 vector_short_lanes = of_eight _ (λ a b c d e f g h sa sb sc sd se sf sg sh.
     (λ t. digits_l 256 16 (number_l 65536 (short_is a sa t ∷ short_is b sb t ∷ short_is c sc t ∷ short_is d sd t
     ∷ short_is e se t ∷ short_is f sf t ∷ short_is g sg t ∷ short_is h sh t ∷ [])))
-    ∙ le_bytes_map short_bytes short_small (a ∷ b ∷ c ∷ d ∷ e ∷ f ∷ g ∷ h ∷ []) (sa, (sb, (sc, (sd, (se, (sf, (sg, (sh, tt)))))))))
+    ∙ le_bytes_map short_bytes (λ u small. grind arith) (a ∷ b ∷ c ∷ d ∷ e ∷ f ∷ g ∷ h ∷ []) (sa, (sb, (sc, (sd, (se, (sf, (sg, (sh, tt)))))))))
 
 -- ---- the code units of one byte
 

@@ -236,9 +236,7 @@ utf16_next list place bound some =
     let step = utf16_step list place (get_or left 0 0) (unit_count Utf16 (get_or left 0 0)) bound (some_within list place _ f) f in
     grind (arith, first_cons left (get_or left 0 0) f, step, utf16_1, utf16_2)
 
-pub ruleset utf8_advance_steps = (first_is, nat_tests, utf8_next, length-encode)
-
-pub ruleset utf16_advance_steps = (first_is, nat_tests, utf16_next, utf16_1, utf16_2)
+pub ruleset advance_steps = (first_is, nat_tests, utf8_next, length-encode, utf16_next, utf16_1, utf16_2)
 
 pub ruleset ascii_steps = (all_behind, length-drop, utf8_ascii, utf16_ascii)
 
@@ -246,8 +244,6 @@ pub ruleset unit_steps = (common_steps, scalars_lone, scalars_pair, scalars_end,
 
 pub ruleset next_steps = (is_next, first_cons, none_left, first_is, nat_tests, utf8_next, some_units, utf8_stands)
 
-pub ruleset boundary_steps = (IsCharBoundary-from_drop, IsUtf8-from_is_utf8)
-
-pub ruleset whole_text = (is_utf8-from_IsUtf8)
+pub ruleset text_steps = (IsCharBoundary-from_drop, IsUtf8-from_is_utf8, is_utf8-from_IsUtf8)
 
 pub ruleset by_bytes_steps = (by_first, get_or-drop, length-drop)

@@ -8,11 +8,6 @@ use Rattle.legacy_text.proofs.{CodeUnits.utf16_1, Texts.bmp_front}
 
 -- ---- blocks
 
--- the first `count` code units were written, and are no surrogates
-pub record GoesOn (gives : ℕ → ℕ → Type 0) (units : List ℕ) (count : ℕ) (old new : List ℕ) : Type 0 where
-  pub bmp : (k : ℕ) → k < count → IsNoSurrogate (get_or units k 0)
-  pub writes : WritesCodes gives units count old new
-
 -- the code units of a block after others
 pub block_behind : (gives : ℕ → ℕ → Type 0) (units old new front : List ℕ) (at copied r : ℕ) (block marks : List ℕ)
     → copied + 16 ≤ length units → r ≤ 16 → length block ≡ 16
@@ -20,7 +15,7 @@ pub block_behind : (gives : ℕ → ℕ → Type 0) (units old new front : List 
     × gives (get_or (take (length units - copied) (drop copied units)) k 0) (get_or block k 0))
     → IsAscii (take r marks) → take (at + copied + r) new ≡ take (at + copied) old ++ take r block
     → ((k : ℕ) → k < copied → IsNoSurrogate (get_or units k 0)) → WritesCodes gives units copied front (take (at + copied) old)
-    → GoesOn gives units (copied + r) front (take (at + (copied + r)) new)
+    → ((k : ℕ) → k < copied + r → IsNoSurrogate (get_or units k 0)) × WritesCodes gives units (copied + r) front (take (at + (copied + r)) new)
 block_behind gives units old new front at copied r block marks within few long codes ascii stored bmp writes =
     grind (arith, nat_tests, append_assoc, length-append, length-take-le, get_or_append_left, writes, behind, byte)
   where

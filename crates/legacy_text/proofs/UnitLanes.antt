@@ -54,12 +54,6 @@ pub le_bytes_map : (f : ℕ → ℕ) → ((u : ℕ) → u < 65536 → f u < 6553
 le_bytes_map f below [] small = refl
 le_bytes_map f below (u ∷ us) small = grind (arith, below u small.0, le_bytes_map f below us small.1)
 
-pub last_small : (u : ℕ) → u < 65536 → last_byte u < 65536
-last_small u small = grind arith
-
-pub front_small : (u : ℕ) → u < 65536 → front_bytes u < 65536
-front_small u small = grind arith
-
 -- ---- vectors of eight code units
 
 pub vector_last : (v : List ℕ) → length v ≡ 8 → Each1 (Fits w16) v → sel_l (map (top 15) (zip2 (λ a b. cond (ltb a b) (2 ^ 16 - 1) 0) v (replicate 8 128))) v
@@ -83,7 +77,7 @@ by_turns (u ∷ us) = last_byte u ∷ front_bytes u ∷ by_turns us
 
 both_bytes : (us : List ℕ) → Each1 (λ u. u < 65536) us → digits_l 256 (doubled (by_turns us)) (number_l 65536 (by_turns us)) ≡ halves (by_turns us)
 both_bytes [] small = refl
-both_bytes (u ∷ us) small = grind (arith, last_small u small.0, front_small u small.0, both_bytes us small.1)
+both_bytes (u ∷ us) small = grind (arith, nat_tests, small.0, both_bytes us small.1)
 
 pub vector_lanes : (v : List ℕ) → length v ≡ 8 → Each1 (Fits w16) v
     → (digits_l 256 16 (number_l 65536 (pick_l 0 (map last_byte v ++ map front_bytes v) (0 ∷ 8 ∷ 1 ∷ 9 ∷ 2 ∷ 10 ∷ 3 ∷ 11 ∷ []))) ≡ lanes (take 4 v))
@@ -102,11 +96,8 @@ marks u = (cond (top 15 (cond (ltb u 128) (2 ^ 16 - 1) 0)) 255 0 + cond (top 15 
 abbrev marked : ℕ → Bool
 marked b = top 7 (cond (leb 128 b) (2 ^ 8 - 1) 0)
 
-low_mark : (u : ℕ) → marked (marks u % 256) ≡ ltb u 128
-low_mark u = grind arith
-
-high_mark : (u : ℕ) → marked (marks u / 256) ≡ ltb u 2048
-high_mark u = grind arith
+mark : (u : ℕ) → (marked (marks u % 256) ≡ ltb u 128) × (marked (marks u / 256) ≡ ltb u 2048)
+mark u = (grind arith, grind arith)
 
 abbrev pub vector_bits : List ℕ → ℕ
 vector_bits v =
@@ -129,8 +120,8 @@ patterns_are = of_eight _ (λ a b c d e f g h sa sb sc sd se sf sg sh.
     let all = a ∷ b ∷ c ∷ d ∷ e ∷ f ∷ g ∷ h ∷ [] in
     let marked_are : vector_bits all ≡ mask_l (flags all) % 2 ^ 64 =
     ap all_marked (le_bytes_map marks (λ u _. mod-lt _ (zero-lt-suc 65535)) all (sa, (sb, (sc, (sd, (se, (sf, (sg, (sh, tt)))))))))
-    ∙ (λ t. mask_l (low_mark a t ∷ high_mark a t ∷ low_mark b t ∷ high_mark b t ∷ low_mark c t ∷ high_mark c t ∷ low_mark d t ∷ high_mark d t
-    ∷ low_mark e t ∷ high_mark e t ∷ low_mark f t ∷ high_mark f t ∷ low_mark g t ∷ high_mark g t ∷ low_mark h t ∷ high_mark h t ∷ []) % 2 ^ 64) in
+    ∙ (λ t. mask_l ((mark a).0 t ∷ (mark a).1 t ∷ (mark b).0 t ∷ (mark b).1 t ∷ (mark c).0 t ∷ (mark c).1 t ∷ (mark d).0 t ∷ (mark d).1 t
+    ∷ (mark e).0 t ∷ (mark e).1 t ∷ (mark f).0 t ∷ (mark f).1 t ∷ (mark g).0 t ∷ (mark g).1 t ∷ (mark h).0 t ∷ (mark h).1 t ∷ []) % 2 ^ 64) in
     let whole : vector_bits all ≡ mask_l (flags (take 4 all)) + 256 * mask_l (flags (drop 4 all)) =
     marked_are ∙ mask_l-mod (flags all) 64 (omega arith) ∙ mask_append (flags (take 4 all)) (flags (drop 4 all)) in
     let front : mask_l (flags (take 4 all)) < 256 = mask_l-lt (flags (take 4 all)) in

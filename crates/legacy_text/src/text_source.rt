@@ -74,7 +74,7 @@ pub struct Utf8Source<'a> {
 
 /// Returns the scalar at a place of a text, or `None` at its end.
 #[inline]
-#[tactic(auto, using(crate::proofs::Texts::boundary_steps))]
+#[tactic(auto, using(crate::proofs::Texts::text_steps))]
 fn scalar_at(text: &str, place: usize) -> Option<char>
     requires in_range { place ≤ length text.now }
     requires is_text { is_utf8 (drop place text.now) ≡ true }
@@ -165,7 +165,7 @@ impl<'a> Utf8Source<'a> {
     ghost use Rattle.legacy_text.specs.TextSources.{utf8_text, utf8_place};
 
     /// Returns a source before the first scalar of the text.
-    #[tactic(auto, using(crate::proofs::Texts::whole_text))]
+    #[tactic(auto, using(crate::proofs::Texts::text_steps))]
     pub fn new(text: &'a str) -> Utf8Source<'a>
         ensures text { utf8_text result ≡ text.now }
         ensures place { utf8_place result ≡ 0 }
@@ -189,7 +189,7 @@ impl Source for Utf8Source<'_> {
     }
 
     #[inline]
-    #[tactic(auto, using(crate::proofs::Texts::utf8_advance_steps))]
+    #[tactic(auto, using(crate::proofs::Texts::advance_steps))]
     fn advance(&mut self) {
         if let Some(c) = scalar_at(self.text, self.place) {
             self.place += c.len_utf8();
@@ -362,7 +362,7 @@ impl Source for Utf16Source<'_> {
     }
 
     #[inline]
-    #[tactic(auto, using(crate::proofs::Texts::utf16_advance_steps))]
+    #[tactic(auto, using(crate::proofs::Texts::advance_steps))]
     fn advance(&mut self) {
         if let Some(c) = unit_scalar_at(self.units, self.place) {
             self.place += c.len_utf16();
