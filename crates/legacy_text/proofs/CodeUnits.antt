@@ -1,9 +1,10 @@
 -- The bytes of a scalar, by its range.
 use Rattle.std.proofs.Common.{◌≡◌, ◌∙◌, ℕ, ◌+◌, ◌-◌, ◌/◌, ◌%◌, ◌≤◌, ◌<◌, List, [], ◌∷◌, ◌++◌, length, refl, ap, arith, append_assoc, length-append, inl, inr}
-use Rattle.std.proofs.{lemmas.List.Concat.flat_map-append, lemmas.Bool.{lt-ltb, le-ltb}, lemmas.Bool.Decides.nat_tests, lemmas.Str.encode_ascii}
+use Rattle.std.proofs.{Common.{get_or, suc}, lemmas.List.Concat.flat_map-append, lemmas.Bool.{lt-ltb, le-ltb}, lemmas.Bool.Decides.nat_tests}
+use Rattle.std.proofs.lemmas.Str.{encode_ascii}
 use Rattle.std.specs.Char.Escape.{encode_utf16}
 use lib.Utf8.{encode}
-use Rattle.legacy_text.specs.EncodingForm.{EncodingForm, code_units, all_code_units, unit_count, total_unit_count, Utf8, bmp_room, wide_room}
+use Rattle.legacy_text.specs.EncodingForm.{Utf16, EncodingForm, code_units, all_code_units, unit_count, total_unit_count, Utf8, bmp_room, wide_room}
 
 pub encode_2 : (c : ℕ) → 128 ≤ c → c < 2048 → encode c ≡ (192 + c / 64) ∷ (128 + c % 64) ∷ []
 unfolding encode
@@ -54,3 +55,8 @@ all_code_units-append form xs ys = flat_map-append (code_units form) xs ys
 
 pub total_unit_count-append : (form : EncodingForm) (xs ys : List ℕ) → total_unit_count form (xs ++ ys) ≡ total_unit_count form xs + total_unit_count form ys
 total_unit_count-append form xs ys = ap length (all_code_units-append form xs ys) ∙ length-append (all_code_units form xs) (all_code_units form ys)
+
+-- code units of 16 bits are their own code units in UTF-16
+pub own_units : (us : List ℕ) → ((k : ℕ) → k < length us → get_or us k 0 < 65536) → all_code_units Utf16 us ≡ us
+own_units [] b = refl
+own_units (u ∷ us) b = grind (arith, utf16_1, b 0, own_units us (λ k h. b (suc k) (omega arith)))

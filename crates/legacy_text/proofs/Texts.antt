@@ -153,22 +153,15 @@ utf16_read list taken left read b e p =
 pub unit_boundary : (list left : List ℕ) (place : ℕ) → CutUnits list left place → IsUnitBoundary list place
 unit_boundary list left place h = grind arith
 
--- ---- a front that is ASCII
+-- ---- a front that is ASCII, or has no surrogates
 
 -- code units that are not surrogates are their own scalars
 pub bmp_scalars : (front others : List ℕ) → ((k : ℕ) → k < length front → IsNoSurrogate (get_or front k 0)) →
     unit_scalars (front ++ others) ≡ front ++ unit_scalars others
 bmp_scalars [] others bmp = refl
 bmp_scalars (u ∷ front) others bmp =
-    grind (
-      arith,
-      nat_tests,
-      bmp 0,
-      scalars_lone (u ∷ (front ++ others)) 0,
-      lone_unit_char_low,
-      lone_unit_char_high,
-      bmp_scalars front others (λ k h. bmp (suc k) (omega arith)),
-    )
+    let rest = bmp_scalars front others (λ k h. bmp (suc k) (omega arith)) in
+    grind (arith, nat_tests, bmp 0, scalars_lone (u ∷ (front ++ others)) 0, lone_unit_char_low, lone_unit_char_high)
 
 -- The first n of the scalars that are left are these, and the others come after them.
 pub record IsFront (all front others : List ℕ) (n : ℕ) : Type 0 where

@@ -4,7 +4,7 @@ use Rattle.std.proofs.{Common.{ap, subst, arith, append_assoc, append-nil, lengt
 use Rattle.std.proofs.lemmas.List.{get_or-append-add, get_or-drop, length-take-le, get_or-take, take_all, take-append-drop}
 use Rattle.legacy_text.specs.{EncodingForm.{Utf16, total_unit_count}, Texts.unit_scalars, UnitCodes.{IsNoSurrogate, WritesCodes}, UnitTurns.AreNoSurrogates}
 use Rattle.legacy_text.specs.UnitTurns.{TakesUnits}
-use Rattle.legacy_text.proofs.{CodeUnits.utf16_1, Texts.bmp_front}
+use Rattle.legacy_text.proofs.{CodeUnits.own_units, Texts.bmp_front}
 
 -- ---- blocks
 
@@ -31,15 +31,10 @@ writes_none gives units old new e = record { bytes = []; new_is = e ∙ sym (app
 
 -- ---- code units that are not surrogates
 
--- a scalar of 16 bits is one code unit
-narrow_units : (front : List ℕ) → ((k : ℕ) → k < length front → get_or front k 0 < 65536) → total_unit_count Utf16 front ≡ length front
-narrow_units [] b = refl
-narrow_units (u ∷ front) b = grind (arith, utf16_1, b 0, length-append, narrow_units front (λ k h. b (suc k) (omega arith)))
-
 module _ (list : List ℕ) (place n : ℕ) (bound : (k : ℕ) → get_or list k 0 < 65536) (within : n ≤ length (drop place list))
     (bmp : (k : ℕ) → k < n → IsNoSurrogate (get_or (drop place list) k 0)) where
   pub bmp_count : total_unit_count Utf16 (take n (unit_scalars (drop place list))) ≡ n
-  bmp_count = grind (arith, nat_tests, bmp_front list place n within bmp, narrow_units, length-take-le, get_or-take, get_or-drop)
+  bmp_count = grind (arith, nat_tests, bmp_front list place n within bmp, own_units, length-take-le, get_or-take, get_or-drop)
 
   pub bmp_writes : (gives : ℕ → ℕ → Type 0) (old new : List ℕ) → WritesCodes gives (drop place list) n old new
       → WritesCodes gives (unit_scalars (drop place list)) n old new
