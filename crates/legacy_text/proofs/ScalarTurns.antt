@@ -83,7 +83,7 @@ each_sixteenth f x bytes place within k h =
     ∙ ap₂ f (get_or-chunk place 16 bytes k 0 h) (get_or-replicate 16 k x 0 h)
 
 -- the lanes of a vector of bytes
-pub below_256 : (v : List ℕ) → Each1 (Fits w8) v → (i : ℕ) → get_or v i 0 < 256
+below_256 : (v : List ℕ) → Each1 (Fits w8) v → (i : ℕ) → get_or v i 0 < 256
 below_256 v fits i = grind (arith, cases_lt, Each1-get_or, below_from_Fits, w8, get_or_past)
 
 -- the interleaved entries of two lists of sixteen, n of each from `a` on
@@ -96,7 +96,7 @@ words : (n a : ℕ) (xs : List ℕ) → ((i : ℕ) → get_or xs i 0 < 256)
 words zero a xs are = refl
 words (suc n) a xs are = grind (arith, are a, are (a + 16), words n (a + 1) xs are)
 
-module _ (lows highs : List ℕ) (count : length lows ≡ 16) (are_low : (i : ℕ) → get_or lows i 0 < 256) (are_high : (i : ℕ) → get_or highs i 0 < 256) where
+module _ (lows highs : List ℕ) (count : length lows ≡ 16) (low : Each1 (Fits w8) lows) (high : Each1 (Fits w8) highs) where
   low_at : (i : ℕ) → i < 16 → get_or (lows ++ highs) i 0 ≡ get_or lows i 0
   low_at i h = grind (arith, get_or_append_left)
 
@@ -104,7 +104,7 @@ module _ (lows highs : List ℕ) (count : length lows ≡ 16) (are_low : (i : �
   high_at i = grind (arith, get_or-append-add)
 
   are : (i : ℕ) → get_or (lows ++ highs) i 0 < 256
-  are i = grind (arith, nat_tests, low_at, high_at (i - 16))
+  are i = grind (arith, nat_tests, low_at, high_at (i - 16), below_256 lows low i, below_256 highs high (i - 16))
 
   -- a lane of eight of them, from one on
   pub joined_lane : (a k i : ℕ) → a + k ≡ i → i < 16 → k < 8

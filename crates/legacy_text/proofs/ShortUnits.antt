@@ -78,7 +78,8 @@ short_text_of_eight = of_eight _ (λ a b c d e f g h sa sb sc sd se sf sg sh sho
 
 pub units_below : (n : ℕ) (xs : List ℕ) → length xs ≡ 8
     → eqb (mask_l (map (top 15) (zip2 (λ a b. cond (ltb a b) (2 ^ 16 - 1) 0) xs (replicate 8 n))) % 2 ^ 64) 255 ≡ true → All (λ x. x < n) xs
-units_below n xs long whole = grind (arith, common_steps, nat_tests, bitmask_splat w16 ltb xs 8 n, bit_mask_l (map (λ x. ltb x n) xs), bit_at_ones 8, get_or-map)
+units_below n xs long whole =
+    grind (arith, common_steps, nat_tests, bitmask_splat w16 ltb xs 8 n, bit_mask_l (map (λ x. ltb x n) xs), bit_at_ones 8, get_or-map)
 
 pub units_all_below : (n : ℕ) (xs : List ℕ) → length xs ≡ 8 → All (λ x. x < n) xs
     → eqb (mask_l (map (top 15) (zip2 (λ a b. cond (ltb a b) (2 ^ 16 - 1) 0) xs (replicate 8 n))) % 2 ^ 64) 255 ≡ true

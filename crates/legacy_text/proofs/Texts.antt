@@ -133,7 +133,8 @@ utf16_cut (u ∷ []) (c ∷ taken) left b e =
 utf16_cut (u ∷ v ∷ list) (c ∷ taken) left b e =
     let pair = utf16_cut list taken left (λ i. b (suc (suc i))) in
     let lone = utf16_cut (v ∷ list) taken left (λ i. b (suc i)) in
-    grind (arith, pair_or_not u v, scalars_lone (u ∷ v ∷ list) 0, scalars_pair (u ∷ v ∷ list) 0, unpaired_bound u (b 0), utf16_1 c, utf16_2 c, cut_lone, cut_pair)
+    let few = unpaired_bound u (b 0) in
+    grind (arith, pair_or_not u v, scalars_lone (u ∷ v ∷ list) 0, scalars_pair (u ∷ v ∷ list) 0, few, utf16_1 c, utf16_2 c, cut_lone, cut_pair)
 
 -- what a call left of a whole text
 pub utf8_read : (text taken left : List ℕ) (read : ℕ) → IsUtf8 text → chars text ≡ taken ++ left →

@@ -4,8 +4,12 @@ use Rattle.legacy_text.proofs.destination.Destination.put_front.Goals as goal
 
 pub put_block-requires-clause-ascii : goal.put_block-requires-clause-ascii
 put_block-requires-clause-ascii g c =
-    let e = c.wide_ascii_count.ensures in ascii_source c.args.bytes.now 64 _ _ (omega (arith, c.min-count.ensures)) (omega (arith, e.most, c.min-count.ensures)) e.ascii
+    let e = c.wide_ascii_count.ensures in
+    let n = c.min-count.ensures in
+    ascii_source c.args.bytes.now 64 _ _ (omega (arith, n)) (omega (arith, e.most, n)) e.ascii
 
 pub returns-clause-ascii : goal.returns-clause-ascii
 returns-clause-ascii g c =
-    let e = c.wide_ascii_count.ensures in ascii_source c.args.bytes.now 64 _ _ (omega (arith, c.min-count.ensures)) (omega (arith, e.most, c.min-count.ensures)) e.ascii
+    let e = c.wide_ascii_count.ensures in
+    let n = c.min-count.ensures in
+    ascii_source c.args.bytes.now 64 _ _ (omega (arith, n)) (omega (arith, e.most, n)) e.ascii
