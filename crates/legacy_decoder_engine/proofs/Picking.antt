@@ -8,7 +8,7 @@ use Rattle.std.proofs.{lemmas.Nat.{and_mask, pow_pos}, lemmas.Nat.Bits.ones_shr,
 use Rattle.std.specs.{List.range_with_len, Int.RustNames.count_ones, Int.Bits.bit_and}
 use lib.{Lanes.{Each1, number_l, digits_l, all_below, chunk, put_chunk}, Pow.{field, mod-mod-pow, shr-shr}}
 use Rattle.legacy_text.proofs.UnitLanes.{shuffled, each_below}
-use Rattle.legacy_decoder_engine.specs.{PickedForms.{places, pairs, row, code_at}, declared.pick_rows.TheConstants.PICKED}
+use Rattle.legacy_decoder_engine.specs.{PickedForms.{places, pairs, row, code_at}, declared.picks.TheConstants.PICKED}
 
 abbrev pub eight_places : ℕ → List ℕ
 eight_places x = take 8 (places 0 8 x ++ replicate 8 0)

@@ -13,7 +13,6 @@ pub mod lead_and_trail;
 pub mod lead_decoder;
 pub mod moves;
 pub mod past_ascii;
-mod pick_rows;
 mod picks;
 pub mod places;
 pub mod read_ahead;

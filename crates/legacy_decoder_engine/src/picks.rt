@@ -4,7 +4,7 @@ ghost use Rattle.std.specs.Prelude.{◌≡◌, ℕ, ◌+◌, ◌*◌, ◌<◌, �
 ghost use Rattle.std.specs.List.{range_with_len};
 ghost use Rattle.legacy_decoder_engine.specs.PickedForms.{places, code_at, forms_of, ArePast, AreStarts, IsEnd};
 
-use crate::pick_rows::PICKED;
+use legacy_text::row_table;
 use std::simd::prelude::*;
 
 /// The bit of every second byte.
@@ -28,6 +28,10 @@ pub fn form_starts(past: u64) -> Option<u64>
         None
     }
 }
+
+/// For each set of places, each of them and the place after it, in order, and then places without meaning.
+pub static PICKED: [[u8; 16]; 256] = row_table!([0 1];
+    [[] [0 1] [1 2] [0 1 1 2]] [[] [2 3] [3 4] [2 3 3 4]] [[] [4 5] [5 6] [4 5 5 6]] [[] [6 7] [7 8] [6 7 7 8]]);
 
 /// Returns a row of a table.
 #[inline(always)]

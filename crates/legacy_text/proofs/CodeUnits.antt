@@ -1,13 +1,10 @@
 -- The bytes of a scalar, by its range.
 use Rattle.std.proofs.Common.{◌≡◌, ◌∙◌, ℕ, ◌+◌, ◌-◌, ◌/◌, ◌%◌, ◌≤◌, ◌<◌, List, [], ◌∷◌, ◌++◌, length, refl, ap, arith, append_assoc, length-append, inl, inr}
-use Rattle.std.proofs.{lemmas.List.Concat.flat_map-append, lemmas.Bool.{cases_lt, lt-ltb, le-ltb}, lemmas.Bool.Decides.nat_tests}
-use lib.Utf8.{encode}
-use Rattle.legacy_text.specs.EncodingForm.{EncodingForm, code_units, all_code_units, unit_count, total_unit_count, Utf8, bmp_room, wide_room}
+use Rattle.std.proofs.{Common.{get_or, suc}, lemmas.List.Concat.flat_map-append, lemmas.Bool.{lt-ltb, le-ltb}, lemmas.Bool.Decides.nat_tests}
+use Rattle.std.proofs.lemmas.Str.{encode_ascii}
 use Rattle.std.specs.Char.Escape.{encode_utf16}
-
-pub encode_1 : (c : ℕ) → c < 128 → encode c ≡ c ∷ []
-unfolding encode
-encode_1 c a = rw (lt-ltb c 128 a) refl
+use lib.Utf8.{encode}
+use Rattle.legacy_text.specs.EncodingForm.{Utf16, EncodingForm, code_units, all_code_units, unit_count, total_unit_count, Utf8, bmp_room, wide_room}
 
 pub encode_2 : (c : ℕ) → 128 ≤ c → c < 2048 → encode c ≡ (192 + c / 64) ∷ (128 + c % 64) ∷ []
 unfolding encode
@@ -21,21 +18,8 @@ pub encode_4 : (c : ℕ) → 65536 ≤ c → encode c ≡ (240 + c / 262144) ∷
 unfolding encode
 encode_4 c a = let b : 128 ≤ c = omega arith in let d : 2048 ≤ c = omega arith in rw (le-ltb c 128 b, le-ltb c 2048 d, le-ltb c 65536 a) refl
 
-pub one_below : (c : ℕ) → unit_count Utf8 c ≡ 1 → c < 128
-one_below c e = grind (arith, nat_tests, encode_2, encode_3, encode_4)
-
--- a scalar of two or three bytes in UTF-8 is below a power of two
-pub two_below : (c : ℕ) → unit_count Utf8 c ≡ 2 → c < 2048
-two_below c e = grind (arith, nat_tests, encode_3, encode_4)
-
-pub two_above : (c : ℕ) → unit_count Utf8 c ≡ 2 → 128 ≤ c
-two_above c e = elim (cases_lt c 128) [ inl a ↦ absurd (omega (arith, ap length (encode_1 c a))) | inr a ↦ a ]
-
-pub three_above : (c : ℕ) → unit_count Utf8 c ≡ 3 → 2048 ≤ c
-three_above c e = grind (arith, nat_tests, encode_1, encode_2)
-
-pub three_below : (c : ℕ) → unit_count Utf8 c ≡ 3 → c < 65536
-three_below c e = elim (cases_lt c 65536) [ inl a ↦ a | inr a ↦ absurd (omega (arith, ap length (encode_4 c a))) ]
+pub some_units : (c : ℕ) → 0 < unit_count Utf8 c
+some_units c = grind (arith, nat_tests, encode_ascii, encode_2, encode_3, encode_4)
 
 pub utf16_1 : (c : ℕ) → c < 65536 → encode_utf16 c ≡ c ∷ []
 utf16_1 c a = rw (lt-ltb c 65536 a) refl
@@ -45,12 +29,15 @@ utf16_2 c a = rw (le-ltb c 65536 a) refl
 
 pub ruleset encoding_utf16 = (utf16_1, utf16_2)
 
-pub ruleset encoding = (encode_1, encode_2, encode_3, encode_4, append_assoc)
+pub ruleset encoding = (encode_ascii, encode_2, encode_3, encode_4, append_assoc)
 
 -- a scalar up to U+FFFF fits into the room for one
 pub length-code_units-bmp : (form : EncodingForm) (c : ℕ) → c < 65536 → length (code_units form c) ≤ bmp_room form
 unfolding encode
 length-code_units-bmp form c h = grind (arith, nat_tests)
+
+-- the lemma for room that is tested for any scalar
+pub ruleset bmp_fits = (length-code_units-bmp)
 
 -- any scalar fits into the room for any scalar
 pub length-code_units-wide : (form : EncodingForm) (c : ℕ) → length (code_units form c) ≤ wide_room form
@@ -59,11 +46,10 @@ length-code_units-wide form c = grind (arith, nat_tests)
 
 -- an ASCII scalar is its own code unit
 pub code_units_ascii : (form : EncodingForm) (c : ℕ) → c < 128 → code_units form c ≡ c ∷ []
-code_units_ascii form c h = grind (arith, encode_1, utf16_1)
+code_units_ascii form c h = grind (arith, encode_ascii, utf16_1)
 
 pub length-code_units-ascii : (form : EncodingForm) (c : ℕ) → c < 128 → length (code_units form c) ≡ 1
-unfolding encode
-length-code_units-ascii form c h = grind (arith, nat_tests)
+length-code_units-ascii form c h = ap length (code_units_ascii form c h)
 
 -- ---- more scalars at the end
 
@@ -73,5 +59,7 @@ all_code_units-append form xs ys = flat_map-append (code_units form) xs ys
 pub total_unit_count-append : (form : EncodingForm) (xs ys : List ℕ) → total_unit_count form (xs ++ ys) ≡ total_unit_count form xs + total_unit_count form ys
 total_unit_count-append form xs ys = ap length (all_code_units-append form xs ys) ∙ length-append (all_code_units form xs) (all_code_units form ys)
 
--- the lemma for room that is tested for any scalar
-pub ruleset bmp_fits = (length-code_units-bmp)
+-- code units of 16 bits are their own code units in UTF-16
+pub own_units : (us : List ℕ) → ((k : ℕ) → k < length us → get_or us k 0 < 65536) → all_code_units Utf16 us ≡ us
+own_units [] b = refl
+own_units (u ∷ us) b = grind (arith, utf16_1, b 0, own_units us (λ k h. b (suc k) (omega arith)))

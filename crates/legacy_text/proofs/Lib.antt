@@ -4,7 +4,6 @@ pub mod ShortScalars
 pub mod Ascii
 pub mod Texts
 pub mod UnitCopies
-pub mod UnitTurns
 pub mod ScalarTurns
 pub mod UnitLanes
 pub mod VectorUnits

@@ -1,53 +1,41 @@
 -- Bits that say where scalars begin, and the scalars of one and three bytes of UTF-8 between them.
 use Rattle.std.proofs.{lemmas.Bool.Decides.nat_tests, Common.{◌≡◌, ◌↔◌, ◌∙◌, ℕ, zero, suc, ◌+◌, ◌-◌, ◌*◌, ◌/◌, ◌%◌, ◌^◌, ◌≤◌, ◌<◌, List, [], ◌∷◌, ◌++◌, length}}
-use Rattle.std.proofs.Common.{get_or, true, max, take, drop, replicate, refl, ap, ap₂, subst, arith, append_assoc}
-use Rattle.std.proofs.{Common.{length-append, add-zero, slice_set, w8, w32, Fits, bit_and, bit_or}, Math.Nat.{mod-lt, pow-suc}}
-use Rattle.std.proofs.{lemmas.Bool.cases_lt, lemmas.List.{get_or-set_same, get_or-set_other, get_or_past, length-drop, get_or_append_left, get_or-append-add}}
-use Rattle.std.proofs.{lemmas.List.{get_or-drop, get_or-take, length-map, length-take-le}, lemmas.Nat.{pow_pos}, lemmas.Nat.Bits.bit_at-trailing_zeros}
-use Rattle.std.proofs.lemmas.Nat.Bits.{bit_at-pow_same, bit_at-pow_other, bit_at_and, bit_at_or, bit_at_not, bit_at_ones_above, bit_at_cat_low, bit_at_cat_high}
-use Rattle.std.proofs.{lemmas.Nat.Bits.{same_from_bits_below, bit_at-lt}, lemmas.Simd.{mask_l-lt, get_or_wider, Each1-from_get_or, Each1-get_or}}
+use Rattle.std.proofs.Common.{get_or, true, max, map, take, drop, replicate, refl, ap, ap₂, sym, subst, arith, append_assoc, length-append, add-zero, slice_set}
+use Rattle.std.proofs.{Common.{w8, w32, Fits, bit_and, bit_or, cond, leb}, lemmas.Bool.cases_lt, lemmas.List.{get_or-set_same, get_or-set_other, get_or_past}}
+use Rattle.std.proofs.{lemmas.List.{length-drop, get_or_append_left, get_or-append-add, get_or-drop, length-map}, lemmas.Nat.Bits.bit_at-trailing_zeros}
+use Rattle.std.proofs.{lemmas.Nat.Bits.{bit_at_lowest, bit_at-suc, bit_at_and, bit_at_or, bit_at_not, bit_at-lt}, lemmas.List.FromFn.get_or-map-range_with_len}
+use Rattle.std.proofs.{lemmas.Grind.common_steps, lemmas.Simd.{mask_l-lt, get_or_wider, Each1-from_get_or, Each1-get_or, get_or-chunk, length-chunk}}
 use Rattle.std.proofs.lemmas.Simd.{below_from_Fits, get_or-put_chunk_below, get_or-put_chunk_at, length-put_chunk, get_or-zip2, get_or-replicate}
-use Rattle.std.proofs.lemmas.Str.{length-encode, len_utf8_bounds}
-use Rattle.std.specs.{Int.{bit_at, bit_not, trailing_zeros}, Simd.Lanes.{zip2, number_l, digits_l, put_chunk, Each1}, Str.{chars, is_utf8}}
+use Rattle.std.proofs.lemmas.Str.{encode_ascii}
+use Rattle.std.specs.{List.range_with_len, Int.{bit_at, bit_not, trailing_zeros}, Simd.Lanes.{zip2, number_l, digits_l, put_chunk, chunk, Each1}, Str.chars}
+use Rattle.std.specs.Str.{is_utf8}
 use lib.Utf8.{encode}
-use Rattle.legacy_text.specs.{EncodingForm.{Utf8, unit_count}, NextScalars.StandsAt, ShortScalars.ReadsScalar}
-use Rattle.legacy_text.specs.{ScalarTurns.{IsStart, IsUnitAt, ReadsUnits}, UnitCodes.IsNoSurrogate, UnitTurns.AreNoSurrogates}
-use Rattle.legacy_text.proofs.{Ascii.{mask_from, mask_from-is, mask_bit}, CodeUnits.{encode_1, encode_2, encode_3, encode_4, total_unit_count-append}}
-use Rattle.legacy_text.proofs.Texts.{made_of_three, first_some, first_cons, utf8_pass, utf8_stands, stands_byte}
-use Rattle.legacy_text.proofs.ShortScalars.{some_left, reads_ascii, one_count}
+use Rattle.legacy_text.specs.{EncodingForm.{Utf8, unit_count}, ShortScalars.ReadsScalar, ScalarTurns.{IsStart, IsUnitAt, ReadsUnits}, UnitCodes.IsNoSurrogate}
+use Rattle.legacy_text.specs.UnitTurns.{AreNoSurrogates}
+use Rattle.legacy_text.proofs.{Ascii.{mask_from, mask_from-is, mask_bit}, CodeUnits.{some_units, encode_2, encode_3, encode_4, total_unit_count-append}}
+use Rattle.legacy_text.proofs.{Texts.by_first, ShortScalars.{stands, reads_here, reads_ascii, one_count}}
 
 -- ---- the lowest bit
 
-module _ (n : ℕ) (some : 0 < n) (fits : n < 2 ^ 32) where
-  abbrev T : ℕ
-  T = trailing_zeros w32 n
+-- the bits of the number before n, from the lowest bit of n on
+less : (t n m : ℕ) → n ≡ suc m → bit_at n t ≡ 1 → ((i : ℕ) → i < t → bit_at n i ≡ 0) → (k : ℕ)
+    → (k ≡ t → bit_at m k ≡ 0) × (t < k → bit_at m k ≡ bit_at n k)
+less zero n m e one none zero = grind (arith, bit_at_lowest)
+less zero n m e one none (suc k) = grind (arith, bit_at_lowest n, bit_at-suc)
+less (suc t) n m e one none zero = (λ h. absurd (omega arith), λ h. absurd (omega arith))
+less (suc t) n m e one none (suc k) =
+    let half : n / 2 ≡ suc (m / 2) = omega (arith, bit_at_lowest n, none 0 (omega arith)) in
+    let rest = less t (n / 2) (m / 2) half (sym (bit_at-suc n t) ∙ one) (λ i h. sym (bit_at-suc n i) ∙ none (suc i) (omega arith)) k in
+    rw (bit_at-suc m k, bit_at-suc n k) (λ h. rest.0 (omega arith), λ h. rest.1 (omega arith))
 
-  at_lowest : (trailing_zeros w32 n < 32) × (bit_at n (trailing_zeros w32 n) ≡ 1) × ((i : ℕ) → i < trailing_zeros w32 n → bit_at n i ≡ 0)
-  at_lowest = bit_at-trailing_zeros w32 n some fits
-
-  -- the number is its bits above the lowest one that is set, and that bit
-  cut : n ≡ n / 2 ^ (trailing_zeros w32 n + 1) * 2 ^ (trailing_zeros w32 n + 1) + n % 2 ^ (trailing_zeros w32 n + 1)
-  cut = omega (arith, pow_pos (T + 1))
-
-  twice : 2 ^ (trailing_zeros w32 n + 1) ≡ 2 * 2 ^ trailing_zeros w32 n
-  twice = let e : T + 1 ≡ suc T = omega arith in omega (arith, ap (λ m. 2 ^ m) e, pow-suc 2 T)
-
-  low_bits : (i : ℕ) → i < trailing_zeros w32 n + 1 → bit_at (n % 2 ^ (trailing_zeros w32 n + 1)) i ≡ bit_at (2 ^ trailing_zeros w32 n) i
-  low_bits i h = grind (arith, nat_tests, bit_at_cat_low, cut, at_lowest, bit_at-pow_other, bit_at-pow_same)
-
-  low_is : n % 2 ^ (trailing_zeros w32 n + 1) ≡ 2 ^ trailing_zeros w32 n
-  low_is = same_from_bits_below (T + 1) (n % 2 ^ (T + 1)) (2 ^ T) (mod-lt n (pow_pos (T + 1))) (omega (arith, twice, pow_pos T)) low_bits
-
-  less_is : (n + 4294967295) % 4294967296 ≡ n / 2 ^ (trailing_zeros w32 n + 1) * 2 ^ (trailing_zeros w32 n + 1) + (2 ^ trailing_zeros w32 n - 1)
-  less_is = omega (arith, cut, low_is, pow_pos T)
-
-  -- without the lowest bit, no bit up to it is set
-  pub lowest_gone : (k : ℕ) → k ≤ trailing_zeros w32 n → bit_at (bit_and n ((n + 4294967295) % 4294967296)) k ≡ 0
-  lowest_gone k le = grind (arith, nat_tests, bit_at_and, at_lowest, less_is, bit_at_cat_low, bit_at_ones_above)
-
-  -- all bits above it are unchanged
-  pub others_stay : (k : ℕ) → trailing_zeros w32 n < k → bit_at (bit_and n ((n + 4294967295) % 4294967296)) k ≡ bit_at n k
-  others_stay k l = grind (arith, nat_tests, twice, pow_pos, less_is, bit_at_cat_high, cut, mod-lt, bit_at_and)
+-- without the lowest bit, no bit up to it is set, and all others are unchanged
+pub lowest : (n : ℕ) → 0 < n → n < 2 ^ 32 → (k : ℕ)
+    → bit_at (bit_and n ((n + 4294967295) % 4294967296)) k ≡ cond (leb k (trailing_zeros w32 n)) 0 (bit_at n k)
+lowest n some fits k =
+    let at = bit_at-trailing_zeros w32 n some fits in
+    let m : (n + 4294967295) % 4294967296 ≡ n - 1 = omega arith in
+    let bits = less (trailing_zeros w32 n) n (n - 1) (omega arith) at.1 at.2 k in
+    grind (arith, nat_tests, bit_at_and)
 
 -- ---- the bits of starts
 
@@ -57,23 +45,16 @@ mask_from-lt x lanes v few long = grind (arith, mask_from-is, mask_l-lt, length-
 starts_from : (byte p l r : ℕ) → ((p ≡ 1) ↔ (128 ≤ byte)) → ((l ≡ 1) ↔ (192 ≤ byte)) → p < 2 → l < 2 → r ≡ max (1 - p) l → (r ≡ 1) ↔ IsStart byte
 starts_from byte p l r past leads few few_leads is = grind arith
 
--- a bit that is not set for a byte of at least 128, or set for one of at least 192
-starts_bit : (v : List ℕ) → length v ≡ 32 → (k : ℕ) → k < 32
-    → (bit_at (bit_or (bit_not w32 (mask_from 128 32 v)) (mask_from 192 32 v)) k ≡ 1) ↔ IsStart (get_or v k 0)
-starts_bit v long k h =
-    starts_from (get_or v k 0) _ _ _ (mask_bit 128 refl 32 v (omega arith) long k) (mask_bit 192 refl 32 v (omega arith) long k) (bit_at-lt _ k) (bit_at-lt _ k)
-    (bit_at_or _ _ k ∙ ap (λ n. max n (bit_at (mask_from 192 32 v) k)) (bit_at_not w32 (mask_from 128 32 v) k (mask_from-lt 128 32 v (omega arith) long) h))
-
-pub block_long : (bytes : List ℕ) (place : ℕ) → place + 32 ≤ length bytes → length (take 32 (drop place bytes)) ≡ 32
-block_long bytes place h = length-take-le 32 (drop place bytes) (omega (arith, length-drop place bytes))
-
--- the same of the next 32 bytes
+-- a bit that is not set for a byte of at least 128, or set for one of at least 192, among the next 32 bytes
 pub starts_here : (bytes : List ℕ) (place : ℕ) → place + 32 ≤ length bytes → (k : ℕ) → k < 32
     → (bit_at (bit_or (bit_not w32 (mask_from 128 32 (take 32 (drop place bytes)))) (mask_from 192 32 (take 32 (drop place bytes)))) k ≡ 1)
     ↔ IsStart (get_or bytes (place + k) 0)
 starts_here bytes place within k h =
-    let same : get_or (take 32 (drop place bytes)) k 0 ≡ get_or bytes (place + k) 0 = get_or-take 32 (drop place bytes) k 0 h ∙ get_or-drop place bytes k 0 in
-    rw same at (starts_bit (take 32 (drop place bytes)) (block_long bytes place within) k h)
+    let v = chunk place 32 bytes in
+    let long = length-chunk place 32 bytes within in
+    rw (get_or-chunk place 32 bytes k 0 h) at (starts_from (get_or v k 0) _ _ _
+    (mask_bit 128 refl 32 v (omega arith) long k) (mask_bit 192 refl 32 v (omega arith) long k) (bit_at-lt _ k) (bit_at-lt _ k)
+    (bit_at_or _ _ k ∙ ap (λ n. max n (bit_at (mask_from 192 32 v) k)) (bit_at_not w32 (mask_from 128 32 v) k (mask_from-lt 128 32 v (omega arith) long) h)))
 
 -- ---- lanes of two bytes
 
@@ -98,36 +79,24 @@ filled P lows highs k low high a b before here j h = grind (arith, nat_tests, ge
 pub each_sixteenth : (f : ℕ → ℕ → ℕ) (x : ℕ) (bytes : List ℕ) (place : ℕ) → place + 16 ≤ length bytes → (k : ℕ) → k < 16
     → get_or (zip2 f (take 16 (drop place bytes)) (replicate 16 x)) k 0 ≡ f (get_or bytes (place + k) 0) x
 each_sixteenth f x bytes place within k h =
-    let long : length (take 16 (drop place bytes)) ≡ 16 = length-take-le 16 (drop place bytes) (omega (arith, length-drop place bytes)) in
-    get_or-zip2 f (take 16 (drop place bytes)) (replicate 16 x) k 0 0 0 (omega (arith, long)) h
-    ∙ ap₂ f (get_or-take 16 (drop place bytes) k 0 h ∙ get_or-drop place bytes k 0) (get_or-replicate 16 k x 0 h)
+    get_or-zip2 f (chunk place 16 bytes) (replicate 16 x) k 0 0 0 (omega (arith, length-chunk place 16 bytes within)) h
+    ∙ ap₂ f (get_or-chunk place 16 bytes k 0 h) (get_or-replicate 16 k x 0 h)
 
 -- the lanes of a vector of bytes
-pub below_256 : (v : List ℕ) → Each1 (Fits w8) v → (i : ℕ) → get_or v i 0 < 256
+below_256 : (v : List ℕ) → Each1 (Fits w8) v → (i : ℕ) → get_or v i 0 < 256
 below_256 v fits i = grind (arith, cases_lt, Each1-get_or, below_from_Fits, w8, get_or_past)
 
 -- the interleaved entries of two lists of sixteen, n of each from `a` on
 abbrev pub woven : ℕ → ℕ → List ℕ → List ℕ
 woven zero a xs = []
-woven (suc n) a xs = get_or xs a 0 ∷ get_or xs (a + 16) 0 ∷ woven n (suc a) xs
+woven (suc n) a xs = get_or xs a 0 ∷ get_or xs (a + 16) 0 ∷ woven n (a + 1) xs
 
-woven_at : (n a : ℕ) (xs : List ℕ) (k : ℕ) → k < n
-    → (get_or (woven n a xs) (2 * k) 0 ≡ get_or xs (a + k) 0) × (get_or (woven n a xs) (2 * k + 1) 0 ≡ get_or xs (a + k + 16) 0)
-woven_at zero a xs k h = absurd (omega arith)
-woven_at (suc n) a xs zero h = grind arith
-woven_at (suc n) a xs (suc k) h = grind (arith, woven_at n (suc a) xs k)
+words : (n a : ℕ) (xs : List ℕ) → ((i : ℕ) → get_or xs i 0 < 256)
+    → digits_l 65536 n (number_l 256 (woven n a xs)) ≡ map (λ i. get_or xs i 0 + 256 * get_or xs (i + 16) 0) (range_with_len a n)
+words zero a xs are = refl
+words (suc n) a xs are = grind (arith, are a, are (a + 16), words n (a + 1) xs are)
 
-woven_below : (n a : ℕ) (xs : List ℕ) → ((i : ℕ) → get_or xs i 0 < 256) → (i : ℕ) → get_or (woven n a xs) i 0 < 256
-woven_below zero a xs are i = omega arith
-woven_below (suc n) a xs are zero = are a
-woven_below (suc n) a xs are (suc zero) = are (a + 16)
-woven_below (suc n) a xs are (suc (suc i)) = woven_below n (suc a) xs are i
-
-woven_length : (n a : ℕ) (xs : List ℕ) → length (woven n a xs) ≡ 2 * n
-woven_length zero a xs = refl
-woven_length (suc n) a xs = omega (arith, woven_length n (suc a) xs)
-
-module _ (lows highs : List ℕ) (count : length lows ≡ 16) (are_low : (i : ℕ) → get_or lows i 0 < 256) (are_high : (i : ℕ) → get_or highs i 0 < 256) where
+module _ (lows highs : List ℕ) (count : length lows ≡ 16) (low : Each1 (Fits w8) lows) (high : Each1 (Fits w8) highs) where
   low_at : (i : ℕ) → i < 16 → get_or (lows ++ highs) i 0 ≡ get_or lows i 0
   low_at i h = grind (arith, get_or_append_left)
 
@@ -135,18 +104,15 @@ module _ (lows highs : List ℕ) (count : length lows ≡ 16) (are_low : (i : �
   high_at i = grind (arith, get_or-append-add)
 
   are : (i : ℕ) → get_or (lows ++ highs) i 0 < 256
-  are i = grind (arith, nat_tests, low_at, high_at (i - 16))
+  are i = grind (arith, nat_tests, low_at, high_at (i - 16), below_256 lows low i, below_256 highs high (i - 16))
 
   -- a lane of eight of them, from one on
-  pub joined_lane : (a k : ℕ) → a + k < 16 → k < 8
-      → get_or (digits_l 65536 8 (number_l 256 (woven 8 a (lows ++ highs)))) k 0 ≡ get_or lows (a + k) 0 + 256 * get_or highs (a + k) 0
-  joined_lane a k within h =
-      let at = woven_at 8 a (lows ++ highs) k h in
-      lane 8 (woven 8 a (lows ++ highs)) k (λ i l. woven_below 8 a (lows ++ highs) are i) (woven_length 8 a (lows ++ highs)) h
-      ∙ rw (at.0, at.1, low_at (a + k) within, high_at (a + k)) refl
-
-  pub joined_front : (k : ℕ) → k < 8 → get_or (digits_l 65536 8 (number_l 256 (woven 8 0 (lows ++ highs)))) k 0 ≡ get_or lows k 0 + 256 * get_or highs k 0
-  joined_front k h = grind (arith, joined_lane 0 k)
+  pub joined_lane : (a k i : ℕ) → a + k ≡ i → i < 16 → k < 8
+      → get_or (digits_l 65536 8 (number_l 256 (woven 8 a (lows ++ highs)))) k 0 ≡ get_or lows i 0 + 256 * get_or highs i 0
+  joined_lane a k i is within h =
+      ap (λ l. get_or l k 0) (words 8 a (lows ++ highs) are)
+      ∙ get_or-map-range_with_len (λ i. get_or (lows ++ highs) i 0 + 256 * get_or (lows ++ highs) (i + 16) 0) a 8 k i 0 h is
+      ∙ rw (low_at i within, high_at i) refl
 
 -- two vectors that are stored from a place on change nothing before it
 pub stored_before : (all front back : List ℕ) (at k : ℕ) → k < at → get_or (put_chunk (at + 8) (put_chunk at all front) back) k 0 ≡ get_or all k 0
@@ -162,39 +128,20 @@ stored_at P all front back at long long_back room first others k h = grind (arit
 
 -- a byte that is not the first of a scalar
 tail_at : (c k : ℕ) → 0 < k → k < unit_count Utf8 c → (128 ≤ get_or (encode c) k 0) × (get_or (encode c) k 0 < 192)
-tail_at c zero some few = absurd (omega arith)
-tail_at c (suc zero) some few = grind (arith, nat_tests, encode_1, encode_2, encode_3, encode_4)
-tail_at c (suc (suc zero)) some few = grind (arith, nat_tests, encode_1, encode_2, encode_3, encode_4)
-tail_at c (suc (suc (suc zero))) some few = grind (arith, nat_tests, encode_1, encode_2, encode_3, encode_4)
-tail_at c (suc (suc (suc (suc k)))) some few = grind (arith, nat_tests, encode_1, encode_2, encode_3, encode_4)
+tail_at c k some few = grind (arith, nat_tests, common_steps, encode_ascii, encode_2, encode_3, encode_4)
 
 module _ (text : List ℕ) (place : ℕ) (inside : place < length text) (u : is_utf8 (drop place text) ≡ true) where
-  abbrev C : ℕ
-  C = get_or (chars (drop place text)) 0 0
-
-  some : 0 < length (chars (drop place text))
-  some = some_left text place inside u
-
-  stands : StandsAt text place (get_or (chars (drop place text)) 0 0)
-  stands = utf8_stands text place C u (first_some (chars (drop place text)) some)
-
-  pub reads_here : ReadsScalar text place (get_or (chars (drop place text)) 0 0) (place + unit_count Utf8 (get_or (chars (drop place text)) 0 0))
-  reads_here = grind (arith, utf8_pass text place (unit_count Utf8 C), first_cons, first_some (chars (drop place text)) some)
-
-  pub some_units : 0 < unit_count Utf8 (get_or (chars (drop place text)) 0 0)
-  some_units = let l = (len_utf8_bounds C).0 in omega (arith, length-encode C, l)
-
   -- a scalar begins with such a byte
   pub start_here : IsStart (get_or text place 0)
-  start_here = grind (arith, nat_tests, stands_byte text place C stands 0, stands, encode_1, encode_2, encode_3, encode_4)
+  start_here = grind (arith, by_first, get_or-drop, stands text place inside u)
 
   -- no other byte of the scalar is such a byte
   pub no_start : (k : ℕ) → 0 < k → k < unit_count Utf8 (get_or (chars (drop place text)) 0 0) → IsStart (get_or text (place + k) 0) → ⊥
-  no_start k some_k few start = grind (arith, stands_byte text place C stands k, get_or_append_left, tail_at)
+  no_start k some_k few start = grind (arith, get_or-drop place text k 0, stands text place inside u, get_or_append_left, tail_at)
 
   -- the code unit at the beginning of a scalar is this scalar, if it is not a surrogate
   pub unit_is : place + 2 ≤ length text → (unit : ℕ) → IsUnitAt text place unit → IsNoSurrogate unit → unit ≡ get_or (chars (drop place text)) 0 0
-  unit_is two unit made bmp = grind (arith, reads_ascii text place two u, made_of_three stands)
+  unit_is two unit made bmp = grind (arith, reads_ascii text place inside u, stands text place inside u, by_first, get_or-drop)
 
 -- the next place at which a scalar begins is the one after the scalar
 next_is : (text : List ℕ) (start p q : ℕ) → start + 32 ≤ length text → p < q → q < 32 → is_utf8 (drop (start + p) text) ≡ true →
@@ -255,4 +202,4 @@ stands_more text start units bits rest unit long some fits some_rest fits_rest g
       starts = λ k l h. grind (arith, others k, s.starts k);
     }
 
-pub ruleset lowest_steps = (lowest_gone, others_stay)
+pub ruleset lowest_steps = (lowest, nat_tests)

@@ -1,14 +1,12 @@
 -- Runs of scalars that were written as one byte each, and the scalars of one and two bytes of UTF-8.
-use Rattle.std.proofs.{lemmas.Bool.Decides.nat_tests, lemmas.Grind.common_steps, Common.{◌≡◌, ℕ, ◌+◌, ◌-◌, ◌*◌, ◌≤◌, ◌<◌, List, [], ◌∷◌, ◌++◌}}
-use Rattle.std.proofs.Common.{length, get_or, Bool, true, ◌&&◌, drop, sym, ap, arith, append_assoc, append-nil, length-append, length-drop, add-zero}
-use Rattle.std.proofs.{lemmas.List.{get_or_append_left, get_or-append-add, get_or-drop, drop-drop}, lemmas.Str.{encodes-chars, IsUtf8-from_is_utf8}}
-use Rattle.std.proofs.Math.Seq.{take-add}
+use Rattle.std.proofs.{lemmas.Bool.Decides.nat_tests, lemmas.Grind.common_steps, Common.{◌≡◌, ℕ, ◌+◌, ◌-◌, ◌*◌, ◌≤◌, ◌<◌, List, [], ◌∷◌, ◌++◌, length, get_or}}
+use Rattle.std.proofs.{Common.{true, drop, sym, ap, arith, append_assoc, append-nil, length-append, length-drop, add-zero}, lemmas.List.get_or_append_left}
+use Rattle.std.proofs.{lemmas.List.{get_or-append-add, get_or-drop, drop-drop}, lemmas.Str.{encodes-chars, IsUtf8-from_is_utf8}, Math.Seq.take-add}
 use Rattle.std.specs.Str.{chars, is_utf8}
 use lib.Utf8.{encodes}
 use Rattle.legacy_text.specs.{EncodingForm.{Utf8, code_units, unit_count, total_unit_count}, ShortScalars.{ReadsScalar, WritesScalars}, UnitCodes.WritesCodes}
 use Rattle.legacy_text.specs.NextScalars.{StandsAt}
-use Rattle.legacy_text.proofs.{CodeUnits.{encode_1, encode_2, total_unit_count-append, one_below, two_above, two_below}, Texts.{first_some}}
-use Rattle.legacy_text.proofs.{Texts.{first_cons, utf8_pass, utf8_stands, stands_byte, stands_tells}, UnitCopies.writes_none}
+use Rattle.legacy_text.proofs.{CodeUnits.total_unit_count-append, Texts.{first_some, utf8_next, utf8_stands, by_first}, UnitCopies.writes_none}
 
 -- ---- runs
 
@@ -39,44 +37,27 @@ scalars_append gives text start n place m behind old mid new a b =
 
 -- ---- one scalar
 
--- a text that is not at its end has a scalar
-pub some_left : (text : List ℕ) (place : ℕ) → place < length text → is_utf8 (drop place text) ≡ true → 0 < length (chars (drop place text))
-some_left text place h u = some (chars (drop place text)) (sym (encodes-chars (drop place text) (IsUtf8-from_is_utf8 (drop place text) u)))
-  where
-    some : (l : List ℕ) → drop place text ≡ encodes l → 0 < length l
-    some [] e = absurd (omega (arith, ap length e, length-drop place text))
-    some (x ∷ l) e = omega arith
-
-module _ (text : List ℕ) (place : ℕ) (within : place + 2 ≤ length text) (u : is_utf8 (drop place text) ≡ true) (short : get_or text place 0 < 224) where
-  abbrev Left : List ℕ
-  Left = chars (drop place text)
-
-  abbrev C : ℕ
-  C = get_or (chars (drop place text)) 0 0
-
+module _ (text : List ℕ) (place : ℕ) (inside : place < length text) (u : is_utf8 (drop place text) ≡ true) where
+  -- a text that is not at its end has a scalar
   some : 0 < length (chars (drop place text))
-  some = some_left text place (omega arith) u
+  some = has (chars (drop place text)) (sym (encodes-chars (drop place text) (IsUtf8-from_is_utf8 (drop place text) u)))
+    where
+      has : (l : List ℕ) → drop place text ≡ encodes l → 0 < length l
+      has [] e = absurd (omega (arith, ap length e, length-drop place text))
+      has (x ∷ l) e = omega arith
 
-  stands : StandsAt text place (get_or (chars (drop place text)) 0 0)
-  stands = utf8_stands text place C u (first_some Left some)
+  pub stands : StandsAt text place (get_or (chars (drop place text)) 0 0)
+  stands = utf8_stands text place _ u (first_some (chars (drop place text)) some)
 
-  reads : (n : ℕ) → n ≡ unit_count Utf8 (get_or (chars (drop place text)) 0 0) → ReadsScalar text place (get_or (chars (drop place text)) 0 0) (place + n)
-  reads n e = grind (arith, utf8_pass text place n, first_cons, first_some Left some)
+  pub reads_here : ReadsScalar text place (get_or (chars (drop place text)) 0 0) (place + unit_count Utf8 (get_or (chars (drop place text)) 0 0))
+  reads_here = utf8_next text place (omega arith) u some
 
   -- ASCII is its own scalar
   pub reads_ascii : get_or text place 0 < 128 → ReadsScalar text place (get_or text place 0) (place + 1)
-  reads_ascii h = grind (arith, stands_tells text place C stands, stands_byte text place C stands 0, encode_1, one_below, reads 1)
+  reads_ascii h = grind (arith, by_first, get_or-drop, stands, reads_here)
 
   -- two bytes contain the eleven bits of a scalar
-  pub reads_pair : 128 ≤ get_or text place 0
+  pub reads_pair : 128 ≤ get_or text place 0 → get_or text place 0 < 224
       → (0x3080 ≤ get_or text place 0 * 64 + get_or text (place + 1) 0) × ReadsScalar text place (get_or text place 0 * 64 + get_or text (place + 1) 0 - 0x3080)
       (place + 2)
-  reads_pair h =
-      let byte = stands_byte text place C stands in
-      grind (arith, stands_tells text place C stands, byte 0, byte 1, encode_2, two_above, two_below, reads 2)
-
--- ---- turns
-
--- each of three flags is set
-pub all_set : (a b c : Bool) → (a && b && c) ≡ true → (a ≡ true) × (b ≡ true) × (c ≡ true)
-all_set a b c h = grind arith
+  reads_pair h short = grind (arith, by_first, get_or-drop, stands, reads_here)

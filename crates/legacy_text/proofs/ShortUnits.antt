@@ -1,13 +1,13 @@
 -- Code units below 0x800.
-use Rattle.std.proofs.Common.{◌≡◌, ℕ, zero, suc, ◌+◌, ◌-◌, ◌*◌, ◌/◌, ◌%◌, ◌^◌, ◌<◌, ◌≤◌, Bool, true, false, cond, ltb, leb, eqb, List, [], ◌∷◌, ◌++◌, length}
-use Rattle.std.proofs.{Common.{get_or, map, take, replicate, bit_and, refl, ap, ◌∙◌, ◌&&◌, arith, w8, w16, Fits, All}, lemmas.Bool.{ltb-true, leb-true}}
-use Rattle.std.proofs.{lemmas.Bool.{eqb-true, agree_below_at}, lemmas.Bool.Decides.nat_tests, lemmas.Grind.common_steps, lemmas.List.{map-append, length-map}}
-use Rattle.std.proofs.{lemmas.List.{take-take, take-map}, Math.Seq.take-append_seam, lemmas.Nat.and_mask, lemmas.Simd.{bitmask_splat, mask_l-lt, swz_l}}
+use Rattle.std.proofs.Common.{◌≡◌, ℕ, suc, ◌+◌, ◌-◌, ◌*◌, ◌/◌, ◌%◌, ◌^◌, ◌<◌, Bool, true, cond, ltb, eqb, List, [], ◌∷◌, length, get_or, map, replicate}
+use Rattle.std.proofs.{Common.{bit_and, refl, sym, ap, zero-add, ◌∙◌, ◌&&◌, arith, w16, Fits, All}, lemmas.Bool.{and_parts, eqb-true, agree_below_at}}
+use Rattle.std.proofs.{lemmas.Bool.Decides.nat_tests, lemmas.Grind.common_steps, lemmas.List.{map-append, length-map}, lemmas.Nat.and_mask}
+use Rattle.std.proofs.{lemmas.Simd.{bitmask_splat, bit_mask_l, mask_l-lt}, Math.ListN.get_or-map, lemmas.Nat.Bits.bit_at_ones}
 use Rattle.std.specs.{Char.encode_utf8, Int.RustNames.count_ones, List.range_with_len}
 use lib.Lanes.{Each1, zip2, sel_l, mask_l, top, number_l, digits_l, all_below}
 use Rattle.legacy_text.specs.{declared.unit_rows.TheConstants.SHORT_WRITTEN, UnitBytes.{short_bytes, short_lanes, short_pattern, short_places, short_row}}
 use Rattle.legacy_text.specs.UnitBytes.{AreShort, utf8_bytes}
-use Rattle.legacy_text.proofs.UnitLanes.{of_eight, le_bytes_map, shuffled, each_below}
+use Rattle.legacy_text.proofs.UnitLanes.{of_eight, le_bytes_map, each_below}
 
 -- ---- two bytes of each code unit
 
@@ -15,9 +15,6 @@ short_is : (u : ℕ) → u < 65536
     → cond (top 15 (cond (ltb u 128) (2 ^ 16 - 1) 0)) u (((bit_and (u / 2 ^ 6) 31 + 192) % 2 ^ 16 + (bit_and u 63 + 128) % 2 ^ 16 * 2 ^ 8 % 2 ^ 16) % 2 ^ 16)
     ≡ short_bytes u
 short_is u small = grind (arith, common_steps, and_mask)
-
-short_small : (u : ℕ) → u < 65536 → short_bytes u < 65536
-short_small u small = grind arith
 
 abbrev vector_short : List ℕ → List ℕ
 vector_short v =
@@ -30,18 +27,14 @@ pub vector_short_lanes : (v : List ℕ) → length v ≡ 8 → Each1 (Fits w16) 
 vector_short_lanes = of_eight _ (λ a b c d e f g h sa sb sc sd se sf sg sh.
     (λ t. digits_l 256 16 (number_l 65536 (short_is a sa t ∷ short_is b sb t ∷ short_is c sc t ∷ short_is d sd t
     ∷ short_is e se t ∷ short_is f sf t ∷ short_is g sg t ∷ short_is h sh t ∷ [])))
-    ∙ le_bytes_map short_bytes short_small (a ∷ b ∷ c ∷ d ∷ e ∷ f ∷ g ∷ h ∷ []) (sa, (sb, (sc, (sd, (se, (sf, (sg, (sh, tt)))))))))
+    ∙ le_bytes_map short_bytes (λ u small. grind arith) (a ∷ b ∷ c ∷ d ∷ e ∷ f ∷ g ∷ h ∷ []) (sa, (sb, (sc, (sd, (se, (sf, (sg, (sh, tt)))))))))
 
 -- ---- the code units of one byte
 
 pub short_bits_are : (v : List ℕ) → length v ≡ 8
-    → mask_l (map (top 15) (zip2 (λ a b. cond (ltb a b) (2 ^ 16 - 1) 0) v (replicate 8 128))) % 2 ^ 64 ≡ short_pattern v
+    → (short_pattern v ≡ mask_l (map (top 15) (zip2 (λ a b. cond (ltb a b) (2 ^ 16 - 1) 0) v (replicate 8 128))) % 2 ^ 64) × (short_pattern v < 256)
 unfolding short_pattern
-short_bits_are v long = bitmask_splat w16 ltb v 8 128 long (omega arith)
-
-pub short_pattern_lt : (v : List ℕ) → length v ≡ 8 → short_pattern v < 256
-unfolding short_pattern
-short_pattern_lt v long = grind (arith, nat_tests, length-map, mask_l-lt)
+short_bits_are v long = (sym (bitmask_splat w16 ltb v 8 128 long (omega arith)), grind (arith, nat_tests, length-map, mask_l-lt))
 
 -- ---- the table
 
@@ -49,38 +42,14 @@ pub short_rows_are : SHORT_WRITTEN ≡ map short_row (range_with_len 0 256)
 unfolding short_row short_places
 short_rows_are = refl
 
-pub short_row_within : (r : ℕ) → r < 256 → Each1 (λ j. j < 16) (short_row r)
-unfolding short_row short_places
-short_row_within r h = each_below 16 (short_row r) (agree_below_at (λ n. all_below 16 (short_row n)) (λ _. true) 256 r refl h)
-
-pub short_row_long : (r : ℕ) → r < 256 → length (short_row r) ≡ 16
-unfolding short_row short_places
-short_row_long r h = eqb-true _ _ (agree_below_at (λ n. eqb (length (short_row n)) 16) (λ _. true) 256 r refl h)
-
-pub short_counted : (at r : ℕ) → r < 256 → at + 16 - count_ones r ≡ at + length (short_places 0 8 r)
-unfolding short_places count_ones
-short_counted at r h =
-    let count = agree_below_at (λ n. eqb (16 - count_ones n) (length (short_places 0 8 n)) && leb (count_ones n) 8) (λ _. true) 256 r refl h in
-    grind (arith, nat_tests)
-
-pub short_places_most : (r : ℕ) → r < 256 → length (short_places 0 8 r) ≤ 16
-unfolding short_places
-short_places_most r h = leb-true _ _ (agree_below_at (λ n. leb (length (short_places 0 8 n)) 16) (λ _. true) 256 r refl h)
-
-pub short_written : (xs : List ℕ) (r : ℕ) → r < 256 →
-    take (length (short_places 0 8 r)) (swz_l w8 16 xs 0 (short_row r)) ≡ map (λ j. get_or xs j 0) (short_places 0 8 r)
-unfolding short_row
-short_written xs r h =
-    let n = length (short_places 0 8 r) in
-    let front = take-append_seam (short_places 0 8 r) (replicate 16 0) in
-    let cut = take-take n 16 (short_places 0 8 r ++ replicate 16 0) (short_places_most r h) in
-    grind (arith, shuffled xs 0 (short_row r), short_row_long r, short_row_within r, take-map (λ j. get_or xs j 0) n (short_row r))
+pub short_rows_fit : (r : ℕ) → r < 256 → Each1 (λ j. j < 16) (short_row r) × (length (short_places 0 8 r) + count_ones r ≡ 16)
+unfolding short_row short_places count_ones
+short_rows_fit r h =
+    let fit = agree_below_at (λ n. all_below 16 (short_row n) && eqb (length (short_places 0 8 n) + count_ones n) 16) (λ _. true) 256 r refl h in
+    let p = and_parts _ _ fit in
+    (each_below 16 (short_row r) p.0, eqb-true _ _ p.1)
 
 -- ---- the bytes that are written are the text
-
-abbrev ReadsShort : (ℕ → ℕ) → ℕ → List ℕ → Type 0
-ReadsShort f base [] = Unit {0}
-ReadsShort f base (u ∷ us) = (f base ≡ short_bytes u % 256) × (f (base + 1) ≡ short_bytes u / 256) × ReadsShort f (base + 2) us
 
 digit : (s : Bool) (m : ℕ) → (eqb ((cond s 1 0 + 2 * m) % 2) 1 ≡ s) × ((cond s 1 0 + 2 * m) / 2 ≡ m)
 digit s m = grind arith
@@ -89,35 +58,28 @@ short_unit : (u a b : ℕ) → u < 2048 → a ≡ short_bytes u % 256 → b ≡ 
 unfolding encode_utf8
 short_unit u a b small p q = grind arith
 
-short_text : (f : ℕ → ℕ) (base : ℕ) (us : List ℕ) → All (λ u. u < 2048) us → ReadsShort f base us →
+short_text : (f : ℕ → ℕ) (base : ℕ) (us : List ℕ) → All (λ u. u < 2048) us → ((k : ℕ) → f (base + k) ≡ get_or (short_lanes us) k 0) →
     map f (short_places base (length us) (short_pattern us)) ≡ utf8_bytes us
 unfolding short_places short_pattern
 short_text f base [] small reads = refl
 short_text f base (u ∷ us) small reads =
     let d = digit (ltb u 128) (short_pattern us) in
-    let rest = short_text f (base + 2) us (λ k d' h. small (suc k) d' (omega arith)) reads.2 in
-    grind (arith, map-append, short_unit u (f base) (f (base + 1)), small 0 0)
+    let rest = short_text f (base + 2) us (λ k d' h. small (suc k) d' (omega arith)) (λ k.
+    let at : base + 2 + k ≡ base + suc (suc k) = omega arith in
+    rw at (reads (suc (suc k)))) in
+    grind (arith, map-append, short_unit u (f base) (f (base + 1)), small 0 0, reads 0, reads 1)
 
 pub short_text_of_eight : (v : List ℕ) → length v ≡ 8 → Each1 (Fits w16) v → AreShort v →
     map (λ k. get_or (short_lanes v) k 0) (short_places 0 8 (short_pattern v)) ≡ utf8_bytes v
 short_text_of_eight = of_eight _ (λ a b c d e f g h sa sb sc sd se sf sg sh short.
-    short_text (λ k. get_or (short_lanes (a ∷ b ∷ c ∷ d ∷ e ∷ f ∷ g ∷ h ∷ [])) k 0) 0 (a ∷ b ∷ c ∷ d ∷ e ∷ f ∷ g ∷ h ∷ []) short
-    (refl, refl, (refl, refl, (refl, refl, (refl, refl, (refl, refl, (refl, refl, (refl, refl, (refl, refl, tt)))))))))
+    short_text (λ k. get_or (short_lanes (a ∷ b ∷ c ∷ d ∷ e ∷ f ∷ g ∷ h ∷ [])) k 0) 0 (a ∷ b ∷ c ∷ d ∷ e ∷ f ∷ g ∷ h ∷ []) short (λ k. rw (zero-add k) refl))
 
 -- ---- a mask with all bits set
 
-double : (bits : List Bool) → 2 ^ suc (length bits) ≡ 2 * 2 ^ length bits
-double bits = omega arith
-
-all_set : (bits : List Bool) → mask_l bits + 1 ≡ 2 ^ length bits → (k : ℕ) → k < length bits → get_or bits k false ≡ true
-all_set [] whole k h = absurd (omega arith)
-all_set (true ∷ bits) whole zero h = refl
-all_set (true ∷ bits) whole (suc k) h = all_set bits (omega (arith, double bits)) k (omega arith)
-all_set (false ∷ bits) whole k h = absurd (omega (arith, double bits))
-
 pub units_below : (n : ℕ) (xs : List ℕ) → length xs ≡ 8
     → eqb (mask_l (map (top 15) (zip2 (λ a b. cond (ltb a b) (2 ^ 16 - 1) 0) xs (replicate 8 n))) % 2 ^ 64) 255 ≡ true → All (λ x. x < n) xs
-units_below n xs long whole = grind (arith, common_steps, bitmask_splat, length-map, all_set, eqb-true, ltb-true)
+units_below n xs long whole =
+    grind (arith, common_steps, nat_tests, bitmask_splat w16 ltb xs 8 n, bit_mask_l (map (λ x. ltb x n) xs), bit_at_ones 8, get_or-map)
 
 pub units_all_below : (n : ℕ) (xs : List ℕ) → length xs ≡ 8 → All (λ x. x < n) xs
     → eqb (mask_l (map (top 15) (zip2 (λ a b. cond (ltb a b) (2 ^ 16 - 1) 0) xs (replicate 8 n))) % 2 ^ 64) 255 ≡ true

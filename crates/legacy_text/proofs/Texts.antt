@@ -1,110 +1,60 @@
 -- The scalars of texts, one by one from the front, and the places between them.
-use Rattle.std.proofs.{lemmas.Bool.Decides.nat_tests, Common.{◌≡◌, ◌∙◌, ℕ, suc, ◌+◌, ◌-◌, ◌≤◌, ◌<◌, List, [], ◌∷◌, ◌++◌, length, take, drop, get_or, refl, sym}}
-use Rattle.std.proofs.Common.{◌*◌, ◌%◌, ap, subst, arith, length-append, length-drop, Some, None, Option, true, false, ◌⊎◌, ◌&&◌, map}
-use Rattle.std.proofs.{Common.{slice_get, IsAscii}, lemmas.List.{drop-drop, take-append-drop, length-take-le, take_all, get_or-drop}}
-use Rattle.std.proofs.{Math.Seq.{drop-append_seam, take-append_seam}, lemmas.Str.{IsUtf8-from_is_utf8, is_utf8-from_IsUtf8, encodes-chars, chars_past_char}}
-use Rattle.std.proofs.lemmas.Str.{IsUtf8-past_char, drop_past_char, length-encode, utf16_chars-nil, len_utf8_bounds, utf16_chars_lone, utf16_chars_pair}
-use Rattle.std.proofs.lemmas.Str.{encodes-append, scalars-chars, chars-encodes, IsCharBoundary-at_seam, chars-append, chars-IsAscii, IsUtf8-from_ascii}
-use Rattle.std.proofs.str.Utf16.{IsPair, lone_unit_char_low, lone_unit_char_high, lone_unit_char_surrogate, utf16_chars-drop_lone, utf16_chars-drop_pair}
-use Rattle.std.proofs.str.Utf16.{utf16_chars-drop_all}
-use Rattle.std.specs.{Str.{chars, is_utf8, IsUtf8, IsCharBoundary}, Char.len_utf8, Char.Utf16.{lone_unit_char, surrogate_pair_char, is_high_surrogate}}
-use Rattle.std.specs.{Char.Utf16.is_low_surrogate, Option.unwrap_or}
-use Rattle.std.proofs.{lemmas.Str.IsCharBoundary-from_drop, lemmas.Grind.common_steps}
+use Rattle.std.proofs.{lemmas.Bool.Decides.nat_tests, Common.{◌≡◌, ◌∙◌, ℕ, suc, ◌+◌, ◌≤◌, ◌<◌, List, [], ◌∷◌, ◌++◌, length, take, drop, get_or, refl, sym, ◌*◌}}
+use Rattle.std.proofs.Common.{◌%◌, ap, subst, arith, length-append, length-drop, Some, None, Option, true, false, ◌⊎◌, ◌&&◌, map, slice_get, IsAscii, cond, ltb}
+use Rattle.std.proofs.{lemmas.List.{drop-drop, take-append-drop, length-take-le, get_or-take, get_or-drop}, Math.Seq.{drop-append_seam, take-append_seam}}
+use Rattle.std.proofs.lemmas.Str.{IsUtf8-from_is_utf8, is_utf8-from_IsUtf8, encodes-chars, chars_past_char, IsUtf8-past_char, drop_past_char, length-encode}
+use Rattle.std.proofs.lemmas.Str.{utf16_chars-nil, len_utf8_bounds, utf16_chars_lone, utf16_chars_pair, encodes-append, scalars-chars, chars-encodes}
+use Rattle.std.proofs.lemmas.Str.{IsCharBoundary-at_seam, chars-append, chars-IsAscii, IsUtf8-from_ascii, IsUtf8-drop, IsCharBoundary-from_take}
+use Rattle.std.proofs.{lemmas.Str.{IsCharBoundary-from_drop, encode_ascii}, str.Utf16.{IsPair, lone_unit_char_low, lone_unit_char_high}}
+use Rattle.std.proofs.{str.Utf16.{lone_unit_char_surrogate, utf16_chars-drop_lone, utf16_chars-drop_pair, utf16_chars-drop_all}, lemmas.Grind.common_steps}
+use Rattle.std.specs.{Str.{chars, is_utf8, IsUtf8, IsCharBoundary}, Char.Utf16.{lone_unit_char, surrogate_pair_char, is_high_surrogate, is_low_surrogate}}
+use Rattle.std.specs.Option.{unwrap_or}
 use lib.{ListN.get_or-eq_default, Utf8.{encode, encodes, scalars}}
 use Rattle.legacy_text.specs.{EncodingForm.{EncodingForm, Utf8, Utf16, unit_count, all_code_units}, declared.text_cursor.Next.Next, NextScalars.StandsAt}
-use Rattle.legacy_text.specs.UnitCodes.{IsNoSurrogate}
-use Rattle.legacy_text.specs.{NextScalars.{IsSized, IsNext}, Texts.{unit_scalars, IsUnitBoundary}}
-use Rattle.legacy_text.proofs.CodeUnits.{encode_1, encode_2, encode_3, encode_4, two_above, two_below, three_above, three_below, utf16_1, utf16_2}
-use Rattle.legacy_text.proofs.CodeUnits.{total_unit_count-append}
+use Rattle.legacy_text.specs.{NextScalars.{IsSized, IsNext}, UnitCodes.IsNoSurrogate, Texts.{unit_scalars, IsUnitBoundary}, ShortScalars.ReadsScalar}
+use Rattle.legacy_text.proofs.{Ascii.all_behind, CodeUnits.{some_units, encode_2, encode_3, encode_4, utf16_1, utf16_2, total_unit_count-append}}
 
 pub first_cons : {A : Type 0} (xs : List A) (x : A) → Some x ≡ slice_get xs 0 → xs ≡ x ∷ drop 1 xs
 first_cons xs x h = grind arith
 
 -- ---- UTF-8
 
--- the bytes of the scalar c are at the place of the text
-pub utf8_bytes : (text : List ℕ) (place c : ℕ) → is_utf8 (drop place text) ≡ true → Some c ≡ slice_get (chars (drop place text)) 0
-    → drop place text ≡ encode c ++ encodes (drop 1 (chars (drop place text)))
-utf8_bytes text place c u e =
-    sym (encodes-chars (drop place text) (IsUtf8-from_is_utf8 (drop place text) u)) ∙ ap encodes (first_cons (chars (drop place text)) c e)
+pub utf8_stands : (text : List ℕ) (place c : ℕ) → is_utf8 (drop place text) ≡ true → Some c ≡ slice_get (chars (drop place text)) 0 → StandsAt text place c
+utf8_stands text place c u e = record {
+  rest = encodes (drop 1 (chars (drop place text)));
+  is = sym (encodes-chars (drop place text) (IsUtf8-from_is_utf8 (drop place text) u)) ∙ ap encodes (first_cons (chars (drop place text)) c e);
+}
 
--- the scalar c is at the place of the text
-pub record Utf8Step (text : List ℕ) (place c : ℕ) : Type 0 where
-  pub within : place + len_utf8 c ≤ length text
-  pub is_text : is_utf8 (drop (place + len_utf8 c) text) ≡ true
-  pub behind : chars (drop (place + len_utf8 c) text) ≡ drop 1 (chars (drop place text))
-  pub first : get_or (chars (drop place text)) 0 0 ≡ c
-
-pub utf8_step : (text : List ℕ) (place c : ℕ) → place ≤ length text → is_utf8 (drop place text) ≡ true → Some c ≡ slice_get (chars (drop place text)) 0 →
-    Utf8Step text place c
-utf8_step text place c p u e =
+pub utf8_reads : (text : List ℕ) (place c : ℕ) → place ≤ length text → is_utf8 (drop place text) ≡ true → Some c ≡ slice_get (chars (drop place text)) 0 →
+    ReadsScalar text place c (place + unit_count Utf8 c)
+utf8_reads text place c p u e =
     let bs = drop place text in
     let is = IsUtf8-from_is_utf8 bs u in
-    let rest = encodes (drop 1 (chars bs)) in
-    let split : bs ≡ encode c ++ rest = utf8_bytes text place c u e in
+    let rest = (utf8_stands text place c u e).rest in
+    let split : bs ≡ encode c ++ rest = (utf8_stands text place c u e).is in
     let is_text = is_utf8-from_IsUtf8 rest (IsUtf8-past_char bs rest c is split) in
     let past = drop_past_char text rest place c split in
     let all = chars_past_char bs rest c is split in
     grind (arith, length-encode c, ap length split, length-append (encode c) rest, length-drop place text)
 
--- the place is not the end
-pub utf8_inside : (text : List ℕ) (place c : ℕ) → place ≤ length text → is_utf8 (drop place text) ≡ true → Some c ≡ slice_get (chars (drop place text)) 0 →
-    place < length text
-utf8_inside text place c p u e = let some = (len_utf8_bounds c).0 in omega (arith, some, (utf8_step text place c p u e).within)
+-- what the bytes say of the scalar c with which they begin: its number of bytes by the first, and what it is made of
+pub record ByFirst (c : ℕ) (bytes : List ℕ) : Type 0 where
+  pub one : get_or bytes 0 0 < 0x80 → (unit_count Utf8 c ≡ 1) × (get_or bytes 0 0 ≡ c)
+  pub two : 0x80 ≤ get_or bytes 0 0 → get_or bytes 0 0 < 0xE0 →
+      (unit_count Utf8 c ≡ 2) × (get_or bytes 0 0 % 0x20 * 0x40 + get_or bytes 1 0 % 0x40 ≡ c) × (get_or bytes 0 0 * 0x40 + get_or bytes 1 0 ≡ c + 0x3080)
+  pub three : 0xE0 ≤ get_or bytes 0 0 → get_or bytes 0 0 < 0xF0 →
+      (unit_count Utf8 c ≡ 3) × (get_or bytes 0 0 % 0x10 * 0x1000 + get_or bytes 1 0 % 0x40 * 0x40 + get_or bytes 2 0 % 0x40 ≡ c)
+  pub four : 0xF0 ≤ get_or bytes 0 0 → unit_count Utf8 c ≡ 4
+  pub start : 0x80 ≤ get_or bytes 0 0 → 0xC0 ≤ get_or bytes 0 0
+  pub long : length bytes ≡ unit_count Utf8 c + length (drop (unit_count Utf8 c) bytes)
 
--- the first byte of the scalar c in UTF-8 gives its number of bytes
-pub record TellsCount (c first : ℕ) : Type 0 where
-  pub one : first < 0x80 → unit_count Utf8 c ≡ 1
-  pub two : 0x80 ≤ first → first < 0xE0 → unit_count Utf8 c ≡ 2
-  pub three : 0xE0 ≤ first → first < 0xF0 → unit_count Utf8 c ≡ 3
-  pub four : 0xF0 ≤ first → unit_count Utf8 c ≡ 4
-
--- ---- scalars of two and of three bytes, made of these
-
--- the bytes at a place are those of the scalar
-pub stands_byte : (text : List ℕ) (place c : ℕ) → (s : StandsAt text place c) → (k : ℕ) → get_or text (place + k) 0 ≡ get_or (encode c ++ s.rest) k 0
-stands_byte text place c s k = sym (get_or-drop place text k 0) ∙ ap (λ l. get_or l k 0) s.is
-
-pub utf8_stands : (text : List ℕ) (place c : ℕ) → is_utf8 (drop place text) ≡ true → Some c ≡ slice_get (chars (drop place text)) 0 → StandsAt text place c
-utf8_stands text place c u e = record { rest = encodes (drop 1 (chars (drop place text))); is = utf8_bytes text place c u e }
-
-pub stands_tells : (text : List ℕ) (place c : ℕ) → StandsAt text place c → TellsCount c (get_or text place 0)
-stands_tells text place c s = grind (arith, nat_tests, stands_byte text place c s 0, encode_1, encode_2, encode_3, encode_4)
-
-stands_within : (text : List ℕ) (place c : ℕ) → StandsAt text place c → place + unit_count Utf8 c ≤ length text
-stands_within text place c s =
-    omega (arith, (len_utf8_bounds c).0, length-encode c, ap length s.is, length-append (encode c) s.rest, length-drop place text)
-
-pub record MadeOfTwo (text : List ℕ) (place c : ℕ) : Type 0 where
-  pub within : place + 2 ≤ length text
-  pub count : unit_count Utf8 c ≡ 2
-  pub made : get_or text place 0 % 0x20 * 0x40 + get_or text (place + 1) 0 % 0x40 ≡ c
-
-pub made_of_two : {text : List ℕ} {place c : ℕ} → StandsAt text place c → 0x80 ≤ get_or text place 0 → get_or text place 0 < 0xE0 → MadeOfTwo text place c
-made_of_two {text} {place} {c} s low high =
-    let byte = stands_byte text place c s in
-    grind (arith, stands_tells text place c s, byte 0, byte 1, encode_2, two_above, two_below, stands_within text place c s)
-
-pub record MadeOfThree (text : List ℕ) (place c : ℕ) : Type 0 where
-  pub within : place + 3 ≤ length text
-  pub count : unit_count Utf8 c ≡ 3
-  pub made : get_or text place 0 % 0x10 * 0x1000 + get_or text (place + 1) 0 % 0x40 * 0x40 + get_or text (place + 2) 0 % 0x40 ≡ c
-
-pub made_of_three : {text : List ℕ} {place c : ℕ} → StandsAt text place c → 0xE0 ≤ get_or text place 0 → get_or text place 0 < 0xF0 → MadeOfThree text place c
-made_of_three {text} {place} {c} s low high =
-    let byte = stands_byte text place c s in
-    grind (arith, stands_tells text place c s, byte 0, byte 1, byte 2, encode_3, three_above, three_below, stands_within text place c s)
+pub by_first : (c : ℕ) (rest : List ℕ) → (encode c ++ rest ≡ encode c ++ rest) × ByFirst c (encode c ++ rest)
+by_first c rest = grind (arith, nat_tests, encode_ascii, encode_2, encode_3, encode_4)
 
 -- ---- UTF-16
 
 abbrev pub replaced : Option ℕ → ℕ
 replaced o = unwrap_or o 0xFFFD
-
-pub scalars_one : (u : ℕ) (rest : List ℕ) → (IsPair u (get_or rest 0 0) → ⊥) → unit_scalars (u ∷ rest) ≡ replaced (lone_unit_char u) ∷ unit_scalars rest
-scalars_one u rest n = ap (map replaced) (utf16_chars_lone u rest n)
-
-scalars_two : (u v : ℕ) (rest : List ℕ) → IsPair u v → unit_scalars (u ∷ v ∷ rest) ≡ surrogate_pair_char u v ∷ unit_scalars rest
-scalars_two u v rest p = ap (map replaced) (utf16_chars_pair u v rest p)
 
 pub scalars_lone : (units : List ℕ) (at : ℕ) → at < length units → (IsPair (get_or units at 0) (get_or units (at + 1) 0) → ⊥) →
     unit_scalars (drop at units) ≡ unwrap_or (lone_unit_char (get_or units at 0)) 0xFFFD ∷ unit_scalars (drop (at + 1) units)
@@ -116,9 +66,6 @@ scalars_pair units at h p = ap (map replaced) (utf16_chars-drop_pair units at h 
 
 pub scalars_end : (units : List ℕ) (at : ℕ) → length units ≤ at → unit_scalars (drop at units) ≡ []
 scalars_end units at h = ap (map replaced) (utf16_chars-drop_all units at h)
-
-pub first_none : (units : List ℕ) (at : ℕ) → length units ≤ at → slice_get (unit_scalars (drop at units)) 0 ≡ None
-first_none units at h = ap (λ l. slice_get l 0) (scalars_end units at h)
 
 -- the scalar c is at the place of the units
 pub record Utf16Step (list : List ℕ) (place c n : ℕ) : Type 0 where
@@ -133,19 +80,14 @@ pair_or_not u v = grind arith
 unpaired_bound : (u : ℕ) → u < 65536 → replaced (lone_unit_char u) < 65536
 unpaired_bound u h = grind arith
 
--- by the scalar at the place and its number of units
-step_of : (list : List ℕ) (place c n s k : ℕ) → unit_scalars (drop place list) ≡ s ∷ unit_scalars (drop (place + k) list) →
-    Some c ≡ slice_get (unit_scalars (drop place list)) 0 → n ≡ k → k ≡ unit_count Utf16 s → place + k ≤ length list → Utf16Step list place c n
-step_of list place c n s k all e same width within = grind arith
-
 pub utf16_step : (list : List ℕ) (place c n : ℕ) → ((i : ℕ) → get_or list i 0 < 65536) → place < length list →
     Some c ≡ slice_get (unit_scalars (drop place list)) 0 → (c < 65536 → n ≡ 1) → (65536 ≤ c → n ≡ 2) → Utf16Step list place c n
 utf16_step list place c n bound h e short long =
-    grind (arith, pair_or_not, get_or-eq_default, scalars_pair, step_of, utf16_2, scalars_lone, unpaired_bound, utf16_1)
+    grind (arith, pair_or_not, get_or-eq_default, scalars_pair, utf16_2, scalars_lone, unpaired_bound, utf16_1)
 
 -- there is a scalar only before the end
 pub some_within : (units : List ℕ) (place c : ℕ) → Some c ≡ slice_get (unit_scalars (drop place units)) 0 → place < length units
-some_within units place c e = grind (arith, nat_tests, first_none)
+some_within units place c e = grind (arith, nat_tests, scalars_end)
 
 -- ---- what was taken off the front of a text
 
@@ -161,14 +103,6 @@ scalars-right (x ∷ xs) ys e = grind (arith, scalars-right xs ys)
 pub record CutAt (text taken left : List ℕ) (place : ℕ) : Type 0 where
   pub left_is : chars (drop place text) ≡ left
   pub boundary : IsCharBoundary text place
-
-pub utf8_cut : (text taken left : List ℕ) (place : ℕ) → IsUtf8 text → chars text ≡ taken ++ left → place ≡ length (all_code_units Utf8 taken) →
-    CutAt text taken left place
-utf8_cut text taken left place u e p =
-    let all : text ≡ encodes taken ++ encodes left = sym (encodes-chars text u) ∙ ap encodes e ∙ encodes-append taken left in
-    let good : scalars left ≡ true = scalars-right taken left (ap scalars (sym e) ∙ scalars-chars text u) in
-    let boundary = IsCharBoundary-at_seam text (encodes taken) (encodes left) all (left, (good, refl)) in
-    grind (arith, encodes-code_units taken, drop-append_seam (encodes taken) (encodes left), chars-encodes left good)
 
 -- how many units were passed
 pub passed_is : (form : EncodingForm) (all taken left : List ℕ) (place : ℕ) → all ≡ taken ++ left →
@@ -195,16 +129,22 @@ pub utf16_cut : (list taken left : List ℕ) → Bounded list → unit_scalars l
 utf16_cut list [] left b e = grind arith
 utf16_cut [] (c ∷ taken) left b e = let n : unit_scalars [] ≡ [] = ap (map replaced) utf16_chars-nil in let f : [] ≡ c ∷ (taken ++ left) = sym n ∙ e in cc
 utf16_cut (u ∷ []) (c ∷ taken) left b e =
-    grind (arith, scalars_one u [], unpaired_bound u (b 0), utf16_1 c, cut_lone u [] left, utf16_cut [] taken left (λ i. b (suc i)))
+    grind (arith, scalars_lone (u ∷ []) 0, unpaired_bound u (b 0), utf16_1 c, cut_lone u [] left, utf16_cut [] taken left (λ i. b (suc i)))
 utf16_cut (u ∷ v ∷ list) (c ∷ taken) left b e =
     let pair = utf16_cut list taken left (λ i. b (suc (suc i))) in
     let lone = utf16_cut (v ∷ list) taken left (λ i. b (suc i)) in
-    grind (arith, pair_or_not u v, scalars_one, scalars_two, unpaired_bound u (b 0), utf16_1 c, utf16_2 c, cut_lone, cut_pair)
+    let few = unpaired_bound u (b 0) in
+    grind (arith, pair_or_not u v, scalars_lone (u ∷ v ∷ list) 0, scalars_pair (u ∷ v ∷ list) 0, few, utf16_1 c, utf16_2 c, cut_lone, cut_pair)
 
 -- what a call left of a whole text
 pub utf8_read : (text taken left : List ℕ) (read : ℕ) → IsUtf8 text → chars text ≡ taken ++ left →
     read + length (all_code_units Utf8 left) ≡ 0 + length (all_code_units Utf8 (chars text)) → CutAt text taken left read
-utf8_read text taken left read u e p = utf8_cut text taken left read u e (passed_is Utf8 (chars text) taken left read e p)
+utf8_read text taken left read u e p =
+    let all : text ≡ encodes taken ++ encodes left = sym (encodes-chars text u) ∙ ap encodes e ∙ encodes-append taken left in
+    let good : scalars left ≡ true = scalars-right taken left (ap scalars (sym e) ∙ scalars-chars text u) in
+    let boundary = IsCharBoundary-at_seam text (encodes taken) (encodes left) all (left, (good, refl)) in
+    let place = passed_is Utf8 (chars text) taken left read e p in
+    grind (arith, encodes-code_units taken, drop-append_seam (encodes taken) (encodes left), chars-encodes left good)
 
 pub utf16_read : (list taken left : List ℕ) (read : ℕ) → Bounded list → unit_scalars list ≡ taken ++ left
     → read + length (all_code_units Utf16 left) ≡ 0 + length (all_code_units Utf16 (unit_scalars list)) → CutUnits list left read
@@ -214,70 +154,60 @@ utf16_read list taken left read b e p =
 pub unit_boundary : (list left : List ℕ) (place : ℕ) → CutUnits list left place → IsUnitBoundary list place
 unit_boundary list left place h = grind arith
 
--- ---- a front that is ASCII
-
--- what comes after ASCII in a text is a text
-ascii_past : (xs ys : List ℕ) → IsAscii xs → IsUtf8 (xs ++ ys) → IsUtf8 ys
-ascii_past [] ys a u = u
-ascii_past (x ∷ xs) ys a u =
-    ascii_past xs ys (λ i. a (suc i)) (IsUtf8-past_char (x ∷ (xs ++ ys)) (xs ++ ys) x u (sym (ap (λ l. l ++ (xs ++ ys)) (encode_1 x (a 0)))))
+-- ---- a front that is ASCII, or has no surrogates
 
 -- code units that are not surrogates are their own scalars
 pub bmp_scalars : (front others : List ℕ) → ((k : ℕ) → k < length front → IsNoSurrogate (get_or front k 0)) →
     unit_scalars (front ++ others) ≡ front ++ unit_scalars others
 bmp_scalars [] others bmp = refl
 bmp_scalars (u ∷ front) others bmp =
-    grind (arith, nat_tests, bmp 0, scalars_one, lone_unit_char_low, lone_unit_char_high, bmp_scalars front others (λ k h. bmp (suc k) (omega arith)))
+    let rest = bmp_scalars front others (λ k h. bmp (suc k) (omega arith)) in
+    grind (arith, nat_tests, bmp 0, scalars_lone (u ∷ (front ++ others)) 0, lone_unit_char_low, lone_unit_char_high)
 
 -- The first n of the scalars that are left are these, and the others come after them.
 pub record IsFront (all front others : List ℕ) (n : ℕ) : Type 0 where
-  pub within : n ≤ length all
-  pub others_is : others ≡ drop n all
   pub front_is : front ≡ take n all
+  pub others_is : others ≡ drop n all
+  pub within : n ≤ length all
 
 pub front_of : (all front others : List ℕ) (n : ℕ) → length front ≡ n → all ≡ front ++ others → IsFront all front others n
 front_of all front others n long e = grind (arith, nat_tests, length-append, drop-append_seam, take-append_seam)
 
--- n numbers at the front of what a list has from a place on are ASCII
-pub record AsciiAt (list : List ℕ) (place n : ℕ) : Type 0 where
-  pub within : n ≤ length (drop place list)
-  pub fits : place + n ≤ length list
-  pub ascii : IsAscii (take n (drop place list))
-  pub same : take n (take (length list - place) (drop place list)) ≡ take n (drop place list)
+-- ASCII from a place on
+pub utf8_ascii : (text : List ℕ) (place n : ℕ) → n ≤ length (drop place text) → IsAscii (take n (drop place text)) → is_utf8 (drop place text) ≡ true
+    → IsFront (chars (drop place text)) (take n (drop place text)) (chars (drop (place + n) text)) n × (is_utf8 (drop (place + n) text) ≡ true)
+utf8_ascii text place n within ascii u =
+    let rest = drop place text in
+    let is = IsUtf8-from_is_utf8 rest u in
+    let front = IsUtf8-from_ascii (take n rest) ascii in
+    let split = ap chars (sym (take-append-drop n rest)) ∙ chars-append (take n rest) (drop n rest) front in
+    let is_text = is_utf8-from_IsUtf8 (drop n rest) (IsUtf8-drop rest n is (IsCharBoundary-from_take rest n is within front)) in
+    let own = rw (chars-IsAscii (take n rest) ascii) at split in
+    let is_front = front_of (chars rest) (take n rest) (chars (drop n rest)) n (length-take-le n rest within) own in
+    (rw (drop-drop n place text) at is_front, rw (drop-drop n place text) at is_text)
 
--- so it is where they were found in the slice from the place on
-pub ascii_at : (list : List ℕ) (place n : ℕ) → place ≤ length list → n ≤ length (take (length list - place) (drop place list))
-    → IsAscii (take n (take (length list - place) (drop place list))) → AsciiAt list place n
-ascii_at list place n h within ascii = grind (arith, nat_tests, take_all, length-drop)
+-- code units from a place on that are no surrogates
+pub bmp_front : (list : List ℕ) (place n : ℕ) → n ≤ length (drop place list) → ((k : ℕ) → k < n → IsNoSurrogate (get_or (drop place list) k 0))
+    → IsFront (unit_scalars (drop place list)) (take n (drop place list)) (unit_scalars (drop (place + n) list)) n
+bmp_front list place n within bmp =
+    let rest = drop place list in
+    let long = length-take-le n rest within in
+    let own = bmp_scalars (take n rest) (drop n rest) (λ k h. grind (arith, bmp k, get_or-take)) in
+    rw (drop-drop n place list) at
+    (front_of (unit_scalars rest) (take n rest) (unit_scalars (drop n rest)) n long (ap unit_scalars (sym (take-append-drop n rest)) ∙ own))
 
-module _ (list : List ℕ) (place n : ℕ) (within : n ≤ length (drop place list)) (ascii : IsAscii (take n (drop place list))) where
-  abbrev Rest : List ℕ
-  Rest = drop place list
-
-  parts : Rest ≡ take n Rest ++ drop (place + n) list
-  parts = sym (take-append-drop n Rest) ∙ ap (λ l. take n Rest ++ l) (drop-drop n place list)
-
-  pub utf8_ascii-text : is_utf8 Rest ≡ true → is_utf8 (drop (place + n) list) ≡ true
-  utf8_ascii-text u =
-      is_utf8-from_IsUtf8 (drop (place + n) list) (ascii_past (take n Rest) (drop (place + n) list) ascii (subst IsUtf8 parts (IsUtf8-from_is_utf8 Rest u)))
-
-  pub utf8_ascii : IsFront (chars Rest) (take n Rest) (chars (drop (place + n) list)) n
-  utf8_ascii =
-      let split = chars-append (take n Rest) (drop (place + n) list) (IsUtf8-from_ascii (take n Rest) ascii) in
-      let front = front_of (chars Rest) (take n Rest) (chars (drop (place + n) list)) n in
-      grind (arith, length-take-le n Rest within, ap chars parts, chars-IsAscii (take n Rest) ascii)
-
-  pub utf16_ascii : IsFront (unit_scalars Rest) (take n Rest) (unit_scalars (drop (place + n) list)) n
-  utf16_ascii =
-      let own = bmp_scalars (take n Rest) (drop (place + n) list) (λ k h. let low = ascii k in omega arith) in
-      let front = front_of (unit_scalars Rest) (take n Rest) (unit_scalars (drop (place + n) list)) n in
-      grind (arith, length-take-le n Rest within, ap unit_scalars parts, own)
+pub utf16_ascii : (list : List ℕ) (place n : ℕ) → n ≤ length (drop place list) → IsAscii (take n (drop place list))
+    → IsFront (unit_scalars (drop place list)) (take n (drop place list)) (unit_scalars (drop (place + n) list)) n
+utf16_ascii list place n within ascii = bmp_front list place n within (λ k h. let low = ascii k in grind (arith, get_or-take))
 
 -- ---- the next scalar
 
+pub first_is : (xs : List ℕ) → slice_get xs 0 ≡ cond (ltb 0 (length xs)) (Some (get_or xs 0 0)) None
+first_is [] = refl
+first_is (x ∷ xs) = grind arith
+
 pub first_some : (xs : List ℕ) → 0 < length xs → Some (get_or xs 0 0) ≡ slice_get xs 0
-first_some [] h = absurd (omega arith)
-first_some (x ∷ xs) h = refl
+first_some xs h = grind (arith, nat_tests, first_is xs)
 
 pub is_next : (form : EncodingForm) (left : List ℕ) (c : ℕ) (next : Next) → left ≡ c ∷ drop 1 left → IsSized form c next → IsNext form left next
 is_next form left c next h k = grind arith
@@ -286,23 +216,28 @@ pub none_left : (xs : List ℕ) → None ≡ slice_get xs 0 → xs ≡ []
 none_left [] e = refl
 none_left (x ∷ xs) e = cc
 
--- going past the scalar at a place by the number of its code units
-pub utf8_pass : (text : List ℕ) (place n : ℕ) → place ≤ length text → is_utf8 (drop place text) ≡ true → 0 < length (chars (drop place text))
-    → n ≡ unit_count Utf8 (get_or (chars (drop place text)) 0 0) →
-    (place + n ≤ length text) × (is_utf8 (drop (place + n) text) ≡ true) × (chars (drop (place + n) text) ≡ drop 1 (chars (drop place text)))
-utf8_pass text place n p u some e = grind (arith, utf8_step text place (get_or (chars (drop place text)) 0 0) p u (first_some _ some), length-encode)
+-- the scalar at a place, and the text after it
+pub utf8_next : (text : List ℕ) (place : ℕ) → place ≤ length text → is_utf8 (drop place text) ≡ true → 0 < length (chars (drop place text))
+    → ReadsScalar text place (get_or (chars (drop place text)) 0 0) (place + unit_count Utf8 (get_or (chars (drop place text)) 0 0))
+utf8_next text place p u some = utf8_reads text place (get_or (chars (drop place text)) 0 0) p u (first_some _ some)
 
-pub utf16_pass : (list : List ℕ) (place n : ℕ) → ((i : ℕ) → get_or list i 0 < 65536) → 0 < length (unit_scalars (drop place list))
-    → n ≡ unit_count Utf16 (get_or (unit_scalars (drop place list)) 0 0) →
-    (place + n ≤ length list) × (unit_scalars (drop (place + n) list) ≡ drop 1 (unit_scalars (drop place list)))
-utf16_pass list place n bound some e =
-    let f = first_some (unit_scalars (drop place list)) some in
-    grind (arith, utf16_step list place (get_or (unit_scalars (drop place list)) 0 0) n bound (some_within list place _ f) f, utf16_1, utf16_2)
+pub utf16_next : (list : List ℕ) (place : ℕ) → ((i : ℕ) → get_or list i 0 < 65536) → 0 < length (unit_scalars (drop place list))
+    → let c = get_or (unit_scalars (drop place list)) 0 0 in
+    (unit_scalars (drop place list) ≡ c ∷ unit_scalars (drop (place + unit_count Utf16 c) list)) × (place + unit_count Utf16 c ≤ length list)
+utf16_next list place bound some =
+    let left = unit_scalars (drop place list) in
+    let f = first_some left some in
+    let step = utf16_step list place (get_or left 0 0) (unit_count Utf16 (get_or left 0 0)) bound (some_within list place _ f) f in
+    grind (arith, first_cons left (get_or left 0 0) f, step, utf16_1, utf16_2)
+
+pub ruleset advance_steps = (first_is, nat_tests, utf8_next, length-encode, utf16_next, utf16_1, utf16_2)
+
+pub ruleset ascii_steps = (all_behind, length-drop, utf8_ascii, utf16_ascii)
 
 pub ruleset unit_steps = (common_steps, scalars_lone, scalars_pair, scalars_end, lone_unit_char_low, lone_unit_char_high, lone_unit_char_surrogate)
 
-pub ruleset next_steps = (is_next, first_cons, none_left, utf8_inside, utf8_stands)
+pub ruleset next_steps = (is_next, first_cons, none_left, first_is, nat_tests, utf8_next, some_units, utf8_stands)
 
-pub ruleset boundary_steps = (IsCharBoundary-from_drop, IsUtf8-from_is_utf8)
+pub ruleset text_steps = (IsCharBoundary-from_drop, IsUtf8-from_is_utf8, is_utf8-from_IsUtf8)
 
-pub ruleset whole_text = (is_utf8-from_IsUtf8)
+pub ruleset by_bytes_steps = (by_first, get_or-drop, length-drop)

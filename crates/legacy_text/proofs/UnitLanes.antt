@@ -1,31 +1,24 @@
 -- Vectors lane by lane: a vector is written out as the list of its lanes.
-use Rattle.std.proofs.Common.{◌≡◌, ℕ, zero, suc, ◌+◌, ◌-◌, ◌*◌, ◌/◌, ◌%◌, ◌^◌, ◌<◌, ◌≤◌, Bool, true, cond, ltb, leb, eqb, List, [], ◌∷◌, ◌++◌, length}
-use Rattle.std.proofs.Common.{get_or, map, take, drop, replicate, bit_and, refl, sym, ap, ap₂, ◌∙◌, arith, w8, w16, Fits, ◌&&◌, mod-lt, zero-lt-suc, mul_assoc}
-use Rattle.std.proofs.{Common.length-append, lemmas.Bool.{leb-true, eqb-true, and_parts, agree_below_at}, lemmas.List.map-append}
-use Rattle.std.proofs.lemmas.List.{append_assoc, length-replicate, length-take-le, length-drop, take-take, take-append-drop, take-map}
-use Rattle.std.proofs.{Math.Seq.{take-append_seam}, lemmas.Nat.and_mask, lemmas.Nat.Bits.and_high, lemmas.Simd.{mask_l-lt, mask_l-mod, swz_l}}
-use Rattle.std.proofs.{lemmas.Grind.{flat_map-append, common_steps}, lemmas.Bool.Decides.nat_tests}
+use Rattle.std.proofs.Common.{◌≡◌, ℕ, zero, suc, ◌+◌, ◌-◌, ◌*◌, ◌/◌, ◌%◌, ◌^◌, ◌<◌, ◌≤◌, Bool, true, cond, ltb, leb, eqb, List, [], ◌∷◌, ◌++◌, length, get_or}
+use Rattle.std.proofs.Common.{map, take, drop, replicate, bit_and, refl, sym, ap, ap₂, ◌∙◌, arith, subst, zero-add, w8, w16, Fits, ◌&&◌, mod-lt, zero-lt-suc}
+use Rattle.std.proofs.{Common.{mul_assoc, length-append}, lemmas.Bool.{leb-true, and_parts, agree_below_at}, lemmas.List.{map-append, append_assoc}}
+use Rattle.std.proofs.{lemmas.List.{length-replicate, length-take-le, take-take, take-map}, lemmas.List.FromFn.get_or-range_with_len, Math.Seq.take-append_seam}
+use Rattle.std.proofs.{lemmas.Nat.and_mask, lemmas.Nat.Bits.and_high, lemmas.Simd.{mask_l-lt, mask_l-mod, swz_l, SwzOk, SwzOk-from_below, Each1-get_or}}
+use Rattle.std.proofs.{lemmas.Simd.pick_l_whole, lemmas.Grind.{flat_map-append, common_steps}, lemmas.Bool.Decides.nat_tests}
 use Rattle.std.specs.{Char.encode_utf8, List.range_with_len}
 use lib.Lanes.{Each1, zip2, sel_l, mask_l, top, number_l, digits_l, pick_l, all_below}
-use Rattle.legacy_text.specs.{declared.unit_rows.TheConstants.{WRITTEN, COUNTS}, UnitBytes.{last_byte, front_bytes, lanes, flags, pattern, places}}
-use Rattle.legacy_text.specs.UnitBytes.{row, utf8_bytes}
+use Rattle.legacy_text.specs.{declared.unit_rows.TheConstants.{WRITTEN, COUNTS}, UnitBytes.{last_byte, front_bytes, lanes, flags, pattern, places, row}}
+use Rattle.legacy_text.specs.UnitBytes.{utf8_bytes}
 
 -- ---- eight lanes
 
 -- a property of any eight lanes that fit is a property of a vector
 pub of_eight : (P : List ℕ → Type 0) → ((a b c d e f g h : ℕ) → a < 65536 → b < 65536 → c < 65536 → d < 65536 → e < 65536 → f < 65536 → g < 65536 → h < 65536
     → P (a ∷ b ∷ c ∷ d ∷ e ∷ f ∷ g ∷ h ∷ [])) → (v : List ℕ) → length v ≡ 8 → Each1 (Fits w16) v → P v
-of_eight P p [] n s = absurd (omega arith)
-of_eight P p (a ∷ []) n s = absurd (omega arith)
-of_eight P p (a ∷ b ∷ []) n s = absurd (omega arith)
-of_eight P p (a ∷ b ∷ c ∷ []) n s = absurd (omega arith)
-of_eight P p (a ∷ b ∷ c ∷ d ∷ []) n s = absurd (omega arith)
-of_eight P p (a ∷ b ∷ c ∷ d ∷ e ∷ []) n s = absurd (omega arith)
-of_eight P p (a ∷ b ∷ c ∷ d ∷ e ∷ f ∷ []) n s = absurd (omega arith)
-of_eight P p (a ∷ b ∷ c ∷ d ∷ e ∷ f ∷ g ∷ []) n s = absurd (omega arith)
-of_eight P p (a ∷ b ∷ c ∷ d ∷ e ∷ f ∷ g ∷ h ∷ []) n s =
-    p a b c d e f g h s.0.fits s.1.0.fits s.1.1.0.fits s.1.1.1.0.fits s.1.1.1.1.0.fits s.1.1.1.1.1.0.fits s.1.1.1.1.1.1.0.fits s.1.1.1.1.1.1.1.0.fits
-of_eight P p (a ∷ b ∷ c ∷ d ∷ e ∷ f ∷ g ∷ h ∷ i ∷ v) n s = absurd (omega arith)
+of_eight P p v n s =
+    let b : (k : ℕ) → k < 8 → get_or v k 0 < 65536 = λ k h. (Each1-get_or (Fits w16) v k 0 (omega arith) s).fits in
+    subst P (pick_l_whole 0 v 8 n) (p _ _ _ _ _ _ _ _ (b 0 (omega arith)) (b 1 (omega arith)) (b 2 (omega arith)) (b 3 (omega arith))
+    (b 4 (omega arith)) (b 5 (omega arith)) (b 6 (omega arith)) (b 7 (omega arith)))
 
 -- ---- the bytes of one code unit
 
@@ -55,23 +48,11 @@ abbrev pub halves : List ℕ → List ℕ
 halves [] = []
 halves (x ∷ xs) = x % 256 ∷ x / 256 ∷ halves xs
 
-pub le_bytes : (xs : List ℕ) → Each1 (λ x. x < 65536) xs → digits_l 256 (doubled xs) (number_l 65536 xs) ≡ halves xs
-le_bytes [] s = refl
-le_bytes (x ∷ xs) s = grind (arith, s.0, le_bytes xs s.1)
-
+-- the bytes of lanes that were made of each code unit
 pub le_bytes_map : (f : ℕ → ℕ) → ((u : ℕ) → u < 65536 → f u < 65536) → (us : List ℕ) → Each1 (λ u. u < 65536) us →
     digits_l 256 (doubled (map f us)) (number_l 65536 (map f us)) ≡ halves (map f us)
-le_bytes_map f below us small = le_bytes (map f us) (all us small)
-  where
-    all : (us : List ℕ) → Each1 (λ u. u < 65536) us → Each1 (λ x. x < 65536) (map f us)
-    all [] small = tt
-    all (u ∷ us) small = (below u small.0, all us small.1)
-
-pub last_small : (u : ℕ) → u < 65536 → last_byte u < 65536
-last_small u small = grind arith
-
-pub front_small : (u : ℕ) → u < 65536 → front_bytes u < 65536
-front_small u small = grind arith
+le_bytes_map f below [] small = refl
+le_bytes_map f below (u ∷ us) small = grind (arith, below u small.0, le_bytes_map f below us small.1)
 
 -- ---- vectors of eight code units
 
@@ -95,11 +76,8 @@ by_turns [] = []
 by_turns (u ∷ us) = last_byte u ∷ front_bytes u ∷ by_turns us
 
 both_bytes : (us : List ℕ) → Each1 (λ u. u < 65536) us → digits_l 256 (doubled (by_turns us)) (number_l 65536 (by_turns us)) ≡ halves (by_turns us)
-both_bytes us small = le_bytes (by_turns us) (all us small)
-  where
-    all : (us : List ℕ) → Each1 (λ u. u < 65536) us → Each1 (λ x. x < 65536) (by_turns us)
-    all [] small = tt
-    all (u ∷ us) small = (last_small u small.0, (front_small u small.0, all us small.1))
+both_bytes [] small = refl
+both_bytes (u ∷ us) small = grind (arith, nat_tests, small.0, both_bytes us small.1)
 
 pub vector_lanes : (v : List ℕ) → length v ≡ 8 → Each1 (Fits w16) v
     → (digits_l 256 16 (number_l 65536 (pick_l 0 (map last_byte v ++ map front_bytes v) (0 ∷ 8 ∷ 1 ∷ 9 ∷ 2 ∷ 10 ∷ 3 ∷ 11 ∷ []))) ≡ lanes (take 4 v))
@@ -118,11 +96,8 @@ marks u = (cond (top 15 (cond (ltb u 128) (2 ^ 16 - 1) 0)) 255 0 + cond (top 15 
 abbrev marked : ℕ → Bool
 marked b = top 7 (cond (leb 128 b) (2 ^ 8 - 1) 0)
 
-low_mark : (u : ℕ) → marked (marks u % 256) ≡ ltb u 128
-low_mark u = grind arith
-
-high_mark : (u : ℕ) → marked (marks u / 256) ≡ ltb u 2048
-high_mark u = grind arith
+mark : (u : ℕ) → (marked (marks u % 256) ≡ ltb u 128) × (marked (marks u / 256) ≡ ltb u 2048)
+mark u = (grind arith, grind arith)
 
 abbrev pub vector_bits : List ℕ → ℕ
 vector_bits v =
@@ -134,58 +109,26 @@ vector_bits v =
 abbrev all_marked : List ℕ → ℕ
 all_marked bytes = mask_l (map (top 7) (zip2 (λ a b. cond (leb a b) (2 ^ 8 - 1) 0) (replicate 16 128) bytes)) % 2 ^ 64
 
-bits_are : (v : List ℕ) → length v ≡ 8 → Each1 (Fits w16) v → vector_bits v ≡ mask_l (flags v) % 2 ^ 64
-bits_are = of_eight _ (λ a b c d e f g h sa sb sc sd se sf sg sh.
-    ap all_marked (le_bytes_map marks (λ u _. mod-lt _ (zero-lt-suc 65535)) (a ∷ b ∷ c ∷ d ∷ e ∷ f ∷ g ∷ h ∷ [])
-    (sa, (sb, (sc, (sd, (se, (sf, (sg, (sh, tt)))))))))
-    ∙ (λ t. mask_l (low_mark a t ∷ high_mark a t ∷ low_mark b t ∷ high_mark b t ∷ low_mark c t ∷ high_mark c t ∷ low_mark d t ∷ high_mark d t
-    ∷ low_mark e t ∷ high_mark e t ∷ low_mark f t ∷ high_mark f t ∷ low_mark g t ∷ high_mark g t ∷ low_mark h t ∷ high_mark h t ∷ []) % 2 ^ 64))
-
-flags_long : (v : List ℕ) → length (flags v) ≡ 2 * length v
-flags_long [] = refl
-flags_long (u ∷ v) = omega (arith, flags_long v)
-
 mask_append : (xs ys : List Bool) → mask_l (xs ++ ys) ≡ mask_l xs + 2 ^ length xs * mask_l ys
 mask_append [] ys = omega arith
 mask_append (x ∷ xs) ys = grind (arith, nat_tests, mask_append xs ys, mul_assoc)
 
-flags_append : (us vs : List ℕ) → flags (us ++ vs) ≡ flags us ++ flags vs
-flags_append [] vs = refl
-flags_append (u ∷ us) vs = ap (λ (l : List Bool). ltb u 128 ∷ ltb u 2048 ∷ l) (flags_append us vs)
-
-module _ (v : List ℕ) (long : length v ≡ 8) (fits : Each1 (Fits w16) v) where
-  four_long : length (take 4 v) ≡ 4
-  four_long = length-take-le 4 v (omega arith)
-
-  first_lt : pattern (take 4 v) < 256
-  unfolding pattern
-  first_lt = grind (arith, nat_tests, flags_long, four_long, mask_l-lt)
-
-  others_lt : pattern (drop 4 v) < 256
-  unfolding pattern
-  others_lt = grind (arith, nat_tests, flags_long, length-drop, mask_l-lt)
-
-  bits_split : vector_bits v ≡ pattern (take 4 v) + 256 * pattern (drop 4 v)
-  unfolding pattern
-  bits_split =
-      let split = flags_append (take 4 v) (drop 4 v) in
-      let joined = mask_append (flags (take 4 v)) (flags (drop 4 v)) in
-      grind (arith, bits_are v long fits, mask_l-mod (flags v) 64, flags_long, take-append-drop 4 v, four_long)
-
-  pub first_pattern : vector_bits v % 256 ≡ pattern (take 4 v)
-  first_pattern = omega (arith, bits_split, first_lt)
-
-  pub other_pattern : vector_bits v / 256 ≡ pattern (drop 4 v)
-  other_pattern = omega (arith, bits_split, first_lt)
-
-  pub other_below : vector_bits v / 256 < 256
-  other_below = omega (arith, other_pattern, others_lt)
+pub patterns_are : (v : List ℕ) → length v ≡ 8 → Each1 (Fits w16) v
+    → (pattern (take 4 v) ≡ vector_bits v % 256) × (pattern (drop 4 v) ≡ vector_bits v / 256) × (vector_bits v / 256 < 256)
+unfolding pattern
+patterns_are = of_eight _ (λ a b c d e f g h sa sb sc sd se sf sg sh.
+    let all = a ∷ b ∷ c ∷ d ∷ e ∷ f ∷ g ∷ h ∷ [] in
+    let marked_are : vector_bits all ≡ mask_l (flags all) % 2 ^ 64 =
+    ap all_marked (le_bytes_map marks (λ u _. mod-lt _ (zero-lt-suc 65535)) all (sa, (sb, (sc, (sd, (se, (sf, (sg, (sh, tt)))))))))
+    ∙ (λ t. mask_l ((mark a).0 t ∷ (mark a).1 t ∷ (mark b).0 t ∷ (mark b).1 t ∷ (mark c).0 t ∷ (mark c).1 t ∷ (mark d).0 t ∷ (mark d).1 t
+    ∷ (mark e).0 t ∷ (mark e).1 t ∷ (mark f).0 t ∷ (mark f).1 t ∷ (mark g).0 t ∷ (mark g).1 t ∷ (mark h).0 t ∷ (mark h).1 t ∷ []) % 2 ^ 64) in
+    let whole : vector_bits all ≡ mask_l (flags (take 4 all)) + 256 * mask_l (flags (drop 4 all)) =
+    marked_are ∙ mask_l-mod (flags all) 64 (omega arith) ∙ mask_append (flags (take 4 all)) (flags (drop 4 all)) in
+    let front : mask_l (flags (take 4 all)) < 256 = mask_l-lt (flags (take 4 all)) in
+    let back : mask_l (flags (drop 4 all)) < 256 = mask_l-lt (flags (drop 4 all)) in
+    (omega (arith, whole, front), omega (arith, whole, front), omega (arith, whole, front, back)))
 
 -- ---- the table
-
-all_rows : (r : ℕ) → r < 256 → (all_below 16 (row r) && (eqb (length (row r)) 16 && leb (length (places 0 4 r)) 12)) ≡ true
-unfolding row places
-all_rows r h = agree_below_at (λ n. all_below 16 (row n) && (eqb (length (row n)) 16 && leb (length (places 0 4 n)) 12)) (λ _. true) 256 r refl h
 
 pub rows_are : WRITTEN ≡ map row (range_with_len 0 256)
 unfolding row places
@@ -199,70 +142,58 @@ pub each_below : (n : ℕ) (js : List ℕ) → all_below n js ≡ true → Each1
 each_below n [] e = tt
 each_below n (j ∷ js) e = grind (arith, nat_tests, each_below n js)
 
-pub row_within : (r : ℕ) → r < 256 → Each1 (λ j. j < 16) (row r)
-row_within r h = each_below 16 (row r) (and_parts _ _ (all_rows r h)).0
-
-pub row_long : (r : ℕ) → r < 256 → length (row r) ≡ 16
-row_long r h = eqb-true _ _ (and_parts _ _ (and_parts _ _ (all_rows r h)).1).0
-
-pub count_most : (r : ℕ) → r < 256 → length (places 0 4 r) ≤ 12
-count_most r h = leb-true _ _ (and_parts _ _ (and_parts _ _ (all_rows r h)).1).1
+pub rows_fit : (r : ℕ) → r < 256 → Each1 (λ j. j < 16) (row r) × (length (places 0 4 r) ≤ 12)
+unfolding row places
+rows_fit r h =
+    let p = and_parts _ _ (agree_below_at (λ n. all_below 16 (row n) && leb (length (places 0 4 n)) 12) (λ _. true) 256 r refl h) in
+    (each_below 16 (row r) p.0, leb-true _ _ p.1)
 
 -- a shuffle of sixteen bytes by places within them
 pub shuffled : (xs : List ℕ) (i : ℕ) (js : List ℕ) → i + length js ≤ 16 → Each1 (λ j. j < 16) js → swz_l w8 16 xs i js ≡ map (λ j. get_or xs j 0) js
 shuffled xs i [] room s = refl
 shuffled xs i (j ∷ js) room s = grind (arith, nat_tests, s.0, shuffled xs (suc i) js)
 
-row_begins : (r : ℕ) → r < 256 → take (length (places 0 4 r)) (row r) ≡ places 0 4 r
-unfolding row
-row_begins r h = take-take (length (places 0 4 r)) 16 _ (omega (arith, count_most r h)) ∙ take-append_seam (places 0 4 r) (replicate 16 0)
+-- such places, with others after them
+module _ (js : List ℕ) (within : Each1 (λ j. j < 16) (take 16 (js ++ replicate 16 0))) where
+  row_long : length (take 16 (js ++ replicate 16 0)) ≡ 16
+  row_long = length-take-le 16 (js ++ replicate 16 0) (omega (arith, length-append js (replicate 16 0)))
 
-pub written_places : (xs : List ℕ) (r : ℕ) → r < 256 → take (length (places 0 4 r)) (swz_l w8 16 xs 0 (row r)) ≡ map (λ j. get_or xs j 0) (places 0 4 r)
-written_places xs r h = grind (arith, nat_tests, shuffled, row_long, row_within, take-map, row_begins)
+  pub row_ok : SwzOk w8 16 16 0 (take 16 (js ++ replicate 16 0))
+  row_ok = SwzOk-from_below w8 16 1 16 0 (take 16 (js ++ replicate 16 0)) refl (omega (arith, row_long)) within
+
+  pub row_written : (xs : List ℕ) → length js ≤ 16 → take (length js) (swz_l w8 16 xs 0 (take 16 (js ++ replicate 16 0))) ≡ map (λ j. get_or xs j 0) js
+  row_written xs few =
+      let row = take 16 (js ++ replicate 16 0) in
+      let begins : take (length js) row ≡ js = take-take (length js) 16 (js ++ replicate 16 0) few ∙ take-append_seam js (replicate 16 0) in
+      grind (arith, shuffled xs 0 row, row_long, within, take-map (λ j. get_or xs j 0) (length js) row)
 
 -- ---- the bytes that are written are the text
-
--- a list of bytes has those of the lanes of these code units from a place on
-abbrev pub Reads : (ℕ → ℕ) → ℕ → List ℕ → Type 0
-Reads f base [] = Unit {0}
-Reads f base (u ∷ us) = (f base ≡ last_byte u % 256) × (f (base + 2) ≡ front_bytes u % 256) × (f (base + 3) ≡ front_bytes u / 256) × Reads f (base + 4) us
 
 digit : (s t : Bool) (m : ℕ) → ((cond s 1 0 + 2 * (cond t 1 0 + 2 * m)) % 4 ≡ cond s 1 0 + 2 * cond t 1 0) × ((cond s 1 0 + 2 * (cond t 1 0 + 2 * m)) / 4 ≡ m)
 digit s t m = (grind arith, grind arith)
 
-pub text_written : (f : ℕ → ℕ) (base : ℕ) (us : List ℕ) → Each1 (λ u. u < 65536) us → Reads f base us →
+-- `f` reads the lanes of these code units from a place on
+pub text_written : (f : ℕ → ℕ) (base : ℕ) (us : List ℕ) → Each1 (λ u. u < 65536) us → ((k : ℕ) → f (base + k) ≡ get_or (lanes us) k 0) →
     map f (places base (length us) (pattern us)) ≡ utf8_bytes us
 unfolding places pattern
 text_written f base [] small reads = refl
 text_written f base (u ∷ us) small reads =
     let d = digit (ltb u 128) (ltb u 2048) (mask_l (flags us)) in
-    let rest = text_written f (base + 4) us small.1 reads.3 in
-    grind (arith, map-append, unit_is u small.0)
-
-pub reads_lanes : (a b c d : ℕ) → Reads (λ k. get_or (lanes (a ∷ b ∷ c ∷ d ∷ [])) k 0) 0 (a ∷ b ∷ c ∷ d ∷ [])
-reads_lanes a b c d = (refl, refl, refl, (refl, refl, refl, (refl, refl, refl, (refl, refl, refl, tt))))
+    let rest = text_written f (base + 4) us small.1 (λ k.
+    let at : base + 4 + k ≡ base + suc (suc (suc (suc k))) = omega arith in
+    rw at (reads (suc (suc (suc (suc k)))))) in
+    grind (arith, map-append, unit_is u small.0, reads 0, reads 2, reads 3)
 
 -- both halves of eight code units
-pub text_of_eight : (v : List ℕ) → length v ≡ 8 → Each1 (Fits w16) v
-    → (map (λ k. get_or (lanes (take 4 v)) k 0) (places 0 4 (pattern (take 4 v))) ≡ utf8_bytes (take 4 v))
-    × (map (λ k. get_or (lanes (drop 4 v)) k 0) (places 0 4 (pattern (drop 4 v))) ≡ utf8_bytes (drop 4 v))
-text_of_eight = of_eight _ (λ a b c d e f g h sa sb sc sd se sf sg sh. (
-  text_written (λ k. get_or (lanes (a ∷ b ∷ c ∷ d ∷ [])) k 0) 0 (a ∷ b ∷ c ∷ d ∷ []) (sa, (sb, (sc, (sd, tt)))) (reads_lanes a b c d),
-  text_written (λ k. get_or (lanes (e ∷ f ∷ g ∷ h ∷ [])) k 0) 0 (e ∷ f ∷ g ∷ h ∷ []) (se, (sf, (sg, (sh, tt)))) (reads_lanes e f g h),
-))
-
-pub joined_text : (us : List ℕ) → utf8_bytes (take 4 us) ++ utf8_bytes (drop 4 us) ≡ utf8_bytes us
-joined_text us = sym (flat_map-append encode_utf8 (take 4 us) (drop 4 us)) ∙ ap utf8_bytes (take-append-drop 4 us)
-
--- two stores, one after the other
-pub both_stored : (old old_front : List ℕ) (front back : List ℕ) (p q : ℕ) (v new : List ℕ) → length v ≡ 8 → Each1 (Fits w16) v
-    → front ≡ lanes (take 4 v) → back ≡ lanes (drop 4 v) → p ≡ pattern (take 4 v) → q ≡ pattern (drop 4 v)
-    → old_front ≡ old ++ map (λ k. get_or front k 0) (places 0 4 p) → new ≡ old_front ++ map (λ k. get_or back k 0) (places 0 4 q) → new ≡ old ++ utf8_bytes v
-both_stored old old_front front back p q v new long fits fe be pe qe first second =
-    let t = text_of_eight v long fits in
-    let a : map (λ k. get_or front k 0) (places 0 4 p) ≡ utf8_bytes (take 4 v) = rw (fe, pe) t.0 in
-    let b : map (λ k. get_or back k 0) (places 0 4 q) ≡ utf8_bytes (drop 4 v) = rw (be, qe) t.1 in
-    rw (second, first, append_assoc, a, b) (ap (λ (l : List ℕ). old ++ l) (joined_text v))
+pub text_of_eight : (v : List ℕ) → length v ≡ 8 → Each1 (Fits w16) v → map (λ k. get_or (lanes (take 4 v)) k 0) (places 0 4 (pattern (take 4 v)))
+    ++ map (λ k. get_or (lanes (drop 4 v)) k 0) (places 0 4 (pattern (drop 4 v))) ≡ utf8_bytes v
+text_of_eight = of_eight _ (λ a b c d e f g h sa sb sc sd se sf sg sh.
+    let front = a ∷ b ∷ c ∷ d ∷ [] in
+    let back = e ∷ f ∷ g ∷ h ∷ [] in
+    ap₂ (λ (x y : List ℕ). x ++ y)
+    (text_written (λ k. get_or (lanes front) k 0) 0 front (sa, (sb, (sc, (sd, tt)))) (λ k. rw (zero-add k) refl))
+    (text_written (λ k. get_or (lanes back) k 0) 0 back (se, (sf, (sg, (sh, tt)))) (λ k. rw (zero-add k) refl))
+    ∙ sym (flat_map-append encode_utf8 front back))
 
 -- ---- the first code units, with U+0000 for the others
 
@@ -272,20 +203,11 @@ vector_first n v =
 
 pub first_are : (n : ℕ) → n ≤ 8 → (v : List ℕ) → length v ≡ 8 → Each1 (Fits w16) v → vector_first n v ≡ take n v ++ replicate (8 - n) 0
 first_are n most =
-    of_eight (λ v. vector_first n v ≡ take n v ++ replicate (8 - n) 0) (λ a b c d e f g h sa sb sc sd se sf sg sh. go n most a b c d e f g h)
-  where
-    go : (n : ℕ) → n ≤ 8 → (a b c d e f g h : ℕ)
-        → vector_first n (a ∷ b ∷ c ∷ d ∷ e ∷ f ∷ g ∷ h ∷ []) ≡ take n (a ∷ b ∷ c ∷ d ∷ e ∷ f ∷ g ∷ h ∷ []) ++ replicate (8 - n) 0
-    go zero m a b c d e f g h = refl
-    go (suc zero) m a b c d e f g h = refl
-    go (suc (suc zero)) m a b c d e f g h = refl
-    go (suc (suc (suc zero))) m a b c d e f g h = refl
-    go (suc (suc (suc (suc zero)))) m a b c d e f g h = refl
-    go (suc (suc (suc (suc (suc zero))))) m a b c d e f g h = refl
-    go (suc (suc (suc (suc (suc (suc zero)))))) m a b c d e f g h = refl
-    go (suc (suc (suc (suc (suc (suc (suc zero))))))) m a b c d e f g h = refl
-    go (suc (suc (suc (suc (suc (suc (suc (suc zero)))))))) m a b c d e f g h = refl
-    go (suc (suc (suc (suc (suc (suc (suc (suc (suc n))))))))) m a b c d e f g h = absurd (omega arith)
+    of_eight (λ v. vector_first n v ≡ take n v ++ replicate (8 - n) 0) (λ a b c d e f g h sa sb sc sd se sf sg sh.
+    let v = a ∷ b ∷ c ∷ d ∷ e ∷ f ∷ g ∷ h ∷ [] in
+    let is = λ (k : ℕ). vector_first k v ≡ take k v ++ replicate (8 - k) 0 in
+    subst is (get_or-range_with_len 0 9 n 0 (omega arith) ∙ zero-add n)
+    (Each1-get_or is (range_with_len 0 9) n 0 (omega arith) (refl, (refl, (refl, (refl, (refl, (refl, (refl, (refl, (refl, tt)))))))))))
 
 zeros_text : (n : ℕ) → utf8_bytes (replicate n 0) ≡ replicate n 0
 unfolding encode_utf8

@@ -37,7 +37,7 @@ fn store_block(dst: &mut [u8], at: usize, block: u8x16) -> usize
 
 /// Returns the number of ASCII bytes at the front of a wide block.
 #[inline(always)]
-#[tactic(auto, using(crate::proofs::Ascii::wide_count_steps))]
+#[tactic(auto, using(crate::proofs::Ascii::count_steps))]
 pub(crate) fn wide_ascii_count(block: u8x64) -> usize
     ensures most { result ≤ 64 }
     ensures ascii { IsAscii (take result block) }
@@ -164,7 +164,7 @@ fn narrow_block(units: &[u16]) -> [u8; 16]
 ///
 /// Returns their number.
 #[inline]
-#[tactic(auto, using(crate::proofs::Ascii::unit_copy_steps))]
+#[tactic(auto, using(crate::proofs::Ascii::copy_steps))]
 pub(crate) fn copy_ascii_units(units: &[u16], dst: &mut [u8], at: usize) -> usize
     requires { at ≤ length dst.old }
     ensures read { result ≤ length units.now }

@@ -74,7 +74,7 @@ pub struct Utf8Source<'a> {
 
 /// Returns the scalar at a place of a text, or `None` at its end.
 #[inline]
-#[tactic(auto, using(crate::proofs::Texts::boundary_steps))]
+#[tactic(auto, using(crate::proofs::Texts::text_steps))]
 fn scalar_at(text: &str, place: usize) -> Option<char>
     requires in_range { place ≤ length text.now }
     requires is_text { is_utf8 (drop place text.now) ≡ true }
@@ -126,6 +126,7 @@ fn scalar_of(number: u32) -> char
 // bytes are made here: so the compiler knows that they are below U+0800 or U+10000, and their quotient by
 // 64, by which they are looked up.
 #[inline(always)]
+#[tactic(auto, using(crate::proofs::Texts::by_bytes_steps))]
 fn by_bytes(bytes: &[u8], place: usize, c: char) -> Next
     requires within { place < length bytes.now }
     requires stands { StandsAt bytes.now place c }
@@ -164,7 +165,7 @@ impl<'a> Utf8Source<'a> {
     ghost use Rattle.legacy_text.specs.TextSources.{utf8_text, utf8_place};
 
     /// Returns a source before the first scalar of the text.
-    #[tactic(auto, using(crate::proofs::Texts::whole_text))]
+    #[tactic(auto, using(crate::proofs::Texts::text_steps))]
     pub fn new(text: &'a str) -> Utf8Source<'a>
         ensures text { utf8_text result ≡ text.now }
         ensures place { utf8_place result ≡ 0 }
@@ -188,7 +189,7 @@ impl Source for Utf8Source<'_> {
     }
 
     #[inline]
-    #[tactic(auto, using(crate::proofs::Texts::utf8_step))]
+    #[tactic(auto, using(crate::proofs::Texts::advance_steps))]
     fn advance(&mut self) {
         if let Some(c) = scalar_at(self.text, self.place) {
             self.place += c.len_utf8();
@@ -224,7 +225,7 @@ impl TextCursor for Utf8Source<'_> {
     }
 
     #[inline(always)]
-    #[tactic(auto, using(crate::proofs::Texts::utf8_pass))]
+    #[tactic(auto, using(crate::proofs::Texts::utf8_next))]
     fn pass(&mut self, count: usize) {
         self.place = place_behind(self.text, self.place, count);
     }
@@ -235,6 +236,7 @@ impl TextCursor for Utf8Source<'_> {
     }
 
     #[inline(always)]
+    #[tactic(auto, using(crate::proofs::Texts::ascii_steps))]
     fn copy_ascii(&mut self, dst: &mut [u8], at: usize) -> usize {
         let count = copy_ascii_bytes(&self.text.as_bytes()[self.place..], dst, at);
         self.place += count;
@@ -360,6 +362,7 @@ impl Source for Utf16Source<'_> {
     }
 
     #[inline]
+    #[tactic(auto, using(crate::proofs::Texts::advance_steps))]
     fn advance(&mut self) {
         if let Some(c) = unit_scalar_at(self.units, self.place) {
             self.place += c.len_utf16();
@@ -399,7 +402,7 @@ impl TextCursor for Utf16Source<'_> {
     }
 
     #[inline(always)]
-    #[tactic(auto, using(crate::proofs::Texts::utf16_pass))]
+    #[tactic(auto, using(crate::proofs::Texts::utf16_next))]
     fn pass(&mut self, count: usize) {
         self.place += count;
     }
@@ -411,6 +414,7 @@ impl TextCursor for Utf16Source<'_> {
     }
 
     #[inline(always)]
+    #[tactic(auto, using(crate::proofs::Texts::ascii_steps))]
     fn copy_ascii(&mut self, dst: &mut [u8], at: usize) -> usize {
         let count = copy_ascii_units(&self.units[self.place..], dst, at);
         self.place += count;
@@ -423,7 +427,7 @@ impl TextCursor for Utf16Source<'_> {
     }
 
     #[inline(always)]
-    #[tactic(auto, using(crate::proofs::UnitTurns::takes_units))]
+    #[tactic(auto, using(crate::proofs::UnitCopies::takes_units))]
     fn take_ten(&mut self) -> Option<[u16; 10]> {
         if self.units.len() - self.place < 10 {
             return None;

@@ -1,5 +1,4 @@
-use Rattle.std.proofs.lemmas.Bool.Decides.{nat_tests}
-use Rattle.std.proofs.{Common.{◌∙◌, ◌<◌, length, take, get_or, arith, w32}, lemmas.List.{length-set, take_more_set}}
+use Rattle.std.proofs.{lemmas.Bool.Decides.nat_tests, Common.{◌∙◌, ◌<◌, length, take, get_or, arith, w32}, lemmas.List.{length-set, take_more_set}}
 use Rattle.std.specs.Int.{trailing_zeros}
 use Rattle.legacy_text.proofs.ScalarTurns.{stands_first, stands_more}
 use Rattle.legacy_text.proofs.scalar_turns.ten_scalars.Goals as goal

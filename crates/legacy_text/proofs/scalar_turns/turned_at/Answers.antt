@@ -1,4 +1,4 @@
-use Rattle.std.proofs.{Common.{◌+◌, ◌%◌}}
+use Rattle.std.proofs.Common.{◌+◌, ◌%◌}
 use Rattle.legacy_text.proofs.ScalarTurns.{each_sixteenth}
 use Rattle.legacy_text.proofs.scalar_turns.turned_at.Goals as goal
 

@@ -1,6 +1,4 @@
-use Rattle.std.proofs.Common.{◌-◌}
-use Rattle.std.proofs.lemmas.Bool.Decides.{nat_tests}
-use Rattle.std.proofs.Common.{arith}
+use Rattle.std.proofs.{Common.{◌-◌, arith}, lemmas.Bool.Decides.nat_tests}
 use Rattle.legacy_text.proofs.scalar_turns.units_at.Goals as goal
 
 pub returns : goal.returns

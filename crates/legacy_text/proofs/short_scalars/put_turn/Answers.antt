@@ -1,6 +1,6 @@
-use Rattle.std.proofs.{Common.{◌≡◌, ◌∙◌, ◌+◌, ◌<◌, length, take, ap, add-zero, arith, slice_set}, lemmas.Bool.ltb-true}
+use Rattle.std.proofs.{Common.{◌≡◌, ◌∙◌, ◌+◌, ◌<◌, length, take, ap, add-zero, arith, slice_set}, lemmas.Bool.{ltb-true, and_parts}}
 use Rattle.std.proofs.lemmas.List.{take-set-le, take_more_set}
-use Rattle.legacy_text.proofs.ShortScalars.{all_set, scalars_none, scalars_one, scalars_append}
+use Rattle.legacy_text.proofs.ShortScalars.{scalars_none, scalars_one, scalars_append}
 use Rattle.legacy_text.proofs.short_scalars.put_turn.Goals as goal
 
 pub loop-k-init : goal.loop-k-init
@@ -18,10 +18,11 @@ loop-k-preserved g c =
       omega (arith, i.1, s.ensures.few),
       take-set-le c.args.at c.loop-k.dst at b.result.0 (omega arith) ∙ i.2,
       (λ e.
-          let flags = all_set _ _ _ e in
-          let before = i.3 flags.0 in
-          let read = s.ensures.scalar before.is_text (ltb-true _ _ flags.1) in
+          let flags = and_parts _ _ e in
+          let front = and_parts _ _ flags.0 in
+          let before = i.3 front.0 in
+          let read = s.ensures.scalar before.is_text (ltb-true _ _ front.1) in
           let stored = ap (λ n. take n (slice_set c.loop-k.dst at b.result.0)) place ∙ take_more_set c.loop-k.dst at b.result.0 inside in
-          let one = scalars_one _ c.args.bytes.now c.loop-k.place s.result.0 _ b.result.0 (take at c.loop-k.dst) _ read (b.ensures flags.2).1 stored in
+          let one = scalars_one _ c.args.bytes.now c.loop-k.place s.result.0 _ b.result.0 (take at c.loop-k.dst) _ read (b.ensures flags.1).1 stored in
           scalars_append _ c.args.bytes.now c.args.start c.loop-k.k c.loop-k.place 1 _ _ _ _ before one),
     )

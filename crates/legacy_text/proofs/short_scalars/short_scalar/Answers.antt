@@ -8,6 +8,6 @@ returns-clause-scalar c = λ u short.
     let low : c.from_le_bytes-both.result % 256 ≡ first = omega (arith, c.from_le_bytes-both.ensures, short) in
     let fits = c.type_inv.bytes (c.args.place + 1) in
     elim c.if-first-lt128.branch [
-      | then-first-lt128 w ↦ grind (arith, reads_ascii c.args.bytes.now c.args.place c.requires u short)
-      | else-first-lt128 w ↦ grind (arith, reads_pair c.args.bytes.now c.args.place c.requires u short)
+      | then-first-lt128 w ↦ grind (arith, reads_ascii c.args.bytes.now c.args.place (omega arith) u)
+      | else-first-lt128 w ↦ grind (arith, reads_pair c.args.bytes.now c.args.place (omega arith) u)
     ]

@@ -20,4 +20,4 @@ loop-copied-preserved g c =
     let on =
     block_behind (g.C.UnitCodes.gives c.args.codes.now) c.args.units.now _ _ _ c.args.at c.loop-copied.copied _ _ _
     (omega (arith, c.loop-copied-test.true)) e.count b.bytes b.codes e.ascii e.stored i.2 i.3 in
-    (omega (arith, c.loop-copied-test.true, e.count), omega (arith, c.if-most-copied-ge16.true, e.count), on.bmp, on.writes)
+    grind arith

@@ -6,10 +6,10 @@ pub put_block-requires-clause-ascii : goal.put_block-requires-clause-ascii
 put_block-requires-clause-ascii g c =
     let e = c.wide_ascii_count.ensures in
     let n = c.min-count.ensures in
-    ascii_source c.args.bytes.now c.wide_ascii_count.result c.min-count.result (omega (arith, n)) (omega (arith, e.most, n)) e.ascii
+    ascii_source c.args.bytes.now 64 _ _ (omega (arith, n)) (omega (arith, e.most, n)) e.ascii
 
 pub returns-clause-ascii : goal.returns-clause-ascii
 returns-clause-ascii g c =
     let e = c.wide_ascii_count.ensures in
     let n = c.min-count.ensures in
-    ascii_source c.args.bytes.now c.wide_ascii_count.result c.min-count.result (omega (arith, n)) (omega (arith, e.most, n)) e.ascii
+    ascii_source c.args.bytes.now 64 _ _ (omega (arith, n)) (omega (arith, e.most, n)) e.ascii
