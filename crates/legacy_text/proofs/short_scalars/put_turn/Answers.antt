@@ -23,6 +23,5 @@ loop-k-preserved g c =
           let before = i.3 front.0 in
           let read = s.ensures.scalar before.is_text (ltb-true _ _ front.1) in
           let stored = ap (λ n. take n (slice_set c.loop-k.dst at b.result.0)) place ∙ take_more_set c.loop-k.dst at b.result.0 inside in
-          let one = scalars_one _ c.args.bytes.now c.loop-k.place s.result.0 _ b.result.0 (take at c.loop-k.dst) _ read (b.ensures flags.1).1 stored in
-          scalars_append _ c.args.bytes.now c.args.start c.loop-k.k c.loop-k.place 1 _ _ _ _ before one),
+          scalars_append _ _ _ _ _ 1 _ _ _ _ before (scalars_one _ _ _ _ _ _ _ _ read (b.ensures flags.1).1 stored)),
     )

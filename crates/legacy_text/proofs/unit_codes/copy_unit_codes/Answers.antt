@@ -7,17 +7,11 @@ returns-then-count-lt16 g c =
     let e = c.store_marked-count.ensures in
     let b = c.code_block.ensures in
     let i = c.loop-copied.invariant in
-    let on =
-    block_behind (g.C.UnitCodes.gives c.args.codes.now) c.args.units.now _ _ _ c.args.at c.loop-copied.copied _ _ _
-    (omega (arith, c.loop-copied-test.true)) e.count b.bytes b.codes e.ascii e.stored i.2 i.3 in
-    grind arith
+    grind (arith, block_behind _ _ _ _ _ _ _ _ _ _ (omega (arith, c.loop-copied-test.true)) e.count b.bytes b.codes e.ascii e.stored i.2 i.3)
 
 pub loop-copied-preserved : goal.loop-copied-preserved
 loop-copied-preserved g c =
     let e = c.store_marked-count.ensures in
     let b = c.code_block.ensures in
     let i = c.loop-copied.invariant in
-    let on =
-    block_behind (g.C.UnitCodes.gives c.args.codes.now) c.args.units.now _ _ _ c.args.at c.loop-copied.copied _ _ _
-    (omega (arith, c.loop-copied-test.true)) e.count b.bytes b.codes e.ascii e.stored i.2 i.3 in
-    grind arith
+    grind (arith, block_behind _ _ _ _ _ _ _ _ _ _ (omega (arith, c.loop-copied-test.true)) e.count b.bytes b.codes e.ascii e.stored i.2 i.3)

@@ -7,6 +7,4 @@ returns g c =
     let s = c.args.self.now in
     let e = rw (all_behind s.place s.units.now) at c.copy_unit_codes-count.ensures in
     let n = c.copy_unit_codes-count.result in
-    let front = bmp_front s.units.now s.place n e.read e.bmp in
-    let count = bmp_count s.units.now s.place n s.are_units e.read e.bmp in
-    grind (arith, bmp_writes s.units.now s.place n s.are_units e.read e.bmp)
+    grind (arith, bmp_front _ s.place n e.read e.bmp, bmp_count _ s.place n s.are_units e.read e.bmp, bmp_writes _ s.place n s.are_units e.read e.bmp)
