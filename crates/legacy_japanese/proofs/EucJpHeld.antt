@@ -1,32 +1,24 @@
 -- The EUC-JP decoder holds back only what its machine may hold back, and its moves are the machine's.
-use Rattle.std.proofs.Common.{◌≡◌, ◌≢◌, ℕ, ◌+◌, ◌-◌, ◌*◌, ◌/◌, ◌%◌, ◌^◌, ◌<◌, List, [], ◌∷◌, length, get_or, true, false, ◌==◌, refl, arith}
-use Rattle.std.proofs.{lemmas.Bool.cond_both, lemmas.Bool.Decides.nat_tests, lemmas.List.nil_from_length, lemmas.List.Elements.{All-nil, All-cons}}
-use Rattle.std.specs.{Int.is_in_range, Char.{IsScalar, is_ascii}}
+use Rattle.std.proofs.Common.{◌≡◌, ◌≢◌, ℕ, ◌+◌, ◌-◌, ◌*◌, ◌/◌, ◌%◌, ◌<◌, List, [], ◌∷◌, length, get_or, true, refl, arith}
+use Rattle.std.proofs.{lemmas.Bool.Decides.nat_tests, lemmas.List.nil_from_length, lemmas.List.Elements.{All-nil, All-cons}}
+use Rattle.std.specs.{Int.is_in_range, Char.IsScalar}
 use Rattle.legacy_base.specs.{EucJp.euc_jp_scalars, Fronts.malformed, Calls.IsMalformedByte, Grammar.{Grammar, euc_jp, events_of}, States.is_euc_jp_lead}
 use Rattle.legacy_base.specs.States.{euc_jp_may_hold, state_of}
 use Rattle.legacy_tables.specs.{AcceptedTables.AcceptedIndexes, Unicode.{IsByte, AreBytes}}
-use Rattle.legacy_decoder_engine.specs.{Steps.finish, Moves.{IsCovered, Feeds, Reports}, Feeding.Took, Shown.IsShown, ReadAhead.Runs}
-use Rattle.legacy_decoder_engine.specs.{ReadAhead.{HasAscii, IsPair}, LaneRows.row_place, declared.moves.Fed.Fed}
+use Rattle.legacy_decoder_engine.specs.{Steps.finish, Moves.{IsCovered, Feeds, Reports}, Feeding.Took, Shown.IsShown, ReadAhead.{HasAscii, IsPair}}
+use Rattle.legacy_decoder_engine.specs.{LaneCodes.ArePairs, LaneRows.row_place, declared.moves.Fed.Fed}
 use Rattle.legacy_tables.proofs.Accepted.{jis0208-below, jis0212-below, jis0208-scalars, length-jis0208}
 use Rattle.legacy_decoder_engine.proofs.{RunForms.{pair_runs, has_ascii, ascii_is}, Widths.idx_below, LanePlaces.entry_is}
 use Rattle.legacy_japanese.specs.{declared.euc_jp.decoder.Held.TheVariants.Nothing, declared.euc_jp.decoder.Held.Held}
-use Rattle.legacy_japanese.specs.{declared.euc_jp.held_lead.EucJpLead.EucJpLead, EucJpHeld.held_bytes, EucJpMachine.{euc_jp_first, euc_jp_step, euc_jp_machine}}
+use Rattle.legacy_japanese.specs.{EucJpHeld.held_bytes, EucJpMachine.{euc_jp_first, euc_jp_step, euc_jp_machine}}
 use Rattle.legacy_japanese.proofs.EucJpShown.{euc_jp_shown}
 use Rattle.legacy_decoder_engine.proofs.Feeding as moves
-
-of_lead : (lead : EucJpLead) → (is_euc_jp_lead lead.byte ≡ true) × ((lead.byte == 0x8E) ≡ false) × ((lead.byte == 0x8F) ≡ false) × (lead.byte < 2 ^ 8)
-of_lead lead = grind (arith, nat_tests)
 
 may : (held : Held) → euc_jp_may_hold (held_bytes held) ≡ true
 may held = grind (arith, nat_tests)
 
 are_bytes : (held : Held) → AreBytes (held_bytes held)
-are_bytes held = grind (arith, All-nil, of_lead, All-cons)
-
--- ---- pairs
-
-lead_other : (b : ℕ) → is_euc_jp_lead b ≡ true → (is_ascii b ≡ false) × ((b == 0x8E) ≡ false) × ((b == 0x8F) ≡ false)
-lead_other b is = grind (arith, nat_tests)
+are_bytes held = grind (arith, All-nil, All-cons)
 
 module _ (tables : AcceptedIndexes) where
   abbrev g : Grammar
@@ -51,7 +43,7 @@ module _ (tables : AcceptedIndexes) where
 
   -- there is something to report exactly if bytes are held back
   pub ends_none : (held : Held) → length (held_bytes held) ≡ 0 → events_of (euc_jp tables.flat.jis0208 tables.flat.jis0212) (held_bytes held) ≡ []
-  ends_none held none = moves.ends_none shown (held_bytes held) (may held) (are_bytes held) refl (nil_from_length (held_bytes held) none)
+  ends_none held none = moves.ends_empty shown (held_bytes held) (may held) (are_bytes held) none
 
   pub ends_some : (held : Held) → (held ≡ Nothing → ⊥) → events_of (euc_jp tables.flat.jis0208 tables.flat.jis0212) (held_bytes held) ≢ []
   ends_some held n = moves.ends_some shown (held_bytes held) (may held) (are_bytes held) refl (grind arith)
@@ -63,24 +55,19 @@ module _ (tables : AcceptedIndexes) where
 
   -- a pair of JIS X 0208 that gives one scalar
   pub pair : (lead trail c : ℕ) → IsByte lead → IsByte trail → IsScalar c → is_euc_jp_lead lead ≡ true →
-      euc_jp_scalars tables.flat.jis0208 lead trail ≡ c ∷ [] →
-      (c < 0x1_0000) × Runs g (lead ∷ trail ∷ []) (c ∷ [])
+      euc_jp_scalars tables.flat.jis0208 lead trail ≡ c ∷ [] → IsPair g lead trail c
   pair lead trail c byte byte' scalar is e =
-      let other = lead_other lead is in (
-        (let narrow = jis0208-below tables.flat tables.accepted in grind (arith, cond_both, idx_below)),
-        pair_runs shown lead trail c byte byte' scalar (rw (other.1, other.2, is) refl) refl refl refl
-            (rw (other.0, other.1, other.2, is) refl) (rw (other.1, other.2, e) refl),
-      )
+      let narrow = jis0208-below tables.flat tables.accepted in
+      let runs = pair_runs shown lead trail c byte byte' scalar in
+      grind (arith, nat_tests, idx_below, runs)
 
   -- the same of a code of two bytes, by the entry at its place
-  pub lane_pair : (code : ℕ) → code < 0x1_0000 → row_place 0xA1 0x5D 0xA1 0x5D 94 code < length tables.flat.jis0208 →
-      get_or tables.flat.jis0208 (row_place 0xA1 0x5D 0xA1 0x5D 94 code) 0 ≢ 0 → IsScalar (get_or tables.flat.jis0208 (row_place 0xA1 0x5D 0xA1 0x5D 94 code) 0)
-      × IsPair g (code % 0x100) (code / 0x100) (get_or tables.flat.jis0208 (row_place 0xA1 0x5D 0xA1 0x5D 94 code) 0)
-  lane_pair code small within some =
+  pub lane_pair : ArePairs g tables.flat.jis0208 (row_place 0xA1 0x5D 0xA1 0x5D 94)
+  lane_pair code small past within high some =
+      let index : List ℕ = tables.flat.jis0208 in
       let short = length-jis0208 tables.flat tables.accepted in
       let both : (is_in_range 0xA1 0xFE (code % 256) ≡ true) × (is_in_range 0xA1 0xFE (code / 256) ≡ true) = grind (arith, short) in
-      let p : ℕ = (code % 256 - 0xA1) * 94 + (code / 256 - 0xA1) in
-      let scalar : IsScalar (get_or tables.flat.jis0208 p 0) = jis0208-scalars tables.flat tables.accepted p 0 (rw (both.0, both.1) at within) in
-      let found = entry_is (get_or tables.flat.jis0208 p 0) (rw (both.0, both.1) at some) in
-      let runs = pair (code % 256) (code / 256) (get_or tables.flat.jis0208 p 0) (omega arith) (omega arith) scalar both.0 (rw both.1 found) in
-      rw (both.0, both.1) (scalar, runs)
+      let c = get_or index ((code % 256 - 0xA1) * 94 + (code / 256 - 0xA1)) 0 in
+      let scalar : IsScalar c = jis0208-scalars tables.flat tables.accepted _ 0 (rw (both.0, both.1) at within) in
+      let found = entry_is c (rw (both.0, both.1) at some) in
+      rw (both.0, both.1) (scalar, pair (code % 256) (code / 256) c (omega arith) (omega arith) scalar both.0 (rw both.1 found))

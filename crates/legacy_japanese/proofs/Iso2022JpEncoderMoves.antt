@@ -99,6 +99,11 @@ module _ (jis0208 katakana_index : List ℕ) where
       → IsCode own (iso_2022_jp_reported c) move → Asks jis0208 katakana_index mode c new move
   asks own w is = record { mode_is = w.mode_is; code_is = rw w.code_is is }
 
+  -- a scalar that needs the mode of the encoder is read there
+  pub stays : {mode new : Mode} {c : ℕ} {move : EncoderMove} → Asks jis0208 katakana_index mode c new move → is_same_mode mode new ≡ true
+      → Moves (state_in jis0208 katakana_index mode) c (state_in jis0208 katakana_index mode) move
+  stays {mode} {new} {c} {move} asks same = reads mode c (grind (arith, same_true)) move asks.code_is
+
   -- ---- ASCII in ASCII mode
 
   pub own_byte : (c byte : ℕ) → IsOwnByte c byte → ReadsByte (state_in jis0208 katakana_index modes.Ascii) 2 c byte

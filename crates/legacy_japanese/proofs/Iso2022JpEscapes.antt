@@ -68,22 +68,4 @@ module _ {D : Type 0} {T : Ghosts D} where
       ReadsTo T before after source at old mid
       → ReadsAhead T other behind read mid new
       → ReadsTo T before after source at old new
-  reads_end {mid = mid} none runs reads =
-      let nothing = reads_nothing reads none in
-      let units = ap (all_code_units T.form) nothing in
-      record {
-        within = runs.within;
-        idle = runs.idle;
-        empties = runs.empties;
-        stays = runs.stays;
-        rooms = runs.rooms;
-        writes = record {
-          scalars = runs.writes.scalars;
-          runs = runs.writes.runs;
-          written = reads.writes.written ∙ ap (λ l. T.contents mid ++ l) units ∙ append-nil (T.contents mid) ∙ runs.writes.written;
-          room = omega (arith, ap length units, reads.writes.room, runs.writes.room);
-          loan = reads.writes.loan ∙ runs.writes.loan;
-        };
-        slack = λ h. omega (arith, ap length units, reads.writes.room, runs.slack h);
-        had = runs.had;
-      }
+  reads_end none runs reads = let nothing = reads_nothing reads none in grind (arith, append-nil)

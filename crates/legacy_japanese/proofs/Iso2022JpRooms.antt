@@ -61,9 +61,7 @@ module _ (query : LengthQuery) (jis0208 : List ℕ) (mode : Mode) where
 
   most : (held : Held) (unread : List ℕ) (last resting : Bool) → needed held unread last resting ≤ bmp_room (query_form query)
   unfolding needed
-  most held unread last false = omega arith
-  most held [] last true = grind arith
-  most held (b ∷ unread) last true = let e = read_room-is (query_form query) jis0208 mode held b in omega arith
+  most held unread last resting = grind (arith, read_room-is)
 
   none : (last : Bool) → needed (Begun Nothing) [] last true ≡ 0
   unfolding needed events_of

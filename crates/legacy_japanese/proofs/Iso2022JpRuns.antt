@@ -12,8 +12,8 @@ use Rattle.legacy_japanese.specs.declared.iso_2022_jp.steps.Mode.TheVariants.{As
 use Rattle.legacy_japanese.specs.declared.iso_2022_jp.places.TheConstants.{LEADS, TRAILS}
 use Rattle.legacy_japanese.specs.{Iso2022JpMoves.IsNarrowScalar, Iso2022JpRuns.{ArePlain, IsPlain, run_state}, Jis0208Places.{jis_lead_place, jis_trail_place}}
 use Rattle.legacy_decoder_engine.specs.{ReadAhead.{Runs, IsPair, ReadsAhead}, Places.IsTableOf}
-use Rattle.legacy_decoder_engine.proofs.{WrittenRuns.{runs_none, runs_more, all_code_units_ascii}, PairPlaces.idx_past}
-use Rattle.legacy_japanese.proofs.Iso2022JpRooms.{same_rooms, one_fits, room-falls, times_one}
+use Rattle.legacy_decoder_engine.proofs.{WrittenRuns.{runs_none, runs_more, all_code_units_ascii}, PairPlaces.idx_past, JoinedRuns.reads_front}
+use Rattle.legacy_japanese.proofs.Iso2022JpRooms.{one_fits, room-falls, times_one}
 
 -- ---- the places of leads and trails in two-byte mode
 
@@ -38,21 +38,16 @@ plain_bytes jis0208 (b ∷ bytes) h = runs_more (iso_2022_jp jis0208 ascii) (b �
 
 -- ---- a pair
 
-pub pair_run : (jis0208 : List ℕ) (a b c : ℕ) → 0x21 ≤ a → a ≤ 0x7E → 0x21 ≤ b → b ≤ 0x7E → c < 0x1_0000 → IsScalar c
+pair_run : (jis0208 : List ℕ) (a b c : ℕ) → 0x21 ≤ a → a ≤ 0x7E → 0x21 ≤ b → b ≤ 0x7E → c < 0x1_0000 → IsScalar c
     → idx jis0208 ((a - 0x21) * 94 + (b - 0x21)) ≡ Some c → IsPair (iso_2022_jp jis0208 two_byte) a b c
 unfolding events_of iso_2022_jp_front
 pair_run jis0208 a b c low high low' high' narrow scalar is = grind (arith, nat_tests, step_two, ne_eqb, All-cons, All-nil, room-falls, times_one, one_fits)
-
--- the scalar of two bytes
-pub pair_scalar : (jis0208 : List ℕ) (a b : ℕ) → 0x21 ≤ a → a ≤ 0x7E → 0x21 ≤ b → b ≤ 0x7E → (pointer : ℕ) → pointer ≡ (a - 0x21) * 94 + (b - 0x21)
-    → (found : Option ℕ) → found ≡ idx jis0208 pointer → IfSome found IsNarrowScalar → IfSome found (λ c. IsPair (iso_2022_jp jis0208 two_byte) a b c)
-pair_scalar jis0208 a b h h1 h2 h3 pointer h4 found h5 h6 = grind (arith, pair_run)
 
 -- the scalar of two bytes, by the sum of their places
 pub placed_scalar : (jis0208 : List ℕ) → length jis0208 ≤ 65535 → (a b : ℕ) (found : Option ℕ) → found ≡ idx jis0208 (jis_lead_place a + jis_trail_place b)
     → IfSome found IsNarrowScalar → IfSome found (λ c. IsPair (iso_2022_jp jis0208 two_byte) a b c)
 unfolding jis_lead_place jis_trail_place
-placed_scalar jis0208 short a b found is narrow = grind (arith, cases_lt, nat_tests, pair_scalar, idx_past)
+placed_scalar jis0208 short a b found is narrow = grind (arith, cases_lt, nat_tests, pair_run, idx_past)
 
 -- ---- a run of plain bytes
 
@@ -73,19 +68,10 @@ reads_plain T jis0208 source old new count within plain contents room loan enoug
     let l : length (take count source) ≡ count = length-take-le count source within in
     let all = All-from_get_or IsPlain (take count source) 0 (λ k h. rw (get_or-take count source k 0 (omega arith)) (plain k (omega arith))) in
     let same = all_code_units_ascii T.form (take count source) (IsAscii-from_all _ (λ i d l. (all i d l).0)) in
-    record {
-      within = within;
-      idle = λ h. refl;
-      empties = λ h. refl;
-      stays = λ z. refl;
-      rooms = same_rooms jis0208 Ascii Ascii;
-      writes = record {
-        scalars = take count source;
-        runs = plain_bytes jis0208 (take count source) all;
-        written = contents ∙ ap (λ units. T.contents old ++ units) (sym same);
-        room = omega (arith, ap length same, l, room);
-        loan = loan;
-      };
-      slack = λ h. let q = enough h in omega arith;
-      had = λ h. let q = enough h in omega arith;
-    }
+    reads_front within (record {
+      scalars = take count source;
+      runs = plain_bytes jis0208 (take count source) all;
+      written = contents ∙ ap (λ units. T.contents old ++ units) (sym same);
+      room = omega (arith, ap length same, l, room);
+      loan = loan;
+    }) (λ h. omega (arith, enough h)) (λ h. omega (arith, enough h))

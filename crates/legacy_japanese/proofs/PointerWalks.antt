@@ -20,13 +20,11 @@ pub all-listed : {codec : Codec} {part : PackedPart} {mark : ℕ → ℕ} {index
 all-listed by filled new long walk same ask = all-right _ new (same ∙ long) (ask (walked-right _ _ _ _ _ by filled long walk))
 
 module _ (flat : FlatIndexes) (accepted : AreAccepted flat) where
-  euc-jp-code : (c : ℕ) → GoesByPointer c → euc_jp_code flat.jis0208 c ≡ option_map euc_jp_bytes (euc_jp_pointer_of flat.jis0208 c)
-  unfolding euc_jp_code
-  euc-jp-code c by = grind (arith, nat_tests, by.ascii, by.yen, by.overline, by.minus, by.katakana)
-
   pub euc-jp-by-pointers : GoesByPointers (euc_jp flat.jis0208 flat.jis0212) EucJpOrder euc_jp_mark flat.jis0208 GoesByPointer
+  unfolding euc_jp_code
   euc-jp-by-pointers = by-pairs _ _ _ _ GoesByPointer euc_jp_bytes 8836 (jis0208-scalars flat accepted) euc_jp_mark-some (λ c d. grind (arith, d.ascii))
-      (λ c. euc-jp-bound c flat.jis0208) (λ p h. halves (p / 94 + 0xA1) _ (omega arith)) euc-jp-code
+      (λ c. euc-jp-bound c flat.jis0208) (λ p h. halves (p / 94 + 0xA1) _ (omega arith))
+      (λ c by. grind (arith, nat_tests, by.ascii, by.yen, by.overline, by.minus, by.katakana))
 
   shift-jis-code : (c : ℕ) → GoesByPointer c → shift_jis_code flat.jis0208 c ≡ option_map shift_jis_bytes (shift_jis_pointer_of flat.jis0208 c)
   unfolding shift_jis_code

@@ -150,6 +150,7 @@ fn read_jis0208_trail(tables: &Tables, lead: EucJpLead, byte: u8) -> Fed
 
 /// Returns what a byte leads to after 8F and a lead.
 #[inline]
+#[tactic(auto, using(std::proofs::lemmas::Grind::common_steps))]
 fn read_jis0212_trail(tables: &Tables, lead: EucJpLead, byte: u8) -> Fed
     ensures { Took (euc_jp_step [] tables.now.flat.jis0212 (0x8F ∷ lead.byte ∷ []) byte)
         (0x8F ∷ lead.byte ∷ []) byte result [] }

@@ -86,6 +86,7 @@ impl ListedPairs<'_, '_> {
 
     /// Returns what the function `asked` returns, by the list if the scalar has a pair in it.
     #[inline]
+    #[tactic(auto, using(crate::proofs::Iso2022JpEncoderMoves::asks_listed))]
     fn asked(&self, mode: Mode, c: char) -> (Mode, EncoderMove)
         ensures { Asks self.now.tables.now.flat.jis0208 self.now.tables.now.flat.katakana
             mode c result.0 result.1 }
@@ -198,6 +199,7 @@ impl EncoderMoves for CachedIso2022JpEncoder<'_, '_> {
     }
 
     #[inline]
+    #[tactic(auto, using(std::proofs::lemmas::Grind::common_steps))]
     fn next(&mut self, c: char) -> EncoderMove {
         let (mode, own) = self.listed.asked(self.mode, c);
         go_to(&mut self.mode, mode, own)

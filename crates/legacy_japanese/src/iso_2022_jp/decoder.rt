@@ -58,6 +58,7 @@ impl<'a> Iso2022JpDecoder<'a> {
     ///
     /// An escape with nothing after it is held back. The result is therefore false after an escape
     /// to ASCII mode alone.
+    #[tactic(auto, using(std::proofs::lemmas::Grind::common_steps))]
     pub fn in_neutral_state(&self) -> bool
         ensures { result ≡ is_neutral (iso_2022_jp_state self.now) }
     {
@@ -135,7 +136,7 @@ impl<'a> DecoderMoves for Iso2022JpDecoder<'a> {
 
     // Holds back an escape that no run follows. Byte by byte it takes three turns of the loop.
     #[inline(always)]
-    #[tactic(auto, using(legacy_decoder_engine::proofs::CallUnderWay::holds_none))]
+    #[tactic(auto, using(legacy_decoder_engine::proofs::CallUnderWay::holds_none, crate::proofs::Iso2022JpHolding::holds_escape))]
     fn hold_back<T: Destination>(&mut self, src: &[u8], dst: &T) -> usize {
         if !self.held.is_nothing() {
             return 0;

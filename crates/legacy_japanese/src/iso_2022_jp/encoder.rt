@@ -194,6 +194,7 @@ impl EncoderMoves for Iso2022JpEncoder<'_> {
     }
 
     #[inline]
+    #[tactic(auto, using(std::proofs::lemmas::Grind::common_steps))]
     fn next(&mut self, c: char) -> EncoderMove {
         let (mode, own) = asked(self.tables, self.mode, c);
         go_to(&mut self.mode, mode, own)
@@ -256,6 +257,7 @@ impl RawEncoder for Iso2022JpEncoder<'_> {
         scalars.checked_add(u16_length.checked_add(1)? / 2)
     }
 
+    #[tactic(auto, using(std::proofs::lemmas::Grind::common_steps))]
     fn max_buffer_length_from_utf8_without_replacement(&self, byte_length: usize) -> Option<usize> {
         3usize.checked_add(byte_length.checked_mul(3)?)
     }

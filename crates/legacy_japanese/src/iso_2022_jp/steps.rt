@@ -385,6 +385,7 @@ fn read_start(mode: Mode, start: Start, byte: u8) -> Outcome
 /// Either the next escape is whole, and the one before it is malformed because nothing is between
 /// them. Or the escape byte is malformed and the second byte is held back alone.
 #[inline]
+#[tactic(auto, using(std::proofs::lemmas::Grind::common_steps))]
 fn read_next_third(mode: Mode, second: u8, escape: Option<Escape>) -> Outcome
     ensures value { result ≡ machine.read_next_third mode second escape }
     ensures narrow { IsNarrow result.action }
