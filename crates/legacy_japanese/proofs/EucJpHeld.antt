@@ -1,17 +1,15 @@
 -- The EUC-JP decoder holds back only what its machine may hold back, and its moves are the machine's.
-use Rattle.std.proofs.Common.{◌≡◌, ◌≢◌, ℕ, ◌+◌, ◌-◌, ◌*◌, ◌/◌, ◌%◌, ◌<◌, List, [], ◌∷◌, length, get_or, true, refl, arith}
-use Rattle.std.proofs.{lemmas.Bool.Decides.nat_tests, lemmas.List.nil_from_length, lemmas.List.Elements.{All-nil, All-cons}}
-use Rattle.std.specs.{Int.is_in_range, Char.IsScalar}
+use Rattle.std.proofs.{Common.{◌≡◌, ◌≢◌, ℕ, ◌+◌, ◌-◌, ◌*◌, ◌/◌, ◌%◌, List, [], ◌∷◌, length, get_or, true, refl, arith}, lemmas.Bool.Decides.nat_tests}
+use Rattle.std.{proofs.lemmas.List.Elements.{All-nil, All-cons}, specs.{Int.is_in_range, Char.IsScalar}}
 use Rattle.legacy_base.specs.{EucJp.euc_jp_scalars, Fronts.malformed, Calls.IsMalformedByte, Grammar.{Grammar, euc_jp, events_of}, States.is_euc_jp_lead}
 use Rattle.legacy_base.specs.States.{euc_jp_may_hold, state_of}
-use Rattle.legacy_tables.specs.{AcceptedTables.AcceptedIndexes, Unicode.{IsByte, AreBytes}}
+use Rattle.legacy_tables.{specs.{AcceptedTables.AcceptedIndexes, Unicode.{IsByte, AreBytes}}, proofs.Accepted.{jis0208-below, jis0212-below, jis0208-scalars}}
+use Rattle.legacy_tables.proofs.Accepted.{length-jis0208}
 use Rattle.legacy_decoder_engine.specs.{Steps.finish, Moves.{IsCovered, Feeds, Reports}, Feeding.Took, Shown.IsShown, ReadAhead.{HasAscii, IsPair}}
-use Rattle.legacy_decoder_engine.specs.{LaneCodes.ArePairs, LaneRows.row_place, declared.moves.Fed.Fed}
-use Rattle.legacy_tables.proofs.Accepted.{jis0208-below, jis0212-below, jis0208-scalars, length-jis0208}
-use Rattle.legacy_decoder_engine.proofs.{RunForms.{pair_runs, has_ascii, ascii_is}, Widths.idx_below, LanePlaces.entry_is}
-use Rattle.legacy_japanese.specs.{declared.euc_jp.decoder.Held.TheVariants.Nothing, declared.euc_jp.decoder.Held.Held}
-use Rattle.legacy_japanese.specs.{EucJpHeld.held_bytes, EucJpMachine.{euc_jp_first, euc_jp_step, euc_jp_machine}}
-use Rattle.legacy_japanese.proofs.EucJpShown.{euc_jp_shown}
+use Rattle.legacy_decoder_engine.{specs.{LaneCodes.ArePairs, LaneRows.row_place, declared.moves.Fed.Fed}, proofs.RunForms.{pair_runs, has_ascii, ascii_is}}
+use Rattle.legacy_decoder_engine.proofs.{Widths.idx_below, LanePlaces.entry_is}
+use Rattle.legacy_japanese.specs.{declared.euc_jp.decoder.Held.{TheVariants.Nothing, Held}, EucJpHeld.held_bytes, EucJpMachine.{euc_jp_first, euc_jp_step}}
+use Rattle.legacy_japanese.{specs.EucJpMachine.euc_jp_machine, proofs.EucJpShown.euc_jp_shown}
 use Rattle.legacy_decoder_engine.proofs.Feeding as moves
 
 may : (held : Held) → euc_jp_may_hold (held_bytes held) ≡ true

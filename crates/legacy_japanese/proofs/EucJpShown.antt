@@ -1,15 +1,14 @@
 -- The steps of EUC-JP agree with its grammar.
-use Rattle.std.proofs.Common.{◌≡◌, ℕ, ◌+◌, ◌-◌, ◌*◌, ◌≤◌, List, [], ◌∷◌, length, true, false, cond, refl, inl, ◌∙◌, ◌||◌, ◌==◌, arith}
-use Rattle.std.proofs.{lemmas.Bool.{false≢true, ltb-true}, lemmas.Bool.Decides.nat_tests}
-use Rattle.std.specs.Char.{is_ascii}
-use Rattle.legacy_base.specs.{EucJp.{euc_jp_front, euc_jp_katakana, euc_jp_second, euc_jp_third, euc_jp_pair, euc_jp_scalars, euc_jp_weight}, Fronts.{Front, cut}}
-use Rattle.legacy_base.specs.{Grammar.{Grammar, euc_jp, events_of}, DecoderActs.{act_room, takes}, States.{euc_jp_may_hold, state_of}}
+use Rattle.std.proofs.{Common.{◌≡◌, ℕ, ◌+◌, ◌-◌, ◌*◌, ◌≤◌, List, [], ◌∷◌, length, true, false, cond, refl, inl, ◌∙◌, arith}, lemmas.Bool.{false≢true, ltb-true}}
+use Rattle.std.{proofs.lemmas.Bool.Decides.nat_tests, specs.Char.is_ascii}
+use Rattle.legacy_base.specs.{EucJp.{euc_jp_front, euc_jp_katakana, euc_jp_second, euc_jp_third, euc_jp_pair, euc_jp_scalars, euc_jp_weight}, Fronts.Front}
+use Rattle.legacy_base.specs.{Fronts.cut, Grammar.{Grammar, euc_jp, events_of}, DecoderActs.{act_room, takes}, States.{euc_jp_may_hold, state_of}}
 use Rattle.legacy_base.proofs.{Cuts.cut-nil, FrontLaws.euc_jp_front-of}
 use Rattle.legacy_decoder_engine.specs.{Steps.{DecoderMachine, end_events, Meets}, StepUnits.{units, IsWidth, IsNarrowIndex, Cost}}
-use Rattle.legacy_decoder_engine.specs.{StatesAfterSteps.{IsOneOrMarked, Settles}, Shown.IsShown}
-use Rattle.legacy_decoder_engine.proofs.{FrontMoves.{Fits, fits_test, fits_trail, fits_meets, end_meets, report_meets}, SettledSteps.{one_test, one_option}}
+use Rattle.legacy_decoder_engine.{specs.{StatesAfterSteps.{IsOneOrMarked, Settles}, Shown.IsShown}, proofs.FrontMoves.{Fits, fits_test, fits_trail, fits_meets}}
+use Rattle.legacy_decoder_engine.proofs.{FrontMoves.{end_meets, report_meets}, SettledSteps.{one_test, one_option, settles_test, trail_settles}}
 use Rattle.legacy_decoder_engine.proofs.{RoomMoves.{first_room, held_room_is, HasCosts, sloped_rooms}, CallUnderWay.same_rooms, Widths.narrow_idx_units}
-use Rattle.legacy_decoder_engine.proofs.{TwoByteCosts.{cost_test, units_test, katakana_below}, SettledSteps.{settles_test, trail_settles}}
+use Rattle.legacy_decoder_engine.proofs.TwoByteCosts.{cost_test, units_test, katakana_below}
 use Rattle.legacy_japanese.specs.EucJpMachine.{euc_jp_first, euc_jp_second_step, euc_jp_step, euc_jp_machine}
 
 pair_one : (index : List ℕ) (lead b : ℕ) → IsOneOrMarked false (euc_jp_scalars index lead b)

@@ -1,17 +1,15 @@
 -- The moves of the ISO-2022-JP encoder, by its tables and by a list of pairs.
-use Rattle.std.proofs.Common.{◌≡◌, ℕ, List, [], ◌∷◌, ◌++◌, refl, arith, Bool, true, false, IsTrue, ◌||◌, Option, Some, eqb, map, ◌⊎◌, inl}
-use Rattle.std.proofs.{Common.{inr, ◌/◌, ◌%◌}, lemmas.Bool.{lt-ltb, cases_Bool}, lemmas.Bool.Decides.nat_tests}
+use Rattle.std.proofs.Common.{◌≡◌, ℕ, List, [], ◌∷◌, ◌++◌, refl, arith, Bool, true, false, IsTrue, ◌||◌, Option, Some, eqb, map, ◌⊎◌, inl, inr, ◌/◌, ◌%◌}
+use Rattle.std.proofs.lemmas.Bool.{lt-ltb, cases_Bool, Decides.nat_tests}
 use Rattle.legacy_base.specs.{declared.results.EncodeEvent.EncodeEvent, Iso2022Jp.{iso_2022_jp_code, iso_2022_jp_reported, escape_to, escape_between}}
-use Rattle.legacy_base.specs.{Iso2022Jp.mode_behind, EncoderProfile.{EncoderMode, in_ascii, in_two_byte}, Beginnings.BeginsWith}
-use Rattle.legacy_base.specs.{EncodeEvents.code_events, Encoders.{encoder_profile, iso_2022_jp, is_pending}}
-use Rattle.legacy_base.proofs.Iso2022JpEncoding.{text_events, text_events-here, text_events-escape, text_events-end, text_events-open, mode_for, mode_for-twice}
-use Rattle.legacy_base.proofs.Iso2022JpEncoding.{code-short, at_special, at_neutral, IsWritten}
+use Rattle.legacy_base.specs.{Iso2022Jp.mode_behind, EncoderProfile.{EncoderMode, in_ascii, in_two_byte}, Beginnings.BeginsWith, EncodeEvents.code_events}
+use Rattle.legacy_base.{specs.Encoders.{encoder_profile, iso_2022_jp, is_pending}, proofs.Iso2022JpEncoding.{text_events, text_events-here, text_events-escape}}
+use Rattle.legacy_base.proofs.Iso2022JpEncoding.{text_events-end, text_events-open, mode_for, mode_for-twice, code-short, at_special, at_neutral, IsWritten}
 use Rattle.legacy_encoder_engine.specs.{Moves.{Moves, Finishes, IsCode, differs}, ProfileSuffices.Serves, UnfinishedCall.ReadsByte, UnitTurns.ReadsUnit}
-use Rattle.legacy_encoder_engine.specs.{declared.moves.EncoderMove.EncoderMove, declared.moves.EncoderMove.TheVariants.{One, Two}}
-use Rattle.legacy_encoder_engine.proofs.PlainServes.{differs-same, here_moves}
+use Rattle.legacy_encoder_engine.{specs.declared.moves.EncoderMove.{EncoderMove, TheVariants.{One, Two}}, proofs.PlainServes.{differs-same, here_moves}}
 use Rattle.legacy_japanese.specs.{declared.iso_2022_jp.encoder.Mode.Mode, Iso2022JpPairs.IsPairOf, Iso2022JpEncoder.{mode_of, state_in, is_same_mode}}
-use Rattle.legacy_japanese.specs.Iso2022JpEncoder.{escape_move, Asks, IsOwnByte}
-use Rattle.legacy_japanese.proofs.Iso2022JpEncoderRooms.{scalar_low, scalar_enough, escape_low, escape_enough, end_enough, formula_rises}
+use Rattle.legacy_japanese.{specs.Iso2022JpEncoder.{escape_move, Asks, IsOwnByte}, proofs.Iso2022JpEncoderRooms.{scalar_low, scalar_enough, escape_low}}
+use Rattle.legacy_japanese.proofs.Iso2022JpEncoderRooms.{escape_enough, end_enough, formula_rises}
 use Rattle.legacy_base.specs.declared.results.EncodeEvent.TheVariants as events
 use Rattle.legacy_japanese.specs.declared.iso_2022_jp.encoder.Mode.TheVariants as modes
 
@@ -82,8 +80,7 @@ module _ (jis0208 katakana_index : List ℕ) where
   escape_first : (mode : EncoderMode) → (mode ≡ in_ascii → ⊥) → escape_between mode in_ascii ≡ 0x1B ∷ 0x28 ∷ 0x42 ∷ [] → (more : List ℕ) (ended : Bool)
       → ((more ≡ []) × IsTrue ended) ⊎ BeginsWith (text_events jis0208 katakana_index mode more ended) to_ascii
       → text_events jis0208 katakana_index mode more ended ≡ to_ascii ++ text_events jis0208 katakana_index in_ascii more ended
-  escape_first mode other is [] true h = rw (text_events-end jis0208 katakana_index mode, text_events-end jis0208 katakana_index in_ascii, is) refl
-  escape_first mode other is [] false h = grind (arith, text_events-open)
+  escape_first mode other is [] ended h = grind (arith, text_events-open, text_events-end)
   escape_first mode other is (c ∷ more) ended h =
       let mode' = mode_for jis0208 katakana_index mode c in
       grind (arith, same_or_other mode' in_ascii, same_or_other mode mode', text_events-here, text_events-escape, no_escape, no_other)

@@ -1,11 +1,10 @@
 -- The length formulas of the ISO-2022-JP encoder are enough for its scalars and for the escapes before them.
 use Rattle.std.proofs.{Common.{◌≡◌, ℕ, ◌+◌, ◌-◌, ◌≤◌, List, length, arith, Bool, true, false}, lemmas.Bool.Decides.nat_tests}
 use Rattle.legacy_text.specs.EncodingForm.{EncodingForm, Utf8, unit_count}
-use Rattle.legacy_base.specs.Iso2022Jp.{iso_2022_jp_encoder, iso_2022_jp_code, is_two_byte_scalar, is_roman_scalar, escape_between}
-use Rattle.legacy_base.specs.{EncodeEvents.code_length, EncoderProfile.{EncoderProfile, EncoderMode, in_ascii}, Lengths.{number, value}}
-use Rattle.legacy_base.proofs.{SameUnits.some_unit, Iso2022JpEncoding.{mode_by, mode_for-by, code-short}}
-use Rattle.legacy_encoder_engine.specs.Moves.{differs}
-use Rattle.legacy_encoder_engine.proofs.PlainServes.{two_units}
+use Rattle.legacy_base.specs.{Iso2022Jp.{iso_2022_jp_encoder, iso_2022_jp_code, is_two_byte_scalar, is_roman_scalar, escape_between}, EncodeEvents.code_length}
+use Rattle.legacy_base.{specs.{EncoderProfile.{EncoderProfile, EncoderMode, in_ascii}, Lengths.{number, value}}, proofs.SameUnits.some_unit}
+use Rattle.legacy_base.proofs.Iso2022JpEncoding.{mode_by, mode_for-by, code-short}
+use Rattle.legacy_encoder_engine.{specs.Moves.differs, proofs.PlainServes.two_units}
 
 module _ (jis0208 katakana_index : List ℕ) where
   abbrev encoder : EncoderProfile

@@ -1,24 +1,18 @@
 -- Writing a held-back scalar and ending the input, as the decoders' loop sees them.
-use Rattle.std.specs.{Prelude.{◌==◌, is_some}, Int.is_in_range}
-use Rattle.std.proofs.Common.{◌≡◌, ◌≢◌, ◌∙◌, ℕ, ◌++◌, ◌⊎◌, Bool, true, false, Option, Some, None, List, [], ◌∷◌, inl, inr, length, refl, sym, ap, arith}
-use Rattle.std.proofs.{Common.append-nil, lemmas.Bool.Decides.nat_tests}
-use Rattle.legacy_base.specs.{declared.results.DecodeEvent.DecodeEvent, declared.results.DecodeEvent.TheVariants.{Scalar, Bad}}
-use Rattle.legacy_base.specs.{Iso2022Jp.{esc, escape_mode, part_mode, iso_2022_jp_front}}
-use Rattle.legacy_base.specs.{Beginnings.BeginsWith, Events.shift, Grammar.{iso_2022_jp, events_of}, Lengths.replacement_units}
-use Rattle.legacy_base.specs.States.{is_two_byte_mode, rests}
+use Rattle.std.{specs.{Prelude.is_some, Int.is_in_range}, proofs.Common.{◌≡◌, ◌≢◌, ◌∙◌, ℕ, ◌++◌, ◌⊎◌, Bool, true, false, Option, Some, None, List, [], ◌∷◌}}
+use Rattle.std.proofs.{Common.{inl, inr, length, refl, sym, ap, arith, append-nil}, lemmas.Bool.Decides.nat_tests}
+use Rattle.legacy_base.specs.{declared.results.DecodeEvent.TheVariants.{Scalar, Bad}, Iso2022Jp.{esc, escape_mode, part_mode, iso_2022_jp_front}}
+use Rattle.legacy_base.specs.{Beginnings.BeginsWith, Events.shift, Grammar.{iso_2022_jp, events_of}, Lengths.replacement_units, States.is_two_byte_mode}
+use Rattle.legacy_base.{specs.States.rests, proofs.{Iso2022JpFronts.{step_end, step_one, step_two, step_escape, step_no_escape}, Shifts.shift-shift}}
+use Rattle.legacy_base.proofs.{Iso2022JpParts.first_part, Beginnings.no_sooner}
 use Rattle.legacy_text.proofs.CodeUnits.{length-code_units-bmp}
-use Rattle.legacy_base.proofs.{Iso2022JpFronts.{step_end, step_one, step_two, step_escape, step_no_escape}, Shifts.shift-shift, Iso2022JpParts.first_part}
-use Rattle.legacy_base.proofs.Beginnings.{no_sooner}
 use Rattle.legacy_decoder_engine.specs.Moves.{Releases, Reports}
-use Rattle.legacy_japanese.specs.{declared.iso_2022_jp.steps.Start.TheVariants.{Nothing, EscapeByte, Dollar, Paren}, declared.iso_2022_jp.steps.Mode.Mode}
-use Rattle.legacy_japanese.specs.{declared.iso_2022_jp.steps.Mode.TheVariants.TwoByte, declared.iso_2022_jp.steps.Escape.Escape}
-use Rattle.legacy_japanese.specs.{declared.iso_2022_jp.steps.Start.Start, declared.iso_2022_jp.steps.Held.Held}
-use Rattle.legacy_japanese.specs.{declared.iso_2022_jp.steps.Held.TheVariants.{Byte, Begun, Whole}, Iso2022JpMachine.{mode_meaning, bytes_of, finish}}
-use Rattle.legacy_japanese.specs.Iso2022JpMachine.{finish_start, is_held, is_resting, mode_of, pending, second_of, single, start_bytes, third_of}
-use Rattle.legacy_japanese.specs.Iso2022JpMoves.{state_in, IsNarrowScalar}
-use Rattle.legacy_japanese.proofs.Iso2022JpStep.{escape_alone, escaped, in_range_plain, valid}
-use Rattle.legacy_japanese.proofs.{Iso2022JpRooms.{same_rooms, room-falls, replacement_fits, times_one}, Iso2022JpLaw.{MeetsEnd, ended, events_in}}
-use Rattle.legacy_japanese.proofs.Iso2022JpHeld.{held_allowed, held_rests, finish_sound, EndsSound}
+use Rattle.legacy_japanese.specs.declared.iso_2022_jp.steps.{Start.{TheVariants.{Nothing, EscapeByte, Dollar, Paren}, Start}, Mode.{Mode, TheVariants.TwoByte}}
+use Rattle.legacy_japanese.specs.{declared.iso_2022_jp.steps.{Escape.Escape, Held.{Held, TheVariants.{Byte, Begun, Whole}}}, Iso2022JpMachine.mode_meaning}
+use Rattle.legacy_japanese.specs.Iso2022JpMachine.{bytes_of, finish, finish_start, is_held, is_resting, mode_of, pending, second_of, single, start_bytes}
+use Rattle.legacy_japanese.{specs.{Iso2022JpMachine.third_of, Iso2022JpMoves.{state_in, IsNarrowScalar}}, proofs.Iso2022JpStep.{escape_alone, escaped}}
+use Rattle.legacy_japanese.proofs.{Iso2022JpStep.in_range_plain, Iso2022JpRooms.{same_rooms, room-falls, replacement_fits, times_one}, Iso2022JpLaw.MeetsEnd}
+use Rattle.legacy_japanese.proofs.{Iso2022JpLaw.{ended, events_in}, Iso2022JpHeld.{held_allowed, held_rests, finish_sound, EndsSound}}
 use Rattle.legacy_base.specs.Iso2022Jp as iso
 
 -- ---- a byte that is held back alone
@@ -44,10 +38,6 @@ module _ (jis0208 : List ℕ) where
 
   -- ---- the end of the input
 
-  no_escape_yet : (s : Start) → part_mode (start_bytes s) ≡ None
-  unfolding part_mode
-  no_escape_yet s = grind arith
-
   -- an escape byte that is reported alone begins no valid escape
   malformed_escape : (mode : Mode) (rest : List ℕ) → BeginsWith (events_in jis0208 mode (esc ∷ rest)) (Bad 0 1 ∷ []) → part_mode (esc ∷ rest) ≡ None
   unfolding part_mode
@@ -69,10 +59,11 @@ module _ (jis0208 : List ℕ) where
   ])
 
   start_end : (mode : Mode) (s : Start) → MeetsEnd jis0208 mode (Begun s) (finish_start mode s)
+  unfolding part_mode
   start_end mode Nothing = step_end jis0208 (mode_meaning mode)
-  start_end mode EscapeByte = λ more h. escape_end mode [] more (no_escape_yet EscapeByte) h
-  start_end mode Dollar = λ more h. escape_end mode (0x24 ∷ []) more (no_escape_yet Dollar) h
-  start_end mode Paren = λ more h. escape_end mode (0x28 ∷ []) more (no_escape_yet Paren) h
+  start_end mode EscapeByte = λ more h. escape_end mode [] more refl h
+  start_end mode Dollar = λ more h. escape_end mode (0x24 ∷ []) more refl h
+  start_end mode Paren = λ more h. escape_end mode (0x28 ∷ []) more refl h
 
   -- a lead at the end, or a lead that is reported alone, has no trail
   malformed_lead : (l : ℕ) (more : List ℕ) → is_in_range 0x21 0x7E l ≡ true → (more ≡ []) ⊎ BeginsWith (events_in jis0208 TwoByte (l ∷ more)) (Bad 0 1 ∷ [])
@@ -99,12 +90,13 @@ module _ (jis0208 : List ℕ) where
       rw (escape_alone jis0208 mode e behind alone, step_no_escape jis0208 (mode_meaning (mode_of e)) (rest ++ more) alone, shift-shift 3 1) refl
 
   end_law : (mode : Mode) (held : Held) → is_held mode held ≡ true → is_resting mode held ≡ true → MeetsEnd jis0208 mode held (finish mode held)
+  unfolding part_mode
   end_law mode (Byte l) h r = lead_end mode l h r
   end_law mode (Begun s) h r = start_end mode s
-  end_law mode (Whole e Nothing) h r = rw (escape_alone jis0208 mode e [] (no_escape_yet Nothing), start_end (mode_of e) Nothing)
-  end_law mode (Whole e EscapeByte) h r = λ more g. whole_end mode e [] more (no_escape_yet EscapeByte) g
-  end_law mode (Whole e Dollar) h r = λ more g. whole_end mode e (0x24 ∷ []) more (no_escape_yet Dollar) g
-  end_law mode (Whole e Paren) h r = λ more g. whole_end mode e (0x28 ∷ []) more (no_escape_yet Paren) g
+  end_law mode (Whole e Nothing) h r = rw (escape_alone jis0208 mode e [] refl, start_end (mode_of e) Nothing)
+  end_law mode (Whole e EscapeByte) h r = λ more g. whole_end mode e [] more refl g
+  end_law mode (Whole e Dollar) h r = λ more g. whole_end mode e (0x24 ∷ []) more refl g
+  end_law mode (Whole e Paren) h r = λ more g. whole_end mode e (0x28 ∷ []) more refl g
 
   -- the law of the end, by the result of `finish`
   abbrev EndFacts : Mode → Held → Option (Mode × Held) → Type 0
@@ -158,9 +150,6 @@ module _ (jis0208 : List ℕ) where
   from_facts : (mode : Mode) (held : Held) (o : Option (Mode × Held)) → EndFacts mode held o → HasRest mode held (is_some o)
   from_facts mode held o h = grind arith
 
-  resting_rest : (mode : Mode) (held : Held) → is_held mode held ≡ true → is_resting mode held ≡ true → HasRest mode held (is_some (finish mode held))
-  resting_rest mode held sound resting = grind (arith, from_facts, ends, held_rests)
-
   pub rest_known : (mode : Mode) (held : Held) (t : Bool) → is_held mode held ≡ true → t ≡ is_some (finish mode held) → HasRest mode held t
   unfolding events_of
-  rest_known mode held t sound is = rw is (grind (arith, resting_rest, write_some))
+  rest_known mode held t sound is = rw is (grind (arith, from_facts, ends, held_rests, write_some))

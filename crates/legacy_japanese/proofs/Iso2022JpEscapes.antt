@@ -1,15 +1,14 @@
 -- The runs of ISO-2022-JP before and after an escape.
-use Rattle.std.proofs.Common.{◌≡◌, ◌≢◌, ◌∙◌, ℕ, ◌+◌, ◌-◌, ◌<◌, List, ◌∷◌, ◌++◌, length, take, drop, get_or, refl, sym, ap, arith, append-nil}
-use Rattle.std.proofs.{Common.length-drop, Math.Seq.{drop-cons, take-add}, lemmas.Grind.common_steps, lemmas.Bool.ne_eqb, lemmas.List.drop-drop}
-use Rattle.legacy_text.specs.{declared.destination.Destination.Ghosts, EncodingForm.all_code_units}
-use Rattle.legacy_base.specs.{States.DecoderState, Grammar.{iso_2022_jp, events_of}}
-use Rattle.legacy_base.specs.Iso2022Jp.{esc}
-use Rattle.legacy_base.proofs.{Iso2022JpParts.no_escape, Shifts.{shift-append, shift-shift, shift-scalars}}
-use Rattle.legacy_decoder_engine.specs.ReadAhead.{RunsTo, Runs, ReadsTo, ReadsAhead}
-use Rattle.legacy_decoder_engine.proofs.{AheadRuns.reads_nothing, JoinedRuns.reads_then, WrittenRuns.rest_of}
-use Rattle.legacy_japanese.specs.{declared.iso_2022_jp.steps.Mode.Mode, declared.iso_2022_jp.steps.Escape.Escape}
-use Rattle.legacy_japanese.specs.{Iso2022JpMachine.{mode_meaning, mode_of, second_of, third_of}, Iso2022JpRuns.{run_state, HasEscape}}
-use Rattle.legacy_japanese.proofs.{Iso2022JpRooms.{same_rooms, room-falls}, Iso2022JpLaw.events_in, Iso2022JpStep.escape_alone}
+use Rattle.std.proofs.Common.{◌≡◌, ◌≢◌, ◌∙◌, ℕ, ◌+◌, ◌-◌, ◌<◌, List, ◌∷◌, length, take, drop, get_or, refl, sym, ap, arith, append-nil, length-drop}
+use Rattle.std.proofs.{Math.Seq.{drop-cons, take-add}, lemmas.{Grind.common_steps, Bool.ne_eqb, List.drop-drop}}
+use Rattle.legacy_text.specs.declared.destination.Destination.{Ghosts}
+use Rattle.legacy_base.{specs.{States.DecoderState, Grammar.{iso_2022_jp, events_of}, Iso2022Jp.esc}, proofs.{Iso2022JpParts.no_escape, Shifts.shift-append}}
+use Rattle.legacy_base.proofs.Shifts.{shift-shift, shift-scalars}
+use Rattle.legacy_decoder_engine.{specs.ReadAhead.{RunsTo, Runs, ReadsTo, ReadsAhead}, proofs.{AheadRuns.reads_nothing, JoinedRuns.reads_then}}
+use Rattle.legacy_decoder_engine.proofs.WrittenRuns.{rest_of}
+use Rattle.legacy_japanese.specs.{declared.iso_2022_jp.steps.{Mode.Mode, Escape.Escape}, Iso2022JpMachine.{mode_meaning, mode_of, second_of, third_of}}
+use Rattle.legacy_japanese.{specs.Iso2022JpRuns.{run_state, HasEscape}, proofs.{Iso2022JpRooms.{same_rooms, room-falls}, Iso2022JpLaw.events_in}}
+use Rattle.legacy_japanese.proofs.Iso2022JpStep.{escape_alone}
 
 -- an escape before a run of its mode; the run does not begin with an escape byte
 escape_runs : (jis0208 : List ℕ) (mode : Mode) (e : Escape) (x : ℕ) (bytes ds : List ℕ) → x ≢ esc →

@@ -1,17 +1,14 @@
 -- The machine's steps, as the decoders' loop sees them.
-use Rattle.std.specs.{Prelude.if◌then◌else◌}
-use Rattle.std.proofs.Common.{◌≡◌, ◌∙◌, ℕ, ◌+◌, true, List, [], ◌∷◌, ◌++◌, length, map, sym, ap, arith, append-nil}
+use Rattle.std.{specs.Prelude.if◌then◌else◌, proofs.Common.{◌≡◌, ◌∙◌, ℕ, ◌+◌, true, List, [], ◌∷◌, ◌++◌, length, map, sym, ap, arith, append-nil}}
 use Rattle.std.proofs.lemmas.List.Elements.{All-cons, All-nil}
 use Rattle.legacy_base.specs.{declared.results.DecodeEvent.TheVariants.Scalar, DecoderActs.HadRoom, States.rests, Grammar.{iso_2022_jp, events_of}}
 use Rattle.legacy_base.specs.Lengths.{query_form}
 use Rattle.legacy_text.specs.EncodingForm.{total_unit_count}
 use Rattle.legacy_decoder_engine.specs.Moves.{fed_scalars, fed_malformed, fed_units, unread_byte, Feeds}
-use Rattle.legacy_japanese.specs.{declared.iso_2022_jp.steps.Mode.Mode, declared.iso_2022_jp.steps.Held.Held, declared.iso_2022_jp.steps.Action.Action}
-use Rattle.legacy_japanese.specs.declared.iso_2022_jp.steps.Outcome.{Outcome}
-use Rattle.legacy_japanese.specs.{Iso2022JpMoves.{state_in, is_left, move_events, rooms_of, fed_by, fed_of, IsNarrow}, Iso2022JpMachine.mode_meaning}
-use Rattle.legacy_japanese.specs.Iso2022JpMachine.{bytes_of, is_held, read}
-use Rattle.legacy_japanese.proofs.{Iso2022JpRooms.{same_rooms, read_room-is, one_fits, room-falls, replacement_fits, times_one}}
-use Rattle.legacy_japanese.proofs.{Iso2022JpLaw.{done}, Iso2022JpStep.{IsStep, read_step}, Iso2022JpHeld.{held_allowed, held_rests}}
+use Rattle.legacy_japanese.specs.{declared.iso_2022_jp.steps.{Mode.Mode, Held.Held, Action.Action, Outcome.Outcome}, Iso2022JpMoves.{state_in, is_left}}
+use Rattle.legacy_japanese.specs.{Iso2022JpMoves.{move_events, rooms_of, fed_by, fed_of, IsNarrow}, Iso2022JpMachine.{mode_meaning, bytes_of, is_held, read}}
+use Rattle.legacy_japanese.proofs.{Iso2022JpRooms.{same_rooms, read_room-is, one_fits, room-falls, replacement_fits, times_one}, Iso2022JpLaw.done}
+use Rattle.legacy_japanese.proofs.{Iso2022JpStep.{IsStep, read_step}, Iso2022JpHeld.{held_allowed, held_rests}}
 
 -- ---- a move, and what the loop gets from it
 

@@ -1,10 +1,8 @@
 -- The machine holds back only bytes that the grammar may hold back, with the same weight.
 use Rattle.std.proofs.Common.{◌≡◌, ℕ, ◌+◌, ◌≤◌, true, Option, Some, None, List, length, drop, arith, lit≤}
 use Rattle.legacy_base.specs.{Grammar.iso_2022_jp, Lengths.weight, States.{may_hold, rests}}
-use Rattle.legacy_japanese.specs.declared.iso_2022_jp.steps.Mode.{Mode}
-use Rattle.legacy_japanese.specs.declared.iso_2022_jp.steps.Held.{Held}
-use Rattle.legacy_japanese.specs.{Iso2022JpMachine.{mode_meaning, bytes_of, finish, is_held, is_resting}, Iso2022JpMoves.weight_of}
-use Rattle.legacy_japanese.proofs.{Iso2022JpLaw.ended, Iso2022JpStep.second_kept}
+use Rattle.legacy_japanese.specs.{declared.iso_2022_jp.steps.{Mode.Mode, Held.Held}, Iso2022JpMachine.{mode_meaning, bytes_of, finish, is_held, is_resting}}
+use Rattle.legacy_japanese.{specs.Iso2022JpMoves.weight_of, proofs.{Iso2022JpLaw.ended, Iso2022JpStep.second_kept}}
 
 -- ---- the held-back bytes
 

@@ -1,20 +1,17 @@
 -- The decoder holds back a whole escape at once.
-use Rattle.std.proofs.Common.{◌≡◌, ℕ, ◌≤◌, List, [], ◌∷◌, take, refl, arith}
+use Rattle.std.proofs.Common.{◌≡◌, ℕ, ◌≤◌, cond, ◌==◌, List, [], ◌∷◌, take, refl, arith}
 use Rattle.legacy_text.specs.EncodingForm.{EncodingForm, bmp_room}
 use Rattle.legacy_base.specs.Iso2022Jp.{esc}
 use Rattle.legacy_decoder_engine.specs.Moves.{HoldsBytes}
-use Rattle.legacy_japanese.specs.{declared.iso_2022_jp.steps.Escape.TheVariants.{ToJis1978, ToJis1983}, declared.iso_2022_jp.steps.Start.TheVariants.Nothing}
-use Rattle.legacy_japanese.specs.{declared.iso_2022_jp.steps.Start.TheVariants.{EscapeByte, Dollar, Paren}, declared.iso_2022_jp.steps.Mode.Mode}
-use Rattle.legacy_japanese.specs.{declared.iso_2022_jp.steps.Escape.Escape, declared.iso_2022_jp.steps.Start.Start, declared.iso_2022_jp.steps.Held.Held}
-use Rattle.legacy_japanese.specs.{declared.iso_2022_jp.steps.Action.TheVariants.Holds, declared.iso_2022_jp.steps.Held.TheVariants.{Begun, Whole}}
-use Rattle.legacy_japanese.specs.{Iso2022JpMachine.{moves, read, second_of, third_of}, Iso2022JpMoves.state_in, Iso2022JpRuns.{run_state, HasEscape}}
-use Rattle.legacy_japanese.proofs.{Iso2022JpFeeding.feeds, Iso2022JpHeld.held_rests, Iso2022JpRooms.read_room-is}
+use Rattle.legacy_japanese.specs.declared.iso_2022_jp.steps.{Escape.{TheVariants.{ToJis1978, ToJis1983}, Escape}, Start.TheVariants.{Nothing, EscapeByte}}
+use Rattle.legacy_japanese.specs.declared.iso_2022_jp.steps.{Start.{TheVariants.{Dollar, Paren}, Start}, Mode.Mode, Held.{Held, TheVariants.{Begun, Whole}}}
+use Rattle.legacy_japanese.specs.{declared.iso_2022_jp.steps.Action.TheVariants.Holds, Iso2022JpMachine.{moves, read, second_of, third_of}}
+use Rattle.legacy_japanese.{specs.{Iso2022JpMoves.state_in, Iso2022JpRuns.{run_state, HasEscape}}, proofs.{Iso2022JpFeeding.feeds, Iso2022JpHeld.held_rests}}
+use Rattle.legacy_japanese.proofs.Iso2022JpRooms.{read_room-is}
 
 -- the start of an escape: its first two bytes
 abbrev second_start : Escape → Start
-second_start ToJis1978 = Dollar
-second_start ToJis1983 = Dollar
-second_start _ = Paren
+second_start e = cond (second_of e == 0x24) Dollar Paren
 
 module _ (form : EncodingForm) (free : ℕ) (enough : bmp_room form ≤ free) (jis0208 : List ℕ) (mode : Mode) where
   -- one byte is read and held back, after those already held back

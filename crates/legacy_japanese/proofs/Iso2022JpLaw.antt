@@ -1,13 +1,10 @@
 -- The law that each step of the machine must meet.
-use Rattle.std.proofs.Common.{◌≡◌, ℕ, ◌+◌, ◌-◌, ◌≤◌, true, Option, Some, None, List, [], ◌∷◌, ◌++◌, length, drop, ◌⊎◌}
-use Rattle.std.specs.Prelude.{if◌then◌else◌}
+use Rattle.std.{proofs.Common.{◌≡◌, ℕ, ◌+◌, ◌-◌, ◌≤◌, true, Option, Some, None, List, [], ◌∷◌, ◌++◌, length, drop, ◌⊎◌}, specs.Prelude.if◌then◌else◌}
 use Rattle.legacy_base.specs.{Beginnings.BeginsWith, Events.shift, Fronts.Front, Iso2022Jp.{iso_2022_jp_front, iso_2022_jp_events}}
-use Rattle.legacy_base.specs.{declared.results.DecodeEvent.DecodeEvent, declared.results.DecodeEvent.TheVariants.Bad}
-use Rattle.legacy_japanese.specs.{declared.iso_2022_jp.steps.Action.TheVariants.{Holds, Writes, Reports, Leaves}, declared.iso_2022_jp.steps.Mode.Mode}
-use Rattle.legacy_japanese.specs.{declared.iso_2022_jp.steps.Start.TheVariants.Nothing, declared.iso_2022_jp.steps.Held.Held}
-use Rattle.legacy_japanese.specs.{declared.iso_2022_jp.steps.Held.TheVariants.Begun, declared.iso_2022_jp.steps.Action.Action}
-use Rattle.legacy_japanese.specs.{declared.iso_2022_jp.steps.Outcome.Outcome, Iso2022JpMoves.{is_left, move_events, rooms_of, weight_of}}
-use Rattle.legacy_japanese.specs.Iso2022JpMachine.{mode_meaning, bytes_of, is_held, is_resting}
+use Rattle.legacy_base.specs.declared.results.DecodeEvent.{DecodeEvent, TheVariants.Bad}
+use Rattle.legacy_japanese.specs.declared.iso_2022_jp.steps.{Action.{TheVariants.{Holds, Writes, Reports, Leaves}, Action}, Mode.Mode}
+use Rattle.legacy_japanese.specs.declared.iso_2022_jp.steps.{Start.TheVariants.Nothing, Held.{Held, TheVariants.Begun}, Outcome.Outcome}
+use Rattle.legacy_japanese.specs.{Iso2022JpMoves.{is_left, move_events, rooms_of, weight_of}, Iso2022JpMachine.{mode_meaning, bytes_of, is_held, is_resting}}
 
 -- the definitions at the modes of the code
 abbrev pub events_in : List ℕ → Mode → List ℕ → List DecodeEvent

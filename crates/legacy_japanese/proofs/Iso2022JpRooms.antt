@@ -1,17 +1,12 @@
 -- The room that an ISO-2022-JP decoder needs, and how it decreases.
-use Rattle.std.proofs.Common.{◌≡◌, ℕ, ◌+◌, ◌*◌, ◌<◌, ◌≤◌, Bool, true, false, cond, Some, List, [], ◌∷◌, length, refl, arith, length-append, ◌&&◌}
+use Rattle.std.proofs.Common.{◌≡◌, ℕ, ◌+◌, ◌*◌, ◌<◌, ◌≤◌, Bool, true, cond, Some, List, [], ◌∷◌, length, refl, arith, length-append, ◌&&◌}
 use Rattle.std.specs.Char.{is_ascii}
-use Rattle.legacy_base.specs.{DecoderActs.{writes, act_at_rest, room_of_act}, Lengths.LengthQuery}
-use Rattle.legacy_base.specs.{Lengths.{to_utf16, query_form, replacement_units, room}, Grammar.{iso_2022_jp, events_of}, States.{rests, is_empty}}
-use Rattle.legacy_text.specs.EncodingForm.{EncodingForm, bmp_room, wide_room, code_units, total_unit_count}
-use Rattle.legacy_text.proofs.CodeUnits.{length-code_units-bmp}
-use Rattle.legacy_base.proofs.Iso2022JpFronts.{step_end}
-use Rattle.legacy_decoder_engine.specs.Moves.{IsCovered, SameRooms, read_room}
-use Rattle.legacy_japanese.specs.{declared.iso_2022_jp.steps.Mode.Mode, declared.iso_2022_jp.steps.Start.TheVariants.Nothing}
-use Rattle.legacy_japanese.specs.{declared.iso_2022_jp.steps.Held.Held, declared.iso_2022_jp.steps.Held.TheVariants.Begun, Iso2022JpMachine.mode_meaning}
-use Rattle.legacy_japanese.specs.{Iso2022JpMachine.bytes_of, Iso2022JpMoves.{state_in, weight_of}}
-use Rattle.legacy_decoder_engine.proofs.RoomMoves.{no_short_room}
-use Rattle.legacy_japanese.proofs.Iso2022JpHeld.{held_weight}
+use Rattle.legacy_base.specs.{DecoderActs.{writes, act_at_rest, room_of_act}, Lengths.{LengthQuery, to_utf16, query_form, replacement_units, room}}
+use Rattle.legacy_base.{specs.{Grammar.{iso_2022_jp, events_of}, States.{rests, is_empty}}, proofs.Iso2022JpFronts.step_end}
+use Rattle.legacy_text.{specs.EncodingForm.{EncodingForm, bmp_room, wide_room, code_units, total_unit_count}, proofs.CodeUnits.length-code_units-bmp}
+use Rattle.legacy_decoder_engine.{specs.Moves.{IsCovered, SameRooms, read_room}, proofs.RoomMoves.no_short_room}
+use Rattle.legacy_japanese.specs.declared.iso_2022_jp.steps.{Mode.Mode, Start.TheVariants.Nothing, Held.{Held, TheVariants.Begun}}
+use Rattle.legacy_japanese.{specs.{Iso2022JpMachine.{mode_meaning, bytes_of}, Iso2022JpMoves.{state_in, weight_of}}, proofs.Iso2022JpHeld.held_weight}
 
 -- ---- the room of an act
 
@@ -71,10 +66,7 @@ module _ (query : LengthQuery) (jis0208 : List ℕ) (mode : Mode) where
       → needed held unread last (rests (iso_2022_jp jis0208 (mode_meaning mode)) (bytes_of held)) ≤ bmp_room
       (query_form query) * (length unread + weight_of held)
   enough [] last (Begun Nothing) = let n = none last in omega arith
-  enough unread last held =
-      let m = most held unread last (rests (iso_2022_jp jis0208 (mode_meaning mode)) (bytes_of held)) in
-      let s : bmp_room (query_form query) ≤ bmp_room (query_form query) * (length unread + weight_of held) = grind arith in
-      omega arith
+  enough unread last held = let m = most held unread last (rests (iso_2022_jp jis0208 (mode_meaning mode)) (bytes_of held)) in grind arith
 
 -- the room of a length query is enough for the next act
 pub covered : (jis0208 : List ℕ) (mode : Mode) (held : Held) → IsCovered (state_in jis0208 mode held)

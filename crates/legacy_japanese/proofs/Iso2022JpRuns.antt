@@ -1,19 +1,15 @@
 -- The runs of ISO-2022-JP.
-use Rattle.std.proofs.Common.{◌≡◌, ◌∙◌, ℕ, suc, ◌+◌, ◌-◌, ◌*◌, ◌<◌, ◌≤◌, Option, Some, List, [], ◌∷◌, ◌++◌, length, take, get_or, refl}
-use Rattle.std.proofs.{Common.{sym, ap, arith}, lemmas.Bool.{cases_lt, ne_eqb}, lemmas.Bool.Decides.nat_tests, lemmas.List.{length-take, length-take-le}}
-use Rattle.std.proofs.{lemmas.List.get_or-take, lemmas.List.Elements.{All-nil, All-cons, All-from_get_or}, lemmas.Str.Ascii.IsAscii-from_all}
-use Rattle.std.specs.{Prelude.{All, IfSome}, Char.IsScalar}
-use Rattle.legacy_text.specs.{declared.destination.Destination.Ghosts, EncodingForm.{EncodingForm, code_units}}
-use Rattle.legacy_text.proofs.CodeUnits.{code_units_ascii}
-use Rattle.legacy_base.specs.{Iso2022Jp.{ascii, two_byte, iso_2022_jp_front}, Grammar.{iso_2022_jp, events_of}}
+use Rattle.std.proofs.Common.{◌≡◌, ◌∙◌, ℕ, suc, ◌+◌, ◌-◌, ◌*◌, ◌<◌, ◌≤◌, Option, Some, List, [], ◌∷◌, ◌++◌, length, take, get_or, refl, sym, ap, arith}
+use Rattle.std.proofs.lemmas.{Bool.{cases_lt, ne_eqb, Decides.nat_tests}, List.{length-take, length-take-le, get_or-take, Elements.{All-nil, All-cons}}}
+use Rattle.std.{proofs.lemmas.{List.Elements.All-from_get_or, Str.Ascii.IsAscii-from_all}, specs.{Prelude.{All, IfSome}, Char.IsScalar}}
+use Rattle.legacy_text.{specs.{declared.destination.Destination.Ghosts, EncodingForm.{EncodingForm, code_units}}, proofs.CodeUnits.code_units_ascii}
+use Rattle.legacy_base.{specs.{Iso2022Jp.{ascii, two_byte, iso_2022_jp_front}, Grammar.{iso_2022_jp, events_of}}, proofs.Iso2022JpFronts.{step_one, step_two}}
 use Rattle.legacy_tables.specs.Indexes.{idx}
-use Rattle.legacy_base.proofs.Iso2022JpFronts.{step_one, step_two}
-use Rattle.legacy_japanese.specs.declared.iso_2022_jp.steps.Mode.TheVariants.{Ascii}
-use Rattle.legacy_japanese.specs.declared.iso_2022_jp.places.TheConstants.{LEADS, TRAILS}
-use Rattle.legacy_japanese.specs.{Iso2022JpMoves.IsNarrowScalar, Iso2022JpRuns.{ArePlain, IsPlain, run_state}, Jis0208Places.{jis_lead_place, jis_trail_place}}
-use Rattle.legacy_decoder_engine.specs.{ReadAhead.{Runs, IsPair, ReadsAhead}, Places.IsTableOf}
-use Rattle.legacy_decoder_engine.proofs.{WrittenRuns.{runs_none, runs_more, all_code_units_ascii}, PairPlaces.idx_past, JoinedRuns.reads_front}
+use Rattle.legacy_japanese.specs.{declared.iso_2022_jp.{steps.Mode.TheVariants.Ascii, places.TheConstants.{LEADS, TRAILS}}, Iso2022JpMoves.IsNarrowScalar}
+use Rattle.legacy_japanese.specs.{Iso2022JpRuns.{ArePlain, IsPlain, run_state}, Jis0208Places.{jis_lead_place, jis_trail_place}}
 use Rattle.legacy_japanese.proofs.Iso2022JpRooms.{one_fits, room-falls, times_one}
+use Rattle.legacy_decoder_engine.{specs.{ReadAhead.{Runs, IsPair, ReadsAhead}, Places.IsTableOf}, proofs.WrittenRuns.{runs_none, runs_more}}
+use Rattle.legacy_decoder_engine.proofs.{WrittenRuns.all_code_units_ascii, PairPlaces.idx_past, JoinedRuns.reads_front}
 
 -- ---- the places of leads and trails in two-byte mode
 

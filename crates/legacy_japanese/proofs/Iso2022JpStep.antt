@@ -1,21 +1,15 @@
 -- Each step of the machine meets its law, and leaves only what may be held back.
-use Rattle.std.specs.{Prelude.{◌==◌, is_some, if◌then◌else◌, option_to_list}, Int.is_in_range}
-use Rattle.std.proofs.Common.{◌≡◌, ℕ, suc, ◌+◌, ◌-◌, ◌*◌, ◌≤◌, true, false, cond, leb, Option, Some, None, List, [], ◌∷◌, ◌++◌, length, refl, sym, ap, ◌∙◌}
-use Rattle.std.proofs.{Common.{append_assoc, length-append, arith, lit≤}, lemmas.Bool.{eqb-true, ne_eqb, leb-true, and_parts, cond_both}}
-use Rattle.std.proofs.lemmas.Bool.Decides.{nat_tests}
-use Rattle.legacy_base.specs.{declared.results.{DecodeEvent.DecodeEvent, DecodeEvent.TheVariants.Bad}, Fronts.{Front, reads, malformed}, Iso2022Jp.{esc, escape_mode, part_mode}}
-use Rattle.legacy_base.specs.{Iso2022Jp.iso_2022_jp_front, Events.shift, States.is_two_byte_mode}
+use Rattle.std.{specs.{Prelude.{◌==◌, is_some, if◌then◌else◌}, Int.is_in_range}, proofs.Common.{◌≡◌, ℕ, suc, ◌+◌, ◌-◌, ◌*◌, true, false, cond, leb, Option}}
+use Rattle.std.proofs.{Common.{Some, None, List, [], ◌∷◌, ◌++◌, refl, arith}, lemmas.Bool.{eqb-true, ne_eqb, leb-true, and_parts, cond_both, Decides.nat_tests}}
+use Rattle.legacy_base.specs.{declared.results.DecodeEvent.{DecodeEvent, TheVariants.Bad}, Fronts.{Front, reads, malformed}, Iso2022Jp.{esc, escape_mode}}
+use Rattle.legacy_base.{specs.{Iso2022Jp.{part_mode, iso_2022_jp_front}, Events.shift, States.is_two_byte_mode}, proofs.Iso2022JpFronts.{step_one, step_two}}
+use Rattle.legacy_base.proofs.{Iso2022JpFronts.{step_no_escape, step_escape}, Shifts.{shift-append, shift-shift, shift-zero}, Iso2022JpParts.no_escape}
 use Rattle.legacy_tables.specs.Indexes.{idx}
-use Rattle.legacy_base.proofs.{Iso2022JpFronts.{step_one, step_two, step_no_escape, step_escape, escape_ahead}, Shifts.{shift-append, shift-shift, shift-zero}}
-use Rattle.legacy_base.proofs.Iso2022JpParts.{no_escape}
-use Rattle.legacy_japanese.specs.declared.iso_2022_jp.steps.Start.TheVariants.{Nothing, EscapeByte, Dollar, Paren}
-use Rattle.legacy_japanese.specs.{declared.iso_2022_jp.steps.Action.TheVariants.{Holds, Reports, Leaves}, declared.iso_2022_jp.steps.Mode.Mode}
-use Rattle.legacy_japanese.specs.{declared.iso_2022_jp.steps.Escape.Escape, declared.iso_2022_jp.steps.Start.Start, declared.iso_2022_jp.steps.Held.Held}
-use Rattle.legacy_japanese.specs.{declared.iso_2022_jp.steps.Action.Action, declared.iso_2022_jp.steps.Outcome.Outcome}
-use Rattle.legacy_japanese.specs.{declared.iso_2022_jp.steps.Mode.TheVariants.TwoByte, declared.iso_2022_jp.steps.Held.TheVariants.{Byte, Begun, Whole}}
-use Rattle.legacy_japanese.specs.Iso2022JpMachine.{mode_meaning, bytes_of, completes, is_held, is_resting, mode_of, moves, read, read_next_third, read_pair}
-use Rattle.legacy_japanese.specs.Iso2022JpMachine.{read_plain, read_single, read_start, read_third, read_trail, read_whole, second_of, single, start_bytes}
-use Rattle.legacy_japanese.specs.{Iso2022JpMachine.third_of, Iso2022JpMoves.{move_events, weight_of}}
+use Rattle.legacy_japanese.specs.declared.iso_2022_jp.steps.{Start.{TheVariants.{Nothing, EscapeByte, Dollar, Paren}, Start}, Action.TheVariants.Reports}
+use Rattle.legacy_japanese.specs.declared.iso_2022_jp.steps.{Action.Action, Mode.{Mode, TheVariants.TwoByte}, Escape.Escape, Held.{Held, TheVariants.Byte}}
+use Rattle.legacy_japanese.specs.{declared.iso_2022_jp.steps.{Held.TheVariants.{Begun, Whole}, Outcome.Outcome}, Iso2022JpMachine.{mode_meaning, bytes_of}}
+use Rattle.legacy_japanese.specs.Iso2022JpMachine.{is_held, is_resting, mode_of, moves, read, read_pair, read_plain, read_single, read_start, read_trail}
+use Rattle.legacy_japanese.specs.{Iso2022JpMachine.{read_whole, second_of, single, start_bytes, third_of}, Iso2022JpMoves.move_events}
 use Rattle.legacy_japanese.proofs.Iso2022JpLaw.{HasSizes, MeetsLaw, Sound, done, events_in, front_in}
 
 pub valid : (e : Escape) → escape_mode (second_of e) (third_of e) ≡ Some (mode_meaning (mode_of e))
@@ -65,20 +59,9 @@ module _ (jis0208 : List ℕ) where
   behind_step mode e s b o alone step =
       let k = done (Begun s) o in
       let sound = step.sound in
-      let other = three_further k o.action (bytes_of o.held) sound.sizes in
-      let more_done : 3 + k ≡ suc (suc (suc k)) = omega arith in
-      let further : done (Whole e s) o ≡ suc (suc (suc k)) = omega (arith, sound.fits) in record {
-        law = λ more.
-            rw (further, escape_alone mode e (start_bytes s ++ b ∷ more) (alone more), step.law more, shift-append, other.0, shift-shift 3 k, more_done);
-        sound = record {
-          kept = sound.kept;
-          suffix = λ more. rw further (sound.suffix more);
-          sizes = rw further other.1;
-          room = (let room = sound.room in omega arith);
-          fits = (let fits = sound.fits in omega arith);
-          rest = sound.rest;
-        };
-      }
+      let further : done (Whole e s) o ≡ suc (suc (suc k)) = omega (arith, sound.fits) in
+      let law = λ (more : List ℕ). rw (step.law more) at (escape_alone mode e (start_bytes s ++ b ∷ more) (alone more)) in
+      grind (arith, law, shift-append, shift-shift, further, sound, three_further)
 
   -- ---- less than a whole escape
 

@@ -1,14 +1,13 @@
 -- A walk over the pointers of index jis0208 lists the codes of the scalars that have the code of their pointer. The other
 -- scalars are looked up one by one.
-use Rattle.std.proofs.Common.{◌∙◌, ◌≡◌, ℕ, ◌+◌, ◌/◌, ◌<◌, List, length, slice_index, arith, option_map}
-use Rattle.std.proofs.lemmas.Bool.Decides.{nat_tests}
+use Rattle.std.proofs.{Common.{◌∙◌, ◌≡◌, ℕ, ◌+◌, ◌/◌, ◌<◌, List, length, slice_index, arith, option_map}, lemmas.Bool.Decides.nat_tests}
 use Rattle.legacy_tables.specs.{Indexes.FlatIndexes, TableChecks.AreAccepted, Walks.IsFilled, Pointers.{euc_jp_pointer_of, shift_jis_pointer_of}}
-use Rattle.legacy_tables.specs.{declared.tables.packed.PackedPart.TheVariants.{EucJpOrder, ShiftJisOrder}, declared.tables.packed.PackedPart.PackedPart}
-use Rattle.legacy_tables.proofs.{Accepted.jis0208-scalars, PointerBounds.{euc-jp-bound, shift-jis-bound}}
+use Rattle.legacy_tables.{specs.declared.tables.packed.PackedPart.{TheVariants.{EucJpOrder, ShiftJisOrder}, PackedPart}, proofs.Accepted.jis0208-scalars}
+use Rattle.legacy_tables.proofs.PointerBounds.{euc-jp-bound, shift-jis-bound}
 use Rattle.legacy_base.specs.{EucJp.{euc_jp_code, euc_jp_bytes}, ShiftJis.{shift_jis_code, shift_jis_bytes}, Iso2022Jp.{iso_2022_jp_code, iso_2022_jp_pair}}
 use Rattle.legacy_base.specs.Encoders.{Codec, euc_jp, shift_jis, iso_2022_jp}
-use Rattle.legacy_encoder_engine.proofs.{WalkedPairs.{GoesByPointers, by-pairs, halves, walked-right}, CachedPairs.all-right}
-use Rattle.legacy_encoder_engine.specs.CachedPairs.{AreAllPairsOf, IsRightEntry}
+use Rattle.legacy_encoder_engine.{proofs.{WalkedPairs.{GoesByPointers, by-pairs, halves, walked-right}, CachedPairs.all-right}, specs.CachedPairs.AreAllPairsOf}
+use Rattle.legacy_encoder_engine.specs.CachedPairs.{IsRightEntry}
 use Rattle.legacy_japanese.specs.{Iso2022JpPairs.{IsListedEntry, iso_2022_jp_mark, iso_2022_jp_mark-some}, ByPointer.GoesByPointer, EucJpCodes.euc_jp_mark}
 use Rattle.legacy_japanese.specs.{EucJpCodes.euc_jp_mark-some, ShiftJisCodes.{shift_jis_mark, shift_jis_mark-some}}
 

@@ -1,17 +1,13 @@
 -- Eight codes of Shift_JIS, lane by lane, and the pairs of those that have an entry.
-use Rattle.std.proofs.Common.{◌≡◌, ◌≢◌, ◌∙◌, ℕ, ◌+◌, ◌-◌, ◌*◌, ◌/◌, ◌%◌, ◌<◌, ◌≤◌, ◌||◌, ◌&&◌, ◌==◌, min, Bool, true, false, cond, leb, List, [], ◌∷◌, length}
-use Rattle.std.proofs.{Common.{get_or, map, replicate, refl, sym, ap, arith, w16, Fits}, lemmas.Bool.{agree_below_at, eqb-true}, lemmas.Bool.Decides.nat_tests}
-use Rattle.std.proofs.lemmas.Nat.{xor_mod}
-use Rattle.std.specs.{Char.IsScalar, Int.is_in_range, Int.Bits.bit_xor}
+use Rattle.std.proofs.Common.{◌≡◌, ◌∙◌, ℕ, ◌+◌, ◌-◌, ◌*◌, ◌/◌, ◌%◌, ◌<◌, ◌≤◌, ◌==◌, true, false, cond, List, [], ◌∷◌, length, get_or, map, replicate, refl, sym}
+use Rattle.std.{proofs.{Common.{ap, arith, w16, Fits}, lemmas.{Bool.{agree_below_at, eqb-true, Decides.nat_tests}, Nat.xor_mod}}, specs.Char.IsScalar}
+use Rattle.std.specs.Int.{is_in_range, Bits.bit_xor}
 use lib.Lanes.{Each1, zip2}
 use Rattle.legacy_text.proofs.UnitLanes.{of_eight}
-use Rattle.legacy_tables.specs.AcceptedTables.{AcceptedIndexes}
-use Rattle.legacy_tables.proofs.Accepted.{jis0208-scalars, length-jis0208}
-use Rattle.legacy_base.specs.{Grammar.shift_jis, ShiftJis.{is_shift_jis_lead, shift_jis_scalars}}
-use Rattle.legacy_decoder_engine.specs.{ReadAhead.HasAscii, LaneCodes.ArePairs, SplitRows.{lead_place_of, trail_place_of}}
-use Rattle.legacy_decoder_engine.proofs.LanePlaces.{entry_is}
-use Rattle.legacy_japanese.specs.{ShiftJisLanes.shift_jis_place, ShiftJisMachine.shift_jis_pair_scalars, ShiftJisShown.shift_jis_codec}
-use Rattle.legacy_japanese.specs.ShiftJisPlaces.{shift_jis_lead_place, shift_jis_trail_place}
+use Rattle.legacy_tables.{specs.AcceptedTables.AcceptedIndexes, proofs.Accepted.{jis0208-scalars, length-jis0208}}
+use Rattle.legacy_base.specs.{Grammar.shift_jis, ShiftJis.shift_jis_scalars}
+use Rattle.legacy_decoder_engine.{specs.{ReadAhead.HasAscii, LaneCodes.ArePairs, SplitRows.lead_place_of}, proofs.LanePlaces.entry_is}
+use Rattle.legacy_japanese.specs.{ShiftJisLanes.shift_jis_place, ShiftJisShown.shift_jis_codec, ShiftJisPlaces.{shift_jis_lead_place, shift_jis_trail_place}}
 use Rattle.legacy_japanese.proofs.{ShiftJisPlaces.shift_jis_entry, ShiftJisRuns.pair_form}
 use Rattle.legacy_decoder_engine.proofs.LeadHeld as held
 
@@ -64,6 +60,8 @@ module _ (tables : AcceptedIndexes) where
       let is = placed code (omega (arith, within, short)) in
       let scalar : IsScalar c = jis0208-scalars tables.flat tables.accepted p 0 within in
       let low : is_in_range 8836 10715 p ≡ false = grind (arith, nat_tests, is.1) in
-      let scalars : shift_jis_scalars index p ≡ c ∷ [] = rw low (entry_is c some) in
-      (scalar, pair_form tables (code % 256) (code / 256) c (omega arith) (omega arith) scalar
-          (sym scalars ∙ ap (shift_jis_scalars index) is.0 ∙ shift_jis_entry index (omega (arith, short)) (code % 256) (code / 256)))
+      let scalars : shift_jis_scalars index p ≡ c ∷ [] = rw low (entry_is c some) in (
+        scalar,
+        pair_form tables (code % 256) (code / 256) c (omega arith) (omega arith) scalar
+            (sym scalars ∙ ap (shift_jis_scalars index) is.0 ∙ shift_jis_entry index (omega (arith, short)) (code % 256) (code / 256)),
+      )

@@ -1,15 +1,12 @@
 -- The tables contain the places of leads and trails; index jis0208 is read at their sum.
-use Rattle.std.proofs.Common.{◌≡◌, ℕ, ◌+◌, ◌≤◌, List, [], ◌∷◌, length, false, cond, Some, refl, ap, arith}
-use Rattle.std.proofs.lemmas.Bool.Decides.{nat_tests}
+use Rattle.std.proofs.{Common.{◌≡◌, ℕ, ◌+◌, ◌≤◌, List, [], ◌∷◌, length, false, cond, Some, refl, ap, arith}, lemmas.Bool.Decides.nat_tests}
 use Rattle.std.specs.{Int.is_in_range, Prelude.option_to_list}
-use Rattle.legacy_tables.specs.{AcceptedTables.AcceptedIndexes, Indexes.idx}
-use Rattle.legacy_tables.specs.declared.tables.IndexName.TheVariants as names
-use Rattle.legacy_tables.proofs.Accepted.{entry-used}
+use Rattle.legacy_tables.{specs.{AcceptedTables.AcceptedIndexes, Indexes.idx}, proofs.Accepted.entry-used}
 use Rattle.legacy_base.specs.ShiftJis.{is_shift_jis_lead, shift_jis_scalars}
-use Rattle.legacy_decoder_engine.specs.Places.{IsTableOf}
+use Rattle.legacy_decoder_engine.{specs.Places.IsTableOf, proofs.PairPlaces.{none_past, pair_entry}}
 use Rattle.legacy_japanese.specs.{ShiftJisPlaces.{shift_jis_lead_place, shift_jis_trail_place}, ShiftJisMachine.shift_jis_pair_scalars}
 use Rattle.legacy_japanese.specs.declared.shift_jis.places.TheConstants.{LEADS, TRAILS}
-use Rattle.legacy_decoder_engine.proofs.PairPlaces.{none_past, pair_entry}
+use Rattle.legacy_tables.specs.declared.tables.IndexName.TheVariants as names
 
 pub shift_jis_leads_are : IsTableOf shift_jis_lead_place LEADS
 unfolding shift_jis_lead_place

@@ -1,12 +1,10 @@
 -- Byte sequences of Shift_JIS that give one scalar.
-use Rattle.std.proofs.{Common.{◌≡◌, ◌≤◌, ◌<◌, ◌^◌, ◌==◌, ℕ, List, [], ◌∷◌, Option, false, true, cond, refl, arith}, lemmas.Bool.cond_both}
-use Rattle.std.proofs.lemmas.Bool.Decides.{nat_tests}
+use Rattle.std.proofs.{Common.{◌≡◌, ◌≤◌, ◌<◌, ◌^◌, ◌==◌, ℕ, List, [], ◌∷◌, Option, false, true, cond, refl, arith}, lemmas.Bool.{cond_both, Decides.nat_tests}}
 use Rattle.std.specs.{Char.{IsScalar, is_ascii}, Option.option_map_or}
-use Rattle.legacy_tables.specs.{AcceptedTables.AcceptedIndexes, Unicode.{is_katakana_byte, katakana_of}}
+use Rattle.legacy_tables.{specs.{AcceptedTables.AcceptedIndexes, Unicode.{is_katakana_byte, katakana_of}}, proofs.Accepted.jis0208-below}
 use Rattle.legacy_base.specs.{Grammar.shift_jis, ShiftJis.{is_shift_jis_lead, shift_jis_pointer, shift_jis_scalars}}
-use Rattle.legacy_tables.proofs.Accepted.{jis0208-below}
-use Rattle.legacy_decoder_engine.specs.{ReadAhead.Runs, StepUnits.IsNarrowIndex}
-use Rattle.legacy_decoder_engine.proofs.{LeadHeld.pair, PairPlaces.found, RunForms.single_runs, Widths.idx_below}
+use Rattle.legacy_decoder_engine.{specs.{ReadAhead.Runs, StepUnits.IsNarrowIndex}, proofs.{LeadHeld.pair, PairPlaces.found, RunForms.single_runs}}
+use Rattle.legacy_decoder_engine.proofs.Widths.{idx_below}
 use Rattle.legacy_japanese.specs.{ShiftJisMachine.shift_jis_pair_scalars, ShiftJisShown.shift_jis_codec}
 
 scalar_below : (jis0208 : List ℕ) (o : Option ℕ) (c : ℕ) → IsNarrowIndex jis0208 → option_map_or (shift_jis_scalars jis0208) o [] ≡ c ∷ [] → c < 0x1_0000

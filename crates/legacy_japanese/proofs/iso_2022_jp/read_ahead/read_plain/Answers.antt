@@ -1,5 +1,4 @@
-use Rattle.std.proofs.lemmas.Grind.{common_steps}
-use Rattle.std.proofs.{Common.{◌≡◌, ◌∙◌, ◌++◌, take, ap, arith, append_assoc}, lemmas.List.take_more}
+use Rattle.std.proofs.{lemmas.{Grind.common_steps, List.take_more}, Common.{◌≡◌, ◌∙◌, ◌++◌, take, ap, arith, append_assoc}}
 use Rattle.legacy_japanese.proofs.Iso2022JpRuns.{plain_front, plain_units, reads_plain}
 use Rattle.legacy_japanese.proofs.iso_2022_jp.read_ahead.read_plain.Goals as goal
 
