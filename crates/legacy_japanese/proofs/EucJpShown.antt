@@ -26,21 +26,12 @@ module _ (jis0208 jis0212 : List ℕ) where
 
   -- ---- the front of each step
 
-  first_fits : (b : ℕ) → Fits front euc_jp_may_hold [] b (euc_jp_first b)
-  unfolding euc_jp_front
-  first_fits b = grind (arith, nat_tests, fits_test)
-
-  second_fits : (lead b : ℕ) → euc_jp_may_hold (lead ∷ []) ≡ true → Fits front euc_jp_may_hold (lead ∷ []) b (euc_jp_second_step jis0208 lead b)
-  unfolding euc_jp_front euc_jp_katakana euc_jp_second euc_jp_pair
-  second_fits lead b h = grind (arith, nat_tests, fits_test, fits_trail)
-
-  third_fits : (first lead b : ℕ) → euc_jp_may_hold (first ∷ lead ∷ []) ≡ true
-      → Fits front euc_jp_may_hold (first ∷ lead ∷ []) b (euc_jp_step jis0208 jis0212 (first ∷ lead ∷ []) b)
-  unfolding euc_jp_front euc_jp_second euc_jp_third
-  third_fits first lead b h = grind (arith, nat_tests, fits_trail)
-
   fits : (held : List ℕ) (b : ℕ) → euc_jp_may_hold held ≡ true → Fits front euc_jp_may_hold held b (machine.step held b)
-  fits held b h = grind (arith, first_fits, second_fits, third_fits, false≢true)
+  unfolding euc_jp_front euc_jp_katakana euc_jp_second euc_jp_third euc_jp_pair
+  fits [] b h = grind (arith, nat_tests, fits_test)
+  fits (lead ∷ []) b h = grind (arith, nat_tests, fits_test, fits_trail)
+  fits (first ∷ lead ∷ []) b h = grind (arith, nat_tests, fits_trail)
+  fits (first ∷ lead ∷ c ∷ held) b h = absurd (false≢true h)
 
   settles : (held : List ℕ) (b : ℕ) → euc_jp_may_hold held ≡ true → Settles g held b (machine.step held b)
   settles held b h = grind (arith, settles_test, trail_settles, pair_one, false≢true)

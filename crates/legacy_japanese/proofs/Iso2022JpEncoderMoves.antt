@@ -92,9 +92,9 @@ module _ (jis0208 katakana_index : List ℕ) where
   -- ---- the mode and move of a scalar
 
   -- a scalar that is written in the mode `new` needs it
-  pub asks : {mode new : Mode} {c : ℕ} (own : Option (List ℕ)) {move : EncoderMove} → IsWritten jis0208 katakana_index (mode_of mode) c (mode_of new) own
+  pub asks : {mode new : Mode} {c : ℕ} {own : Option (List ℕ)} {move : EncoderMove} → IsWritten jis0208 katakana_index (mode_of mode) c (mode_of new) own
       → IsCode own (iso_2022_jp_reported c) move → Asks jis0208 katakana_index mode c new move
-  asks own w is = record { mode_is = w.mode_is; code_is = rw w.code_is is }
+  asks w is = record { mode_is = w.mode_is; code_is = rw w.code_is is }
 
   -- a scalar that needs the mode of the encoder is read there
   pub stays : {mode new : Mode} {c : ℕ} {move : EncoderMove} → Asks jis0208 katakana_index mode c new move → is_same_mode mode new ≡ true

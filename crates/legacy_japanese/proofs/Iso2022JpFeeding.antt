@@ -10,55 +10,43 @@ use Rattle.legacy_japanese.specs.{Iso2022JpMoves.{move_events, rooms_of, fed_by,
 use Rattle.legacy_japanese.proofs.{Iso2022JpRooms.{same_rooms, read_room-is, one_fits, room-falls, replacement_fits, times_one}, Iso2022JpLaw.done}
 use Rattle.legacy_japanese.proofs.{Iso2022JpStep.{IsStep, read_step}, Iso2022JpHeld.{held_allowed, held_rests}}
 
--- ---- a move, and what the loop gets from it
+module _ (jis0208 : List ℕ) (mode : Mode) (held : Held) (byte : ℕ) (o : Outcome) (may : is_held mode held ≡ true)
+    (resting : rests (iso_2022_jp jis0208 (mode_meaning mode)) (bytes_of held) ≡ true) (is : o ≡ read jis0208 mode held byte) where
+  -- the outcome is the machine's step
+  step : IsStep jis0208 mode held byte o
+  step = rw is (read_step jis0208 mode held byte may (sym (held_rests jis0208 mode held may) ∙ resting))
 
-events_are : (k : ℕ) (move : Action) (back : ℕ) → move_events k move ≡ map Scalar (fed_scalars (fed_by move back)) ++ fed_malformed k (fed_by move back)
-events_are k move back = grind arith
+  -- after the step only what is allowed is held back
+  pub kept : is_held o.mode o.held ≡ true
+  kept = step.sound.kept
 
-left_is : (move : Action) (back b : ℕ) (more : List ℕ) → (if is_left move then b ∷ more else more) ≡ unread_byte b (fed_by move back) ++ more
-left_is move back b more = grind arith
-
--- ---- a step
-
--- the outcome is the machine's step
-stepped : (jis0208 : List ℕ) (mode : Mode) (held : Held) (byte : ℕ) (o : Outcome) → is_held mode held ≡ true
-    → rests (iso_2022_jp jis0208 (mode_meaning mode)) (bytes_of held) ≡ true → o ≡ read jis0208 mode held byte → IsStep jis0208 mode held byte o
-stepped jis0208 mode held byte o sound rest is = rw is (read_step jis0208 mode held byte sound (sym (held_rests jis0208 mode held sound) ∙ rest))
-
--- after the step only what is allowed is held back
-pub kept : (jis0208 : List ℕ) (mode : Mode) (held : Held) (byte : ℕ) (o : Outcome) → is_held mode held ≡ true
-    → rests (iso_2022_jp jis0208 (mode_meaning mode)) (bytes_of held) ≡ true → o ≡ read jis0208 mode held byte → is_held o.mode o.held ≡ true
-kept jis0208 mode held byte o sound rest is = (let s = stepped jis0208 mode held byte o sound rest is in s.sound.kept)
-
--- the law of a step for the loop
-pub feeds : (jis0208 : List ℕ) (mode : Mode) (held : Held) (byte : ℕ) (o : Outcome) → is_held mode held ≡ true
-    → rests (iso_2022_jp jis0208 (mode_meaning mode)) (bytes_of held) ≡ true → o ≡ read jis0208 mode held byte → IsNarrow o.action
-    → Feeds (state_in jis0208 mode held) byte (state_in jis0208 o.mode o.held) (fed_of o)
-unfolding events_of HadRoom
-feeds jis0208 mode held byte o may rest is narrow =
-    let step = stepped jis0208 mode held byte o may rest is in
-    let sound = step.sound in
-    let fits = sound.fits in
-    let lower = sound.room in
-    let back = length (bytes_of o.held) in
-    let counts : (if is_left o.action then 0 else 1) + length (unread_byte byte (fed_by o.action back)) ≡ 1 = grind arith in
-    record {
-      passed = done held o;
-      progress = record {
-        counts = omega arith;
-        rest = sound.suffix [] ∙ ap (λ l. bytes_of o.held ++ l) (left_is o.action back byte [] ∙ append-nil (unread_byte byte (fed_of o)));
-        events = λ more never. rw (← (events_are (done held o) o.action back), ← (left_is o.action back byte more)) (step.law more);
-      };
-      holds = grind (arith, held_rests);
-      allowed = held_allowed jis0208 o.mode o.held sound.kept;
-      rooms = same_rooms jis0208 mode o.mode;
-      empties = grind arith;
-      report = λ form. omega arith;
-      full = λ form some. rw (read_room-is form jis0208 mode held byte) (omega arith);
-      fits = λ form. rw (read_room-is form jis0208 mode held byte) (grind (arith, one_fits));
-      had = λ form free enough. let e = read_room-is form jis0208 mode held byte in grind arith;
-      scalar = grind (arith, All-cons, All-nil);
-      lowers = λ query n. room-falls query jis0208 mode o.mode held o.held (n + 1) (n + length (unread_byte byte (fed_of o))) (rooms_of o.action)
-          (total_unit_count (query_form query) (fed_scalars (fed_of o)) + fed_units query (fed_of o)) (omega arith)
-          (grind (arith, times_one, one_fits, replacement_fits));
-    }
+  -- the law of a step for the loop
+  pub feeds : IsNarrow o.action → Feeds (state_in jis0208 mode held) byte (state_in jis0208 o.mode o.held) (fed_of o)
+  unfolding events_of HadRoom
+  feeds narrow =
+      let law = step.law in
+      let sound = step.sound in
+      let fits = sound.fits in
+      let lower = sound.room in
+      let back = length (bytes_of o.held) in
+      let counts : (if is_left o.action then 0 else 1) + length (unread_byte byte (fed_by o.action back)) ≡ 1 = grind arith in
+      record {
+        passed = done held o;
+        progress = record {
+          counts = omega arith;
+          rest = grind (arith, sound.suffix []);
+          events = λ more never. grind (arith, law more);
+        };
+        holds = grind (arith, held_rests);
+        allowed = held_allowed jis0208 o.mode o.held sound.kept;
+        rooms = same_rooms jis0208 mode o.mode;
+        empties = grind arith;
+        report = λ form. omega arith;
+        full = λ form some. rw (read_room-is form jis0208 mode held byte) (omega arith);
+        fits = λ form. rw (read_room-is form jis0208 mode held byte) (grind (arith, one_fits));
+        had = λ form free enough. let e = read_room-is form jis0208 mode held byte in grind arith;
+        scalar = grind (arith, All-cons, All-nil);
+        lowers = λ query n. room-falls query jis0208 mode o.mode held o.held (n + 1) (n + length (unread_byte byte (fed_of o))) (rooms_of o.action)
+            (total_unit_count (query_form query) (fed_scalars (fed_of o)) + fed_units query (fed_of o)) (omega arith)
+            (grind (arith, times_one, one_fits, replacement_fits));
+      }

@@ -4,7 +4,7 @@ use Rattle.std.proofs.lemmas.{Bool.{cases_lt, ne_eqb, Decides.nat_tests}, List.{
 use Rattle.std.{proofs.lemmas.{List.Elements.All-from_get_or, Str.Ascii.IsAscii-from_all}, specs.{Prelude.{All, IfSome}, Char.IsScalar}}
 use Rattle.legacy_text.{specs.{declared.destination.Destination.Ghosts, EncodingForm.{EncodingForm, code_units}}, proofs.CodeUnits.code_units_ascii}
 use Rattle.legacy_base.{specs.{Iso2022Jp.{ascii, two_byte, iso_2022_jp_front}, Grammar.{iso_2022_jp, events_of}}, proofs.Iso2022JpFronts.{step_one, step_two}}
-use Rattle.legacy_tables.specs.Indexes.{idx}
+use Rattle.legacy_tables.{specs.{AcceptedTables.AcceptedIndexes, Indexes.idx}, proofs.Accepted.length-jis0208}
 use Rattle.legacy_japanese.specs.{declared.iso_2022_jp.{steps.Mode.TheVariants.Ascii, places.TheConstants.{LEADS, TRAILS}}, Iso2022JpMoves.IsNarrowScalar}
 use Rattle.legacy_japanese.specs.{Iso2022JpRuns.{ArePlain, IsPlain, run_state}, Jis0208Places.{jis_lead_place, jis_trail_place}}
 use Rattle.legacy_japanese.proofs.Iso2022JpRooms.{one_fits, room-falls, times_one}
@@ -40,10 +40,11 @@ unfolding events_of iso_2022_jp_front
 pair_run jis0208 a b c low high low' high' narrow scalar is = grind (arith, nat_tests, step_two, ne_eqb, All-cons, All-nil, room-falls, times_one, one_fits)
 
 -- the scalar of two bytes, by the sum of their places
-pub placed_scalar : (jis0208 : List ℕ) → length jis0208 ≤ 65535 → (a b : ℕ) (found : Option ℕ) → found ≡ idx jis0208 (jis_lead_place a + jis_trail_place b)
-    → IfSome found IsNarrowScalar → IfSome found (λ c. IsPair (iso_2022_jp jis0208 two_byte) a b c)
+pub placed_scalar : (tables : AcceptedIndexes) (a b : ℕ) (found : Option ℕ) → found ≡ idx tables.flat.jis0208 (jis_lead_place a + jis_trail_place b)
+    → IfSome found IsNarrowScalar → IfSome found (λ c. IsPair (iso_2022_jp tables.flat.jis0208 two_byte) a b c)
 unfolding jis_lead_place jis_trail_place
-placed_scalar jis0208 short a b found is narrow = grind (arith, cases_lt, nat_tests, pair_run, idx_past)
+placed_scalar tables a b found is narrow =
+    let short = length-jis0208 tables.flat tables.accepted in grind (arith, cases_lt, nat_tests, pair_run, idx_past)
 
 -- ---- a run of plain bytes
 
@@ -51,11 +52,6 @@ placed_scalar jis0208 short a b found is narrow = grind (arith, cases_lt, nat_te
 pub plain_front : (source : List ℕ) (n count : ℕ) → count ≤ length (take n source) → ArePlain (take n source) count →
     (count ≤ length source) × (count ≤ n) × ArePlain source count
 plain_front source n count within plain = grind (arith, length-take, get_or-take)
-
--- the code units of a run, one for each byte
-pub plain_units : (form : EncodingForm) (source : List ℕ) (count at : ℕ) → count ≤ length source → ArePlain source count → at < count
-    → code_units form (get_or source at 0) ≡ get_or source at 0 ∷ []
-plain_units form source count at within plain h = code_units_ascii form (get_or source at 0) ((plain at h).0)
 
 pub reads_plain : {D : Type 0} (T : Ghosts D) (jis0208 source : List ℕ) (old new : D) (count : ℕ) → count ≤ length source → ArePlain source count
     → T.contents new ≡ T.contents old ++ take count source → T.room new + count ≡ T.room old → T.loan new ≡ T.loan old → (0 < count → count + 3 ≤ T.room old)

@@ -54,14 +54,13 @@ module _ (tables : AcceptedIndexes) where
 
   pub lane_pair : ArePairs (shift_jis tables.flat.jis0208) tables.flat.jis0208 shift_jis_place
   lane_pair code small past within high some =
-      let short = length-jis0208 tables.flat tables.accepted in
       let p = shift_jis_place code in
       let c = get_or index p 0 in
-      let is = placed code (omega (arith, within, short)) in
+      let is = placed code (omega (arith, within, length-jis0208 tables.flat tables.accepted)) in
       let scalar : IsScalar c = jis0208-scalars tables.flat tables.accepted p 0 within in
       let low : is_in_range 8836 10715 p ≡ false = grind (arith, nat_tests, is.1) in
       let scalars : shift_jis_scalars index p ≡ c ∷ [] = rw low (entry_is c some) in (
         scalar,
         pair_form tables (code % 256) (code / 256) c (omega arith) (omega arith) scalar
-            (sym scalars ∙ ap (shift_jis_scalars index) is.0 ∙ shift_jis_entry index (omega (arith, short)) (code % 256) (code / 256)),
+            (sym scalars ∙ ap (shift_jis_scalars index) is.0 ∙ shift_jis_entry tables (code % 256) (code / 256)),
       )

@@ -1,19 +1,10 @@
 //! The decoder of EUC-JP.
-ghost use Rattle.std.specs.Prelude.{◌≡◌, ℕ, List, ◌∷◌, [], true, length, option_to_list, IfSome};
-ghost use Rattle.std.specs.Char.{IsScalar};
+ghost use Rattle.std.specs.{Prelude.{◌≡◌, ℕ, List, ◌∷◌, [], true, length, option_to_list, IfSome}, Char.IsScalar};
 ghost use Rattle.legacy_text.specs.EncodingForm.{EncodingForm};
-ghost use Rattle.legacy_base.specs.EucJp.{euc_jp_scalars};
-ghost use Rattle.legacy_base.specs.Grammar.{euc_jp};
-ghost use Rattle.legacy_base.specs.States.{is_neutral, new_state};
+ghost use Rattle.legacy_base.specs.{EucJp.euc_jp_scalars, Grammar.euc_jp, States.{is_neutral, new_state, state_of}, Fronts.malformed};
 ghost use Rattle.legacy_tables.specs.Tables.{index_list};
-ghost use Rattle.legacy_base.specs.States.{state_of};
-ghost use Rattle.legacy_base.specs.Fronts.{malformed};
-ghost use Rattle.legacy_decoder_engine.specs.Steps.{finish};
-ghost use Rattle.legacy_japanese.specs.EucJpMachine.{euc_jp_step};
-ghost use Rattle.legacy_decoder_engine.specs.Moves.{read_room, room_units};
-ghost use Rattle.legacy_decoder_engine.specs.Feeding.{Took};
-ghost use Rattle.legacy_decoder_engine.specs.LaneRows.{row_place};
-ghost use Rattle.legacy_japanese.specs.EucJpHeld.{held_bytes};
+ghost use Rattle.legacy_decoder_engine.specs.{Steps.finish, Moves.{read_room, room_units}, Feeding.Took, LaneRows.row_place};
+ghost use Rattle.legacy_japanese.specs.{EucJpMachine.euc_jp_step, EucJpHeld.held_bytes, EucJpDecoder.euc_jp_state};
 
 use super::held_lead::EucJpLead;
 use legacy_base::{DecoderStep, Destination, IndexName, RawDecoder, Tables};
@@ -205,8 +196,6 @@ fn held_length(held: Held) -> u8
 
 impl<'a> EucJpDecoder<'a> {
     ghost use Rattle.legacy_base.specs.Lengths.{answer, weighted};
-    ghost use Rattle.legacy_japanese.specs.EucJpDecoder.{euc_jp_state};
-
     /// Returns a new decoder over the tables.
     pub fn new(tables: &'a Tables<'a>) -> EucJpDecoder<'a>
         ensures { euc_jp_state result
@@ -238,8 +227,6 @@ impl<'a> EucJpDecoder<'a> {
 }
 
 impl DecoderMoves for EucJpDecoder<'_> {
-    ghost use Rattle.legacy_japanese.specs.EucJpDecoder.{euc_jp_state};
-
     ghost state = { euc_jp_state };
 
     #[inline]
@@ -350,8 +337,6 @@ impl LaneCodec for EucJp {
 }
 
 impl RawDecoder for EucJpDecoder<'_> {
-    ghost use Rattle.legacy_japanese.specs.EucJpDecoder.{euc_jp_state};
-
     ghost state = { euc_jp_state };
 
     #[inline(always)]

@@ -1,9 +1,8 @@
 //! The encoder of ISO-2022-JP that reads pairs from a list, in memory that the caller lends.
 ghost use Rattle.std.specs.Prelude.{◌≡◌, ◌≢◌, ◌<◌, ◌≤◌, length, MatchOption};
 ghost use Rattle.legacy_base.specs.Encoders.{is_pending};
-ghost use Rattle.legacy_japanese.specs.Iso2022JpEncoder.{Asks, iso_2022_jp_encoder_state, pairs_state};
-ghost use Rattle.legacy_japanese.specs.Iso2022JpPairs.{IsListedEntry, IsPairOf, ListsPairs};
-ghost use Rattle.legacy_japanese.specs.Iso2022JpPairs.{iso_2022_jp_mark, iso_2022_jp_mark-some};
+ghost use Rattle.legacy_japanese.specs.{Iso2022JpEncoder.{Asks, iso_2022_jp_encoder_state, pairs_state}, Iso2022JpPairs.{IsListedEntry, IsPairOf}};
+ghost use Rattle.legacy_japanese.specs.Iso2022JpPairs.{ListsPairs, iso_2022_jp_mark, iso_2022_jp_mark-some};
 
 use crate::asked_scalars::ask_others;
 use crate::iso_2022_jp::encoder::{Iso2022JpEncoder, Mode, asked, go_to};

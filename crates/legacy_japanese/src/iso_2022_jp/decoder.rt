@@ -1,10 +1,7 @@
 //! The decoder of ISO-2022-JP.
 ghost use Rattle.std.specs.Prelude.{◌≡◌, [], true};
-ghost use Rattle.legacy_base.specs.Grammar.{iso_2022_jp};
-ghost use Rattle.legacy_base.specs.Iso2022Jp.{ascii};
-ghost use Rattle.legacy_base.specs.States.{is_neutral, new_state};
-ghost use Rattle.legacy_japanese.specs.Iso2022JpMachine.{is_held};
-ghost use Rattle.legacy_japanese.specs.Iso2022JpMoves.{weight_of};
+ghost use Rattle.legacy_base.specs.{Grammar.iso_2022_jp, Iso2022Jp.ascii, States.{is_neutral, new_state}};
+ghost use Rattle.legacy_japanese.specs.{Iso2022JpMachine.is_held, Iso2022JpMoves.weight_of};
 
 use super::read_ahead::{escape_at, read_modes};
 use super::steps::{Held, Mode, Start, finish, pending, read};
