@@ -9,7 +9,7 @@ use Rattle.legacy_decoder_engine.{specs.{StatesAfterSteps.{IsOneOrMarked, Settle
 use Rattle.legacy_decoder_engine.proofs.{FrontMoves.{end_meets, report_meets}, SettledSteps.{one_test, one_option, settles_test, trail_settles}}
 use Rattle.legacy_decoder_engine.proofs.{RoomMoves.{first_room, held_room_is, HasCosts, sloped_rooms}, CallUnderWay.same_rooms, Widths.narrow_idx_units}
 use Rattle.legacy_decoder_engine.proofs.TwoByteCosts.{cost_test, units_test, katakana_below}
-use Rattle.legacy_japanese.specs.EucJpMachine.{euc_jp_first, euc_jp_second_step, euc_jp_step, euc_jp_machine}
+use Rattle.legacy_japanese.specs.EucJpMachine.{euc_jp_machine}
 
 pair_one : (index : List ℕ) (lead b : ℕ) → IsOneOrMarked false (euc_jp_scalars index lead b)
 pair_one index lead b = grind (arith, one_test, one_option)

@@ -1,7 +1,7 @@
 -- Writing a held-back scalar and ending the input, as the decoders' loop sees them.
 use Rattle.std.{specs.{Prelude.is_some, Int.is_in_range}, proofs.Common.{◌≡◌, ◌≢◌, ◌∙◌, ℕ, ◌++◌, ◌⊎◌, Bool, true, false, Option, Some, None, List, [], ◌∷◌}}
-use Rattle.std.proofs.{Common.{inl, inr, length, refl, sym, ap, arith, append-nil}, lemmas.Bool.Decides.nat_tests}
-use Rattle.legacy_base.specs.{declared.results.DecodeEvent.TheVariants.{Scalar, Bad}, Iso2022Jp.{esc, escape_mode, part_mode, iso_2022_jp_front}}
+use Rattle.std.proofs.{Common.{inl, inr, length, refl, sym, ap, arith, append-nil, ◌+◌, ◌≤◌, drop, lit≤}, lemmas.Bool.Decides.nat_tests}
+use Rattle.legacy_base.specs.{declared.results.DecodeEvent.{DecodeEvent, TheVariants.{Scalar, Bad}}, Iso2022Jp.{esc, escape_mode, part_mode, iso_2022_jp_front}}
 use Rattle.legacy_base.specs.{Beginnings.BeginsWith, Events.shift, Grammar.{iso_2022_jp, events_of}, Lengths.replacement_units, States.is_two_byte_mode}
 use Rattle.legacy_base.{specs.States.rests, proofs.{Iso2022JpFronts.{step_end, step_one, step_two, step_escape, step_no_escape}, Shifts.shift-shift}}
 use Rattle.legacy_base.proofs.{Iso2022JpParts.first_part, Beginnings.no_sooner}
@@ -9,11 +9,28 @@ use Rattle.legacy_text.proofs.CodeUnits.{length-code_units-bmp}
 use Rattle.legacy_decoder_engine.specs.Moves.{Releases, Reports}
 use Rattle.legacy_japanese.specs.declared.iso_2022_jp.steps.{Start.{TheVariants.{Nothing, EscapeByte, Dollar, Paren}, Start}, Mode.{Mode, TheVariants.TwoByte}}
 use Rattle.legacy_japanese.specs.{declared.iso_2022_jp.steps.{Escape.Escape, Held.{Held, TheVariants.{Byte, Begun, Whole}}}, Iso2022JpMachine.mode_meaning}
-use Rattle.legacy_japanese.specs.Iso2022JpMachine.{bytes_of, finish, finish_start, is_held, is_resting, mode_of, pending, second_of, single, start_bytes}
-use Rattle.legacy_japanese.{specs.{Iso2022JpMachine.third_of, Iso2022JpMoves.{state_in, IsNarrowScalar}}, proofs.Iso2022JpStep.{escape_alone, escaped}}
-use Rattle.legacy_japanese.proofs.{Iso2022JpStep.in_range_plain, Iso2022JpRooms.{same_rooms, room-falls, replacement_fits, times_one}, Iso2022JpLaw.MeetsEnd}
-use Rattle.legacy_japanese.proofs.{Iso2022JpLaw.{ended, events_in}, Iso2022JpHeld.{held_allowed, held_rests, finish_sound, EndsSound}}
+use Rattle.legacy_japanese.specs.Iso2022JpMachine.{bytes_of, finish, finish_start, is_held, is_resting, mode_of, pending, second_of, single, third_of}
+use Rattle.legacy_japanese.{specs.Iso2022JpMoves.{state_in, weight_of, IsNarrowScalar}, proofs.Iso2022JpStep.{escape_alone, escaped, in_range_plain, second_kept}}
+use Rattle.legacy_japanese.proofs.{Iso2022JpRooms.{same_rooms, room-falls, replacement_fits, times_one, held_allowed, held_rests}, Iso2022JpLaw.MeetsEnd}
+use Rattle.legacy_japanese.proofs.Iso2022JpLaw.{ended, events_in}
 use Rattle.legacy_base.specs.Iso2022Jp as iso
+
+-- ---- what the end leaves
+
+-- at the end of the input, only what is allowed is still held back
+pub record SoundEnd (held : Held) (new_mode : Mode) (new_held : Held) : Type 0 where
+  pub kept : is_held new_mode new_held ≡ true
+  pub suffix : drop (ended held new_held) (bytes_of held) ≡ bytes_of new_held
+  pub fits : length (bytes_of new_held) + 1 ≤ length (bytes_of held)
+  pub short : length (bytes_of new_held) ≤ 3
+  pub room : weight_of new_held + 1 ≤ weight_of held
+
+abbrev pub EndsSound : Held → Option (Mode × Held) → Type 0
+EndsSound held None = Unit {0}
+EndsSound held (Some o) = SoundEnd held o.0 o.1
+
+pub finish_sound : (mode : Mode) (held : Held) → EndsSound held (finish mode held)
+finish_sound mode held = grind (arith, second_kept, lit≤)
 
 -- ---- a byte that is held back alone
 
@@ -98,12 +115,14 @@ module _ (jis0208 : List ℕ) where
   end_law mode (Whole e Dollar) h r = λ more g. whole_end mode e (0x24 ∷ []) more refl g
   end_law mode (Whole e Paren) h r = λ more g. whole_end mode e (0x28 ∷ []) more refl g
 
+  -- the events of the held-back bytes
+  abbrev left : Mode → Held → List DecodeEvent
+  left mode held = events_of (iso_2022_jp jis0208 (mode_meaning mode)) (bytes_of held)
+
   -- the law of the end, by the result of `finish`
   abbrev EndFacts : Mode → Held → Option (Mode × Held) → Type 0
-  EndFacts mode held None = events_of (iso_2022_jp jis0208 (mode_meaning mode)) (bytes_of held) ≡ []
-  EndFacts mode held (Some o) =
-      Reports (state_in jis0208 mode held) (state_in jis0208 o.0 o.1) 1 (length (bytes_of o.1))
-      × (events_of (iso_2022_jp jis0208 (mode_meaning mode)) (bytes_of held) ≢ [])
+  EndFacts mode held None = left mode held ≡ []
+  EndFacts mode held (Some o) = Reports (state_in jis0208 mode held) (state_in jis0208 o.0 o.1) 1 (length (bytes_of o.1)) × (left mode held ≢ [])
 
   end_facts : (mode : Mode) (held : Held) (o : Option (Mode × Held)) → MeetsEnd jis0208 mode held o → EndsSound held o → EndFacts mode held o
   unfolding events_of
@@ -126,30 +145,26 @@ module _ (jis0208 : List ℕ) where
         λ none. (let all = law [] (inl refl) in let e = sym none ∙ ap (events_in jis0208 mode) (sym (append-nil (bytes_of held))) ∙ all in cc),
       )
 
-  ends : (mode : Mode) (held : Held) (o : Option (Mode × Held)) → is_held mode held ≡ true
-      → rests (iso_2022_jp jis0208 (mode_meaning mode)) (bytes_of held) ≡ true → o ≡ finish mode held → EndFacts mode held o
-  ends mode held o sound rest is = grind (arith, end_facts, end_law, held_rests, finish_sound)
-
-  pub ends_none : (mode : Mode) (held : Held) → is_held mode held ≡ true → rests (iso_2022_jp jis0208 (mode_meaning mode)) (bytes_of held) ≡ true
-      → None ≡ finish mode held → events_of (iso_2022_jp jis0208 (mode_meaning mode)) (bytes_of held) ≡ []
-  ends_none mode held = ends mode held None
-
-  pub ends_reports : (mode : Mode) (held : Held) (new_mode : Mode) (new_held : Held) → is_held mode held ≡ true
-      → rests (iso_2022_jp jis0208 (mode_meaning mode)) (bytes_of held) ≡ true → Some (new_mode, new_held) ≡ finish mode held
-      → Reports (state_in jis0208 mode held) (state_in jis0208 new_mode new_held) 1 (length (bytes_of new_held))
-  ends_reports mode held new_mode new_held sound rest is = (ends mode held (Some (new_mode, new_held)) sound rest is).0
-
-  -- ---- whether an event is left
-
   -- there is an event, or there is none
   abbrev HasRest : Mode → Held → Bool → Type 0
-  HasRest mode held t =
-      (t ≡ true → events_of (iso_2022_jp jis0208 (mode_meaning mode)) (bytes_of held) ≢ [])
-      × (t ≡ false → events_of (iso_2022_jp jis0208 (mode_meaning mode)) (bytes_of held) ≡ [])
+  HasRest mode held t = (t ≡ true → left mode held ≢ []) × (t ≡ false → left mode held ≡ [])
 
   from_facts : (mode : Mode) (held : Held) (o : Option (Mode × Held)) → EndFacts mode held o → HasRest mode held (is_some o)
   from_facts mode held o h = grind arith
 
-  pub rest_known : (mode : Mode) (held : Held) (t : Bool) → is_held mode held ≡ true → t ≡ is_some (finish mode held) → HasRest mode held t
-  unfolding events_of
-  rest_known mode held t sound is = rw is (grind (arith, from_facts, ends, held_rests, write_some))
+  module _ (mode : Mode) (held : Held) (sound : is_held mode held ≡ true) where
+    ends : (o : Option (Mode × Held)) → rests (iso_2022_jp jis0208 (mode_meaning mode)) (bytes_of held) ≡ true → o ≡ finish mode held → EndFacts mode held o
+    ends o rest is = grind (arith, end_facts, end_law, held_rests, finish_sound)
+
+    pub ends_none : rests (iso_2022_jp jis0208 (mode_meaning mode)) (bytes_of held) ≡ true → None ≡ finish mode held → left mode held ≡ []
+    ends_none = ends None
+
+    pub ends_reports : (new_mode : Mode) (new_held : Held) → rests (iso_2022_jp jis0208 (mode_meaning mode)) (bytes_of held) ≡ true
+        → Some (new_mode, new_held) ≡ finish mode held
+        → Reports (state_in jis0208 mode held) (state_in jis0208 new_mode new_held) 1 (length (bytes_of new_held))
+    ends_reports new_mode new_held rest is = (ends (Some (new_mode, new_held)) rest is).0
+
+    -- whether an event is left
+    pub rest_known : (t : Bool) → t ≡ is_some (finish mode held) → HasRest mode held t
+    unfolding events_of
+    rest_known t is = rw is (grind (arith, from_facts, ends, held_rests, write_some))

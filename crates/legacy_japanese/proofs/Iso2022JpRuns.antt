@@ -1,8 +1,8 @@
 -- The runs of ISO-2022-JP.
-use Rattle.std.proofs.Common.{◌≡◌, ◌∙◌, ℕ, suc, ◌+◌, ◌-◌, ◌*◌, ◌<◌, ◌≤◌, Option, Some, List, [], ◌∷◌, ◌++◌, length, take, get_or, refl, sym, ap, arith}
+use Rattle.std.proofs.Common.{◌≡◌, ◌∙◌, ℕ, suc, ◌+◌, ◌-◌, ◌*◌, ◌<◌, ◌≤◌, Option, Some, List, [], ◌∷◌, ◌++◌, length, take, refl, sym, ap, arith}
 use Rattle.std.proofs.lemmas.{Bool.{cases_lt, ne_eqb, Decides.nat_tests}, List.{length-take, length-take-le, get_or-take, Elements.{All-nil, All-cons}}}
 use Rattle.std.{proofs.lemmas.{List.Elements.All-from_get_or, Str.Ascii.IsAscii-from_all}, specs.{Prelude.{All, IfSome}, Char.IsScalar}}
-use Rattle.legacy_text.{specs.{declared.destination.Destination.Ghosts, EncodingForm.{EncodingForm, code_units}}, proofs.CodeUnits.code_units_ascii}
+use Rattle.legacy_text.{specs.{declared.destination.Destination.Ghosts}}
 use Rattle.legacy_base.{specs.{Iso2022Jp.{ascii, two_byte, iso_2022_jp_front}, Grammar.{iso_2022_jp, events_of}}, proofs.Iso2022JpFronts.{step_one, step_two}}
 use Rattle.legacy_tables.{specs.{AcceptedTables.AcceptedIndexes, Indexes.idx}, proofs.Accepted.length-jis0208}
 use Rattle.legacy_japanese.specs.{declared.iso_2022_jp.{steps.Mode.TheVariants.Ascii, places.TheConstants.{LEADS, TRAILS}}, Iso2022JpMoves.IsNarrowScalar}

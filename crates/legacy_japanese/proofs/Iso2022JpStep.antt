@@ -7,7 +7,7 @@ use Rattle.legacy_base.proofs.{Iso2022JpFronts.{step_no_escape, step_escape}, Sh
 use Rattle.legacy_tables.specs.Indexes.{idx}
 use Rattle.legacy_japanese.specs.declared.iso_2022_jp.steps.{Start.{TheVariants.{Nothing, EscapeByte, Dollar, Paren}, Start}, Action.TheVariants.Reports}
 use Rattle.legacy_japanese.specs.declared.iso_2022_jp.steps.{Action.Action, Mode.{Mode, TheVariants.TwoByte}, Escape.Escape, Held.{Held, TheVariants.Byte}}
-use Rattle.legacy_japanese.specs.{declared.iso_2022_jp.steps.{Held.TheVariants.{Begun, Whole}, Outcome.Outcome}, Iso2022JpMachine.{mode_meaning, bytes_of}}
+use Rattle.legacy_japanese.specs.{declared.iso_2022_jp.steps.{Held.TheVariants.{Begun, Whole}, Outcome.Outcome}, Iso2022JpMachine.{mode_meaning}}
 use Rattle.legacy_japanese.specs.Iso2022JpMachine.{is_held, is_resting, mode_of, moves, read, read_pair, read_plain, read_single, read_start, read_trail}
 use Rattle.legacy_japanese.specs.{Iso2022JpMachine.{read_whole, second_of, single, start_bytes, third_of}, Iso2022JpMoves.move_events}
 use Rattle.legacy_japanese.proofs.Iso2022JpLaw.{HasSizes, MeetsLaw, Sound, done, events_in, front_in}

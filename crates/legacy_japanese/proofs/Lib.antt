@@ -3,12 +3,10 @@ pub mod EucJpShown
 pub mod EucJpHeld
 pub mod Iso2022JpLaw
 pub mod Iso2022JpStep
-pub mod Iso2022JpHeld
 pub mod Iso2022JpRooms
 pub mod Iso2022JpEnding
 pub mod Iso2022JpEscapes
 pub mod Iso2022JpFeeding
-pub mod Iso2022JpHolding
 pub mod Iso2022JpRuns
 pub mod Iso2022JpEncoderRooms
 pub mod Iso2022JpEncoderMoves

@@ -1,5 +1,5 @@
 -- The tables contain the places of leads and trails; index jis0208 is read at their sum.
-use Rattle.std.proofs.{Common.{◌≡◌, ℕ, ◌+◌, ◌≤◌, List, [], ◌∷◌, length, false, cond, Some, refl, ap, arith}, lemmas.Bool.Decides.nat_tests}
+use Rattle.std.proofs.{Common.{◌≡◌, ℕ, ◌+◌, [], ◌∷◌, false, cond, Some, refl, ap, arith}, lemmas.Bool.Decides.nat_tests}
 use Rattle.std.specs.{Int.is_in_range, Prelude.option_to_list}
 use Rattle.legacy_tables.{specs.{AcceptedTables.AcceptedIndexes, Indexes.idx}, proofs.Accepted.{entry-used, length-jis0208}}
 use Rattle.legacy_base.specs.ShiftJis.{is_shift_jis_lead, shift_jis_scalars}

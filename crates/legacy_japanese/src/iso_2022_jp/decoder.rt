@@ -133,7 +133,7 @@ impl<'a> DecoderMoves for Iso2022JpDecoder<'a> {
 
     // Holds back an escape that no run follows. Byte by byte it takes three turns of the loop.
     #[inline(always)]
-    #[tactic(auto, using(legacy_decoder_engine::proofs::CallUnderWay::holds_none, crate::proofs::Iso2022JpHolding::holds_escape))]
+    #[tactic(auto, using(legacy_decoder_engine::proofs::CallUnderWay::holds_none, crate::proofs::Iso2022JpFeeding::holds_escape))]
     fn hold_back<T: Destination>(&mut self, src: &[u8], dst: &T) -> usize {
         if !self.held.is_nothing() {
             return 0;
