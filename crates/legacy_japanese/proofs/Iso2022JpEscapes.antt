@@ -7,7 +7,7 @@ use Rattle.legacy_base.proofs.Shifts.{shift-shift, shift-scalars}
 use Rattle.legacy_decoder_engine.{specs.ReadAhead.{RunsTo, Runs, ReadsTo, ReadsAhead}, proofs.{AheadRuns.reads_nothing, JoinedRuns.reads_then}}
 use Rattle.legacy_decoder_engine.proofs.WrittenRuns.{rest_of}
 use Rattle.legacy_japanese.specs.{declared.iso_2022_jp.steps.{Mode.Mode, Escape.Escape}, Iso2022JpMachine.{mode_meaning, mode_of, second_of, third_of}}
-use Rattle.legacy_japanese.{specs.Iso2022JpRuns.{run_state, HasEscape}, proofs.{Iso2022JpRooms.{same_rooms, room-falls}, Iso2022JpLaw.events_in}}
+use Rattle.legacy_japanese.{specs.Iso2022JpRuns.{run_state, HasEscape}, proofs.{Iso2022JpRooms.{same_rooms, room-falls}, Iso2022JpStep.events_in}}
 use Rattle.legacy_japanese.proofs.Iso2022JpStep.{escape_alone}
 
 -- an escape before a run of its mode; the run does not begin with an escape byte

@@ -9,7 +9,7 @@ use Rattle.legacy_japanese.specs.declared.iso_2022_jp.steps.{Start.{TheVariants.
 use Rattle.legacy_japanese.specs.{Iso2022JpMoves.{state_in, is_left, rooms_of, fed_by, fed_of, IsNarrow}, Iso2022JpMachine.{mode_meaning, bytes_of, is_held}}
 use Rattle.legacy_japanese.{specs.{Iso2022JpMachine.{read, moves, second_of, third_of}, Iso2022JpRuns.{run_state, HasEscape}}, proofs.Iso2022JpRooms.same_rooms}
 use Rattle.legacy_japanese.proofs.Iso2022JpRooms.{read_room-is, one_fits, room-falls, replacement_fits, times_one, held_allowed, held_rests}
-use Rattle.legacy_japanese.proofs.{Iso2022JpLaw.done, Iso2022JpStep.{IsStep, read_step}}
+use Rattle.legacy_japanese.proofs.{Iso2022JpStep.done, Iso2022JpStep.{IsStep, read_step}}
 
 module _ (jis0208 : List ℕ) (mode : Mode) (held : Held) (byte : ℕ) (o : Outcome) (may : is_held mode held ≡ true)
     (resting : rests (iso_2022_jp jis0208 (mode_meaning mode)) (bytes_of held) ≡ true) (is : o ≡ read jis0208 mode held byte) where

@@ -8,7 +8,7 @@ use Rattle.legacy_tables.{specs.AcceptedTables.AcceptedIndexes, proofs.Accepted.
 use Rattle.legacy_base.specs.{Grammar.shift_jis, ShiftJis.shift_jis_scalars}
 use Rattle.legacy_decoder_engine.{specs.{ReadAhead.HasAscii, LaneCodes.ArePairs, SplitRows.lead_place_of}, proofs.LanePlaces.entry_is}
 use Rattle.legacy_japanese.specs.{ShiftJisLanes.shift_jis_place, ShiftJisShown.shift_jis_codec, ShiftJisPlaces.{shift_jis_lead_place, shift_jis_trail_place}}
-use Rattle.legacy_japanese.proofs.{ShiftJisPlaces.shift_jis_entry, ShiftJisRuns.pair_form}
+use Rattle.legacy_japanese.proofs.{ShiftJisPlaces.shift_jis_entry, ShiftJisPlaces.pair_form}
 use Rattle.legacy_decoder_engine.proofs.LeadHeld as held
 
 -- ---- the places of a lead and a trail

@@ -120,7 +120,7 @@ impl LaneCodec for ShiftJis {
     }
 
     #[inline(always)]
-    #[tactic(auto, using(crate::proofs::ShiftJisRuns::pair_form))]
+    #[tactic(auto, using(crate::proofs::ShiftJisPlaces::pair_form))]
     fn front(tables: &FlatTables<'_>, lead: u8, trail: u8) -> CommonForm {
         match form_scalar(tables, lead, trail) {
             Some(scalar) => CommonForm::Pair(scalar),
