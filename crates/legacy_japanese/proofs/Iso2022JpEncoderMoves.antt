@@ -72,10 +72,6 @@ module _ (jis0208 katakana_index : List ℕ) where
   abbrev to_ascii : List EncodeEvent
   to_ascii = map events.Byte (0x1B ∷ 0x28 ∷ 0x42 ∷ [])
 
-  -- no other escape is the one to ASCII mode
-  no_other : (new : EncoderMode) (more rest : List EncodeEvent) → (new ≡ in_ascii → ⊥) → map events.Byte (escape_to new) ++ more ≡ to_ascii ++ rest → ⊥
-  no_other new more rest n e = grind arith
-
   -- an escape to ASCII comes at the end, or before a text that begins with it; the rest is encoded from ASCII mode
   escape_first : (mode : EncoderMode) → (mode ≡ in_ascii → ⊥) → escape_between mode in_ascii ≡ 0x1B ∷ 0x28 ∷ 0x42 ∷ [] → (more : List ℕ) (ended : Bool)
       → ((more ≡ []) × IsTrue ended) ⊎ BeginsWith (text_events jis0208 katakana_index mode more ended) to_ascii
@@ -83,7 +79,7 @@ module _ (jis0208 katakana_index : List ℕ) where
   escape_first mode other is [] ended h = grind (arith, text_events-open, text_events-end)
   escape_first mode other is (c ∷ more) ended h =
       let mode' = mode_for jis0208 katakana_index mode c in
-      grind (arith, same_or_other mode' in_ascii, same_or_other mode mode', text_events-here, text_events-escape, no_escape, no_other)
+      grind (arith, same_or_other mode' in_ascii, same_or_other mode mode', text_events-here, text_events-escape, no_escape)
 
   pub finishes : (mode : Mode) → is_pending (state_in jis0208 katakana_index mode) ≡ true
       → Finishes (state_in jis0208 katakana_index mode) (state_in jis0208 katakana_index modes.Ascii)

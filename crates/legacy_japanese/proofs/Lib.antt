@@ -4,12 +4,10 @@ pub mod EucJpHeld
 pub mod Iso2022JpStep
 pub mod Iso2022JpRooms
 pub mod Iso2022JpEnding
-pub mod Iso2022JpEscapes
 pub mod Iso2022JpFeeding
 pub mod Iso2022JpRuns
 pub mod Iso2022JpEncoderRooms
 pub mod Iso2022JpEncoderMoves
-pub mod Iso2022JpPieces
 pub mod ShiftJisPlaces
 pub mod ShiftJisLanes
 pub mod PointerWalks

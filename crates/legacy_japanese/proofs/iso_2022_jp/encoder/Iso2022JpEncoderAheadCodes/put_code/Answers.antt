@@ -9,12 +9,6 @@ put_move-requires c =
 
 pub returns-clause-puts : goal.returns-clause-puts
 returns-clause-puts c =
+    let moves = stays _ _ c.asked-mode.ensures (sym c.is.ensures ∙ c.if-not-is.false) in
     let some = c.has_bytes.ensures c.if-not-has_bytes.false in
-    record {
-      move = c.asked-mode.result.1;
-      moves = stays _ _ c.asked-mode.ensures (sym c.is.ensures ∙ c.if-not-is.false);
-      reads = some.0;
-      silent = some.1;
-      bytes = c.put_move.ensures.bytes;
-      ends = c.put_move.ensures.end;
-    }
+    record { move = c.asked-mode.result.1; moves = moves; reads = some.0; silent = some.1; bytes = c.put_move.ensures.bytes; ends = c.put_move.ensures.end }
