@@ -1,15 +1,22 @@
--- The steps of EUC-JP agree with its grammar.
-use Rattle.std.proofs.{Common.{◌≡◌, ℕ, ◌+◌, ◌-◌, ◌*◌, ◌≤◌, List, [], ◌∷◌, length, true, false, cond, refl, inl, ◌∙◌, arith}, lemmas.Bool.{false≢true, ltb-true}}
-use Rattle.std.{proofs.lemmas.Bool.Decides.nat_tests, specs.Char.is_ascii}
+-- The steps of EUC-JP agree with its grammar. The decoder holds back only what its machine may, and its moves are the machine's.
+use Rattle.std.proofs.Common.{◌≡◌, ℕ, ◌+◌, ◌-◌, ◌*◌, ◌≤◌, List, [], ◌∷◌, length, true, false, cond, refl, inl, ◌∙◌, arith, ◌≢◌, ◌/◌, ◌%◌, get_or}
+use Rattle.std.{proofs.lemmas.{Bool.{false≢true, ltb-true, Decides.nat_tests}, List.Elements.{All-nil, All-cons}}, specs.Char.{is_ascii, IsScalar}}
+use Rattle.std.specs.Int.{is_in_range}
 use Rattle.legacy_base.specs.{EucJp.{euc_jp_front, euc_jp_katakana, euc_jp_second, euc_jp_third, euc_jp_pair, euc_jp_scalars, euc_jp_weight}, Fronts.Front}
-use Rattle.legacy_base.specs.{Fronts.cut, Grammar.{Grammar, euc_jp, events_of}, DecoderActs.{act_room, takes}, States.{euc_jp_may_hold, state_of}}
-use Rattle.legacy_base.proofs.{Cuts.cut-nil, FrontLaws.euc_jp_front-of}
-use Rattle.legacy_decoder_engine.specs.{Steps.{DecoderMachine, end_events, Meets}, StepUnits.{units, IsWidth, IsNarrowIndex, Cost}}
-use Rattle.legacy_decoder_engine.{specs.{StatesAfterSteps.{IsOneOrMarked, Settles}, Shown.IsShown}, proofs.FrontMoves.{Fits, fits_test, fits_trail, fits_meets}}
-use Rattle.legacy_decoder_engine.proofs.{FrontMoves.{end_meets, report_meets}, SettledSteps.{one_test, one_option, settles_test, trail_settles}}
-use Rattle.legacy_decoder_engine.proofs.{RoomMoves.{first_room, held_room_is, HasCosts, sloped_rooms}, CallUnderWay.same_rooms, Widths.narrow_idx_units}
-use Rattle.legacy_decoder_engine.proofs.TwoByteCosts.{cost_test, units_test, katakana_below}
-use Rattle.legacy_japanese.specs.EucJpMachine.{euc_jp_machine}
+use Rattle.legacy_base.specs.{Fronts.{cut, malformed}, Grammar.{Grammar, euc_jp, events_of}, DecoderActs.{act_room, takes}, States.{euc_jp_may_hold, state_of}}
+use Rattle.legacy_base.{specs.{States.is_euc_jp_lead, Calls.IsMalformedByte}, proofs.{Cuts.cut-nil, FrontLaws.euc_jp_front-of}}
+use Rattle.legacy_decoder_engine.specs.{Steps.{DecoderMachine, end_events, Meets, finish}, StepUnits.{units, IsWidth, IsNarrowIndex, Cost}}
+use Rattle.legacy_decoder_engine.specs.{StatesAfterSteps.{IsOneOrMarked, Settles}, Shown.IsShown, Moves.{IsCovered, Feeds, Reports}, Feeding.Took}
+use Rattle.legacy_decoder_engine.{specs.{ReadAhead.{HasAscii, IsPair}, LaneCodes.ArePairs, LaneRows.row_place, declared.moves.Fed.Fed}, proofs.FrontMoves.Fits}
+use Rattle.legacy_decoder_engine.proofs.{FrontMoves.{fits_test, fits_trail, fits_meets, end_meets, report_meets}, SettledSteps.{one_test, one_option}}
+use Rattle.legacy_decoder_engine.proofs.{SettledSteps.{settles_test, trail_settles}, RoomMoves.{first_room, held_room_is, HasCosts, sloped_rooms}}
+use Rattle.legacy_decoder_engine.proofs.{CallUnderWay.same_rooms, Widths.{narrow_idx_units, idx_below}, TwoByteCosts.{cost_test, units_test, katakana_below}}
+use Rattle.legacy_decoder_engine.proofs.{RunForms.{pair_runs, has_ascii, ascii_is}, LanePlaces.entry_is}
+use Rattle.legacy_japanese.specs.{EucJpMachine.{euc_jp_machine, euc_jp_first, euc_jp_step}, declared.euc_jp.decoder.Held.{TheVariants.Nothing, Held}}
+use Rattle.legacy_japanese.specs.EucJpHeld.{held_bytes}
+use Rattle.legacy_tables.{specs.{AcceptedTables.AcceptedIndexes, Unicode.{IsByte, AreBytes}}, proofs.Accepted.{jis0208-below, jis0212-below, jis0208-scalars}}
+use Rattle.legacy_tables.proofs.Accepted.{length-jis0208}
+use Rattle.legacy_decoder_engine.proofs.Feeding as moves
 
 pair_one : (index : List ℕ) (lead b : ℕ) → IsOneOrMarked false (euc_jp_scalars index lead b)
 pair_one index lead b = grind (arith, one_test, one_option)
@@ -94,3 +101,63 @@ module _ (jis0208 jis0212 : List ℕ) where
         ascii_first = λ s b a. rw a refl;
         swallows = inl refl;
       }
+
+-- ---- the decoder
+
+may : (held : Held) → euc_jp_may_hold (held_bytes held) ≡ true
+may held = grind (arith, nat_tests)
+
+are_bytes : (held : Held) → AreBytes (held_bytes held)
+are_bytes held = grind (arith, All-nil, All-cons)
+
+module _ (tables : AcceptedIndexes) where
+  abbrev grammar : Grammar
+  grammar = euc_jp tables.flat.jis0208 tables.flat.jis0212
+
+  shown : IsShown (euc_jp tables.flat.jis0208 tables.flat.jis0212) (euc_jp_machine tables.flat.jis0208 tables.flat.jis0212)
+  shown = euc_jp_shown tables.flat.jis0208 tables.flat.jis0212 (jis0208-below tables.flat tables.accepted) (jis0212-below tables.flat tables.accepted)
+
+  pub malformed_byte : (b : ℕ) → euc_jp_first b ≡ finish (malformed 1) → IsMalformedByte (state_of grammar []) b
+  malformed_byte b e = moves.malformed_byte shown b e refl
+
+  pub covered : (held : Held) → IsCovered (state_of grammar (held_bytes held))
+  covered held = moves.covered shown (held_bytes held) (may held) (are_bytes held)
+
+  pub feeds : (held : Held) (b : ℕ) → IsByte b → (fed : Fed) (kept : List ℕ) →
+      Took (euc_jp_step tables.flat.jis0208 tables.flat.jis0212 (held_bytes held) b) (held_bytes held) b fed kept →
+      Feeds (state_of grammar (held_bytes held)) b (state_of grammar kept) fed
+  feeds held b byte fed kept took = moves.feeds shown (held_bytes held) (may held) (are_bytes held) b byte refl fed kept took
+
+  pub reports : (held : Held) → held_bytes held ≢ [] → Reports (state_of grammar (held_bytes held)) (state_of grammar []) (length (held_bytes held)) 0
+  reports held some = moves.reports_all shown (held_bytes held) (may held) (are_bytes held) refl some
+
+  -- there is something to report exactly if bytes are held back
+  pub ends_none : (held : Held) → length (held_bytes held) ≡ 0 → events_of (euc_jp tables.flat.jis0208 tables.flat.jis0212) (held_bytes held) ≡ []
+  ends_none held none = moves.ends_empty shown (held_bytes held) (may held) (are_bytes held) none
+
+  pub ends_some : (held : Held) → (held ≡ Nothing → ⊥) → events_of (euc_jp tables.flat.jis0208 tables.flat.jis0212) (held_bytes held) ≢ []
+  ends_some held n = moves.ends_some shown (held_bytes held) (may held) (are_bytes held) refl (grind arith)
+
+  -- ---- runs
+
+  pub ascii : HasAscii grammar
+  ascii = has_ascii shown (λ b. refl) (λ b h. let a = ascii_is b h in rw a refl)
+
+  -- a pair of JIS X 0208 that gives one scalar
+  pub pair : (lead trail c : ℕ) → IsByte lead → IsByte trail → IsScalar c → is_euc_jp_lead lead ≡ true →
+      euc_jp_scalars tables.flat.jis0208 lead trail ≡ c ∷ [] → IsPair grammar lead trail c
+  pair lead trail c byte byte' scalar is e =
+      let narrow = jis0208-below tables.flat tables.accepted in
+      let runs = pair_runs shown lead trail c byte byte' scalar in
+      grind (arith, nat_tests, idx_below, runs)
+
+  -- the same of a code of two bytes, by the entry at its place
+  pub lane_pair : ArePairs grammar tables.flat.jis0208 (row_place 0xA1 0x5D 0xA1 0x5D 94)
+  lane_pair code small past within high some =
+      let index : List ℕ = tables.flat.jis0208 in
+      let short = length-jis0208 tables.flat tables.accepted in
+      let both : (is_in_range 0xA1 0xFE (code % 256) ≡ true) × (is_in_range 0xA1 0xFE (code / 256) ≡ true) = grind (arith, short) in
+      let c = get_or index ((code % 256 - 0xA1) * 94 + (code / 256 - 0xA1)) 0 in
+      let scalar : IsScalar c = jis0208-scalars tables.flat tables.accepted _ 0 (rw (both.0, both.1) at within) in
+      let found = entry_is c (rw (both.0, both.1) at some) in
+      rw (both.0, both.1) (scalar, pair (code % 256) (code / 256) c (omega arith) (omega arith) scalar both.0 (rw both.1 found))

@@ -1,6 +1,5 @@
 -- Each decoder takes the steps of its machine, and each machine keeps to its grammar.
 pub mod EucJpShown
-pub mod EucJpHeld
 pub mod Iso2022JpStep
 pub mod Iso2022JpRooms
 pub mod Iso2022JpEnding
@@ -9,5 +8,4 @@ pub mod Iso2022JpRuns
 pub mod Iso2022JpEncoderRooms
 pub mod Iso2022JpEncoderMoves
 pub mod ShiftJisPlaces
-pub mod ShiftJisLanes
 pub mod PointerWalks

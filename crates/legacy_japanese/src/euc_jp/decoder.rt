@@ -235,13 +235,13 @@ impl DecoderMoves for EucJpDecoder<'_> {
     }
 
     #[inline]
-    #[tactic(auto, using(crate::proofs::EucJpHeld::covered))]
+    #[tactic(auto, using(crate::proofs::EucJpShown::covered))]
     fn reading_room(&self, byte: u8) -> Room {
         room_of(self.held, byte)
     }
 
     #[inline]
-    #[tactic(auto, using(crate::proofs::EucJpHeld::covered))]
+    #[tactic(auto, using(crate::proofs::EucJpShown::covered))]
     fn release_room(&self) -> Room {
         Room::Narrow
     }
@@ -251,7 +251,7 @@ impl DecoderMoves for EucJpDecoder<'_> {
     }
 
     #[inline(always)]
-    #[tactic(auto, using(crate::proofs::EucJpHeld::feeds))]
+    #[tactic(auto, using(crate::proofs::EucJpShown::feeds))]
     fn feed(&mut self, byte: u8) -> Fed {
         let (fed, held) = read(self.tables, self.held, byte);
         self.held = held;
@@ -259,12 +259,12 @@ impl DecoderMoves for EucJpDecoder<'_> {
     }
 
     #[inline]
-    #[tactic(auto, using(crate::proofs::EucJpHeld::ends_none, crate::proofs::EucJpHeld::ends_some))]
+    #[tactic(auto, using(crate::proofs::EucJpShown::ends_none, crate::proofs::EucJpShown::ends_some))]
     fn has_rest(&self) -> bool {
         !matches!(self.held, Held::Nothing)
     }
 
-    #[tactic(auto, using(crate::proofs::EucJpHeld::ends_none, crate::proofs::EucJpHeld::reports))]
+    #[tactic(auto, using(crate::proofs::EucJpShown::ends_none, crate::proofs::EucJpShown::reports))]
     fn report(&mut self) -> Option<(u8, u8)> {
         let length = held_length(self.held);
         if length == 0 {
@@ -314,7 +314,7 @@ impl LaneCodec for EucJp {
     }
 
     #[inline(always)]
-    #[tactic(auto, using(crate::proofs::EucJpHeld::pair))]
+    #[tactic(auto, using(crate::proofs::EucJpShown::pair))]
     fn front(tables: &FlatTables<'_>, lead: u8, trail: u8) -> CommonForm {
         let Some(lead) = EucJpLead::new(lead) else {
             return CommonForm::Other;

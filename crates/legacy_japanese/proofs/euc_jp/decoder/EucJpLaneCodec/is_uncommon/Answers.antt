@@ -1,4 +1,4 @@
-use Rattle.legacy_japanese.proofs.EucJpHeld.{ascii}
+use Rattle.legacy_japanese.proofs.EucJpShown.{ascii}
 use Rattle.legacy_japanese.proofs.euc_jp.decoder.EucJpLaneCodec.is_uncommon.Goals as goal
 
 pub returns-then-byte-ge128 : goal.returns-then-byte-ge128

@@ -1,4 +1,4 @@
-use Rattle.legacy_japanese.proofs.ShiftJisLanes.{lane_pair}
+use Rattle.legacy_japanese.proofs.ShiftJisPlaces.{lane_pair}
 use Rattle.legacy_japanese.proofs.shift_jis.decoder.ShiftJisLaneCodec.index.Goals as goal
 
 pub returns-clause-pairs : goal.returns-clause-pairs

@@ -1,4 +1,4 @@
-use Rattle.legacy_japanese.proofs.ShiftJisLanes.{ascii}
+use Rattle.legacy_japanese.proofs.ShiftJisPlaces.{ascii}
 use Rattle.legacy_japanese.proofs.shift_jis.decoder.ShiftJisLaneCodec.is_uncommon.Goals as goal
 
 pub returns-then-byte-eq160 : goal.returns-then-byte-eq160
