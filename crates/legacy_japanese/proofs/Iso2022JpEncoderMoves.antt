@@ -15,15 +15,6 @@ use Rattle.legacy_japanese.specs.declared.iso_2022_jp.encoder.Mode.TheVariants a
 
 -- ---- modes
 
-true-differs : (mode new : EncoderMode) → (mode ≡ new → ⊥) → differs mode new ≡ true
-true-differs mode new n = grind arith
-
-same_or_other : (mode new : EncoderMode) → (mode ≡ new) ⊎ (mode ≡ new → ⊥)
-same_or_other mode new = grind arith
-
-pub same_true : (mode new : Mode) → is_same_mode mode new ≡ true → mode_of mode ≡ mode_of new
-same_true mode new e = grind arith
-
 pub same_false : (mode new : Mode) → is_same_mode mode new ≡ false → mode_of mode ≡ mode_of new → ⊥
 same_false mode new e f = grind arith
 
@@ -59,7 +50,7 @@ module _ (jis0208 katakana_index : List ℕ) where
     -- the scalar needs another mode
     pub escapes : (new : Mode) → mode_for jis0208 katakana_index (mode_of mode) c ≡ mode_of new → (mode_of mode ≡ mode_of new → ⊥)
         → Moves (state_in jis0208 katakana_index mode) c (state_in jis0208 katakana_index new) (escape_move new)
-    escapes new e n = grind (arith, text_events-escape, true-differs)
+    escapes new e n = grind (arith, text_events-escape)
 
   -- ---- the end
 
@@ -77,9 +68,7 @@ module _ (jis0208 katakana_index : List ℕ) where
       → ((more ≡ []) × IsTrue ended) ⊎ BeginsWith (text_events jis0208 katakana_index mode more ended) to_ascii
       → text_events jis0208 katakana_index mode more ended ≡ to_ascii ++ text_events jis0208 katakana_index in_ascii more ended
   escape_first mode other is [] ended h = grind (arith, text_events-open, text_events-end)
-  escape_first mode other is (c ∷ more) ended h =
-      let mode' = mode_for jis0208 katakana_index mode c in
-      grind (arith, same_or_other mode' in_ascii, same_or_other mode mode', text_events-here, text_events-escape, no_escape)
+  escape_first mode other is (c ∷ more) ended h = grind (arith, text_events-here, text_events-escape, no_escape)
 
   pub finishes : (mode : Mode) → is_pending (state_in jis0208 katakana_index mode) ≡ true
       → Finishes (state_in jis0208 katakana_index mode) (state_in jis0208 katakana_index modes.Ascii)
@@ -95,7 +84,7 @@ module _ (jis0208 katakana_index : List ℕ) where
   -- a scalar that needs the mode of the encoder is read there
   pub stays : {mode new : Mode} {c : ℕ} {move : EncoderMove} → Asks jis0208 katakana_index mode c new move → is_same_mode mode new ≡ true
       → Moves (state_in jis0208 katakana_index mode) c (state_in jis0208 katakana_index mode) move
-  stays {mode} {new} {c} {move} asks same = reads mode c (grind (arith, same_true)) move asks.code_is
+  stays {mode} {new} {c} {move} asks same = reads mode c (grind arith) move asks.code_is
 
   -- ---- ASCII in ASCII mode
 

@@ -43,13 +43,11 @@ returns g c =
     let limit = c.args.limit in
     let left = g.S.TextCursor.left c.args.src.now in
     let n = c.copy_ascii-count.result in
-    let tested = c.tested_end-tested.result in
-    let more = c.tested_end-tested.ensures in
     let within : limit ≤ length dst = omega (arith, c.requires.to) in
     let inside : length (take limit dst) ≡ limit = length-take-le limit dst within in
     let is = piece_is start n limit dst new (take n left) c.requires.from within c.copy_ascii-count.auto.dst e.fits e.bytes in
-    let none = rw is at (front_without (start + n - start) (tested - start) (drop start (new ++ drop limit dst)) (omega (arith, more.from))
-    (c.has_any_control.ensures c.if-has_any_control.false)) in
+    let less : start + n - start ≤ c.tested_end-tested.result - start = omega (arith, c.tested_end-tested.ensures.from) in
+    let none = rw is at (front_without _ _ (drop start (new ++ drop limit dst)) less (c.has_any_control.ensures c.if-has_any_control.false)) in
     let long = length-take-le start dst (omega (arith, c.requires.from, within)) in
     let units = e.passed ∙ ap (λ k. g.S.TextCursor.passed c.args.src.now + k) (sym (ascii_count form left n e.read e.ascii)) in
     rw (piece_behind start n limit dst new (take n left) c.requires.from within c.copy_ascii-count.auto.dst e.fits e.bytes)
