@@ -44,8 +44,7 @@ one_fits form c h = let l = length-code_units-bmp form c h in let a = length-app
 -- the room of the input bytes and the held-back bytes: for each a scalar up to U+FFFF
 pub room-is : (query : LengthQuery) (jis0208 : List ℕ) (mode : Mode) (held : Held) (n : ℕ) →
     room query (state_in jis0208 mode held) n ≡ bmp_room (query_form query) * (n + weight_of held)
-room-is to_utf16 jis0208 mode held n = rw (held_weight jis0208 mode held) (omega arith)
-room-is _ jis0208 mode held n = rw (held_weight jis0208 mode held) refl
+room-is query jis0208 mode held n = rw (held_weight jis0208 mode held) (grind arith)
 
 -- the room decreases by what is written, if the weight decreases by the number of scalars and reports
 pub room-falls : (query : LengthQuery) (jis0208 : List ℕ) (mode new_mode : Mode) (held new_held : Held) (n m r u : ℕ)

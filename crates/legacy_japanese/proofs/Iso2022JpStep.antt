@@ -165,9 +165,7 @@ module _ (jis0208 : List ℕ) where
   start_step mode Nothing b = cond_both (b == esc) _ _ (IsStep mode (Begun Nothing) b)
       (λ h. rw (eqb-true b esc h) (grind (arith, shift-none)))
       (λ h. plain_step mode b h)
-  start_step mode EscapeByte b = grind (arith, nat_tests, step_no_escape, shift-none)
-  start_step mode Dollar b = let kept = (second_kept mode).0 in grind (arith, nat_tests, step_no_escape, shift-none)
-  start_step mode Paren b = let kept = (second_kept mode).1 in grind (arith, nat_tests, step_no_escape, shift-none)
+  start_step mode s b = let kept = second_kept mode in grind (arith, nat_tests, step_no_escape, shift-none)
 
   -- ---- after a whole escape
 
@@ -176,11 +174,8 @@ module _ (jis0208 : List ℕ) where
   whole_step mode e Nothing b = cond_both (b == esc) _ _ (IsStep mode (Whole e Nothing) b)
       (λ h. rw (eqb-true b esc h) (grind (arith, shift-none)))
       (λ h. behind_step mode e Nothing b (read_plain (mode_of e) b) (λ more. no_escape b more h) (plain_step (mode_of e) b h))
-  whole_step mode e EscapeByte b = let all = escaped mode e in grind (arith, nat_tests, all, step_no_escape, shift-shift, shift-none)
-  whole_step mode e Dollar b =
-      let all = escaped mode e in let kept = (second_kept (mode_of e)).0 in grind (arith, nat_tests, all, step_no_escape, shift-shift)
-  whole_step mode e Paren b =
-      let all = escaped mode e in let kept = (second_kept (mode_of e)).1 in grind (arith, nat_tests, all, step_no_escape, shift-shift)
+  whole_step mode e s b =
+      let all = escaped mode e in let kept = second_kept (mode_of e) in grind (arith, nat_tests, all, step_no_escape, shift-shift, shift-none)
 
   -- The main theorem of the machine: each byte read is a correct step, if the held-back bytes rest.
   pub read_step : (mode : Mode) (held : Held) (b : ℕ) → is_held mode held ≡ true → is_resting mode held ≡ true → IsStep mode held b (read jis0208 mode held b)

@@ -5,7 +5,6 @@ pub mod Iso2022JpRooms
 pub mod Iso2022JpEnding
 pub mod Iso2022JpFeeding
 pub mod Iso2022JpRuns
-pub mod Iso2022JpEncoderRooms
 pub mod Iso2022JpEncoderMoves
 pub mod ShiftJisPlaces
 pub mod PointerWalks
