@@ -3,14 +3,14 @@ use Rattle.std.proofs.Common.{◌≡◌, ℕ, ◌+◌, ◌-◌, ◌≤◌, List,
 use Rattle.std.proofs.{Common.{inl, inr, ◌/◌, ◌%◌}, lemmas.Bool.{Decides.nat_tests, lt-ltb, cases_Bool}}
 use Rattle.legacy_text.specs.EncodingForm.{EncodingForm, Utf8, unit_count}
 use Rattle.legacy_base.specs.Iso2022Jp.{iso_2022_jp_encoder, iso_2022_jp_code, is_two_byte_scalar, is_roman_scalar, escape_between, iso_2022_jp_reported}
-use Rattle.legacy_base.specs.{Iso2022Jp.{escape_to, mode_behind}, EncodeEvents.{code_length, code_events}, EncoderProfile.{EncoderProfile, EncoderMode}}
+use Rattle.legacy_base.specs.{Iso2022Jp.mode_behind, EncodeEvents.{code_length, code_events}, EncoderProfile.{EncoderProfile, EncoderMode}}
 use Rattle.legacy_base.specs.{EncoderProfile.{in_ascii, in_two_byte}, Lengths.{number, value}, declared.results.EncodeEvent.EncodeEvent, Beginnings.BeginsWith}
 use Rattle.legacy_base.{specs.Encoders.{encoder_profile, iso_2022_jp, is_pending}, proofs.{SameUnits.some_unit, Iso2022JpEncoding.{mode_by, mode_for-by}}}
 use Rattle.legacy_base.proofs.Iso2022JpEncoding.{code-short, text_events, text_events-here, text_events-escape, text_events-end, text_events-open, mode_for}
 use Rattle.legacy_base.proofs.Iso2022JpEncoding.{mode_for-twice, at_special, at_neutral, IsWritten}
 use Rattle.legacy_encoder_engine.specs.{Moves.{differs, Moves, Finishes, IsCode}, ProfileSuffices.Serves, UnfinishedCall.ReadsByte, UnitTurns.ReadsUnit}
-use Rattle.legacy_encoder_engine.{specs.declared.moves.EncoderMove.{EncoderMove, TheVariants.{One, Two}}, proofs.PlainServes.{two_units, differs-same}}
-use Rattle.legacy_encoder_engine.proofs.PlainServes.{here_moves}
+use Rattle.legacy_encoder_engine.specs.declared.moves.EncoderMove.{EncoderMove, TheVariants.{One, Two}}
+use Rattle.legacy_encoder_engine.proofs.PlainServes.{two_units, differs-same, here_moves}
 use Rattle.legacy_japanese.specs.{declared.iso_2022_jp.encoder.Mode.Mode, Iso2022JpPairs.IsPairOf, Iso2022JpEncoder.{mode_of, state_in, is_same_mode}}
 use Rattle.legacy_japanese.specs.Iso2022JpEncoder.{escape_move, Asks, IsOwnByte}
 use Rattle.legacy_base.specs.declared.results.EncodeEvent.TheVariants as events

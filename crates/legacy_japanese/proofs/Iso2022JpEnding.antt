@@ -10,9 +10,9 @@ use Rattle.legacy_decoder_engine.specs.Moves.{Releases, Reports}
 use Rattle.legacy_japanese.specs.declared.iso_2022_jp.steps.{Start.{TheVariants.{Nothing, EscapeByte, Dollar, Paren}, Start}, Mode.{Mode, TheVariants.TwoByte}}
 use Rattle.legacy_japanese.specs.{declared.iso_2022_jp.steps.{Escape.Escape, Held.{Held, TheVariants.{Byte, Begun, Whole}}}, Iso2022JpMachine.mode_meaning}
 use Rattle.legacy_japanese.specs.Iso2022JpMachine.{bytes_of, finish, finish_start, is_held, is_resting, mode_of, pending, second_of, single, third_of}
-use Rattle.legacy_japanese.{specs.Iso2022JpMoves.{state_in, weight_of, IsNarrowScalar}, proofs.Iso2022JpStep.{escape_alone, escaped, in_range_plain, second_kept}}
+use Rattle.legacy_japanese.{specs.Iso2022JpMoves.{state_in, weight_of, IsNarrowScalar}, proofs.Iso2022JpStep.{escape_alone, escaped, in_range_plain}}
 use Rattle.legacy_japanese.proofs.{Iso2022JpRooms.{same_rooms, room-falls, replacement_fits, times_one, held_allowed, held_rests}, Iso2022JpStep.MeetsEnd}
-use Rattle.legacy_japanese.proofs.Iso2022JpStep.{ended, events_in}
+use Rattle.legacy_japanese.proofs.Iso2022JpStep.{second_kept, ended, events_in}
 use Rattle.legacy_base.specs.Iso2022Jp as iso
 
 -- ---- what the end leaves

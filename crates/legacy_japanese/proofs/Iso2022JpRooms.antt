@@ -1,12 +1,12 @@
 -- What may be held back, and the room that an ISO-2022-JP decoder needs and how it decreases.
-use Rattle.std.proofs.Common.{◌≡◌, ℕ, ◌+◌, ◌*◌, ◌<◌, ◌≤◌, Bool, true, cond, Some, List, [], ◌∷◌, length, refl, arith, length-append, ◌&&◌, Option, None, drop}
-use Rattle.std.{proofs.Common.lit≤, specs.Char.is_ascii}
-use Rattle.legacy_base.specs.{DecoderActs.{writes, act_at_rest, room_of_act}, Lengths.{LengthQuery, to_utf16, query_form, replacement_units, room, weight}}
+use Rattle.std.proofs.Common.{◌≡◌, ℕ, ◌+◌, ◌*◌, ◌<◌, ◌≤◌, Bool, true, cond, Some, List, [], ◌∷◌, length, refl, arith, length-append, ◌&&◌}
+use Rattle.std.specs.Char.{is_ascii}
+use Rattle.legacy_base.specs.{DecoderActs.{writes, act_at_rest, room_of_act}, Lengths.{LengthQuery, query_form, replacement_units, room, weight}}
 use Rattle.legacy_base.{specs.{Grammar.{iso_2022_jp, events_of}, States.{rests, is_empty, may_hold}}, proofs.Iso2022JpFronts.step_end}
 use Rattle.legacy_text.{specs.EncodingForm.{EncodingForm, bmp_room, wide_room, code_units, total_unit_count}, proofs.CodeUnits.length-code_units-bmp}
 use Rattle.legacy_decoder_engine.{specs.Moves.{IsCovered, SameRooms, read_room}, proofs.RoomMoves.no_short_room}
 use Rattle.legacy_japanese.specs.declared.iso_2022_jp.steps.{Mode.Mode, Start.TheVariants.Nothing, Held.{Held, TheVariants.Begun}}
-use Rattle.legacy_japanese.specs.{Iso2022JpMachine.{mode_meaning, bytes_of, finish, is_held, is_resting}, Iso2022JpMoves.{state_in, weight_of}}
+use Rattle.legacy_japanese.specs.{Iso2022JpMachine.{mode_meaning, bytes_of, is_held, is_resting}, Iso2022JpMoves.{state_in, weight_of}}
 
 -- ---- the held-back bytes
 

@@ -1,5 +1,5 @@
 -- The law that each step of the machine must meet. Each step meets it, and leaves only what may be held back.
-use Rattle.std.proofs.Common.{◌≡◌, ℕ, ◌+◌, ◌-◌, ◌≤◌, true, Option, Some, None, List, [], ◌∷◌, ◌++◌, length, drop, ◌⊎◌, suc, ◌*◌, false, cond, leb, refl, arith}
+use Rattle.std.proofs.Common.{◌≡◌, ℕ, ◌+◌, ◌-◌, ◌≤◌, true, Option, Some, None, List, [], ◌∷◌, ◌++◌, length, drop, ◌⊎◌, suc, false, cond, leb, refl, arith}
 use Rattle.std.{proofs.lemmas.Bool.{eqb-true, ne_eqb, leb-true, and_parts, cond_both, Decides.nat_tests}, specs.Prelude.{if◌then◌else◌, ◌==◌, is_some}}
 use Rattle.std.specs.Int.{is_in_range}
 use Rattle.legacy_base.specs.{Beginnings.BeginsWith, Events.shift, Fronts.{Front, reads, malformed}, Iso2022Jp.{iso_2022_jp_front, iso_2022_jp_events, esc}}
@@ -7,12 +7,10 @@ use Rattle.legacy_base.specs.{Iso2022Jp.{escape_mode, part_mode}, declared.resul
 use Rattle.legacy_base.proofs.{Iso2022JpFronts.{step_one, step_two, step_no_escape, step_escape}, Shifts.{shift-append, shift-shift, shift-zero}}
 use Rattle.legacy_base.proofs.Iso2022JpParts.{no_escape}
 use Rattle.legacy_japanese.specs.declared.iso_2022_jp.steps.{Action.{TheVariants.{Holds, Writes, Reports, Leaves}, Action}, Mode.{Mode, TheVariants.TwoByte}}
-use Rattle.legacy_japanese.specs.declared.iso_2022_jp.steps.{Start.{TheVariants.{Nothing, EscapeByte, Dollar, Paren}, Start}, Held.{Held, TheVariants.Begun}}
-use Rattle.legacy_japanese.specs.{declared.iso_2022_jp.steps.{Held.TheVariants.{Byte, Whole}, Outcome.Outcome, Escape.Escape}, Iso2022JpMoves.is_left}
-use Rattle.legacy_japanese.specs.{Iso2022JpMoves.{move_events, rooms_of, weight_of}, Iso2022JpMachine.{mode_meaning, bytes_of, is_held, is_resting, mode_of}}
-use Rattle.legacy_japanese.specs.Iso2022JpMachine.{moves, read, read_pair, read_plain, read_single, read_start, read_trail, read_whole, second_of, single}
-use Rattle.legacy_japanese.specs.Iso2022JpMachine.{start_bytes, third_of}
-use Rattle.legacy_tables.specs.Indexes.{idx}
+use Rattle.legacy_japanese.specs.declared.iso_2022_jp.steps.{Start.{TheVariants.Nothing, Start}, Held.{Held, TheVariants.{Begun, Byte, Whole}}, Outcome.Outcome}
+use Rattle.legacy_japanese.specs.{declared.iso_2022_jp.steps.Escape.Escape, Iso2022JpMoves.{is_left, move_events, rooms_of, weight_of}}
+use Rattle.legacy_japanese.specs.Iso2022JpMachine.{mode_meaning, bytes_of, is_held, is_resting, mode_of, read, read_plain, read_single}
+use Rattle.legacy_japanese.specs.Iso2022JpMachine.{read_start, read_trail, read_whole, second_of, single, start_bytes, third_of}
 
 -- the definitions at the modes of the code
 abbrev pub events_in : List ℕ → Mode → List ℕ → List DecodeEvent
@@ -146,18 +144,12 @@ module _ (jis0208 : List ℕ) where
       (λ h. grind (arith, step_one))
   plain_step mode b plain = single_step mode b (single mode b) plain (λ rest. front-single mode b rest refl)
 
-  -- a lead and another byte than an escape byte
-  pair_step : (l b : ℕ) → is_in_range 0x21 0x7E l ≡ true → (b == esc) ≡ false
-      → IsStep TwoByte (Byte l) b (if is_in_range 0x21 0x7E b then read_pair (idx jis0208 ((l - 0x21) * 94 + (b - 0x21))) else moves (Reports 2) TwoByte (Begun Nothing))
-  unfolding iso_2022_jp_front
-  pair_step l b lead plain = let first = in_range_plain l lead in grind (arith, step_two)
-
   lead_step : (mode : Mode) (l b : ℕ) → is_held mode (Byte l) ≡ true → is_two_byte_mode (mode_meaning mode) ≡ true →
       IsStep mode (Byte l) b (read_trail jis0208 l b)
   unfolding iso_2022_jp_front
   lead_step TwoByte l b lead two = cond_both (b == esc) _ _ (IsStep TwoByte (Byte l) b)
       (λ h. rw (eqb-true b esc h) (let first = in_range_plain l lead in grind (arith, step_one)))
-      (λ h. pair_step l b lead h)
+      (λ h. let first = in_range_plain l lead in grind (arith, step_two))
   lead_step _ l b lead two = cc
 
   start_step : (mode : Mode) (s : Start) (b : ℕ) → IsStep mode (Begun s) b (read_start mode s b)

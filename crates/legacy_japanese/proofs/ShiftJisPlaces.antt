@@ -1,8 +1,8 @@
 -- The places of leads and trails of Shift_JIS, byte by byte and in lanes, and the byte sequences that give one scalar.
 use Rattle.std.proofs.Common.{◌≡◌, ℕ, ◌+◌, [], ◌∷◌, false, cond, Some, refl, ap, arith, ◌≤◌, ◌<◌, ◌^◌, ◌==◌, List, Option, true, ◌∙◌, ◌-◌, ◌*◌, ◌/◌, ◌%◌}
 use Rattle.std.proofs.{Common.{length, get_or, map, replicate, sym, w16, Fits}, lemmas.Bool.{Decides.nat_tests, cond_both, agree_below_at, eqb-true}}
-use Rattle.std.{proofs.lemmas.Nat.xor_mod, specs.{Int.{is_in_range, Bits.bit_xor}, Prelude.option_to_list, Char.{IsScalar, is_ascii}, Option.option_map_or}}
-use Rattle.legacy_tables.{specs.{AcceptedTables.AcceptedIndexes, Indexes.idx, Unicode.{is_katakana_byte, katakana_of}}, proofs.Accepted.entry-used}
+use Rattle.std.{proofs.lemmas.Nat.xor_mod, specs.{Int.{is_in_range, Bits.bit_xor}, Prelude.option_to_list, Char.IsScalar, Option.option_map_or}}
+use Rattle.legacy_tables.{specs.{AcceptedTables.AcceptedIndexes, Indexes.idx, Unicode.katakana_of}, proofs.Accepted.entry-used}
 use Rattle.legacy_tables.proofs.Accepted.{length-jis0208, jis0208-below, jis0208-scalars}
 use Rattle.legacy_base.specs.{ShiftJis.{is_shift_jis_lead, shift_jis_scalars, shift_jis_pointer}, Grammar.shift_jis}
 use Rattle.legacy_decoder_engine.specs.{Places.IsTableOf, ReadAhead.{Runs, HasAscii}, StepUnits.IsNarrowIndex, LaneCodes.ArePairs, SplitRows.lead_place_of}
