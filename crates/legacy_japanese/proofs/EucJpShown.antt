@@ -1,174 +1,163 @@
--- The steps of EUC-JP agree with its grammar.
-use Rattle.std.proofs.{Common.{◌≡◌, ℕ, ◌+◌, ◌-◌, ◌*◌, ◌≤◌, List, [], ◌∷◌, length, true, false, cond, refl, inl, ◌∙◌, ◌||◌, ◌==◌, arith}, lemmas.Bool.false≢true}
-use Rattle.std.proofs.{Common.{suc, ◌++◌, lit≤}, lemmas.Bool.{eqb-true, and_parts, or_parts, ltb-true, cond_both}, lemmas.Bool.Decides.nat_tests}
-use Rattle.std.specs.{Int.is_in_range, Char.is_ascii}
-use Rattle.legacy_base.specs.{EucJp.{euc_jp_front, euc_jp_katakana, euc_jp_second, euc_jp_third, euc_jp_pair, euc_jp_scalars, euc_jp_weight}, Fronts.malformed}
-use Rattle.legacy_base.specs.{Fronts.{reads_or, trail_rule, cut}, Grammar.{euc_jp, events_of}, DecoderActs.{act_room, takes}}
-use Rattle.legacy_base.specs.States.{is_euc_jp_lead, euc_jp_may_hold, state_of}
-use Rattle.legacy_tables.specs.Unicode.{is_katakana_byte, katakana_of}
-use Rattle.legacy_base.proofs.{Cuts.cut-nil, FrontLaws.euc_jp_front-of}
-use Rattle.legacy_decoder_engine.specs.{Steps.{Step, end_events, trail_step, Meets}, StepUnits.{units, IsWidth, IsNarrowIndex, Cost}}
-use Rattle.legacy_decoder_engine.specs.{StatesAfterSteps.{IsOneOrMarked, Settles}, Shown.IsShown}
-use Rattle.legacy_decoder_engine.proofs.{FrontMoves.{Fits, fits_trail, fits_meets, end_meets, report_meets}, RoomMoves.{first_room, held_room_is, HasCosts}}
-use Rattle.legacy_decoder_engine.proofs.{RoomMoves.{sloped_rooms}, CallUnderWay.same_rooms, Widths.narrow_idx_units, TwoByteCosts.katakana_below}
-use Rattle.legacy_decoder_engine.proofs.SettledSteps.{one_option, trail_settles}
-use Rattle.legacy_japanese.specs.EucJpMachine.{euc_jp_first, euc_jp_second_step, euc_jp_step, euc_jp_machine}
+-- The steps of EUC-JP agree with its grammar. The decoder holds back only what its machine may, and its moves are the machine's.
+use Rattle.std.proofs.Common.{◌≡◌, ℕ, ◌+◌, ◌-◌, ◌*◌, ◌≤◌, List, [], ◌∷◌, length, true, false, cond, refl, inl, ◌∙◌, arith, ◌≢◌, ◌/◌, ◌%◌, get_or}
+use Rattle.std.{proofs.lemmas.{Bool.{false≢true, ltb-true, Decides.nat_tests}, List.Elements.{All-nil, All-cons}}, specs.Char.{is_ascii, IsScalar}}
+use Rattle.std.specs.Int.{is_in_range}
+use Rattle.legacy_base.specs.{EucJp.{euc_jp_front, euc_jp_katakana, euc_jp_second, euc_jp_third, euc_jp_pair, euc_jp_scalars, euc_jp_weight}, Fronts.Front}
+use Rattle.legacy_base.specs.{Fronts.{cut, malformed}, Grammar.{Grammar, euc_jp, events_of}, DecoderActs.{act_room, takes}, States.{euc_jp_may_hold, state_of}}
+use Rattle.legacy_base.{specs.{States.is_euc_jp_lead, Calls.IsMalformedByte}, proofs.{Cuts.cut-nil, FrontLaws.euc_jp_front-of}}
+use Rattle.legacy_decoder_engine.specs.{Steps.{DecoderMachine, end_events, Meets, finish}, StepUnits.{units, IsWidth, IsNarrowIndex, Cost}}
+use Rattle.legacy_decoder_engine.specs.{StatesAfterSteps.{IsOneOrMarked, Settles}, Shown.IsShown, Moves.{IsCovered, Feeds, Reports}, Feeding.Took}
+use Rattle.legacy_decoder_engine.{specs.{ReadAhead.{HasAscii, IsPair}, LaneCodes.ArePairs, LaneRows.row_place, declared.moves.Fed.Fed}, proofs.FrontMoves.Fits}
+use Rattle.legacy_decoder_engine.proofs.{FrontMoves.{fits_test, fits_trail, fits_meets, end_meets, report_meets}, SettledSteps.{one_test, one_option}}
+use Rattle.legacy_decoder_engine.proofs.{SettledSteps.{settles_test, trail_settles}, RoomMoves.{first_room, held_room_is, HasCosts, sloped_rooms}}
+use Rattle.legacy_decoder_engine.proofs.{CallUnderWay.same_rooms, Widths.{narrow_idx_units, idx_below}, TwoByteCosts.{cost_test, units_test, katakana_below}}
+use Rattle.legacy_decoder_engine.proofs.{RunForms.{pair_runs, has_ascii, ascii_is}, LanePlaces.entry_is}
+use Rattle.legacy_japanese.specs.{EucJpMachine.{euc_jp_machine, euc_jp_first, euc_jp_step}, declared.euc_jp.decoder.Held.{TheVariants.Nothing, Held}}
+use Rattle.legacy_japanese.specs.EucJpHeld.{held_bytes}
+use Rattle.legacy_tables.{specs.{AcceptedTables.AcceptedIndexes, Unicode.{IsByte, AreBytes}}, proofs.Accepted.{jis0208-below, jis0212-below, jis0208-scalars}}
+use Rattle.legacy_tables.proofs.Accepted.{length-jis0208}
+use Rattle.legacy_decoder_engine.proofs.Feeding as moves
 
--- ---- the scalars of a sequence
-
--- at most one scalar, which is at most U+FFFF
-record IsSmall (scalars : List ℕ) : Type 0 where
-  one : IsOneOrMarked false scalars
-  fits : (len : ℕ → ℕ) (narrow wide : ℕ) → IsWidth len narrow wide → units len scalars ≤ narrow
-
-none_small : IsSmall []
-none_small = record { one = tt; fits = λ len narrow wide w. omega arith }
-
-pair_small : (index : List ℕ) (lead b : ℕ) → IsNarrowIndex index → IsSmall (euc_jp_scalars index lead b)
-pair_small index lead b h = cond_both (is_in_range 0xA1 0xFE b) _ [] IsSmall
-    (λ e. record { one = one_option false _; fits = λ len narrow wide w. narrow_idx_units len narrow wide w index ((lead - 0xA1) * 94 + (b - 0xA1)) h })
-    (λ e. none_small)
-
-trail_cost : (len : ℕ → ℕ) (narrow first b : ℕ) (others scalars : List ℕ) → length others ≤ 1 → narrow ≤ 3 → units len scalars ≤ narrow
-    → Cost len narrow narrow euc_jp_weight 3 (first ∷ others) b (trail_step (suc (length others)) scalars b)
-trail_cost len narrow first b [] scalars few m h = record { fits = grind arith; pays = grind arith; pays_without = grind arith }
-trail_cost len narrow first b (lead ∷ []) scalars few m h = record { fits = grind arith; pays = grind arith; pays_without = grind arith }
-trail_cost len narrow first b (lead ∷ other ∷ others) scalars few m h = absurd (omega arith)
-
--- the room that a byte needs
-abbrev most : List ℕ → ℕ → ℕ → ℕ
-most [] b narrow = cond (is_ascii b) 1 narrow
-most (a ∷ held) b narrow = narrow
+pair_one : (index : List ℕ) (lead b : ℕ) → IsOneOrMarked false (euc_jp_scalars index lead b)
+pair_one index lead b = grind (arith, one_test, one_option)
 
 module _ (jis0208 jis0212 : List ℕ) where
-  -- the facts that are proved of each step
-  record Shows (held : List ℕ) (b : ℕ) (s : Step) : Type 0 where
-    fits : Fits (euc_jp_front jis0208 jis0212) euc_jp_may_hold held b s
-    settles : Settles (euc_jp jis0208 jis0212) held b s
-    costs : (len : ℕ → ℕ) (narrow wide : ℕ) → IsWidth len narrow wide → Cost len narrow (most held b narrow) euc_jp_weight 3 held b s
+  abbrev g : Grammar
+  g = euc_jp jis0208 jis0212
 
-  -- ---- each step
+  abbrev front : ℕ → List ℕ → Front
+  front = euc_jp_front jis0208 jis0212
 
-  first_shows : (b : ℕ) → Shows [] b (euc_jp_first b)
-  unfolding euc_jp_front
-  first_shows b = cond_both (is_ascii b) _ _ (Shows [] b)
-      (λ a. record {
-        fits = (λ more. rw a, omega arith, omega arith, refl);
-        settles = (refl, tt);
-        costs = λ len narrow wide w. let e : len b ≡ 1 = w.ascii b (ltb-true b 0x80 a) in
-            record { fits = rw a (omega arith); pays = omega arith; pays_without = omega arith };
-      })
-      (λ a. cond_both ((b == 0x8E || b == 0x8F) || is_euc_jp_lead b) _ _ (Shows [] b)
-      (λ l. record {
-        fits = (omega arith, l);
-        settles = refl;
-        costs = λ len narrow wide w. record { fits = omega arith; pays = omega arith; pays_without = omega arith };
-      })
-      (λ l. let p = or_parts (b == 0x8E || b == 0x8F) (is_euc_jp_lead b) l in let q = or_parts (b == 0x8E) (b == 0x8F) p.0 in record {
-        fits = (λ more. rw (a, q.0, q.1, p.1), omega arith, omega arith, refl);
-        settles = tt;
-        costs = λ len narrow wide w. record { fits = rw a (omega arith); pays = omega arith; pays_without = omega arith };
-      }))
+  abbrev machine : DecoderMachine
+  machine = euc_jp_machine jis0208 jis0212
 
-  -- a trail after one or two held-back bytes
-  trail_shows : (first b : ℕ) (others scalars : List ℕ) → length others ≤ 1 → IsSmall scalars
-      → ((more : List ℕ) → euc_jp_front jis0208 jis0212 first (others ++ b ∷ more)
-      ≡ reads_or (suc (length others) + 1) scalars (trail_rule (suc (length others)) b))
-      → Shows (first ∷ others) b (trail_step (suc (length others)) scalars b)
-  trail_shows first b others scalars few small front = record {
-    fits = fits_trail (euc_jp_front jis0208 jis0212) euc_jp_may_hold (first ∷ others) scalars b refl (omega arith) front;
-    settles = trail_settles (euc_jp jis0208 jis0212) (first ∷ others) b scalars small.one;
-    costs = λ len narrow wide w. trail_cost len narrow first b others scalars few w.most (small.fits len narrow wide w);
-  }
+  -- ---- the front of each step
 
-  -- a byte after one held-back byte
-  second_shows : IsNarrowIndex jis0208 → (lead b : ℕ) → euc_jp_may_hold (lead ∷ []) ≡ true → Shows (lead ∷ []) b (euc_jp_second_step jis0208 lead b)
-  unfolding euc_jp_front euc_jp_katakana euc_jp_second euc_jp_pair
-  second_shows narrow_index lead b h = cond_both (lead == 0x8E) _ _ (Shows (lead ∷ []) b)
-      (λ e. cond_both (is_katakana_byte b) _ _ (Shows (lead ∷ []) b)
-      (λ k. record {
-        fits = (λ more. rw (eqb-true lead 0x8E e, k), omega arith, omega arith, refl);
-        settles = (refl, tt);
-        costs = λ len narrow wide w. let l = katakana_below b k in let q : len (katakana_of b) ≤ narrow = w.bmp (katakana_of b) (omega arith) in
-            record { fits = omega arith; pays = omega arith; pays_without = omega arith };
-      })
-      (λ k. trail_shows lead b [] [] (lit≤ tt) none_small (λ more. rw (eqb-true lead 0x8E e, k))))
-      (λ e. cond_both (lead == 0x8F) _ _ (Shows (lead ∷ []) b)
-      (λ f. cond_both (is_euc_jp_lead b) _ _ (Shows (lead ∷ []) b)
-      (λ l. record {
-        fits = (omega arith, rw (f, l));
-        settles = refl;
-        costs = λ len narrow wide w. record { fits = omega arith; pays = omega arith; pays_without = omega arith };
-      })
-      (λ l. trail_shows lead b [] [] (lit≤ tt) none_small (λ more. rw (eqb-true lead 0x8F f, l))))
-      (λ f. trail_shows lead b [] (euc_jp_scalars jis0208 lead b) (lit≤ tt) (pair_small jis0208 lead b narrow_index)
-      (λ more. let l = rw (e, f) at h in grind (arith, nat_tests))))
+  fits : (held : List ℕ) (b : ℕ) → euc_jp_may_hold held ≡ true → Fits front euc_jp_may_hold held b (machine.step held b)
+  unfolding euc_jp_front euc_jp_katakana euc_jp_second euc_jp_third euc_jp_pair
+  fits [] b h = grind (arith, nat_tests, fits_test)
+  fits (lead ∷ []) b h = grind (arith, nat_tests, fits_test, fits_trail)
+  fits (first ∷ lead ∷ []) b h = grind (arith, nat_tests, fits_trail)
+  fits (first ∷ lead ∷ c ∷ held) b h = absurd (false≢true h)
 
-  -- a byte after two held-back bytes
-  third_shows : IsNarrowIndex jis0212 → (first lead b : ℕ) → euc_jp_may_hold (first ∷ lead ∷ []) ≡ true →
-      Shows (first ∷ lead ∷ []) b (trail_step 2 (euc_jp_scalars jis0212 lead b) b)
-  unfolding euc_jp_front euc_jp_second euc_jp_third
-  third_shows narrow_index first lead b h =
-      let p = and_parts (first == 0x8F) (is_euc_jp_lead lead) h in
-      trail_shows first b (lead ∷ []) (euc_jp_scalars jis0212 lead b) (lit≤ tt) (pair_small jis0212 lead b narrow_index)
-      (λ more. rw (eqb-true first 0x8F p.0, p.1))
-
-  step_shows : IsNarrowIndex jis0208 → IsNarrowIndex jis0212 → (held : List ℕ) (b : ℕ) → euc_jp_may_hold held ≡ true →
-      Shows held b (euc_jp_step jis0208 jis0212 held b)
-  step_shows h h1 held b h2 = grind (arith, first_shows, second_shows, third_shows, false≢true)
+  settles : (held : List ℕ) (b : ℕ) → euc_jp_may_hold held ≡ true → Settles g held b (machine.step held b)
+  settles held b h = grind (arith, settles_test, trail_settles, pair_one, false≢true)
 
   -- ---- the end of input
 
-  ev_is : (bytes : List ℕ) → events_of (euc_jp jis0208 jis0212) bytes ≡ cut (euc_jp_front jis0208 jis0212) 0 0 bytes
+  ev_is : (bytes : List ℕ) → events_of g bytes ≡ cut front 0 0 bytes
   unfolding events_of
   ev_is bytes = refl
 
   few_held : (held : List ℕ) → euc_jp_may_hold held ≡ true → length held ≤ 3
   few_held held h = grind arith
 
-  -- held-back bytes have a front at the end of the input
-  one_ends : (b : ℕ) → euc_jp_may_hold (b ∷ []) ≡ true → euc_jp_front jis0208 jis0212 b [] ≡ malformed 1
-  unfolding euc_jp_front euc_jp_katakana euc_jp_second euc_jp_pair
-  one_ends b h = grind (arith, nat_tests)
-
-  two_end : (first lead : ℕ) → euc_jp_may_hold (first ∷ lead ∷ []) ≡ true → euc_jp_front jis0208 jis0212 first (lead ∷ []) ≡ malformed 2
-  unfolding euc_jp_front euc_jp_second euc_jp_third
-  two_end first lead h = grind (arith, nat_tests)
-
-  all_end : (held : List ℕ) → euc_jp_may_hold held ≡ true → events_of (euc_jp jis0208 jis0212) held ≡ end_events held
-  all_end [] h = ev_is [] ∙ cut-nil (euc_jp_front jis0208 jis0212)
-  all_end (b ∷ []) h = end_meets (euc_jp jis0208 jis0212) (euc_jp_front jis0208 jis0212) ev_is b [] (one_ends b h)
-  all_end (first ∷ lead ∷ []) h = end_meets (euc_jp jis0208 jis0212) (euc_jp_front jis0208 jis0212) ev_is first (lead ∷ []) (two_end first lead h)
+  all_end : (held : List ℕ) → euc_jp_may_hold held ≡ true → events_of g held ≡ end_events held
+  unfolding euc_jp_front euc_jp_katakana euc_jp_second euc_jp_third euc_jp_pair
+  all_end [] h = ev_is [] ∙ cut-nil front
+  all_end (b ∷ []) h = end_meets g front ev_is b [] (grind (arith, nat_tests))
+  all_end (first ∷ lead ∷ []) h = end_meets g front ev_is first (lead ∷ []) (grind (arith, nat_tests))
   all_end (first ∷ lead ∷ c ∷ held) h = absurd (false≢true h)
 
-  -- ---- all steps together
+  -- ---- the room of each step
 
-  room_is : (len : ℕ → ℕ) (narrow wide : ℕ) (held : List ℕ) (b : ℕ) →
-      act_room narrow wide (state_of (euc_jp jis0208 jis0212) held) (takes b) ≡ most held b narrow
-  room_is len narrow wide held b = grind (arith, first_room, held_room_is)
+  -- the room that a byte needs
+  abbrev most : List ℕ → ℕ → ℕ → ℕ
+  most [] b narrow = cond (is_ascii b) 1 narrow
+  most (a ∷ held) b narrow = narrow
+
+  room_is : (narrow wide : ℕ) (held : List ℕ) (b : ℕ) → act_room narrow wide (state_of g held) (takes b) ≡ most held b narrow
+  room_is narrow wide held b = grind (arith, first_room, held_room_is)
+
+  module _ (len : ℕ → ℕ) (narrow wide : ℕ) (w : IsWidth len narrow wide) where
+    pair_units : (index : List ℕ) (lead b : ℕ) → IsNarrowIndex index → units len (euc_jp_scalars index lead b) ≤ narrow
+    pair_units index lead b h =
+        units_test len narrow wide w narrow _ _ [] (λ e. narrow_idx_units len narrow wide w index ((lead - 0xA1) * 94 + (b - 0xA1)) h) (λ e. omega arith)
+
+    costs : IsNarrowIndex jis0208 → IsNarrowIndex jis0212 → (held : List ℕ) (b : ℕ) → euc_jp_may_hold held ≡ true
+        → Cost len narrow (most held b narrow) euc_jp_weight 3 held b (machine.step held b)
+    costs n m held b h = grind (arith, cost_test, ltb-true, pair_units, katakana_below, false≢true)
 
   pub euc_jp_shown : IsNarrowIndex jis0208 → IsNarrowIndex jis0212 → IsShown (euc_jp jis0208 jis0212) (euc_jp_machine jis0208 jis0212)
   euc_jp_shown n m =
-      let meets : Meets (euc_jp jis0208 jis0212) (euc_jp_machine jis0208 jis0212) = record {
+      let meets : Meets g machine = record {
         writes = λ held h. refl;
-        steps = λ held b h r. let s = step_shows n m held b h in
-            fits_meets (euc_jp jis0208 jis0212) (euc_jp_front jis0208 jis0212) ev_is euc_jp_may_hold (λ held'. refl) held b (euc_jp_step jis0208 jis0212 held b)
-            (few_held held h) s.fits;
+        steps = λ held b h r. fits_meets g front ev_is euc_jp_may_hold (λ held'. refl) held b _ (few_held held h) (fits held b h);
         ends = λ held h r. all_end held h;
-        reports = λ held more h r. report_meets (euc_jp jis0208 jis0212) (euc_jp_front jis0208 jis0212) ev_is held more
+        reports = λ held more h r. report_meets g front ev_is held more
             (λ b rest e. (euc_jp_front-of {P = ⊥} jis0208 jis0212 (λ n. absurd n) (λ n. absurd n) b rest).some);
         few = few_held;
       } in
-      let costs : HasCosts (euc_jp jis0208 jis0212) (euc_jp_machine jis0208 jis0212) euc_jp_weight 3 = record {
+      let costs : HasCosts g machine euc_jp_weight 3 = record {
         to_is = λ held b. refl;
-        cost = λ len narrow wide w held b h r bytes byte. rw (room_is len narrow wide held b) (let s = step_shows n m held b h in s.costs len narrow wide w);
+        cost = λ len narrow wide w held b h r bytes byte. rw (room_is narrow wide held b) (costs len narrow wide w n m held b h);
       } in record {
         meets = meets;
-        rooms = λ query. sloped_rooms (euc_jp jis0208 jis0212) (euc_jp_machine jis0208 jis0212) euc_jp_weight 3 meets costs (grind arith) query;
-        settles = λ held b h r. let s = step_shows n m held b h in s.settles;
+        rooms = λ query. sloped_rooms g machine euc_jp_weight 3 meets costs (grind arith) query;
+        settles = λ held b h r. settles held b h;
         write_settles = λ held h. tt;
-        same_rooms = λ held b. same_rooms (euc_jp jis0208 jis0212);
+        same_rooms = λ held b. same_rooms g;
         same_marks = λ held b. refl;
         ascii_first = λ s b a. rw a refl;
         swallows = inl refl;
       }
+
+-- ---- the decoder
+
+may : (held : Held) → euc_jp_may_hold (held_bytes held) ≡ true
+may held = grind (arith, nat_tests)
+
+are_bytes : (held : Held) → AreBytes (held_bytes held)
+are_bytes held = grind (arith, All-nil, All-cons)
+
+module _ (tables : AcceptedIndexes) where
+  abbrev grammar : Grammar
+  grammar = euc_jp tables.flat.jis0208 tables.flat.jis0212
+
+  shown : IsShown (euc_jp tables.flat.jis0208 tables.flat.jis0212) (euc_jp_machine tables.flat.jis0208 tables.flat.jis0212)
+  shown = euc_jp_shown tables.flat.jis0208 tables.flat.jis0212 (jis0208-below tables.flat tables.accepted) (jis0212-below tables.flat tables.accepted)
+
+  pub malformed_byte : (b : ℕ) → euc_jp_first b ≡ finish (malformed 1) → IsMalformedByte (state_of grammar []) b
+  malformed_byte b e = moves.malformed_byte shown b e refl
+
+  pub covered : (held : Held) → IsCovered (state_of grammar (held_bytes held))
+  covered held = moves.covered shown (held_bytes held) (may held) (are_bytes held)
+
+  pub feeds : (held : Held) (b : ℕ) → IsByte b → (fed : Fed) (kept : List ℕ) →
+      Took (euc_jp_step tables.flat.jis0208 tables.flat.jis0212 (held_bytes held) b) (held_bytes held) b fed kept →
+      Feeds (state_of grammar (held_bytes held)) b (state_of grammar kept) fed
+  feeds held b byte fed kept took = moves.feeds shown (held_bytes held) (may held) (are_bytes held) b byte refl fed kept took
+
+  pub reports : (held : Held) → held_bytes held ≢ [] → Reports (state_of grammar (held_bytes held)) (state_of grammar []) (length (held_bytes held)) 0
+  reports held some = moves.reports_all shown (held_bytes held) (may held) (are_bytes held) refl some
+
+  -- there is something to report exactly if bytes are held back
+  pub ends_none : (held : Held) → length (held_bytes held) ≡ 0 → events_of (euc_jp tables.flat.jis0208 tables.flat.jis0212) (held_bytes held) ≡ []
+  ends_none held none = moves.ends_empty shown (held_bytes held) (may held) (are_bytes held) none
+
+  pub ends_some : (held : Held) → (held ≡ Nothing → ⊥) → events_of (euc_jp tables.flat.jis0208 tables.flat.jis0212) (held_bytes held) ≢ []
+  ends_some held n = moves.ends_some shown (held_bytes held) (may held) (are_bytes held) refl (grind arith)
+
+  -- ---- runs
+
+  pub ascii : HasAscii grammar
+  ascii = has_ascii shown (λ b. refl) (λ b h. let a = ascii_is b h in rw a refl)
+
+  -- a pair of JIS X 0208 that gives one scalar
+  pub pair : (lead trail c : ℕ) → IsByte lead → IsByte trail → IsScalar c → is_euc_jp_lead lead ≡ true →
+      euc_jp_scalars tables.flat.jis0208 lead trail ≡ c ∷ [] → IsPair grammar lead trail c
+  pair lead trail c byte byte' scalar is e =
+      let narrow = jis0208-below tables.flat tables.accepted in
+      let runs = pair_runs shown lead trail c byte byte' scalar in
+      grind (arith, nat_tests, idx_below, runs)
+
+  -- the same of a code of two bytes, by the entry at its place
+  pub lane_pair : ArePairs grammar tables.flat.jis0208 (row_place 0xA1 0x5D 0xA1 0x5D 94)
+  lane_pair code small past within high some =
+      let index : List ℕ = tables.flat.jis0208 in
+      let short = length-jis0208 tables.flat tables.accepted in
+      let both : (is_in_range 0xA1 0xFE (code % 256) ≡ true) × (is_in_range 0xA1 0xFE (code / 256) ≡ true) = grind (arith, short) in
+      let c = get_or index ((code % 256 - 0xA1) * 94 + (code / 256 - 0xA1)) 0 in
+      let scalar : IsScalar c = jis0208-scalars tables.flat tables.accepted _ 0 (rw (both.0, both.1) at within) in
+      let found = entry_is c (rw (both.0, both.1) at some) in
+      rw (both.0, both.1) (scalar, pair (code % 256) (code / 256) c (omega arith) (omega arith) scalar both.0 (rw both.1 found))

@@ -1,30 +1,73 @@
--- The moves of the ISO-2022-JP encoder, by its tables and by a list of pairs.
-use Rattle.std.proofs.Common.{◌≡◌, ℕ, List, [], ◌∷◌, ◌++◌, refl, arith, Bool, true, false, IsTrue, ◌||◌, Option, Some, eqb, map, ◌⊎◌, inl}
-use Rattle.std.proofs.{Common.{inr, ◌/◌, ◌%◌}, lemmas.Bool.{lt-ltb, cases_Bool}, lemmas.Bool.Decides.nat_tests}
-use Rattle.legacy_base.specs.{declared.results.EncodeEvent.EncodeEvent, Iso2022Jp.{iso_2022_jp_code, iso_2022_jp_reported, escape_to, escape_between}}
-use Rattle.legacy_base.specs.{Iso2022Jp.mode_behind, EncoderProfile.{EncoderMode, in_ascii, in_two_byte}, Beginnings.BeginsWith}
-use Rattle.legacy_base.specs.{EncodeEvents.code_events, Encoders.{encoder_profile, iso_2022_jp, is_pending}}
-use Rattle.legacy_base.proofs.Iso2022JpEncoding.{text_events, text_events-here, text_events-escape, text_events-end, text_events-open, mode_for, mode_for-twice}
-use Rattle.legacy_base.proofs.Iso2022JpEncoding.{code-short, at_special, at_neutral, IsWritten}
-use Rattle.legacy_encoder_engine.specs.{Moves.{Moves, Finishes, IsCode, differs}, ProfileSuffices.Serves, UnfinishedCall.ReadsByte, UnitTurns.ReadsUnit}
-use Rattle.legacy_encoder_engine.specs.{declared.moves.EncoderMove.EncoderMove, declared.moves.EncoderMove.TheVariants.{One, Two}}
-use Rattle.legacy_encoder_engine.proofs.PlainServes.{differs-same, here_moves}
+-- The length formulas of the ISO-2022-JP encoder are enough for its scalars and escapes. Its moves, by its tables and by a list of pairs.
+use Rattle.std.proofs.Common.{◌≡◌, ℕ, ◌+◌, ◌-◌, ◌≤◌, List, length, arith, Bool, true, false, [], ◌∷◌, ◌++◌, refl, IsTrue, ◌||◌, Option, Some, eqb, map, ◌⊎◌}
+use Rattle.std.proofs.{Common.{inl, inr, ◌/◌, ◌%◌}, lemmas.Bool.{Decides.nat_tests, lt-ltb, cases_Bool}}
+use Rattle.legacy_text.specs.EncodingForm.{EncodingForm, Utf8, unit_count}
+use Rattle.legacy_base.specs.Iso2022Jp.{iso_2022_jp_encoder, iso_2022_jp_code, is_two_byte_scalar, is_roman_scalar, escape_between, iso_2022_jp_reported}
+use Rattle.legacy_base.specs.{Iso2022Jp.mode_behind, EncodeEvents.{code_length, code_events}, EncoderProfile.{EncoderProfile, EncoderMode}}
+use Rattle.legacy_base.specs.{EncoderProfile.{in_ascii, in_two_byte}, Lengths.{number, value}, declared.results.EncodeEvent.EncodeEvent, Beginnings.BeginsWith}
+use Rattle.legacy_base.{specs.Encoders.{encoder_profile, iso_2022_jp, is_pending}, proofs.{SameUnits.some_unit, Iso2022JpEncoding.{mode_by, mode_for-by}}}
+use Rattle.legacy_base.proofs.Iso2022JpEncoding.{code-short, text_events, text_events-here, text_events-escape, text_events-end, text_events-open, mode_for}
+use Rattle.legacy_base.proofs.Iso2022JpEncoding.{mode_for-twice, at_special, at_neutral, IsWritten}
+use Rattle.legacy_encoder_engine.specs.{Moves.{differs, Moves, Finishes, IsCode}, ProfileSuffices.Serves, UnfinishedCall.ReadsByte, UnitTurns.ReadsUnit}
+use Rattle.legacy_encoder_engine.specs.declared.moves.EncoderMove.{EncoderMove, TheVariants.{One, Two}}
+use Rattle.legacy_encoder_engine.proofs.PlainServes.{two_units, differs-same, here_moves}
 use Rattle.legacy_japanese.specs.{declared.iso_2022_jp.encoder.Mode.Mode, Iso2022JpPairs.IsPairOf, Iso2022JpEncoder.{mode_of, state_in, is_same_mode}}
 use Rattle.legacy_japanese.specs.Iso2022JpEncoder.{escape_move, Asks, IsOwnByte}
-use Rattle.legacy_japanese.proofs.Iso2022JpEncoderRooms.{scalar_low, scalar_enough, escape_low, escape_enough, end_enough, formula_rises}
 use Rattle.legacy_base.specs.declared.results.EncodeEvent.TheVariants as events
 use Rattle.legacy_japanese.specs.declared.iso_2022_jp.encoder.Mode.TheVariants as modes
 
+module _ (jis0208 katakana_index : List ℕ) where
+  abbrev encoder : EncoderProfile
+  encoder = iso_2022_jp_encoder jis0208 katakana_index
+
+  -- the room that n more code units still need in a mode
+  abbrev room : EncodingForm → EncoderMode → ℕ → ℕ
+  room form mode n = value (encoder.formula form (number n)) - encoder.surplus form mode n
+
+  -- ---- on numbers: a scalar of u code units, t more after it, and `own` bytes for the scalar
+
+  pub end_enough : (mode : EncoderMode) (form : EncodingForm) → length (escape_between mode in_ascii) ≤ room form mode 0
+  end_enough mode form = grind arith
+
+  pub formula_rises : (form : EncodingForm) (m n : ℕ) → m ≤ n → value (encoder.formula form (number m)) ≤ value (encoder.formula form (number n))
+  formula_rises form m n h = grind arith
+
+  -- an escape to the mode that the scalar needs, and then the scalar's bytes
+  low_by : (pair keeps romans : Bool) (mode : EncoderMode) (form : EncodingForm) (t u own : ℕ) → differs mode (mode_by pair keeps romans mode) ≡ true
+      → own ≤ 2 → (pair ≡ false → own ≤ 1) → 1 ≤ u → (form ≡ Utf8 → pair ≡ true → 2 ≤ u) → (form ≡ Utf8 → romans ≡ true → 2 ≤ u)
+      → room form (mode_by pair keeps romans mode) t + (3 + own) ≤ room form mode (u + t)
+  low_by pair keeps romans mode form t u own e o n p q r = grind arith
+
+  enough_by : (pair keeps romans : Bool) (mode : EncoderMode) (form : EncodingForm) (t u : ℕ) → differs mode (mode_by pair keeps romans mode) ≡ true → 1 ≤ u
+      → (form ≡ Utf8 → pair ≡ true → 2 ≤ u) → (form ≡ Utf8 → romans ≡ true → 2 ≤ u) → 6 ≤ room form mode (u + t)
+  enough_by pair keeps romans mode form t u e p q r = grind arith
+
+  -- ---- on scalars
+
+  -- a two-byte scalar is not ASCII, and no scalar of Roman mode is ASCII
+  pair_past : (c : ℕ) → is_two_byte_scalar jis0208 katakana_index c ≡ true → 128 ≤ c
+  unfolding iso_2022_jp_code
+  pair_past c e = grind (arith, nat_tests)
+
+  roman_past : (c : ℕ) → is_roman_scalar c ≡ true → 128 ≤ c
+  roman_past c e = grind (arith, nat_tests)
+
+  pub scalar_low : (mode : EncoderMode) (c : ℕ) (form : EncodingForm) (t : ℕ)
+      → room form mode t + code_length (encoder.code c) ≤ room form mode (unit_count form c + t)
+  scalar_low mode c form t = grind (arith, code-short, some_unit)
+
+  pub scalar_enough : (mode : EncoderMode) (c : ℕ) (form : EncodingForm) (t : ℕ) → encoder.scalar_room c ≤ room form mode (unit_count form c + t)
+  scalar_enough mode c form t = grind (arith, some_unit)
+
+  pub escape_low : (mode : EncoderMode) (c : ℕ) → differs mode (encoder.mode_for mode c) ≡ true → (form : EncodingForm) (t : ℕ)
+      → room form (encoder.mode_for mode c) t + (3 + code_length (encoder.code c)) ≤ room form mode (unit_count form c + t)
+  escape_low mode c n form t = grind (arith, mode_for-by, code-short, low_by, some_unit, two_units, pair_past, roman_past)
+
+  pub escape_enough : (mode : EncoderMode) (c : ℕ) → differs mode (encoder.mode_for mode c) ≡ true → (form : EncodingForm) (t : ℕ)
+      → 3 + encoder.scalar_room c ≤ room form mode (unit_count form c + t)
+  escape_enough mode c n form t = grind (arith, enough_by, mode_for-by, some_unit, two_units, pair_past, roman_past)
+
 -- ---- modes
-
-true-differs : (mode new : EncoderMode) → (mode ≡ new → ⊥) → differs mode new ≡ true
-true-differs mode new n = grind arith
-
-same_or_other : (mode new : EncoderMode) → (mode ≡ new) ⊎ (mode ≡ new → ⊥)
-same_or_other mode new = grind arith
-
-pub same_true : (mode new : Mode) → is_same_mode mode new ≡ true → mode_of mode ≡ mode_of new
-same_true mode new e = grind arith
 
 pub same_false : (mode new : Mode) → is_same_mode mode new ≡ false → mode_of mode ≡ mode_of new → ⊥
 same_false mode new e f = grind arith
@@ -61,7 +104,7 @@ module _ (jis0208 katakana_index : List ℕ) where
     -- the scalar needs another mode
     pub escapes : (new : Mode) → mode_for jis0208 katakana_index (mode_of mode) c ≡ mode_of new → (mode_of mode ≡ mode_of new → ⊥)
         → Moves (state_in jis0208 katakana_index mode) c (state_in jis0208 katakana_index new) (escape_move new)
-    escapes new e n = grind (arith, text_events-escape, true-differs)
+    escapes new e n = grind (arith, text_events-escape)
 
   -- ---- the end
 
@@ -74,19 +117,12 @@ module _ (jis0208 katakana_index : List ℕ) where
   abbrev to_ascii : List EncodeEvent
   to_ascii = map events.Byte (0x1B ∷ 0x28 ∷ 0x42 ∷ [])
 
-  -- no other escape is the one to ASCII mode
-  no_other : (new : EncoderMode) (more rest : List EncodeEvent) → (new ≡ in_ascii → ⊥) → map events.Byte (escape_to new) ++ more ≡ to_ascii ++ rest → ⊥
-  no_other new more rest n e = grind arith
-
   -- an escape to ASCII comes at the end, or before a text that begins with it; the rest is encoded from ASCII mode
   escape_first : (mode : EncoderMode) → (mode ≡ in_ascii → ⊥) → escape_between mode in_ascii ≡ 0x1B ∷ 0x28 ∷ 0x42 ∷ [] → (more : List ℕ) (ended : Bool)
       → ((more ≡ []) × IsTrue ended) ⊎ BeginsWith (text_events jis0208 katakana_index mode more ended) to_ascii
       → text_events jis0208 katakana_index mode more ended ≡ to_ascii ++ text_events jis0208 katakana_index in_ascii more ended
-  escape_first mode other is [] true h = rw (text_events-end jis0208 katakana_index mode, text_events-end jis0208 katakana_index in_ascii, is) refl
-  escape_first mode other is [] false h = grind (arith, text_events-open)
-  escape_first mode other is (c ∷ more) ended h =
-      let mode' = mode_for jis0208 katakana_index mode c in
-      grind (arith, same_or_other mode' in_ascii, same_or_other mode mode', text_events-here, text_events-escape, no_escape, no_other)
+  escape_first mode other is [] ended h = grind (arith, text_events-open, text_events-end)
+  escape_first mode other is (c ∷ more) ended h = grind (arith, text_events-here, text_events-escape, no_escape)
 
   pub finishes : (mode : Mode) → is_pending (state_in jis0208 katakana_index mode) ≡ true
       → Finishes (state_in jis0208 katakana_index mode) (state_in jis0208 katakana_index modes.Ascii)
@@ -95,9 +131,14 @@ module _ (jis0208 katakana_index : List ℕ) where
   -- ---- the mode and move of a scalar
 
   -- a scalar that is written in the mode `new` needs it
-  pub asks : {mode new : Mode} {c : ℕ} (own : Option (List ℕ)) {move : EncoderMove} → IsWritten jis0208 katakana_index (mode_of mode) c (mode_of new) own
+  pub asks : {mode new : Mode} {c : ℕ} {own : Option (List ℕ)} {move : EncoderMove} → IsWritten jis0208 katakana_index (mode_of mode) c (mode_of new) own
       → IsCode own (iso_2022_jp_reported c) move → Asks jis0208 katakana_index mode c new move
-  asks own w is = record { mode_is = w.mode_is; code_is = rw w.code_is is }
+  asks w is = record { mode_is = w.mode_is; code_is = rw w.code_is is }
+
+  -- a scalar that needs the mode of the encoder is read there
+  pub stays : {mode new : Mode} {c : ℕ} {move : EncoderMove} → Asks jis0208 katakana_index mode c new move → is_same_mode mode new ≡ true
+      → Moves (state_in jis0208 katakana_index mode) c (state_in jis0208 katakana_index mode) move
+  stays {mode} {new} {c} {move} asks same = reads mode c (grind arith) move asks.code_is
 
   -- ---- ASCII in ASCII mode
 

@@ -1,36 +1,45 @@
 -- Writing a held-back scalar and ending the input, as the decoders' loop sees them.
-use Rattle.std.specs.{Prelude.{◌==◌, is_some}, Int.is_in_range}
-use Rattle.std.proofs.Common.{◌≡◌, ◌≢◌, ◌∙◌, ℕ, ◌++◌, ◌⊎◌, cond, Bool, true, false, Option, Some, None, List, [], ◌∷◌, inl, inr, length, refl, sym, ap, arith}
-use Rattle.std.proofs.{Common.append-nil, lemmas.Bool.cond_both, lemmas.Bool.Decides.nat_tests}
-use Rattle.legacy_base.specs.{declared.results.DecodeEvent.DecodeEvent, declared.results.DecodeEvent.TheVariants.{Scalar, Bad}, Fronts.{Front, reads}}
-use Rattle.legacy_base.specs.{Fronts.{front_length, front_events}, Iso2022Jp.{esc, escape_mode, part_mode, iso_2022_jp_events}}
-use Rattle.legacy_base.specs.{Beginnings.BeginsWith, Events.shift, Grammar.{iso_2022_jp, events_of}, Lengths.replacement_units}
-use Rattle.legacy_base.specs.States.{is_two_byte_mode, rests}
+use Rattle.std.{specs.{Prelude.is_some, Int.is_in_range}, proofs.Common.{◌≡◌, ◌≢◌, ◌∙◌, ℕ, ◌++◌, ◌⊎◌, Bool, true, false, Option, Some, None, List, [], ◌∷◌}}
+use Rattle.std.proofs.{Common.{inl, inr, length, refl, sym, ap, arith, append-nil, ◌+◌, ◌≤◌, drop, lit≤}, lemmas.Bool.Decides.nat_tests}
+use Rattle.legacy_base.specs.{declared.results.DecodeEvent.{DecodeEvent, TheVariants.{Scalar, Bad}}, Iso2022Jp.{esc, escape_mode, part_mode, iso_2022_jp_front}}
+use Rattle.legacy_base.specs.{Beginnings.BeginsWith, Events.shift, Grammar.{iso_2022_jp, events_of}, Lengths.replacement_units, States.is_two_byte_mode}
+use Rattle.legacy_base.{specs.States.rests, proofs.{Iso2022JpFronts.{step_end, step_one, step_two, step_escape, step_no_escape}, Shifts.shift-shift}}
+use Rattle.legacy_base.proofs.{Iso2022JpParts.first_part, Beginnings.no_sooner}
 use Rattle.legacy_text.proofs.CodeUnits.{length-code_units-bmp}
-use Rattle.legacy_base.proofs.{Iso2022JpFronts.{step_end, step_one, step_two, step_escape, step_no_escape}, Shifts.shift-shift, Iso2022JpParts.first_part}
-use Rattle.legacy_base.proofs.Beginnings.{no_sooner}
 use Rattle.legacy_decoder_engine.specs.Moves.{Releases, Reports}
-use Rattle.legacy_japanese.specs.{declared.iso_2022_jp.steps.Start.TheVariants.{Nothing, EscapeByte, Dollar, Paren}, declared.iso_2022_jp.steps.Mode.Mode}
-use Rattle.legacy_japanese.specs.{declared.iso_2022_jp.steps.Mode.TheVariants.TwoByte, declared.iso_2022_jp.steps.Escape.Escape}
-use Rattle.legacy_japanese.specs.{declared.iso_2022_jp.steps.Start.Start, declared.iso_2022_jp.steps.Held.Held}
-use Rattle.legacy_japanese.specs.{declared.iso_2022_jp.steps.Held.TheVariants.{Byte, Begun, Whole}, Iso2022JpMachine.{mode_meaning, bytes_of, finish}}
-use Rattle.legacy_japanese.specs.Iso2022JpMachine.{finish_start, is_held, is_resting, mode_of, pending, second_of, single, start_bytes, third_of}
-use Rattle.legacy_japanese.specs.Iso2022JpMoves.{state_in, IsNarrowScalar}
-use Rattle.legacy_japanese.proofs.Iso2022JpStep.{front-malformed_byte, front-single, front-trail, front_of, escape_alone, in_range_plain, valid}
-use Rattle.legacy_japanese.proofs.{Iso2022JpRooms.{same_rooms, room-falls, replacement_fits, times_one}, Iso2022JpLaw.{MeetsEnd, ended, events_in, front_in}}
-use Rattle.legacy_japanese.proofs.Iso2022JpHeld.{held_allowed, held_rests, finish_sound, EndsSound}
+use Rattle.legacy_japanese.specs.declared.iso_2022_jp.steps.{Start.{TheVariants.{Nothing, EscapeByte, Dollar, Paren}, Start}, Mode.{Mode, TheVariants.TwoByte}}
+use Rattle.legacy_japanese.specs.{declared.iso_2022_jp.steps.{Escape.Escape, Held.{Held, TheVariants.{Byte, Begun, Whole}}}, Iso2022JpMachine.mode_meaning}
+use Rattle.legacy_japanese.specs.Iso2022JpMachine.{bytes_of, finish, finish_start, is_held, is_resting, mode_of, pending, second_of, single, third_of}
+use Rattle.legacy_japanese.{specs.Iso2022JpMoves.{state_in, weight_of, IsNarrowScalar}, proofs.Iso2022JpStep.{escape_alone, escaped, in_range_plain}}
+use Rattle.legacy_japanese.proofs.{Iso2022JpRooms.{same_rooms, room-falls, replacement_fits, times_one, held_allowed, held_rests}, Iso2022JpStep.MeetsEnd}
+use Rattle.legacy_japanese.proofs.Iso2022JpStep.{second_kept, ended, events_in}
 use Rattle.legacy_base.specs.Iso2022Jp as iso
+
+-- ---- what the end leaves
+
+-- at the end of the input, only what is allowed is still held back
+pub record SoundEnd (held : Held) (new_mode : Mode) (new_held : Held) : Type 0 where
+  pub kept : is_held new_mode new_held ≡ true
+  pub suffix : drop (ended held new_held) (bytes_of held) ≡ bytes_of new_held
+  pub fits : length (bytes_of new_held) + 1 ≤ length (bytes_of held)
+  pub short : length (bytes_of new_held) ≤ 3
+  pub room : weight_of new_held + 1 ≤ weight_of held
+
+abbrev pub EndsSound : Held → Option (Mode × Held) → Type 0
+EndsSound held None = Unit {0}
+EndsSound held (Some o) = SoundEnd held o.0 o.1
+
+pub finish_sound : (mode : Mode) (held : Held) → EndsSound held (finish mode held)
+finish_sound mode held = grind (arith, second_kept, lit≤)
 
 -- ---- a byte that is held back alone
 
 module _ (jis0208 : List ℕ) where
-  write_front : (mode : Mode) (b c : ℕ) (rest : List ℕ) → single mode b ≡ Some c → front_in jis0208 mode b rest ≡ reads 1 (c ∷ [])
-  write_front mode b c rest h = grind (arith, front-single, front_of)
-
   -- a byte that is a scalar by itself gives it, whatever bytes follow
   write_law : (mode : Mode) (b c : ℕ) (more : List ℕ) → is_held mode (Byte b) ≡ true → single mode b ≡ Some c
       → events_in jis0208 mode (b ∷ more) ≡ Scalar c ∷ shift 1 (events_in jis0208 mode more)
-  write_law mode b c more held is = grind (arith, step_one, nat_tests, write_front, first_part)
+  unfolding iso_2022_jp_front
+  write_law mode b c more held is = grind (arith, step_one, nat_tests)
 
   -- so the byte has an event
   write_some : (mode : Mode) (b : ℕ) → is_held mode (Byte b) ≡ true → is_resting mode (Byte b) ≡ false → events_in jis0208 mode (b ∷ []) ≢ []
@@ -46,14 +55,6 @@ module _ (jis0208 : List ℕ) where
 
   -- ---- the end of the input
 
-  no_escape_yet : (s : Start) → part_mode (start_bytes s) ≡ None
-  unfolding part_mode
-  no_escape_yet s = grind arith
-
-  -- a valid escape is not an escape byte alone
-  no_malformed : (t : Bool) (items rest : List DecodeEvent) → cond t (Bad 0 3 ∷ []) [] ++ shift 3 items ≡ Bad 0 1 ∷ rest → ⊥
-  no_malformed t items rest e = grind (arith, no_sooner 3 0 1 items rest)
-
   -- an escape byte that is reported alone begins no valid escape
   malformed_escape : (mode : Mode) (rest : List ℕ) → BeginsWith (events_in jis0208 mode (esc ∷ rest)) (Bad 0 1 ∷ []) → part_mode (esc ∷ rest) ≡ None
   unfolding part_mode
@@ -63,46 +64,35 @@ module _ (jis0208 : List ℕ) where
     where
       by_mode : (o : Option iso.Mode) → escape_mode a b ≡ o → o ≡ None
       by_mode None e = refl
-      by_mode (Some next) e =
-          absurd (no_malformed (is_some (part_mode more)) (iso_2022_jp_events jis0208 next more) g.0
-          (sym (step_escape jis0208 (mode_meaning mode) next a b more e) ∙ g.1))
+      by_mode (Some next) e = let all = step_escape jis0208 (mode_meaning mode) next a b more e in grind (arith, all, g.1, no_sooner)
 
   -- an escape byte, and the bytes held back after it, at the end
   escape_end : (mode : Mode) (rest more : List ℕ) → part_mode (esc ∷ rest) ≡ None
       → (more ≡ []) ⊎ BeginsWith (events_in jis0208 mode (esc ∷ rest ++ more)) (Bad 0 1 ∷ [])
       → events_in jis0208 mode (esc ∷ rest ++ more) ≡ Bad 0 1 ∷ shift 1 (events_in jis0208 mode (rest ++ more))
-  escape_end mode rest more none h = elim h [
-    | inl z ↦ let e : rest ++ more ≡ rest = ap (λ l. rest ++ l) z ∙ append-nil rest in rw e (step_no_escape jis0208 (mode_meaning mode) rest none)
-    | inr g ↦ step_no_escape jis0208 (mode_meaning mode) (rest ++ more) (malformed_escape mode (rest ++ more) g)
-  ]
+  escape_end mode rest more none h = step_no_escape jis0208 (mode_meaning mode) (rest ++ more) (elim h [
+    | inl z ↦ rw (z, append-nil) none
+    | inr g ↦ malformed_escape mode (rest ++ more) g
+  ])
 
   start_end : (mode : Mode) (s : Start) → MeetsEnd jis0208 mode (Begun s) (finish_start mode s)
+  unfolding part_mode
   start_end mode Nothing = step_end jis0208 (mode_meaning mode)
-  start_end mode EscapeByte = λ more h. escape_end mode [] more (no_escape_yet EscapeByte) h
-  start_end mode Dollar = λ more h. escape_end mode (0x24 ∷ []) more (no_escape_yet Dollar) h
-  start_end mode Paren = λ more h. escape_end mode (0x28 ∷ []) more (no_escape_yet Paren) h
-
-  -- a lead and a trail do not give a malformed byte alone
-  no_malformed_pair : (f : Front) (items rest : List DecodeEvent) → front_length f ≡ 2 → front_events 0 f ++ shift 2 items ≡ Bad 0 1 ∷ rest → ⊥
-  no_malformed_pair (reads n []) items rest two e = no_sooner 2 0 1 items rest (omega arith) e
-  no_malformed_pair _ items rest two e = cc
+  start_end mode EscapeByte = λ more h. escape_end mode [] more refl h
+  start_end mode Dollar = λ more h. escape_end mode (0x24 ∷ []) more refl h
+  start_end mode Paren = λ more h. escape_end mode (0x28 ∷ []) more refl h
 
   -- a lead at the end, or a lead that is reported alone, has no trail
   malformed_lead : (l : ℕ) (more : List ℕ) → is_in_range 0x21 0x7E l ≡ true → (more ≡ []) ⊎ BeginsWith (events_in jis0208 TwoByte (l ∷ more)) (Bad 0 1 ∷ [])
       → first_part more ≡ []
+  unfolding iso_2022_jp_front
   malformed_lead l [] lead h = refl
-  malformed_lead l (t ∷ more) lead h = elim h [
-    | inl z ↦ absurd (let n : t ∷ more ≡ [] = z in cc)
-    | inr g ↦ cond_both (t == esc) [] (t ∷ first_part more) (λ bytes. bytes ≡ []) (λ e. refl) (λ e.
-        let f = front_in jis0208 TwoByte l (t ∷ first_part more) in
-        let two : front_length f ≡ 2 = rw (front-trail jis0208 l t (first_part more) lead) (grind arith) in
-        absurd (no_malformed_pair f (events_in jis0208 TwoByte more) g.0 two
-        (sym (step_two jis0208 (mode_meaning TwoByte) l t more f (in_range_plain l lead) e refl two) ∙ g.1)))
-  ]
+  malformed_lead l (t ∷ more) lead h = let first = in_range_plain l lead in grind (arith, step_two)
 
   lead_end : (mode : Mode) (l : ℕ) → is_held mode (Byte l) ≡ true → is_two_byte_mode (mode_meaning mode) ≡ true →
       MeetsEnd jis0208 mode (Byte l) (finish mode (Byte l))
-  lead_end mode l h h1 = grind (arith, step_one, in_range_plain, front_in, malformed_lead, front-malformed_byte)
+  unfolding iso_2022_jp_front
+  lead_end mode l h h1 = grind (arith, step_one, in_range_plain, malformed_lead)
 
   -- if an escape byte after a whole escape is reported alone, the whole escape is not malformed
   whole_end : (mode : Mode) (e : Escape) (rest more : List ℕ) → part_mode (esc ∷ rest) ≡ None
@@ -111,27 +101,28 @@ module _ (jis0208 : List ℕ) where
   whole_end mode e rest more none h =
       let behind = esc ∷ rest ++ more in
       let alone : part_mode behind ≡ None = elim h [
-        | inl z ↦ ap (λ l. part_mode (esc ∷ l)) (ap (λ l. rest ++ l) z ∙ append-nil rest) ∙ none
-        | inr g ↦
-            let first = sym (step_escape jis0208 (mode_meaning mode) (mode_meaning (mode_of e)) (second_of e) (third_of e) behind (valid e)) ∙ g.1 in
-            grind (arith, first)
+        | inl z ↦ rw (z, append-nil rest) none
+        | inr g ↦ let first = sym (escaped jis0208 mode e behind) ∙ g.1 in grind (arith, first)
       ] in
       rw (escape_alone jis0208 mode e behind alone, step_no_escape jis0208 (mode_meaning (mode_of e)) (rest ++ more) alone, shift-shift 3 1) refl
 
   end_law : (mode : Mode) (held : Held) → is_held mode held ≡ true → is_resting mode held ≡ true → MeetsEnd jis0208 mode held (finish mode held)
+  unfolding part_mode
   end_law mode (Byte l) h r = lead_end mode l h r
   end_law mode (Begun s) h r = start_end mode s
-  end_law mode (Whole e Nothing) h r = rw (escape_alone jis0208 mode e [] (no_escape_yet Nothing), start_end (mode_of e) Nothing)
-  end_law mode (Whole e EscapeByte) h r = λ more g. whole_end mode e [] more (no_escape_yet EscapeByte) g
-  end_law mode (Whole e Dollar) h r = λ more g. whole_end mode e (0x24 ∷ []) more (no_escape_yet Dollar) g
-  end_law mode (Whole e Paren) h r = λ more g. whole_end mode e (0x28 ∷ []) more (no_escape_yet Paren) g
+  end_law mode (Whole e Nothing) h r = rw (escape_alone jis0208 mode e [] refl, start_end (mode_of e) Nothing)
+  end_law mode (Whole e EscapeByte) h r = λ more g. whole_end mode e [] more refl g
+  end_law mode (Whole e Dollar) h r = λ more g. whole_end mode e (0x24 ∷ []) more refl g
+  end_law mode (Whole e Paren) h r = λ more g. whole_end mode e (0x28 ∷ []) more refl g
+
+  -- the events of the held-back bytes
+  abbrev left : Mode → Held → List DecodeEvent
+  left mode held = events_of (iso_2022_jp jis0208 (mode_meaning mode)) (bytes_of held)
 
   -- the law of the end, by the result of `finish`
   abbrev EndFacts : Mode → Held → Option (Mode × Held) → Type 0
-  EndFacts mode held None = events_of (iso_2022_jp jis0208 (mode_meaning mode)) (bytes_of held) ≡ []
-  EndFacts mode held (Some o) =
-      Reports (state_in jis0208 mode held) (state_in jis0208 o.0 o.1) 1 (length (bytes_of o.1))
-      × (events_of (iso_2022_jp jis0208 (mode_meaning mode)) (bytes_of held) ≢ [])
+  EndFacts mode held None = left mode held ≡ []
+  EndFacts mode held (Some o) = Reports (state_in jis0208 mode held) (state_in jis0208 o.0 o.1) 1 (length (bytes_of o.1)) × (left mode held ≢ [])
 
   end_facts : (mode : Mode) (held : Held) (o : Option (Mode × Held)) → MeetsEnd jis0208 mode held o → EndsSound held o → EndFacts mode held o
   unfolding events_of
@@ -154,33 +145,26 @@ module _ (jis0208 : List ℕ) where
         λ none. (let all = law [] (inl refl) in let e = sym none ∙ ap (events_in jis0208 mode) (sym (append-nil (bytes_of held))) ∙ all in cc),
       )
 
-  ends : (mode : Mode) (held : Held) (o : Option (Mode × Held)) → is_held mode held ≡ true
-      → rests (iso_2022_jp jis0208 (mode_meaning mode)) (bytes_of held) ≡ true → o ≡ finish mode held → EndFacts mode held o
-  ends mode held o sound rest is = grind (arith, end_facts, end_law, held_rests, finish_sound)
-
-  pub ends_none : (mode : Mode) (held : Held) → is_held mode held ≡ true → rests (iso_2022_jp jis0208 (mode_meaning mode)) (bytes_of held) ≡ true
-      → None ≡ finish mode held → events_of (iso_2022_jp jis0208 (mode_meaning mode)) (bytes_of held) ≡ []
-  ends_none mode held = ends mode held None
-
-  pub ends_reports : (mode : Mode) (held : Held) (new_mode : Mode) (new_held : Held) → is_held mode held ≡ true
-      → rests (iso_2022_jp jis0208 (mode_meaning mode)) (bytes_of held) ≡ true → Some (new_mode, new_held) ≡ finish mode held
-      → Reports (state_in jis0208 mode held) (state_in jis0208 new_mode new_held) 1 (length (bytes_of new_held))
-  ends_reports mode held new_mode new_held sound rest is = (ends mode held (Some (new_mode, new_held)) sound rest is).0
-
-  -- ---- whether an event is left
-
   -- there is an event, or there is none
   abbrev HasRest : Mode → Held → Bool → Type 0
-  HasRest mode held t =
-      (t ≡ true → events_of (iso_2022_jp jis0208 (mode_meaning mode)) (bytes_of held) ≢ [])
-      × (t ≡ false → events_of (iso_2022_jp jis0208 (mode_meaning mode)) (bytes_of held) ≡ [])
+  HasRest mode held t = (t ≡ true → left mode held ≢ []) × (t ≡ false → left mode held ≡ [])
 
   from_facts : (mode : Mode) (held : Held) (o : Option (Mode × Held)) → EndFacts mode held o → HasRest mode held (is_some o)
   from_facts mode held o h = grind arith
 
-  resting_rest : (mode : Mode) (held : Held) → is_held mode held ≡ true → is_resting mode held ≡ true → HasRest mode held (is_some (finish mode held))
-  resting_rest mode held sound resting = grind (arith, from_facts, ends, held_rests)
+  module _ (mode : Mode) (held : Held) (sound : is_held mode held ≡ true) where
+    ends : (o : Option (Mode × Held)) → rests (iso_2022_jp jis0208 (mode_meaning mode)) (bytes_of held) ≡ true → o ≡ finish mode held → EndFacts mode held o
+    ends o rest is = grind (arith, end_facts, end_law, held_rests, finish_sound)
 
-  pub rest_known : (mode : Mode) (held : Held) (t : Bool) → is_held mode held ≡ true → t ≡ is_some (finish mode held) → HasRest mode held t
-  unfolding events_of
-  rest_known mode held t sound is = rw is (grind (arith, resting_rest, write_some))
+    pub ends_none : rests (iso_2022_jp jis0208 (mode_meaning mode)) (bytes_of held) ≡ true → None ≡ finish mode held → left mode held ≡ []
+    ends_none = ends None
+
+    pub ends_reports : (new_mode : Mode) (new_held : Held) → rests (iso_2022_jp jis0208 (mode_meaning mode)) (bytes_of held) ≡ true
+        → Some (new_mode, new_held) ≡ finish mode held
+        → Reports (state_in jis0208 mode held) (state_in jis0208 new_mode new_held) 1 (length (bytes_of new_held))
+    ends_reports new_mode new_held rest is = (ends (Some (new_mode, new_held)) rest is).0
+
+    -- whether an event is left
+    pub rest_known : (t : Bool) → t ≡ is_some (finish mode held) → HasRest mode held t
+    unfolding events_of
+    rest_known t is = rw is (grind (arith, from_facts, ends, held_rests, write_some))

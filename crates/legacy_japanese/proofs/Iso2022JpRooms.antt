@@ -1,17 +1,28 @@
--- The room that an ISO-2022-JP decoder needs, and how it decreases.
-use Rattle.std.proofs.Common.{◌≡◌, ℕ, ◌+◌, ◌*◌, ◌<◌, ◌≤◌, Bool, true, false, cond, Some, List, [], ◌∷◌, length, refl, arith, length-append, ◌&&◌}
+-- What may be held back, and the room that an ISO-2022-JP decoder needs and how it decreases.
+use Rattle.std.proofs.Common.{◌≡◌, ℕ, ◌+◌, ◌*◌, ◌<◌, ◌≤◌, Bool, true, cond, Some, List, [], ◌∷◌, length, refl, arith, length-append, ◌&&◌}
 use Rattle.std.specs.Char.{is_ascii}
-use Rattle.legacy_base.specs.{DecoderActs.{writes, act_at_rest, room_of_act}, Lengths.LengthQuery}
-use Rattle.legacy_base.specs.{Lengths.{to_utf16, query_form, replacement_units, room}, Grammar.{iso_2022_jp, events_of}, States.{rests, is_empty}}
-use Rattle.legacy_text.specs.EncodingForm.{EncodingForm, bmp_room, wide_room, code_units, total_unit_count}
-use Rattle.legacy_text.proofs.CodeUnits.{length-code_units-bmp}
-use Rattle.legacy_base.proofs.Iso2022JpFronts.{step_end}
-use Rattle.legacy_decoder_engine.specs.Moves.{IsCovered, SameRooms, read_room}
-use Rattle.legacy_japanese.specs.{declared.iso_2022_jp.steps.Mode.Mode, declared.iso_2022_jp.steps.Start.TheVariants.Nothing}
-use Rattle.legacy_japanese.specs.{declared.iso_2022_jp.steps.Held.Held, declared.iso_2022_jp.steps.Held.TheVariants.Begun, Iso2022JpMachine.mode_meaning}
-use Rattle.legacy_japanese.specs.{Iso2022JpMachine.bytes_of, Iso2022JpMoves.{state_in, weight_of}}
-use Rattle.legacy_decoder_engine.proofs.RoomMoves.{no_short_room}
-use Rattle.legacy_japanese.proofs.Iso2022JpHeld.{held_weight}
+use Rattle.legacy_base.specs.{DecoderActs.{writes, act_at_rest, room_of_act}, Lengths.{LengthQuery, query_form, replacement_units, room, weight}}
+use Rattle.legacy_base.{specs.{Grammar.{iso_2022_jp, events_of}, States.{rests, is_empty, may_hold}}, proofs.Iso2022JpFronts.step_end}
+use Rattle.legacy_text.{specs.EncodingForm.{EncodingForm, bmp_room, wide_room, code_units, total_unit_count}, proofs.CodeUnits.length-code_units-bmp}
+use Rattle.legacy_decoder_engine.{specs.Moves.{IsCovered, SameRooms, read_room}, proofs.RoomMoves.no_short_room}
+use Rattle.legacy_japanese.specs.declared.iso_2022_jp.steps.{Mode.Mode, Start.TheVariants.Nothing, Held.{Held, TheVariants.Begun}}
+use Rattle.legacy_japanese.specs.{Iso2022JpMachine.{mode_meaning, bytes_of, is_held, is_resting}, Iso2022JpMoves.{state_in, weight_of}}
+
+-- ---- the held-back bytes
+
+-- the grammar may hold back these bytes
+pub held_allowed : (jis0208 : List ℕ) (mode : Mode) (held : Held) → is_held mode held ≡ true →
+    may_hold (iso_2022_jp jis0208 (mode_meaning mode)) (bytes_of held) ≡ true
+held_allowed jis0208 mode held h = grind arith
+
+-- they rest exactly if the machine reads on
+pub held_rests : (jis0208 : List ℕ) (mode : Mode) (held : Held) → is_held mode held ≡ true →
+    rests (iso_2022_jp jis0208 (mode_meaning mode)) (bytes_of held) ≡ is_resting mode held
+held_rests jis0208 mode held h = grind arith
+
+-- their weight
+pub held_weight : (jis0208 : List ℕ) (mode : Mode) (held : Held) → weight (iso_2022_jp jis0208 (mode_meaning mode)) (bytes_of held) ≡ weight_of held
+held_weight jis0208 mode held = grind arith
 
 -- ---- the room of an act
 
@@ -33,8 +44,7 @@ one_fits form c h = let l = length-code_units-bmp form c h in let a = length-app
 -- the room of the input bytes and the held-back bytes: for each a scalar up to U+FFFF
 pub room-is : (query : LengthQuery) (jis0208 : List ℕ) (mode : Mode) (held : Held) (n : ℕ) →
     room query (state_in jis0208 mode held) n ≡ bmp_room (query_form query) * (n + weight_of held)
-room-is to_utf16 jis0208 mode held n = rw (held_weight jis0208 mode held) (omega arith)
-room-is _ jis0208 mode held n = rw (held_weight jis0208 mode held) refl
+room-is query jis0208 mode held n = rw (held_weight jis0208 mode held) (grind arith)
 
 -- the room decreases by what is written, if the weight decreases by the number of scalars and reports
 pub room-falls : (query : LengthQuery) (jis0208 : List ℕ) (mode new_mode : Mode) (held new_held : Held) (n m r u : ℕ)
@@ -61,9 +71,7 @@ module _ (query : LengthQuery) (jis0208 : List ℕ) (mode : Mode) where
 
   most : (held : Held) (unread : List ℕ) (last resting : Bool) → needed held unread last resting ≤ bmp_room (query_form query)
   unfolding needed
-  most held unread last false = omega arith
-  most held [] last true = grind arith
-  most held (b ∷ unread) last true = let e = read_room-is (query_form query) jis0208 mode held b in omega arith
+  most held unread last resting = grind (arith, read_room-is)
 
   none : (last : Bool) → needed (Begun Nothing) [] last true ≡ 0
   unfolding needed events_of
@@ -73,10 +81,7 @@ module _ (query : LengthQuery) (jis0208 : List ℕ) (mode : Mode) where
       → needed held unread last (rests (iso_2022_jp jis0208 (mode_meaning mode)) (bytes_of held)) ≤ bmp_room
       (query_form query) * (length unread + weight_of held)
   enough [] last (Begun Nothing) = let n = none last in omega arith
-  enough unread last held =
-      let m = most held unread last (rests (iso_2022_jp jis0208 (mode_meaning mode)) (bytes_of held)) in
-      let s : bmp_room (query_form query) ≤ bmp_room (query_form query) * (length unread + weight_of held) = grind arith in
-      omega arith
+  enough unread last held = let m = most held unread last (rests (iso_2022_jp jis0208 (mode_meaning mode)) (bytes_of held)) in grind arith
 
 -- the room of a length query is enough for the next act
 pub covered : (jis0208 : List ℕ) (mode : Mode) (held : Held) → IsCovered (state_in jis0208 mode held)

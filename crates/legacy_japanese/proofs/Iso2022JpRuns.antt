@@ -1,19 +1,19 @@
--- The runs of ISO-2022-JP.
-use Rattle.std.proofs.Common.{◌≡◌, ◌∙◌, ℕ, suc, ◌+◌, ◌-◌, ◌*◌, ◌<◌, ◌≤◌, Option, Some, List, [], ◌∷◌, ◌++◌, length, take, get_or, refl}
-use Rattle.std.proofs.{Common.{sym, ap, arith}, lemmas.Bool.{cases_lt, ne_eqb}, lemmas.Bool.Decides.nat_tests, lemmas.List.{length-take, length-take-le}}
-use Rattle.std.proofs.{lemmas.List.get_or-take, lemmas.List.Elements.{All-nil, All-cons, All-from_get_or}, lemmas.Str.Ascii.IsAscii-from_all}
-use Rattle.std.specs.{Prelude.{All, IfSome}, Char.IsScalar}
-use Rattle.legacy_text.specs.{declared.destination.Destination.Ghosts, EncodingForm.{EncodingForm, code_units}}
-use Rattle.legacy_text.proofs.CodeUnits.{code_units_ascii}
-use Rattle.legacy_base.specs.{Iso2022Jp.{ascii, two_byte, iso_2022_jp_front}, Grammar.{iso_2022_jp, events_of}}
-use Rattle.legacy_tables.specs.Indexes.{idx}
-use Rattle.legacy_base.proofs.Iso2022JpFronts.{step_one, step_two}
-use Rattle.legacy_japanese.specs.declared.iso_2022_jp.steps.Mode.TheVariants.{Ascii}
-use Rattle.legacy_japanese.specs.declared.iso_2022_jp.places.TheConstants.{LEADS, TRAILS}
-use Rattle.legacy_japanese.specs.{Iso2022JpMoves.IsNarrowScalar, Iso2022JpRuns.{ArePlain, IsPlain, run_state}, Jis0208Places.{jis_lead_place, jis_trail_place}}
-use Rattle.legacy_decoder_engine.specs.{ReadAhead.{Runs, IsPair, ReadsAhead}, Places.IsTableOf}
-use Rattle.legacy_decoder_engine.proofs.{WrittenRuns.{runs_none, runs_more, all_code_units_ascii}, PairPlaces.idx_past}
-use Rattle.legacy_japanese.proofs.Iso2022JpRooms.{same_rooms, one_fits, room-falls, times_one}
+-- The runs of ISO-2022-JP, and the escapes between them.
+use Rattle.std.proofs.Common.{◌≡◌, ◌∙◌, ℕ, suc, ◌+◌, ◌-◌, ◌*◌, ◌<◌, ◌≤◌, Option, Some, List, [], ◌∷◌, ◌++◌, length, take, refl, sym, ap, arith, ◌≢◌, drop}
+use Rattle.std.proofs.{Common.{get_or, append-nil, length-drop}, lemmas.{Bool.{cases_lt, ne_eqb, Decides.nat_tests}, List.{length-take, length-take-le}}}
+use Rattle.std.proofs.lemmas.{List.{get_or-take, Elements.{All-nil, All-cons, All-from_get_or}, drop-drop}, Str.Ascii.IsAscii-from_all, Grind.common_steps}
+use Rattle.std.{proofs.Math.Seq.{drop-cons, take-add}, specs.{Prelude.{All, IfSome}, Char.IsScalar}}
+use Rattle.legacy_text.specs.declared.destination.Destination.{Ghosts}
+use Rattle.legacy_base.specs.{Iso2022Jp.{ascii, two_byte, iso_2022_jp_front, esc}, Grammar.{iso_2022_jp, events_of}, States.DecoderState}
+use Rattle.legacy_base.proofs.{Iso2022JpFronts.{step_one, step_two}, Iso2022JpParts.no_escape, Shifts.{shift-append, shift-shift, shift-scalars}}
+use Rattle.legacy_tables.{specs.{AcceptedTables.AcceptedIndexes, Indexes.idx}, proofs.Accepted.length-jis0208}
+use Rattle.legacy_japanese.specs.declared.iso_2022_jp.{steps.{Mode.{TheVariants.Ascii, Mode}, Escape.Escape}, places.TheConstants.{LEADS, TRAILS}}
+use Rattle.legacy_japanese.specs.{Iso2022JpMoves.IsNarrowScalar, Iso2022JpRuns.{ArePlain, IsPlain, run_state, HasEscape}, Jis0208Places.jis_lead_place}
+use Rattle.legacy_japanese.specs.{Jis0208Places.jis_trail_place, Iso2022JpMachine.{mode_meaning, mode_of, second_of, third_of}}
+use Rattle.legacy_japanese.proofs.{Iso2022JpRooms.{one_fits, room-falls, times_one, same_rooms}, Iso2022JpStep.{events_in, escape_alone}}
+use Rattle.legacy_decoder_engine.{specs.{ReadAhead.{Runs, IsPair, ReadsAhead, RunsTo, ReadsTo}, Places.IsTableOf}, proofs.WrittenRuns.{runs_none, runs_more}}
+use Rattle.legacy_decoder_engine.proofs.{WrittenRuns.{all_code_units_ascii, rest_of}, PairPlaces.idx_past, JoinedRuns.{reads_front, reads_then}}
+use Rattle.legacy_decoder_engine.proofs.AheadRuns.{reads_nothing}
 
 -- ---- the places of leads and trails in two-byte mode
 
@@ -38,21 +38,17 @@ plain_bytes jis0208 (b ∷ bytes) h = runs_more (iso_2022_jp jis0208 ascii) (b �
 
 -- ---- a pair
 
-pub pair_run : (jis0208 : List ℕ) (a b c : ℕ) → 0x21 ≤ a → a ≤ 0x7E → 0x21 ≤ b → b ≤ 0x7E → c < 0x1_0000 → IsScalar c
+pair_run : (jis0208 : List ℕ) (a b c : ℕ) → 0x21 ≤ a → a ≤ 0x7E → 0x21 ≤ b → b ≤ 0x7E → c < 0x1_0000 → IsScalar c
     → idx jis0208 ((a - 0x21) * 94 + (b - 0x21)) ≡ Some c → IsPair (iso_2022_jp jis0208 two_byte) a b c
 unfolding events_of iso_2022_jp_front
 pair_run jis0208 a b c low high low' high' narrow scalar is = grind (arith, nat_tests, step_two, ne_eqb, All-cons, All-nil, room-falls, times_one, one_fits)
 
--- the scalar of two bytes
-pub pair_scalar : (jis0208 : List ℕ) (a b : ℕ) → 0x21 ≤ a → a ≤ 0x7E → 0x21 ≤ b → b ≤ 0x7E → (pointer : ℕ) → pointer ≡ (a - 0x21) * 94 + (b - 0x21)
-    → (found : Option ℕ) → found ≡ idx jis0208 pointer → IfSome found IsNarrowScalar → IfSome found (λ c. IsPair (iso_2022_jp jis0208 two_byte) a b c)
-pair_scalar jis0208 a b h h1 h2 h3 pointer h4 found h5 h6 = grind (arith, pair_run)
-
 -- the scalar of two bytes, by the sum of their places
-pub placed_scalar : (jis0208 : List ℕ) → length jis0208 ≤ 65535 → (a b : ℕ) (found : Option ℕ) → found ≡ idx jis0208 (jis_lead_place a + jis_trail_place b)
-    → IfSome found IsNarrowScalar → IfSome found (λ c. IsPair (iso_2022_jp jis0208 two_byte) a b c)
+pub placed_scalar : (tables : AcceptedIndexes) (a b : ℕ) (found : Option ℕ) → found ≡ idx tables.flat.jis0208 (jis_lead_place a + jis_trail_place b)
+    → IfSome found IsNarrowScalar → IfSome found (λ c. IsPair (iso_2022_jp tables.flat.jis0208 two_byte) a b c)
 unfolding jis_lead_place jis_trail_place
-placed_scalar jis0208 short a b found is narrow = grind (arith, cases_lt, nat_tests, pair_scalar, idx_past)
+placed_scalar tables a b found is narrow =
+    let short = length-jis0208 tables.flat tables.accepted in grind (arith, cases_lt, nat_tests, pair_run, idx_past)
 
 -- ---- a run of plain bytes
 
@@ -61,11 +57,6 @@ pub plain_front : (source : List ℕ) (n count : ℕ) → count ≤ length (take
     (count ≤ length source) × (count ≤ n) × ArePlain source count
 plain_front source n count within plain = grind (arith, length-take, get_or-take)
 
--- the code units of a run, one for each byte
-pub plain_units : (form : EncodingForm) (source : List ℕ) (count at : ℕ) → count ≤ length source → ArePlain source count → at < count
-    → code_units form (get_or source at 0) ≡ get_or source at 0 ∷ []
-plain_units form source count at within plain h = code_units_ascii form (get_or source at 0) ((plain at h).0)
-
 pub reads_plain : {D : Type 0} (T : Ghosts D) (jis0208 source : List ℕ) (old new : D) (count : ℕ) → count ≤ length source → ArePlain source count
     → T.contents new ≡ T.contents old ++ take count source → T.room new + count ≡ T.room old → T.loan new ≡ T.loan old → (0 < count → count + 3 ≤ T.room old)
     → ReadsAhead T (run_state jis0208 Ascii) source count old new
@@ -73,19 +64,71 @@ reads_plain T jis0208 source old new count within plain contents room loan enoug
     let l : length (take count source) ≡ count = length-take-le count source within in
     let all = All-from_get_or IsPlain (take count source) 0 (λ k h. rw (get_or-take count source k 0 (omega arith)) (plain k (omega arith))) in
     let same = all_code_units_ascii T.form (take count source) (IsAscii-from_all _ (λ i d l. (all i d l).0)) in
-    record {
-      within = within;
-      idle = λ h. refl;
-      empties = λ h. refl;
-      stays = λ z. refl;
-      rooms = same_rooms jis0208 Ascii Ascii;
-      writes = record {
-        scalars = take count source;
-        runs = plain_bytes jis0208 (take count source) all;
-        written = contents ∙ ap (λ units. T.contents old ++ units) (sym same);
-        room = omega (arith, ap length same, l, room);
-        loan = loan;
-      };
-      slack = λ h. let q = enough h in omega arith;
-      had = λ h. let q = enough h in omega arith;
-    }
+    reads_front within (record {
+      scalars = take count source;
+      runs = plain_bytes jis0208 (take count source) all;
+      written = contents ∙ ap (λ units. T.contents old ++ units) (sym same);
+      room = omega (arith, ap length same, l, room);
+      loan = loan;
+    }) (λ h. omega (arith, enough h)) (λ h. omega (arith, enough h))
+
+-- ---- before and after an escape
+
+-- an escape before a run of its mode; the run does not begin with an escape byte
+escape_runs : (jis0208 : List ℕ) (mode : Mode) (e : Escape) (x : ℕ) (bytes ds : List ℕ) → x ≢ esc →
+    Runs (iso_2022_jp jis0208 (mode_meaning (mode_of e))) (x ∷ bytes) ds
+    → RunsTo (iso_2022_jp jis0208 (mode_meaning mode)) (iso_2022_jp jis0208 (mode_meaning (mode_of e))) (esc ∷ second_of e ∷ third_of e ∷ x ∷ bytes) ds
+unfolding events_of
+escape_runs jis0208 mode e x bytes ds alone runs =
+    grind (arith, events_in, escape_alone, no_escape, ne_eqb, shift-append, shift-scalars, shift-shift, room-falls)
+
+-- the bytes of a run after three others, and those of an escape and the run after it
+run_bytes : (source : List ℕ) (read : ℕ) → 3 < length source → 0 < read → take read (drop 3 source) ≡ get_or source 3 0 ∷ take (read - 1) (drop 4 source)
+run_bytes source read within some = grind (arith, common_steps, drop-cons source 3 0)
+
+escape_bytes : (e : Escape) (source : List ℕ) (read : ℕ) → HasEscape e source → 0 < read
+    → take (3 + read) source ≡ esc ∷ second_of e ∷ third_of e ∷ get_or source 3 0 ∷ take (read - 1) (drop 4 source)
+escape_bytes e source read has some = grind (arith, take-add, run_bytes)
+
+module _ {D : Type 0} {T : Ghosts D} where
+  -- an escape and a run of its mode
+  reads_escape : (jis0208 : List ℕ) (mode : Mode) (e : Escape) (source : List ℕ) (old new : D) (read : ℕ) → HasEscape e source → 0 < read
+      → ReadsAhead T (run_state jis0208 (mode_of e)) (drop 3 source) read old new →
+      ReadsTo T (run_state jis0208 mode) (run_state jis0208 (mode_of e)) source (3 + read) old new
+  reads_escape jis0208 mode e source old new read has some reads = record {
+    within = let w = reads.within in let l = length-drop 3 source in let k = has.within in omega arith;
+    idle = λ h. refl;
+    empties = λ h. refl;
+    stays = λ z. absurd (omega arith);
+    rooms = same_rooms jis0208 mode (mode_of e);
+    writes = record {
+      scalars = reads.writes.scalars;
+      runs =
+          let run = rw (run_bytes source read has.within some) at reads.writes.runs in
+          rw (escape_bytes e source read has some) (escape_runs jis0208 mode e _ _ _ has.alone run);
+      written = reads.writes.written;
+      room = reads.writes.room;
+      loan = reads.writes.loan;
+    };
+    slack = λ h. reads.slack some;
+    had = λ h. reads.had some;
+  }
+
+  -- runs, then an escape and a run of its mode
+  pub reads_on : (jis0208 : List ℕ) (first mode next : Mode) (e : Escape) (source : List ℕ) {old mid new : D} (at read : ℕ) → next ≡ mode_of e
+      → HasEscape e (take (length source - at) (drop at source)) → 0 < read
+      → ReadsTo T (run_state jis0208 first) (run_state jis0208 mode) source at old mid
+      → ReadsAhead T (run_state jis0208 next) (take (length source - (at + 3)) (drop (at + 3) source)) read mid new
+      → ReadsTo T (run_state jis0208 first) (run_state jis0208 next) source (at + (3 + read)) old new
+  reads_on jis0208 first mode next e source {old} {mid} {new} at read is has some runs reads =
+      let S : List ℕ = take (length source - at) (drop at source) in
+      let rest : take (length source - (at + 3)) (drop (at + 3) source) ≡ drop 3 S = rest_of source (at + 3) ∙ sym (drop-drop 3 at source)
+      ∙ ap (drop 3) (sym (rest_of source at)) in
+      rw is (reads_then runs (reads_escape jis0208 mode e S mid new read has some (rw (is, rest) at reads)))
+
+  -- runs, after which nothing was read
+  pub reads_end : {before after other : DecoderState} {source behind : List ℕ} {old mid new : D} {at read : ℕ} → read ≡ 0 →
+      ReadsTo T before after source at old mid
+      → ReadsAhead T other behind read mid new
+      → ReadsTo T before after source at old new
+  reads_end none runs reads = let nothing = reads_nothing reads none in grind (arith, append-nil)

@@ -1,19 +1,10 @@
 -- Each decoder takes the steps of its machine, and each machine keeps to its grammar.
 pub mod EucJpShown
-pub mod EucJpHeld
-pub mod Iso2022JpLaw
 pub mod Iso2022JpStep
-pub mod Iso2022JpHeld
 pub mod Iso2022JpRooms
 pub mod Iso2022JpEnding
-pub mod Iso2022JpEscapes
 pub mod Iso2022JpFeeding
-pub mod Iso2022JpHolding
 pub mod Iso2022JpRuns
-pub mod Iso2022JpEncoderRooms
 pub mod Iso2022JpEncoderMoves
-pub mod Iso2022JpPieces
-pub mod ShiftJisRuns
 pub mod ShiftJisPlaces
-pub mod ShiftJisLanes
 pub mod PointerWalks

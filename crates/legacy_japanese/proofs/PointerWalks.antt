@@ -1,14 +1,13 @@
 -- A walk over the pointers of index jis0208 lists the codes of the scalars that have the code of their pointer. The other
 -- scalars are looked up one by one.
-use Rattle.std.proofs.Common.{◌∙◌, ◌≡◌, ℕ, ◌+◌, ◌/◌, ◌<◌, List, length, slice_index, arith, option_map}
-use Rattle.std.proofs.lemmas.Bool.Decides.{nat_tests}
+use Rattle.std.proofs.{Common.{◌∙◌, ◌≡◌, ℕ, ◌+◌, ◌/◌, ◌<◌, List, length, slice_index, arith, option_map}, lemmas.Bool.Decides.nat_tests}
 use Rattle.legacy_tables.specs.{Indexes.FlatIndexes, TableChecks.AreAccepted, Walks.IsFilled, Pointers.{euc_jp_pointer_of, shift_jis_pointer_of}}
-use Rattle.legacy_tables.specs.{declared.tables.packed.PackedPart.TheVariants.{EucJpOrder, ShiftJisOrder}, declared.tables.packed.PackedPart.PackedPart}
-use Rattle.legacy_tables.proofs.{Accepted.jis0208-scalars, PointerBounds.{euc-jp-bound, shift-jis-bound}}
+use Rattle.legacy_tables.{specs.declared.tables.packed.PackedPart.{TheVariants.{EucJpOrder, ShiftJisOrder}, PackedPart}, proofs.Accepted.jis0208-scalars}
+use Rattle.legacy_tables.proofs.PointerBounds.{euc-jp-bound, shift-jis-bound}
 use Rattle.legacy_base.specs.{EucJp.{euc_jp_code, euc_jp_bytes}, ShiftJis.{shift_jis_code, shift_jis_bytes}, Iso2022Jp.{iso_2022_jp_code, iso_2022_jp_pair}}
 use Rattle.legacy_base.specs.Encoders.{Codec, euc_jp, shift_jis, iso_2022_jp}
-use Rattle.legacy_encoder_engine.proofs.{WalkedPairs.{GoesByPointers, by-pairs, halves, walked-right}, CachedPairs.all-right}
-use Rattle.legacy_encoder_engine.specs.CachedPairs.{AreAllPairsOf, IsRightEntry}
+use Rattle.legacy_encoder_engine.{proofs.{WalkedPairs.{GoesByPointers, by-pairs, halves, walked-right}, CachedPairs.all-right}, specs.CachedPairs.AreAllPairsOf}
+use Rattle.legacy_encoder_engine.specs.CachedPairs.{IsRightEntry}
 use Rattle.legacy_japanese.specs.{Iso2022JpPairs.{IsListedEntry, iso_2022_jp_mark, iso_2022_jp_mark-some}, ByPointer.GoesByPointer, EucJpCodes.euc_jp_mark}
 use Rattle.legacy_japanese.specs.{EucJpCodes.euc_jp_mark-some, ShiftJisCodes.{shift_jis_mark, shift_jis_mark-some}}
 
@@ -20,13 +19,11 @@ pub all-listed : {codec : Codec} {part : PackedPart} {mark : ℕ → ℕ} {index
 all-listed by filled new long walk same ask = all-right _ new (same ∙ long) (ask (walked-right _ _ _ _ _ by filled long walk))
 
 module _ (flat : FlatIndexes) (accepted : AreAccepted flat) where
-  euc-jp-code : (c : ℕ) → GoesByPointer c → euc_jp_code flat.jis0208 c ≡ option_map euc_jp_bytes (euc_jp_pointer_of flat.jis0208 c)
-  unfolding euc_jp_code
-  euc-jp-code c by = grind (arith, nat_tests, by.ascii, by.yen, by.overline, by.minus, by.katakana)
-
   pub euc-jp-by-pointers : GoesByPointers (euc_jp flat.jis0208 flat.jis0212) EucJpOrder euc_jp_mark flat.jis0208 GoesByPointer
+  unfolding euc_jp_code
   euc-jp-by-pointers = by-pairs _ _ _ _ GoesByPointer euc_jp_bytes 8836 (jis0208-scalars flat accepted) euc_jp_mark-some (λ c d. grind (arith, d.ascii))
-      (λ c. euc-jp-bound c flat.jis0208) (λ p h. halves (p / 94 + 0xA1) _ (omega arith)) euc-jp-code
+      (λ c. euc-jp-bound c flat.jis0208) (λ p h. halves (p / 94 + 0xA1) _ (omega arith))
+      (λ c by. grind (arith, nat_tests, by.ascii, by.yen, by.overline, by.minus, by.katakana))
 
   shift-jis-code : (c : ℕ) → GoesByPointer c → shift_jis_code flat.jis0208 c ≡ option_map shift_jis_bytes (shift_jis_pointer_of flat.jis0208 c)
   unfolding shift_jis_code

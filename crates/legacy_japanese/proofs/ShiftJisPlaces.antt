@@ -1,15 +1,18 @@
--- The tables contain the places of leads and trails; index jis0208 is read at their sum.
-use Rattle.std.proofs.Common.{◌≡◌, ℕ, ◌+◌, ◌≤◌, List, [], ◌∷◌, length, false, cond, Some, refl, ap, arith}
-use Rattle.std.proofs.lemmas.Bool.Decides.{nat_tests}
-use Rattle.std.specs.{Int.is_in_range, Prelude.option_to_list}
-use Rattle.legacy_tables.specs.{AcceptedTables.AcceptedIndexes, Indexes.idx}
-use Rattle.legacy_tables.specs.declared.tables.IndexName.TheVariants as names
-use Rattle.legacy_tables.proofs.Accepted.{entry-used}
-use Rattle.legacy_base.specs.ShiftJis.{is_shift_jis_lead, shift_jis_scalars}
-use Rattle.legacy_decoder_engine.specs.Places.{IsTableOf}
+-- The places of leads and trails of Shift_JIS, byte by byte and in lanes, and the byte sequences that give one scalar.
+use Rattle.std.proofs.Common.{◌≡◌, ℕ, ◌+◌, [], ◌∷◌, false, cond, Some, refl, ap, arith, ◌≤◌, ◌<◌, ◌^◌, ◌==◌, List, Option, true, ◌∙◌, ◌-◌, ◌*◌, ◌/◌, ◌%◌}
+use Rattle.std.proofs.{Common.{length, get_or, map, replicate, sym, w16, Fits}, lemmas.Bool.{Decides.nat_tests, cond_both, agree_below_at, eqb-true}}
+use Rattle.std.{proofs.lemmas.Nat.xor_mod, specs.{Int.{is_in_range, Bits.bit_xor}, Prelude.option_to_list, Char.IsScalar, Option.option_map_or}}
+use Rattle.legacy_tables.{specs.{AcceptedTables.AcceptedIndexes, Indexes.idx, Unicode.katakana_of}, proofs.Accepted.entry-used}
+use Rattle.legacy_tables.proofs.Accepted.{length-jis0208, jis0208-below, jis0208-scalars}
+use Rattle.legacy_base.specs.{ShiftJis.{is_shift_jis_lead, shift_jis_scalars, shift_jis_pointer}, Grammar.shift_jis}
+use Rattle.legacy_decoder_engine.specs.{Places.IsTableOf, ReadAhead.{Runs, HasAscii}, StepUnits.IsNarrowIndex, LaneCodes.ArePairs, SplitRows.lead_place_of}
+use Rattle.legacy_decoder_engine.proofs.{PairPlaces.{none_past, pair_entry, found}, LeadHeld.pair, RunForms.single_runs, Widths.idx_below, LanePlaces.entry_is}
 use Rattle.legacy_japanese.specs.{ShiftJisPlaces.{shift_jis_lead_place, shift_jis_trail_place}, ShiftJisMachine.shift_jis_pair_scalars}
-use Rattle.legacy_japanese.specs.declared.shift_jis.places.TheConstants.{LEADS, TRAILS}
-use Rattle.legacy_decoder_engine.proofs.PairPlaces.{none_past, pair_entry}
+use Rattle.legacy_japanese.specs.{declared.shift_jis.places.TheConstants.{LEADS, TRAILS}, ShiftJisShown.shift_jis_codec, ShiftJisLanes.shift_jis_place}
+use lib.Lanes.{Each1, zip2}
+use Rattle.legacy_text.proofs.UnitLanes.{of_eight}
+use Rattle.legacy_tables.specs.declared.tables.IndexName.TheVariants as names
+use Rattle.legacy_decoder_engine.proofs.LeadHeld as held
 
 pub shift_jis_leads_are : IsTableOf shift_jis_lead_place LEADS
 unfolding shift_jis_lead_place
@@ -19,14 +22,91 @@ pub shift_jis_trails_are : IsTableOf shift_jis_trail_place TRAILS
 unfolding shift_jis_trail_place
 shift_jis_trails_are = refl
 
-pub shift_jis_entry : (index : List ℕ) → length index ≤ 65535 → (lead trail : ℕ) →
-    shift_jis_scalars index (shift_jis_lead_place lead + shift_jis_trail_place trail)
-    ≡ cond (is_shift_jis_lead lead) (shift_jis_pair_scalars index lead trail) []
+pub shift_jis_entry : (tables : AcceptedIndexes) (lead trail : ℕ) →
+    shift_jis_scalars tables.flat.jis0208 (shift_jis_lead_place lead + shift_jis_trail_place trail)
+    ≡ cond (is_shift_jis_lead lead) (shift_jis_pair_scalars tables.flat.jis0208 lead trail) []
 unfolding shift_jis_lead_place shift_jis_trail_place
-shift_jis_entry index short lead trail = grind (arith, pair_entry, nat_tests, none_past)
+shift_jis_entry tables lead trail =
+    let short = length-jis0208 tables.flat tables.accepted in grind (arith, pair_entry, nat_tests, none_past)
 
 -- the entry of a pointer is its only scalar, as no entry is at a pointer for private use
 pub entry_alone : (tables : AcceptedIndexes) (p c : ℕ) → Some c ≡ idx tables.flat.jis0208 p → c ∷ [] ≡ shift_jis_scalars tables.flat.jis0208 p
 entry_alone tables p c e =
     let shared : is_in_range 8836 10715 p ≡ false = entry-used tables.flat tables.accepted names.Jis0208 p c e in
     rw shared (ap option_to_list e)
+
+-- ---- byte sequences that give one scalar
+
+scalar_below : (jis0208 : List ℕ) (o : Option ℕ) (c : ℕ) → IsNarrowIndex jis0208 → option_map_or (shift_jis_scalars jis0208) o [] ≡ c ∷ [] → c < 0x1_0000
+scalar_below jis0208 o c h h1 = grind (arith, cond_both, nat_tests, idx_below)
+
+module _ (tables : AcceptedIndexes) where
+  -- a lead and a trail
+  pub pair_form : (lead trail c : ℕ) → lead < 2 ^ 8 → trail < 2 ^ 8 → IsScalar c
+      → c ∷ [] ≡ cond (is_shift_jis_lead lead) (shift_jis_pair_scalars tables.flat.jis0208 lead trail) []
+      → (c < 0x1_0000) × Runs (shift_jis tables.flat.jis0208) (lead ∷ trail ∷ []) (c ∷ [])
+  pair_form lead trail c byte byte' scalar e =
+      let both = found (is_shift_jis_lead lead) (shift_jis_pair_scalars tables.flat.jis0208 lead trail) c e in (
+        scalar_below tables.flat.jis0208 (shift_jis_pointer lead trail) c (jis0208-below tables.flat tables.accepted) both.1,
+        pair shift_jis_codec tables lead trail c byte byte' scalar both.0 both.1,
+      )
+
+  -- half-width katakana
+  pub katakana_form : (b c : ℕ) → 0xA1 ≤ b → b ≤ 0xDF → c ≡ katakana_of b → (c < 0x1_0000) × Runs (shift_jis tables.flat.jis0208) (b ∷ []) (c ∷ [])
+  katakana_form b c low high e =
+      let scalar : IsScalar c = grind (arith, nat_tests) in
+      (omega arith, single_runs (shift_jis_codec.shown tables.flat tables.accepted) b c (omega arith) scalar refl (grind (arith, nat_tests)))
+
+-- ---- the places of a lead and a trail
+
+abbrev changed_place : ℕ → ℕ
+changed_place b = cond (is_in_range 0x21 0x4F (bit_xor b 0xA0 % 256)) ((bit_xor b 0xA0 % 256 - 0x21) * 188) 65535
+
+-- the changed place is that of the lead, if the lead is not F0 to FC
+abbrev low_place : ℕ → ℕ
+low_place b = cond (is_in_range 0xF0 0xFC b) 65535 (shift_jis_lead_place b)
+
+changed_is : (b : ℕ) → b < 256 → changed_place b ≡ low_place b
+unfolding shift_jis_lead_place
+changed_is b h = eqb-true _ _ (agree_below_at (λ b. changed_place b == low_place b) (λ _. true) 256 b refl h)
+
+lead_of : (code : ℕ) → lead_place_of 0x21 0x2E 188 (bit_xor code 0xA0) ≡ low_place (code % 256)
+lead_of code =
+    let same : code % 256 % 256 ≡ code % 256 = omega arith in
+    rw (xor_mod code 0xA0 8, ← (changed_is (code % 256) (omega arith)), xor_mod (code % 256) 0xA0 8, same) refl
+
+-- a place below 65535 is the sum of the places of both bytes, and is within the leads up to EF
+placed : (code : ℕ) → shift_jis_place code < 65535
+    → (shift_jis_place code ≡ shift_jis_lead_place (code % 256) + shift_jis_trail_place (code / 256)) × (shift_jis_place code ≤ 8835)
+unfolding shift_jis_lead_place shift_jis_trail_place
+placed code below = grind (arith, nat_tests, lead_of)
+
+-- ---- eight codes
+
+pub changed_leads : (codes : List ℕ) → length codes ≡ 8 → Each1 (Fits w16) codes →
+    map (lead_place_of 0x21 0x2E 188) (zip2 bit_xor codes (replicate 8 0xA0)) ≡ map (λ code. lead_place_of 0x21 0x2E 188 (bit_xor code 0xA0)) codes
+changed_leads = of_eight (λ v. map (lead_place_of 0x21 0x2E 188) (zip2 bit_xor v (replicate 8 0xA0))
+    ≡ map (λ code. lead_place_of 0x21 0x2E 188 (bit_xor code 0xA0)) v)
+    (λ a b c d e f g h sa sb sc sd se sf sg sh. refl)
+
+-- ---- pairs
+
+module _ (tables : AcceptedIndexes) where
+  abbrev index : List ℕ
+  index = tables.flat.jis0208
+
+  pub ascii : HasAscii (shift_jis tables.flat.jis0208)
+  ascii = held.ascii shift_jis_codec tables
+
+  pub lane_pair : ArePairs (shift_jis tables.flat.jis0208) tables.flat.jis0208 shift_jis_place
+  lane_pair code small past within high some =
+      let p = shift_jis_place code in
+      let c = get_or index p 0 in
+      let is = placed code (omega (arith, within, length-jis0208 tables.flat tables.accepted)) in
+      let scalar : IsScalar c = jis0208-scalars tables.flat tables.accepted p 0 within in
+      let low : is_in_range 8836 10715 p ≡ false = grind (arith, nat_tests, is.1) in
+      let scalars : shift_jis_scalars index p ≡ c ∷ [] = rw low (entry_is c some) in (
+        scalar,
+        pair_form tables (code % 256) (code / 256) c (omega arith) (omega arith) scalar
+            (sym scalars ∙ ap (shift_jis_scalars index) is.0 ∙ shift_jis_entry tables (code % 256) (code / 256)),
+      )

@@ -1,19 +1,10 @@
 //! The decoder of EUC-JP.
-ghost use Rattle.std.specs.Prelude.{◌≡◌, ℕ, List, ◌∷◌, [], true, length, option_to_list, IfSome};
-ghost use Rattle.std.specs.Char.{IsScalar};
+ghost use Rattle.std.specs.{Prelude.{◌≡◌, ℕ, List, ◌∷◌, [], true, length, option_to_list, IfSome}, Char.IsScalar};
 ghost use Rattle.legacy_text.specs.EncodingForm.{EncodingForm};
-ghost use Rattle.legacy_base.specs.EucJp.{euc_jp_scalars};
-ghost use Rattle.legacy_base.specs.Grammar.{euc_jp};
-ghost use Rattle.legacy_base.specs.States.{is_neutral, new_state};
+ghost use Rattle.legacy_base.specs.{EucJp.euc_jp_scalars, Grammar.euc_jp, States.{is_neutral, new_state, state_of}, Fronts.malformed};
 ghost use Rattle.legacy_tables.specs.Tables.{index_list};
-ghost use Rattle.legacy_base.specs.States.{state_of};
-ghost use Rattle.legacy_base.specs.Fronts.{malformed};
-ghost use Rattle.legacy_decoder_engine.specs.Steps.{finish};
-ghost use Rattle.legacy_japanese.specs.EucJpMachine.{euc_jp_step};
-ghost use Rattle.legacy_decoder_engine.specs.Moves.{read_room, room_units};
-ghost use Rattle.legacy_decoder_engine.specs.Feeding.{Took};
-ghost use Rattle.legacy_decoder_engine.specs.LaneRows.{row_place};
-ghost use Rattle.legacy_japanese.specs.EucJpHeld.{held_bytes};
+ghost use Rattle.legacy_decoder_engine.specs.{Steps.finish, Moves.{read_room, room_units}, Feeding.Took, LaneRows.row_place};
+ghost use Rattle.legacy_japanese.specs.{EucJpMachine.euc_jp_step, EucJpHeld.held_bytes, EucJpDecoder.euc_jp_state};
 
 use super::held_lead::EucJpLead;
 use legacy_base::{DecoderStep, Destination, IndexName, RawDecoder, Tables};
@@ -150,6 +141,7 @@ fn read_jis0208_trail(tables: &Tables, lead: EucJpLead, byte: u8) -> Fed
 
 /// Returns what a byte leads to after 8F and a lead.
 #[inline]
+#[tactic(auto, using(std::proofs::lemmas::Grind::common_steps))]
 fn read_jis0212_trail(tables: &Tables, lead: EucJpLead, byte: u8) -> Fed
     ensures { Took (euc_jp_step [] tables.now.flat.jis0212 (0x8F ∷ lead.byte ∷ []) byte)
         (0x8F ∷ lead.byte ∷ []) byte result [] }
@@ -204,8 +196,6 @@ fn held_length(held: Held) -> u8
 
 impl<'a> EucJpDecoder<'a> {
     ghost use Rattle.legacy_base.specs.Lengths.{answer, weighted};
-    ghost use Rattle.legacy_japanese.specs.EucJpDecoder.{euc_jp_state};
-
     /// Returns a new decoder over the tables.
     pub fn new(tables: &'a Tables<'a>) -> EucJpDecoder<'a>
         ensures { euc_jp_state result
@@ -237,8 +227,6 @@ impl<'a> EucJpDecoder<'a> {
 }
 
 impl DecoderMoves for EucJpDecoder<'_> {
-    ghost use Rattle.legacy_japanese.specs.EucJpDecoder.{euc_jp_state};
-
     ghost state = { euc_jp_state };
 
     #[inline]
@@ -247,13 +235,13 @@ impl DecoderMoves for EucJpDecoder<'_> {
     }
 
     #[inline]
-    #[tactic(auto, using(crate::proofs::EucJpHeld::covered))]
+    #[tactic(auto, using(crate::proofs::EucJpShown::covered))]
     fn reading_room(&self, byte: u8) -> Room {
         room_of(self.held, byte)
     }
 
     #[inline]
-    #[tactic(auto, using(crate::proofs::EucJpHeld::covered))]
+    #[tactic(auto, using(crate::proofs::EucJpShown::covered))]
     fn release_room(&self) -> Room {
         Room::Narrow
     }
@@ -263,7 +251,7 @@ impl DecoderMoves for EucJpDecoder<'_> {
     }
 
     #[inline(always)]
-    #[tactic(auto, using(crate::proofs::EucJpHeld::feeds))]
+    #[tactic(auto, using(crate::proofs::EucJpShown::feeds))]
     fn feed(&mut self, byte: u8) -> Fed {
         let (fed, held) = read(self.tables, self.held, byte);
         self.held = held;
@@ -271,12 +259,12 @@ impl DecoderMoves for EucJpDecoder<'_> {
     }
 
     #[inline]
-    #[tactic(auto, using(crate::proofs::EucJpHeld::ends_none, crate::proofs::EucJpHeld::ends_some))]
+    #[tactic(auto, using(crate::proofs::EucJpShown::ends_none, crate::proofs::EucJpShown::ends_some))]
     fn has_rest(&self) -> bool {
         !matches!(self.held, Held::Nothing)
     }
 
-    #[tactic(auto, using(crate::proofs::EucJpHeld::ends_none, crate::proofs::EucJpHeld::reports))]
+    #[tactic(auto, using(crate::proofs::EucJpShown::ends_none, crate::proofs::EucJpShown::reports))]
     fn report(&mut self) -> Option<(u8, u8)> {
         let length = held_length(self.held);
         if length == 0 {
@@ -326,7 +314,7 @@ impl LaneCodec for EucJp {
     }
 
     #[inline(always)]
-    #[tactic(auto, using(crate::proofs::EucJpHeld::pair))]
+    #[tactic(auto, using(crate::proofs::EucJpShown::pair))]
     fn front(tables: &FlatTables<'_>, lead: u8, trail: u8) -> CommonForm {
         let Some(lead) = EucJpLead::new(lead) else {
             return CommonForm::Other;
@@ -349,8 +337,6 @@ impl LaneCodec for EucJp {
 }
 
 impl RawDecoder for EucJpDecoder<'_> {
-    ghost use Rattle.legacy_japanese.specs.EucJpDecoder.{euc_jp_state};
-
     ghost state = { euc_jp_state };
 
     #[inline(always)]

@@ -1,8 +1,7 @@
 //! The encoder of EUC-JP.
 ghost use Rattle.std.specs.Prelude.{◌≡◌, [], ◌∷◌, option_map};
 ghost use Rattle.legacy_tables.specs.Pointers.{euc_jp_pointer_of, minus_as_hyphen};
-ghost use Rattle.legacy_base.specs.EucJp.{euc_jp_bytes};
-ghost use Rattle.legacy_base.specs.Encoders.{euc_jp};
+ghost use Rattle.legacy_base.specs.{EucJp.euc_jp_bytes, Encoders.euc_jp};
 ghost use Rattle.legacy_japanese.specs.EucJpCodes.{euc_jp_pairs, euc_jp_mark, euc_jp_mark-some};
 
 use crate::asked_scalars::ask_others;

@@ -63,6 +63,7 @@ impl UnitCodes for AsciiUnits {
 
     // There is no branch, so that sixteen code units are tested at once.
     #[inline(always)]
+    #[tactic(auto, using(std::proofs::lemmas::Grind::common_steps))]
     fn byte_of(&self, unit: u16) -> (u8, bool) {
         let is_known = (unit < 0x80) & !is_control(u32::from(unit));
         ((unit % 0x100) as u8, is_known)
@@ -151,6 +152,7 @@ impl AheadCodes for AsciiCodes<'_> {
     // Most ASCII between pairs is shorter than sixteen bytes. Later pieces have 256 bytes: so little is copied
     // without use, however many controls there are.
     #[inline(always)]
+    #[tactic(auto, using(legacy_encoder_engine::proofs::ReadingAhead::encodes_then))]
     fn read_blocks<S: TextCursor>(&self, src: &mut S, dst: &mut [u8], at: usize) -> usize {
         if dst.len() - at < 18 {
             return at;

@@ -1,9 +1,8 @@
 //! The encoder of ISO-2022-JP that reads pairs from a list, in memory that the caller lends.
 ghost use Rattle.std.specs.Prelude.{◌≡◌, ◌≢◌, ◌<◌, ◌≤◌, length, MatchOption};
 ghost use Rattle.legacy_base.specs.Encoders.{is_pending};
-ghost use Rattle.legacy_japanese.specs.Iso2022JpEncoder.{Asks, iso_2022_jp_encoder_state, pairs_state};
-ghost use Rattle.legacy_japanese.specs.Iso2022JpPairs.{IsListedEntry, IsPairOf, ListsPairs};
-ghost use Rattle.legacy_japanese.specs.Iso2022JpPairs.{iso_2022_jp_mark, iso_2022_jp_mark-some};
+ghost use Rattle.legacy_japanese.specs.{Iso2022JpEncoder.{Asks, iso_2022_jp_encoder_state, pairs_state}, Iso2022JpPairs.{IsListedEntry, IsPairOf}};
+ghost use Rattle.legacy_japanese.specs.Iso2022JpPairs.{ListsPairs, iso_2022_jp_mark, iso_2022_jp_mark-some};
 
 use crate::asked_scalars::ask_others;
 use crate::iso_2022_jp::encoder::{Iso2022JpEncoder, Mode, asked, go_to};
@@ -86,6 +85,7 @@ impl ListedPairs<'_, '_> {
 
     /// Returns what the function `asked` returns, by the list if the scalar has a pair in it.
     #[inline]
+    #[tactic(auto, using(crate::proofs::Iso2022JpEncoderMoves::asks_listed))]
     fn asked(&self, mode: Mode, c: char) -> (Mode, EncoderMove)
         ensures { Asks self.now.tables.now.flat.jis0208 self.now.tables.now.flat.katakana
             mode c result.0 result.1 }
@@ -198,6 +198,7 @@ impl EncoderMoves for CachedIso2022JpEncoder<'_, '_> {
     }
 
     #[inline]
+    #[tactic(auto, using(std::proofs::lemmas::Grind::common_steps))]
     fn next(&mut self, c: char) -> EncoderMove {
         let (mode, own) = self.listed.asked(self.mode, c);
         go_to(&mut self.mode, mode, own)

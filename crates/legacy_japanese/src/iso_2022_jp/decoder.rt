@@ -1,10 +1,7 @@
 //! The decoder of ISO-2022-JP.
 ghost use Rattle.std.specs.Prelude.{◌≡◌, [], true};
-ghost use Rattle.legacy_base.specs.Grammar.{iso_2022_jp};
-ghost use Rattle.legacy_base.specs.Iso2022Jp.{ascii};
-ghost use Rattle.legacy_base.specs.States.{is_neutral, new_state};
-ghost use Rattle.legacy_japanese.specs.Iso2022JpMachine.{is_held};
-ghost use Rattle.legacy_japanese.specs.Iso2022JpMoves.{weight_of};
+ghost use Rattle.legacy_base.specs.{Grammar.iso_2022_jp, Iso2022Jp.ascii, States.{is_neutral, new_state}};
+ghost use Rattle.legacy_japanese.specs.{Iso2022JpMachine.is_held, Iso2022JpMoves.weight_of};
 
 use super::read_ahead::{escape_at, read_modes};
 use super::steps::{Held, Mode, Start, finish, pending, read};
@@ -58,6 +55,7 @@ impl<'a> Iso2022JpDecoder<'a> {
     ///
     /// An escape with nothing after it is held back. The result is therefore false after an escape
     /// to ASCII mode alone.
+    #[tactic(auto, using(std::proofs::lemmas::Grind::common_steps))]
     pub fn in_neutral_state(&self) -> bool
         ensures { result ≡ is_neutral (iso_2022_jp_state self.now) }
     {
@@ -135,7 +133,7 @@ impl<'a> DecoderMoves for Iso2022JpDecoder<'a> {
 
     // Holds back an escape that no run follows. Byte by byte it takes three turns of the loop.
     #[inline(always)]
-    #[tactic(auto, using(legacy_decoder_engine::proofs::CallUnderWay::holds_none))]
+    #[tactic(auto, using(legacy_decoder_engine::proofs::CallUnderWay::holds_none, crate::proofs::Iso2022JpFeeding::holds_escape))]
     fn hold_back<T: Destination>(&mut self, src: &[u8], dst: &T) -> usize {
         if !self.held.is_nothing() {
             return 0;

@@ -1,12 +1,9 @@
 //! The encoder of ISO-2022-JP.
 ghost use Rattle.std.specs.Prelude.{◌≡◌, ◌==◌, ◌||◌, ◌<◌, ℕ, List, IfSome};
-ghost use Rattle.legacy_base.specs.Encoders.{iso_2022_jp, is_pending, new_encoder};
-ghost use Rattle.legacy_base.specs.Iso2022Jp.{iso_2022_jp_fold, iso_2022_jp_pointer_of};
+ghost use Rattle.legacy_base.specs.{Encoders.{iso_2022_jp, is_pending, new_encoder}, Iso2022Jp.{iso_2022_jp_fold, iso_2022_jp_pointer_of}};
 ghost use Rattle.legacy_base.specs.Iso2022Jp.{roman_or_ascii};
 ghost use Rattle.legacy_encoder_engine.specs.Moves.{Moves};
-ghost use Rattle.legacy_japanese.specs.Iso2022JpEncoder.{Asks, escape_move, is_same_mode};
-ghost use Rattle.legacy_japanese.specs.Iso2022JpEncoder.{iso_2022_jp_encoder_state, mode_of};
-ghost use Rattle.legacy_japanese.specs.Iso2022JpEncoder.{state_in};
+ghost use Rattle.legacy_japanese.specs.Iso2022JpEncoder.{Asks, escape_move, is_same_mode, iso_2022_jp_encoder_state, mode_of, state_in};
 
 use crate::folded_scalars::minus_as_hyphen;
 use crate::iso_2022_jp::ascii::{AsciiCodes, is_control};
@@ -194,6 +191,7 @@ impl EncoderMoves for Iso2022JpEncoder<'_> {
     }
 
     #[inline]
+    #[tactic(auto, using(std::proofs::lemmas::Grind::common_steps))]
     fn next(&mut self, c: char) -> EncoderMove {
         let (mode, own) = asked(self.tables, self.mode, c);
         go_to(&mut self.mode, mode, own)
@@ -256,6 +254,7 @@ impl RawEncoder for Iso2022JpEncoder<'_> {
         scalars.checked_add(u16_length.checked_add(1)? / 2)
     }
 
+    #[tactic(auto, using(std::proofs::lemmas::Grind::common_steps))]
     fn max_buffer_length_from_utf8_without_replacement(&self, byte_length: usize) -> Option<usize> {
         3usize.checked_add(byte_length.checked_mul(3)?)
     }

@@ -3,8 +3,7 @@
 // Functions that run for each sequence or block are always inlined, and so are their callers. A call would pass vectors
 // through memory, and keep the destination's place there.
 ghost use Rattle.std.specs.Prelude.{◌≡◌, ℕ, ◌≤◌, List, IfSome, length, true};
-ghost use Rattle.legacy_japanese.specs.Iso2022JpRuns.{ArePlain, HasEscape, IsPlain};
-ghost use Rattle.legacy_japanese.specs.Iso2022JpRuns.{pairs_grammar, run_state};
+ghost use Rattle.legacy_japanese.specs.Iso2022JpRuns.{ArePlain, HasEscape, IsPlain, pairs_grammar, run_state};
 ghost use Rattle.legacy_decoder_engine.specs.ReadAhead.{ReadsTo, ReadsAhead};
 
 use super::places::{LEADS, TRAILS};

@@ -3,12 +3,10 @@
 //! A step gives the mode and the held-back bytes after a byte, or at the end of the input.
 ghost use Rattle.std.specs.Prelude.{◌≡◌, ◌≤◌, ◌↔◌, IfSome, IsTrue, length, true};
 ghost use Rattle.legacy_tables.specs.Indexes.{idx};
-ghost use Rattle.legacy_japanese.specs.Iso2022JpMachine as machine;
 ghost use Rattle.legacy_japanese.specs.Iso2022JpMachine.{start_bytes, bytes_of, is_held, is_resting};
-ghost use Rattle.legacy_japanese.specs.declared.iso_2022_jp.steps.Mode.TheVariants.{Ascii, TwoByte};
-ghost use Rattle.legacy_japanese.specs.declared.iso_2022_jp.steps.Start.TheVariants.{Nothing};
-ghost use Rattle.legacy_japanese.specs.declared.iso_2022_jp.steps.Held.TheVariants.{Begun};
+ghost use Rattle.legacy_japanese.specs.declared.iso_2022_jp.steps.{Mode.TheVariants.{Ascii, TwoByte}, Start.TheVariants.Nothing, Held.TheVariants.Begun};
 ghost use Rattle.legacy_japanese.specs.Iso2022JpMoves.{fed_of, weight_of, IsNarrow, IsNarrowScalar};
+ghost use Rattle.legacy_japanese.specs.Iso2022JpMachine as machine;
 
 use legacy_base::{IndexName, Tables};
 use legacy_decoder_engine::moves::Fed;
@@ -385,6 +383,7 @@ fn read_start(mode: Mode, start: Start, byte: u8) -> Outcome
 /// Either the next escape is whole, and the one before it is malformed because nothing is between
 /// them. Or the escape byte is malformed and the second byte is held back alone.
 #[inline]
+#[tactic(auto, using(std::proofs::lemmas::Grind::common_steps))]
 fn read_next_third(mode: Mode, second: u8, escape: Option<Escape>) -> Outcome
     ensures value { result ≡ machine.read_next_third mode second escape }
     ensures narrow { IsNarrow result.action }

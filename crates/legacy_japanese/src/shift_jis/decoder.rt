@@ -1,14 +1,10 @@
 //! The decoder of Shift_JIS.
-ghost use Rattle.std.specs.Prelude.{◌≡◌, ◌+◌, ◌-◌, ◌≤◌, [], option_to_list, IfSome, if◌then◌else◌};
-ghost use Rattle.std.specs.Char.{IsScalar};
+ghost use Rattle.std.specs.{Prelude.{◌≡◌, ◌+◌, ◌-◌, ◌≤◌, [], option_to_list, IfSome, if◌then◌else◌}, Char.IsScalar};
 ghost use Rattle.legacy_tables.specs.Unicode.{katakana_of};
-ghost use Rattle.legacy_base.specs.ShiftJis.{is_shift_jis_lead, shift_jis_scalars};
-ghost use Rattle.legacy_base.specs.Grammar.{shift_jis};
-ghost use Rattle.legacy_japanese.specs.ShiftJisMachine.{shift_jis_first, shift_jis_pair_scalars};
-ghost use Rattle.legacy_decoder_engine.specs.Feeding.{Took};
-ghost use Rattle.legacy_japanese.specs.ShiftJisShown.{shift_jis_codec};
-ghost use Rattle.legacy_decoder_engine.specs.LeadCodecs.{held_bytes};
+ghost use Rattle.legacy_base.specs.{ShiftJis.{is_shift_jis_lead, shift_jis_scalars}, Grammar.shift_jis};
+ghost use Rattle.legacy_japanese.specs.{ShiftJisMachine.{shift_jis_first, shift_jis_pair_scalars}, ShiftJisShown.shift_jis_codec};
 ghost use Rattle.legacy_japanese.specs.ShiftJisLanes.{shift_jis_place};
+ghost use Rattle.legacy_decoder_engine.specs.{Feeding.Took, LeadCodecs.held_bytes};
 
 use super::held_lead::ShiftJisLead;
 use super::places::{LEADS, TRAILS};
@@ -124,7 +120,7 @@ impl LaneCodec for ShiftJis {
     }
 
     #[inline(always)]
-    #[tactic(auto, using(crate::proofs::ShiftJisRuns::pair_form))]
+    #[tactic(auto, using(crate::proofs::ShiftJisPlaces::pair_form))]
     fn front(tables: &FlatTables<'_>, lead: u8, trail: u8) -> CommonForm {
         match form_scalar(tables, lead, trail) {
             Some(scalar) => CommonForm::Pair(scalar),

@@ -1,10 +1,8 @@
 //! The encoder of Shift_JIS.
 ghost use Rattle.std.specs.Prelude.{◌≡◌, [], ◌∷◌, option_map};
 ghost use Rattle.legacy_tables.specs.Pointers.{shift_jis_pointer_of, minus_as_hyphen};
-ghost use Rattle.legacy_base.specs.ShiftJis.{shift_jis_bytes};
-ghost use Rattle.legacy_base.specs.Encoders.{shift_jis};
-ghost use Rattle.legacy_japanese.specs.ShiftJisCodes.{shift_jis_pairs, shift_jis_mark};
-ghost use Rattle.legacy_japanese.specs.ShiftJisCodes.{shift_jis_mark-some};
+ghost use Rattle.legacy_base.specs.{ShiftJis.shift_jis_bytes, Encoders.shift_jis};
+ghost use Rattle.legacy_japanese.specs.ShiftJisCodes.{shift_jis_pairs, shift_jis_mark, shift_jis_mark-some};
 
 use super::decoder::ShiftJis;
 use crate::asked_scalars::ask_others;

@@ -1,13 +1,13 @@
-use Rattle.std.proofs.lemmas.Grind.{common_steps}
-use Rattle.std.proofs.{Common.{◌≡◌, ◌∙◌, ◌++◌, take, ap, arith, append_assoc}, lemmas.List.take_more}
-use Rattle.legacy_japanese.proofs.Iso2022JpRuns.{plain_front, plain_units, reads_plain}
+use Rattle.std.proofs.{lemmas.{Grind.common_steps, List.take_more}, Common.{◌≡◌, ◌∙◌, ◌++◌, take, ap, arith, append_assoc}}
+use Rattle.legacy_text.proofs.CodeUnits.{code_units_ascii}
+use Rattle.legacy_japanese.proofs.Iso2022JpRuns.{plain_front, reads_plain}
 use Rattle.legacy_japanese.proofs.iso_2022_jp.read_ahead.read_plain.Goals as goal
 
 pub put-requires : goal.put-requires
-put-requires g c = grind (arith, common_steps, plain_front, plain_units)
+put-requires g c = grind (arith, common_steps, plain_front, code_units_ascii)
 
 pub loop-at-preserved : goal.loop-at-preserved
-loop-at-preserved g c = grind (arith, common_steps, plain_front, plain_units, append_assoc, take_more)
+loop-at-preserved g c = grind (arith, common_steps, plain_front, code_units_ascii, append_assoc, take_more)
 
 pub returns : goal.returns
 returns g c jis0208 =

@@ -1,8 +1,5 @@
-use Rattle.std.proofs.lemmas.Grind.{common_steps}
-use Rattle.std.proofs.Common.{arith, ◌≡◌, ℕ, Option, Some, None}
-use Rattle.std.specs.Prelude.{IfSome}
-use Rattle.legacy_tables.specs.{Indexes.idx, AcceptedTables.AcceptedIndexes}
-use Rattle.legacy_tables.proofs.Accepted.{idx-all, jis0208-below, jis0208-scalars}
+use Rattle.std.{proofs.{lemmas.Grind.common_steps, Common.{arith, ◌≡◌, ℕ, Option, Some, None}}, specs.Prelude.IfSome}
+use Rattle.legacy_tables.{specs.{Indexes.idx, AcceptedTables.AcceptedIndexes}, proofs.Accepted.{idx-all, jis0208-below, jis0208-scalars}}
 use Rattle.legacy_japanese.specs.Iso2022JpMoves.{IsNarrowScalar}
 use Rattle.legacy_japanese.proofs.iso_2022_jp.steps.entry.Goals as goal
 

@@ -1,4 +1,4 @@
-use Rattle.legacy_japanese.proofs.EucJpHeld.{malformed_byte}
+use Rattle.legacy_japanese.proofs.EucJpShown.{malformed_byte}
 use Rattle.legacy_japanese.proofs.euc_jp.decoder.EucJpDecoderDecoderMoves.is_malformed_byte.Goals as goal
 
 pub returns-in-Nothing : goal.returns-in-Nothing

@@ -1,7 +1,6 @@
 use Rattle.legacy_base.specs.Grammar.{euc_jp}
 use Rattle.legacy_decoder_engine.proofs.WrittenRuns.{reads_none}
-use Rattle.legacy_japanese.specs.EucJpDecoder.{euc_jp_state}
-use Rattle.legacy_japanese.proofs.EucJpHeld.{ascii}
+use Rattle.legacy_japanese.{specs.EucJpDecoder.euc_jp_state, proofs.EucJpShown.ascii}
 use Rattle.legacy_japanese.proofs.euc_jp.decoder.EucJpDecoderDecoderMoves.read_runs.Goals as goal
 
 pub returns-in-None : goal.returns-in-None

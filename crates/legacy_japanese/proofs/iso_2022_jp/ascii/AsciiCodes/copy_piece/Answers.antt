@@ -1,7 +1,33 @@
-use Rattle.std.proofs.{Common.{◌≡◌, ◌∙◌, ◌+◌, ◌-◌, ◌≤◌, ◌++◌, take, drop, length, ap, sym, arith}, lemmas.List.length-take-le}
+use Rattle.std.proofs.Common.{◌≡◌, ◌∙◌, ◌+◌, ◌-◌, ◌≤◌, ◌++◌, take, drop, length, ap, sym, arith, ℕ, ◌<◌, List, slice_index, get_or-take}
+use Rattle.std.proofs.{lemmas.{List.{length-take-le, take-take, drop-take}, Grind.common_steps}, Math.Seq.{take-append_seam, drop-append_seam}}
 use Rattle.legacy_encoder_engine.proofs.ReadingAhead.{ascii_count, encodes_codes, encodes_none}
-use Rattle.legacy_japanese.proofs.{Iso2022JpEncoderMoves.{serves, own_byte}, Iso2022JpPieces.{piece_behind, front_same, piece_is, front_without, own_bytes}}
+use Rattle.legacy_japanese.{proofs.Iso2022JpEncoderMoves.{serves, own_byte}, specs.Iso2022JpEncoder.{HasNoControl, IsOwnByte}}
+use Rattle.legacy_text.specs.UnitCodes.{WritesCodes}
 use Rattle.legacy_japanese.proofs.iso_2022_jp.ascii.AsciiCodes.copy_piece.Goals as goal
+
+module _ (start n limit : ℕ) (dst new more : List ℕ) (from : start ≤ limit) (within : limit ≤ length dst) (same : length new ≡ length (take limit dst))
+    (fits : start + n ≤ length (take limit dst))
+    (bytes : take (start + n) new ≡ take start (take limit dst) ++ more) where
+  -- the output is what was there before, and then the piece
+  piece_behind : take (start + n) (new ++ drop limit dst) ≡ take start dst ++ more
+  piece_behind = grind (arith, common_steps, take-take start limit dst)
+
+  -- what was there before has not changed
+  front_same : take start (new ++ drop limit dst) ≡ take start dst
+  front_same = grind (arith, common_steps, piece_behind, take-take start (start + n) (new ++ drop limit dst), take-append_seam (take start dst) more)
+
+  -- what comes after it is the piece
+  piece_is : take (start + n - start) (drop start (new ++ drop limit dst)) ≡ more
+  piece_is = grind (arith, common_steps, piece_behind, drop-take start n (new ++ drop limit dst), drop-append_seam (take start dst) more)
+
+-- ASCII without controls is written as itself
+own_bytes : (left old : List ℕ) (n : ℕ) → n ≤ length left → ((k : ℕ) → slice_index (take n left) k < 0x80)
+    → HasNoControl (take n left) → WritesCodes IsOwnByte left n old (old ++ take n left)
+own_bytes left old n within ascii none = grind (arith, length-take-le, slice_index, get_or-take)
+
+-- a front of bytes without controls has no control
+front_without : (n m : ℕ) (bytes : List ℕ) → n ≤ m → HasNoControl (take m bytes) → HasNoControl (take n bytes)
+front_without n m bytes within none k h = let e = none k in grind (arith, common_steps)
 
 pub returns-then-has_any_control : goal.returns-then-has_any_control
 returns-then-has_any_control g c = grind (arith, front_same, encodes_none)
@@ -17,13 +43,11 @@ returns g c =
     let limit = c.args.limit in
     let left = g.S.TextCursor.left c.args.src.now in
     let n = c.copy_ascii-count.result in
-    let tested = c.tested_end-tested.result in
-    let more = c.tested_end-tested.ensures in
     let within : limit ≤ length dst = omega (arith, c.requires.to) in
     let inside : length (take limit dst) ≡ limit = length-take-le limit dst within in
     let is = piece_is start n limit dst new (take n left) c.requires.from within c.copy_ascii-count.auto.dst e.fits e.bytes in
-    let none = rw is at (front_without (start + n - start) (tested - start) (drop start (new ++ drop limit dst)) (omega (arith, more.from))
-    (c.has_any_control.ensures c.if-has_any_control.false)) in
+    let less : start + n - start ≤ c.tested_end-tested.result - start = omega (arith, c.tested_end-tested.ensures.from) in
+    let none = rw is at (front_without _ _ (drop start (new ++ drop limit dst)) less (c.has_any_control.ensures c.if-has_any_control.false)) in
     let long = length-take-le start dst (omega (arith, c.requires.from, within)) in
     let units = e.passed ∙ ap (λ k. g.S.TextCursor.passed c.args.src.now + k) (sym (ascii_count form left n e.read e.ascii)) in
     rw (piece_behind start n limit dst new (take n left) c.requires.from within c.copy_ascii-count.auto.dst e.fits e.bytes)

@@ -7,11 +7,5 @@ pub returns-clause-puts : goal.returns-clause-puts
 returns-clause-puts c =
     let flat = c.args.self.now.tables.now.flat in
     let both = c.entry_of-entry.result in
-    record {
-      move = Two (both % 256) (both / 256);
-      moves = moves_listed flat.jis0208 flat.katakana c.args.c both (c.entry_of-entry.ensures c.if-entry-eq0.false);
-      reads = refl;
-      silent = refl;
-      bytes = c.put_two.ensures;
-      ends = refl;
-    }
+    let moves = moves_listed flat.jis0208 flat.katakana c.args.c both (c.entry_of-entry.ensures c.if-entry-eq0.false) in
+    record { move = Two (both % 256) (both / 256); moves = moves; reads = refl; silent = refl; bytes = c.put_two.ensures; ends = refl }

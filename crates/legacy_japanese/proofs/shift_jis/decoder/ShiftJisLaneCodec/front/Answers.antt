@@ -1,4 +1,4 @@
-use Rattle.legacy_japanese.proofs.ShiftJisRuns.{katakana_form}
+use Rattle.legacy_japanese.proofs.ShiftJisPlaces.{katakana_form}
 use Rattle.legacy_japanese.proofs.shift_jis.decoder.ShiftJisLaneCodec.front.Goals as goal
 
 pub returns-then-lead-le223 : goal.returns-then-lead-le223

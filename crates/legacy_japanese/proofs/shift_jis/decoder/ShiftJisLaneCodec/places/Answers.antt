@@ -1,7 +1,6 @@
-use Rattle.std.proofs.Common.{◌∙◌}
-use Rattle.std.specs.Int.Bits.{bit_xor}
+use Rattle.std.{proofs.Common.◌∙◌, specs.Int.Bits.bit_xor}
 use Rattle.legacy_decoder_engine.specs.SplitRows.{lead_place_of, trail_place_of}
-use Rattle.legacy_japanese.proofs.ShiftJisLanes.{changed_leads}
+use Rattle.legacy_japanese.proofs.ShiftJisPlaces.{changed_leads}
 use Rattle.legacy_japanese.proofs.shift_jis.decoder.ShiftJisLaneCodec.places.Goals as goal
 
 pub returns : goal.returns
