@@ -1,8 +1,7 @@
 -- Units of vectors that are below a bound.
-use Rattle.std.proofs.Common.{◌≡◌, ℕ, zero, suc, ◌-◌, ◌^◌, ◌<◌, cond, ltb, List, [], ◌∷◌, length, map, arith}
-use Rattle.std.proofs.lemmas.Bool.Decides.{nat_tests}
-use lib.Lanes.{zip2, sel_l, top}
+use Rattle.std.proofs.{Common.{◌≡◌, ℕ, zero, suc, ◌-◌, ◌^◌, ◌<◌, cond, ltb, List, [], ◌∷◌, length, map, arith}, lemmas.Bool.Decides.nat_tests}
 use Rattle.legacy_miscellaneous.specs.Utf16Decoder.{AreBelow}
+use lib.Lanes.{zip2, sel_l, top}
 
 -- ---- the greater of two units, lane by lane
 

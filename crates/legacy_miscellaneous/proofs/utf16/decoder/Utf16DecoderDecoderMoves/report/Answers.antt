@@ -1,6 +1,5 @@
-use Rattle.std.proofs.Common.{refl}
-use Rattle.legacy_miscellaneous.specs.declared.utf16.held_bytes.Held.TheVariants.{Odd, High, HighOdd}
-use Rattle.legacy_miscellaneous.proofs.{Utf16Held.{ends_none, reports}, utf16.decoder.Utf16DecoderDecoderMoves.report.Goals.{in-Odd, in-High, in-HighOdd}}
+use Rattle.{std.proofs.Common.refl, legacy_miscellaneous.{specs.declared.utf16.held_bytes.Held.TheVariants.{Odd, High, HighOdd}, proofs.Utf16Held.ends_none}}
+use Rattle.legacy_miscellaneous.proofs.{Utf16Held.reports, utf16.decoder.Utf16DecoderDecoderMoves.report.Goals.{in-Odd, in-High, in-HighOdd}}
 use Rattle.legacy_miscellaneous.proofs.utf16.decoder.Utf16DecoderDecoderMoves.report.Goals as goal
 
 pub returns-in-Nothing : goal.returns-in-Nothing
