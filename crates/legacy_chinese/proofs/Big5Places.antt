@@ -1,14 +1,10 @@
 -- The entry of index Big5 at the sum of a lead's place and a trail's place.
-use Rattle.std.proofs.Common.{◌≡◌, ◌≢◌, ◌∙◌, ℕ, ◌+◌, ◌≤◌, List, [], ◌∷◌, length, cond, refl, sym, ap, arith, false, Some}
-use Rattle.std.proofs.{lemmas.Bool.{ne_eqb, Decides.nat_tests}}
-use Rattle.std.specs.{Prelude.option_to_list}
-use Rattle.legacy_tables.specs.{Indexes.{entry_scalar, idx}, TableChecks.must_be_empty, AcceptedTables.AcceptedIndexes, Unicode.IsByte}
-use Rattle.legacy_tables.proofs.Accepted.{length-big5, entry-used}
-use Rattle.legacy_base.specs.{Big5.big5_scalars, States.is_lead, Grammar.big5}
-use Rattle.legacy_decoder_engine.specs.{ReadAhead.{HasAscii, Runs}, Places.IsTableOf}
-use Rattle.legacy_decoder_engine.proofs.{LeadHeld.{ascii, pair}, PairPlaces.{none_past, pair_entry, found}}
-use Rattle.legacy_chinese.specs.{Big5Shown.big5_codec, Big5Machine.big5_pair_scalars, Big5Places.{big5_lead_place, big5_trail_place}}
-use Rattle.legacy_chinese.specs.declared.big5.places.TheConstants.{ROWS_OF_157, TRAILS}
+use Rattle.std.proofs.{Common.{◌≡◌, ◌≢◌, ◌∙◌, ℕ, ◌+◌, ◌≤◌, List, [], ◌∷◌, length, cond, refl, sym, ap, arith, false, Some}, lemmas.Bool.Decides.nat_tests}
+use Rattle.{std.specs.Prelude.option_to_list, legacy_tables.specs.{Indexes.{entry_scalar, idx}, TableChecks.must_be_empty, AcceptedTables.AcceptedIndexes}}
+use Rattle.{legacy_tables.{specs.Unicode.IsByte, proofs.Accepted.{length-big5, entry-used}}, legacy_base.specs.{Big5.big5_scalars, States.is_lead}}
+use Rattle.{legacy_base.specs.Grammar.big5, legacy_decoder_engine.{specs.{ReadAhead.{HasAscii, Runs}, Places.IsTableOf}, proofs.LeadHeld.{ascii, pair}}}
+use Rattle.{legacy_decoder_engine.proofs.PairPlaces.{none_past, pair_entry, found}, legacy_chinese.specs.{Big5Shown.big5_codec, Big5Machine.big5_pair_scalars}}
+use Rattle.legacy_chinese.specs.{Big5Places.{big5_lead_place, big5_trail_place}, declared.big5.places.TheConstants.{ROWS_OF_157, TRAILS}}
 use Rattle.legacy_chinese.proofs.EntryScalars.{scalar_at}
 use Rattle.legacy_tables.specs.declared.tables.IndexName.TheVariants as names
 
@@ -24,17 +20,14 @@ big5_trails_are = refl
 pub entry_is : (index : List ℕ) (p : ℕ) → must_be_empty names.Big5 p ≡ false → big5_scalars index p ≡ option_to_list (idx index p)
 entry_is index p e = grind arith
 
-past : (index : List ℕ) → length index ≤ 65535 → (p : ℕ) → 65535 ≤ p → big5_scalars index p ≡ []
-past index short p h = entry_is index p (grind (arith, nat_tests)) ∙ none_past index short p h
-
 pub big5_at : (index : List ℕ) → length index ≤ 65535 → (lead trail : ℕ) →
     big5_scalars index (big5_lead_place lead + big5_trail_place trail) ≡ cond (is_lead lead) (big5_pair_scalars index lead trail) []
 unfolding big5_lead_place big5_trail_place
-big5_at index short lead trail = grind (arith, pair_entry, past)
+big5_at index short lead trail = grind (arith, pair_entry, none_past, nat_tests)
 
 -- an entry that is not 0 is a scalar
 pub some_entry : (e : ℕ) → e ≢ 0 → Some e ≡ entry_scalar e
-some_entry e some = rw (ne_eqb e 0 some) refl
+some_entry e some = grind (arith, nat_tests)
 
 pub big5_ascii : (tables : AcceptedIndexes) → HasAscii (big5 tables.flat.big5)
 big5_ascii = ascii big5_codec

@@ -1,7 +1,5 @@
-use Rattle.std.proofs.Common.{◌≡◌, ◌∙◌, ◌+◌, ◌/◌, ◌%◌, ◌≤◌, length, get_or, ap, arith}
-use Rattle.legacy_tables.specs.Indexes.{idx}
-use Rattle.legacy_tables.proofs.Accepted.{big5-scalars, length-big5}
-use Rattle.legacy_chinese.specs.Big5Places.{big5_place, big5_lead_place, big5_trail_place}
+use Rattle.{std.proofs.Common.{◌≡◌, ◌∙◌, ◌+◌, ◌/◌, ◌%◌, ◌≤◌, length, get_or, ap, arith}, legacy_tables.{specs.Indexes.idx, proofs.Accepted.big5-scalars}}
+use Rattle.{legacy_tables.proofs.Accepted.length-big5, legacy_chinese.specs.Big5Places.{big5_place, big5_lead_place, big5_trail_place}}
 use Rattle.legacy_chinese.proofs.Big5Places.{big5_runs, some_entry}
 use Rattle.legacy_chinese.proofs.big5.decoder.Big5LaneCodec.index.Goals as goal
 

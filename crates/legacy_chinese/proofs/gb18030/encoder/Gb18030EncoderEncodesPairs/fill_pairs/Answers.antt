@@ -1,8 +1,5 @@
-use Rattle.std.proofs.Common.{◌∙◌}
-use Rattle.legacy_encoder_engine.specs.CachedPairs.{IsRightEntry}
-use Rattle.legacy_encoder_engine.proofs.{CachedPairs.{asked, all-right}, WalkedPairs.walked-right}
-use Rattle.legacy_chinese.specs.Gb18030Codec.{gb18030_codec}
-use Rattle.legacy_chinese.proofs.Gb18030Walk.{goes-by-pointers, rows-asked}
+use Rattle.{std.proofs.Common.◌∙◌, legacy_encoder_engine.{specs.CachedPairs.IsRightEntry, proofs.{CachedPairs.{asked, all-right}, WalkedPairs.walked-right}}}
+use Rattle.legacy_chinese.{specs.Gb18030Codec.gb18030_codec, proofs.Gb18030Walk.{goes-by-pointers, rows-asked}}
 use Rattle.legacy_chinese.proofs.gb18030.encoder.Gb18030EncoderEncodesPairs.fill_pairs.Goals as goal
 
 pub returns : goal.returns
