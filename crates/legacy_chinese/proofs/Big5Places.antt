@@ -1,9 +1,9 @@
 -- The entry of index Big5 at the sum of a lead's place and a trail's place.
-use Rattle.std.proofs.{Common.{◌≡◌, ◌≢◌, ◌∙◌, ℕ, ◌+◌, ◌≤◌, List, [], ◌∷◌, length, cond, refl, sym, ap, arith, false, Some}, lemmas.Bool.Decides.nat_tests}
+use Rattle.std.proofs.{Common.{◌≡◌, ◌≢◌, ℕ, ◌+◌, ◌≤◌, List, [], ◌∷◌, length, cond, refl, arith, false, Some}, lemmas.Bool.Decides.nat_tests}
 use Rattle.{std.specs.Prelude.option_to_list, legacy_tables.specs.{Indexes.{entry_scalar, idx}, TableChecks.must_be_empty, AcceptedTables.AcceptedIndexes}}
 use Rattle.{legacy_tables.{specs.Unicode.IsByte, proofs.Accepted.{length-big5, entry-used}}, legacy_base.specs.{Big5.big5_scalars, States.is_lead}}
 use Rattle.{legacy_base.specs.Grammar.big5, legacy_decoder_engine.{specs.{ReadAhead.{HasAscii, Runs}, Places.IsTableOf}, proofs.LeadHeld.{ascii, pair}}}
-use Rattle.{legacy_decoder_engine.proofs.PairPlaces.{none_past, pair_entry, found}, legacy_chinese.specs.{Big5Shown.big5_codec, Big5Machine.big5_pair_scalars}}
+use Rattle.{legacy_decoder_engine.proofs.PairPlaces.{none_past, pair_entry}, legacy_chinese.specs.{Big5Shown.big5_codec, Big5Machine.big5_pair_scalars}}
 use Rattle.legacy_chinese.specs.{Big5Places.{big5_lead_place, big5_trail_place}, declared.big5.places.TheConstants.{ROWS_OF_157, TRAILS}}
 use Rattle.legacy_chinese.proofs.EntryScalars.{scalar_at}
 use Rattle.legacy_tables.specs.declared.tables.IndexName.TheVariants as names
@@ -40,7 +40,5 @@ big5_runs tables lead trail c byte byte' e =
     let p = big5_lead_place lead + big5_trail_place trail in
     let short : length index ≤ 65535 = let most = length-big5 tables.flat tables.accepted in omega arith in
     let used = entry-used tables.flat tables.accepted names.Big5 p c e in
-    let given = ap option_to_list e ∙ sym (entry_is index p used) ∙ big5_at index short lead trail in
-    let both = found (is_lead lead) (big5_pair_scalars index lead trail) c given in
-    let scalar = scalar_at tables names.Big5 p c (ap option_to_list (sym e)) in
-    pair big5_codec tables lead trail c byte byte' scalar both.0 both.1
+    let run = pair big5_codec tables lead trail c byte byte' in
+    grind (arith, entry_is index p used, big5_at index short lead trail, scalar_at tables names.Big5 p c, run)

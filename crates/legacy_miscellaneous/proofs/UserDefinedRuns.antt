@@ -67,8 +67,8 @@ eight_more T source units {old} {mid} {new} at bytes within long before enough a
     let rest : List ℕ = take (length source - at) (drop at source) in
     let longer : 8 ≤ length rest = grind (arith, rest_of, length-drop) in
     let few = all_short T.form units (λ k h. grind (arith, are k, rest_bytes source at bytes k)) in
-    let run = rw (take_all 8 units (omega arith)) at (units_run rest units 8 (rest_bytes source at bytes) longer (omega arith) are) in
-    reads_more before (reads_written longer (grind (arith, run)) (omega (arith, few, room)) (omega arith))
+    let run = units_run rest units 8 (rest_bytes source at bytes) longer (omega arith) are in
+    reads_more before (grind (arith, reads_written, take_all 8 units, run))
 
 -- ---- ASCII, and a byte after it
 

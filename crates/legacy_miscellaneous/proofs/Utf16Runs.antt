@@ -1,13 +1,12 @@
 -- The runs of UTF-16.
-use Rattle.std.proofs.Common.{rules, ◌≡◌, ◌∙◌, ℕ, zero, suc, ◌+◌, ◌-◌, ◌*◌, ◌<◌, ◌≤◌, List, ◌++◌, Bool, Option, length, take, drop, get_or, sym, ap, arith}
-use Rattle.std.proofs.{Common.refl, lemmas.{Bool.Decides.nat_tests, List.{take_more, length-take-le, length-drop, get_or-take, get_or-drop, take_all}}}
-use Rattle.{std.specs.{Prelude.{IfSome, IsAscii}, Option.SomeIff, Char.IsScalar}, legacy_text.specs.declared.destination.Destination.Ghosts}
-use Rattle.{legacy_text.specs.EncodingForm.{code_units, all_code_units, total_unit_count}, legacy_tables.specs.Unicode.IsByte, legacy_base.specs.Grammar.utf16}
-use Rattle.{legacy_base.specs.{Utf16.unit_of, States.new_state}, legacy_decoder_engine.specs.ReadAhead.{Runs, IsPair, Writes, ReadsAhead}}
-use Rattle.legacy_decoder_engine.proofs.{RunForms.pair_runs, JoinedRuns.reads_written, WrittenRuns.{runs_none, runs_more, take_two, writes_two, rest_of}}
-use Rattle.legacy_decoder_engine.proofs.WrittenRuns.{writes_none, writes_run, all_code_units_ascii, all_short}
-use Rattle.legacy_miscellaneous.{specs.Utf16Decoder.{HasAsciiUnits, AreUnitsBelow, unit_at}, proofs.Utf16Held.{unit_below, utf16_shown}}
-use Rattle.legacy_miscellaneous.proofs.UserDefinedRuns.{rest_bytes}
+use Rattle.std.proofs.Common.{rules, ◌≡◌, ◌∙◌, ℕ, zero, suc, ◌+◌, ◌-◌, ◌*◌, ◌<◌, ◌≤◌, List, ◌++◌, Bool, length, take, drop, get_or, sym, arith, refl}
+use Rattle.std.proofs.lemmas.{Bool.Decides.nat_tests, List.{take_more, length-take-le, length-drop, get_or-take, get_or-drop, take_all}}
+use Rattle.{std.specs.{Prelude.IsAscii, Char.IsScalar}, legacy_text.specs.{declared.destination.Destination.Ghosts, EncodingForm.{code_units, all_code_units}}}
+use Rattle.{legacy_text.specs.EncodingForm.total_unit_count, legacy_tables.specs.Unicode.IsByte, legacy_base.specs.{Grammar.utf16, Utf16.unit_of}}
+use Rattle.{legacy_base.specs.States.new_state, legacy_decoder_engine.{specs.ReadAhead.{Runs, IsPair, Writes, ReadsAhead}, proofs.RunForms.pair_runs}}
+use Rattle.legacy_decoder_engine.proofs.{JoinedRuns.reads_written, WrittenRuns.{runs_none, runs_more, take_two, writes_two, rest_of, writes_run}}
+use Rattle.{legacy_decoder_engine.proofs.WrittenRuns.{all_code_units_ascii, all_short}, legacy_miscellaneous.specs.Utf16Decoder.{HasAsciiUnits, AreUnitsBelow}}
+use Rattle.legacy_miscellaneous.{specs.Utf16Decoder.unit_at, proofs.{Utf16Held.{unit_below, utf16_shown}, UserDefinedRuns.rest_bytes}}
 
 -- a unit that is not a surrogate is a run of its own
 pub unit_pair : (be : Bool) (a b c : ℕ) → IsByte a → IsByte b → c ≡ unit_of be a b → IsScalar c → IsPair (utf16 be) a b c
@@ -15,11 +14,6 @@ unit_pair be a b c byte byte' is scalar = (
   rw is (unit_below be a b byte byte'),
   pair_runs (utf16_shown be) a b c byte byte' scalar refl refl refl refl refl (rw (← is) (grind (arith, nat_tests))),
 )
-
--- a unit's scalar, if it is one
-pub unit_scalar : (be : Bool) (a b code : ℕ) → IsByte a → IsByte b → code ≡ unit_of be a b → (found : Option ℕ) → SomeIff found (IsScalar code) code →
-    IfSome found (λ c. IsPair (utf16 be) a b c)
-unit_scalar be a b code byte byte' is found h = grind (arith, unit_pair)
 
 -- ---- units of a vector, none of them a surrogate
 
@@ -55,32 +49,24 @@ pub reads_block : {D : Type 0} (T : Ghosts D) (be : Bool) (source block : List �
     ReadsAhead T (new_state (utf16 be)) source (2 * r) old new
 reads_block T be source block old new r bytes within narrow count ascii contents room loan some enough =
     let same = all_code_units_ascii T.form (take r block) ascii in
-    let long = length-take-le r block count in
-    let low : (k : ℕ) → k < r → get_or block k 0 < 0x80 = λ k h. rw (← get_or-take r block k 0 h) (ascii k) in
+    let are = λ (k : ℕ) (h : k < r). rw (get_or-take r block k 0 h) at (ascii k) in
     reads_written (omega arith)
-    (writes_units T be source (take r block) r bytes (omega arith) long
-    (λ k h. rw (get_or-take r block k 0 h) (sym (narrow k (omega arith) (low k h)), below_scalar (get_or block k 0) (omega (arith, low k h))))
-    (rw same contents) (omega (arith, ap length same, long, room)) loan) (omega arith) (omega arith)
+    (writes_units T be source (take r block) r bytes (omega arith) (length-take-le r block count)
+    (λ k h. rw (get_or-take r block k 0 h) (sym (narrow k (omega arith) (are k h)), below_scalar (get_or block k 0) (omega (arith, are k h))))
+    (rw same contents) (rw (same, length-take-le r block count) room) loan) (omega arith) (omega arith)
 
 -- ---- eight more units
 
 -- a unit of the rest of a source
-pub unit_after : (be : Bool) (source : List ℕ) (at k : ℕ) → unit_at be (take (length source - 2 * at) (drop (2 * at) source)) k ≡ unit_at be source (at + k)
-unit_after be source at k = grind (arith, rest_of source (2 * at), get_or-drop)
-
--- the same after groups of eight units
-pub rest_unit : (be : Bool) (source : List ℕ) (group k : ℕ) →
-    unit_at be (take (length source - 16 * group) (drop (16 * group) source)) k ≡ unit_at be source (8 * group + k)
-rest_unit be source group k = grind (arith, rest_of source (16 * group), get_or-drop)
+pub unit_after : (be : Bool) (source : List ℕ) (at from k : ℕ) → from ≡ 2 * at
+    → unit_at be (take (length source - from) (drop from source)) k ≡ unit_at be source (at + k)
+unit_after be source at from k e = grind (arith, rest_of source from, get_or-drop)
 
 -- The units of the first `group` groups of eight are written, each as at most three code units.
 pub record EightsWritten {D : Type 0} (T : Ghosts D) (be : Bool) (source : List ℕ) (eights group : ℕ) (old new : D) : Type 0 where
   pub within : group ≤ eights
   pub room : T.room old ≤ T.room new + 24 * group
   pub writes : Writes T (utf16 be) (take (16 * group) source) old new
-
-pub no_eights : {D : Type 0} (T : Ghosts D) (be : Bool) (source : List ℕ) (eights : ℕ) (dst : D) → EightsWritten T be source eights 0 dst dst
-no_eights T be source eights dst = grind (arith, writes_none)
 
 pub eight_more : {D : Type 0} {T : Ghosts D} {be : Bool} {source : List ℕ} (units : List ℕ) {old mid new : D} {eights group : ℕ} →
     ((k : ℕ) → IsByte (get_or source k 0)) →
@@ -102,7 +88,7 @@ eight_more {T = T} {be} {source} units {old} {mid} {new} {eights} {group} bytes 
 pub short_eight : (be : Bool) (source units : List ℕ) (group eights : ℕ) → AreUnitsBelow be source (8 * eights) 0x800 → group < eights
     → ((k : ℕ) → k < 8 → get_or units k 0 ≡ unit_at be (take (length source - 16 * group) (drop (16 * group) source)) k) → (k : ℕ) → k < 8 →
     get_or units k 0 < 0x800
-short_eight be source units group eights below h are k l = rw (are k l ∙ rest_unit be source group k) (below (8 * group + k) (omega arith))
+short_eight be source units group eights below h are k l = rw (are k l ∙ unit_after be source (8 * group) (16 * group) k (omega arith)) (below (8 * group + k) (omega arith))
 
 -- one more unit is written
 pub writes_unit : {D : Type 0} (T : Ghosts D) (be : Bool) (source : List ℕ) {old mid new : D} (at c : ℕ) → ((k : ℕ) → IsByte (get_or source k 0)) →

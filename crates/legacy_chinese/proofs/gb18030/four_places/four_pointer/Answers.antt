@@ -6,4 +6,5 @@ returns-clause-place c = grind (arith, lead_read, digit_read)
 
 pub returns-clause-small : goal.returns-clause-small
 returns-clause-small c =
-    omega (arith, returns-clause-place c, four_small c.args.first c.args.second c.args.third c.args.fourth (omega arith) (omega arith) (omega arith) (omega arith))
+    let small = four_small c.args.first c.args.second c.args.third c.args.fourth in
+    omega (arith, returns-clause-place c, small (omega arith) (omega arith) (omega arith) (omega arith))
