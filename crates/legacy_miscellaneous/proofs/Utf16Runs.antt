@@ -1,5 +1,5 @@
 -- The runs of UTF-16.
-use Rattle.std.proofs.Common.{rules, ◌≡◌, ◌∙◌, ℕ, zero, suc, ◌+◌, ◌-◌, ◌*◌, ◌<◌, ◌≤◌, List, ◌++◌, Bool, length, take, drop, get_or, sym, arith, refl}
+use Rattle.std.proofs.Common.{rules, ◌≡◌, ℕ, zero, suc, ◌+◌, ◌-◌, ◌*◌, ◌<◌, ◌≤◌, List, ◌++◌, Bool, length, take, drop, get_or, sym, arith, refl}
 use Rattle.std.proofs.lemmas.{Bool.Decides.nat_tests, List.{take_more, length-take-le, length-drop, get_or-take, get_or-drop, take_all}}
 use Rattle.{std.specs.{Prelude.IsAscii, Char.IsScalar}, legacy_text.specs.{declared.destination.Destination.Ghosts, EncodingForm.{code_units, all_code_units}}}
 use Rattle.{legacy_text.specs.EncodingForm.total_unit_count, legacy_tables.specs.Unicode.IsByte, legacy_base.specs.{Grammar.utf16, Utf16.unit_of}}
@@ -78,17 +78,17 @@ eight_more {T = T} {be} {source} units {old} {mid} {new} {eights} {group} bytes 
     let at = 16 * group in
     let rest : List ℕ = take (length source - at) (drop at source) in
     let low = rest_bytes source at bytes in
-    let place : at + 16 ≡ 16 * (group + 1) = omega arith in
     let longer : 2 * 8 ≤ length rest = grind (arith, rest_of, length-drop) in
     let few = all_short T.form units (λ k h. rw ((are k (omega (arith, h, long))).0) (unit_below be _ _ (low (2 * k)) (low (2 * k + 1)))) in
     let more = writes_run T source at 16 before.writes (writes_units T be rest units 8 low longer long are contents room loan) in
-    record { within = omega (arith, less); room = omega (arith, before.room, few, room, long); writes = rw place at more }
+    let place : at + 16 ≡ 16 * (group + 1) = omega arith in grind (arith, before, few, more)
 
 -- eight units of a source that is below U+0800 are below it
 pub short_eight : (be : Bool) (source units : List ℕ) (group eights : ℕ) → AreUnitsBelow be source (8 * eights) 0x800 → group < eights
     → ((k : ℕ) → k < 8 → get_or units k 0 ≡ unit_at be (take (length source - 16 * group) (drop (16 * group) source)) k) → (k : ℕ) → k < 8 →
     get_or units k 0 < 0x800
-short_eight be source units group eights below h are k l = rw (are k l ∙ unit_after be source (8 * group) (16 * group) k (omega arith)) (below (8 * group + k) (omega arith))
+short_eight be source units group eights below h are k l =
+    grind (arith, are k, unit_after be source (8 * group) (16 * group) k, below (8 * group + k))
 
 -- one more unit is written
 pub writes_unit : {D : Type 0} (T : Ghosts D) (be : Bool) (source : List ℕ) {old mid new : D} (at c : ℕ) → ((k : ℕ) → IsByte (get_or source k 0)) →
