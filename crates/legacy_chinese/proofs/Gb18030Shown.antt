@@ -1,15 +1,15 @@
 -- The machine of gb18030 agrees with its grammar.
 use Rattle.std.proofs.{Common.{◌≡◌, ℕ, ◌<◌, ◌≤◌, List, [], ◌∷◌, length, true, false, refl, ◌==◌, arith}, lemmas.Bool.{false≢true, ltb-true, Decides.nat_tests}}
-use Rattle.{std.specs.Char.{is_ascii, is_ascii_digit}, legacy_text.proofs.CodeUnits.length-code_units-ascii, legacy_tables.specs.Unicode.{IsByte, AreBytes}}
-use Rattle.{legacy_tables.specs.Indexes.range, legacy_base.specs.{Fronts.{Front, cut}, Grammar.{Grammar, gb18030, events_of}, DecoderActs.{act_room, takes}}}
-use Rattle.legacy_base.specs.{Gb18030.{gb18030_scalars, gb18030_range_pointer, gb18030_fourth, gb18030_third, gb18030_second, gb18030_front}, States.is_lead}
-use Rattle.legacy_base.{specs.States.{gb18030_may_hold, rests, state_of}, proofs.{Cuts.cut-nil, FrontLaws.gb18030_front-of}}
-use Rattle.legacy_decoder_engine.specs.{Steps.{DecoderMachine, WriteMeets, end_events, Meets}, StepUnits.{units, IsWidth, Cost}, StatesAfterSteps.IsOneOrMarked}
-use Rattle.legacy_decoder_engine.{specs.{StatesAfterSteps.Settles, Shown.{IsShown, WriteSettles}}, proofs.FrontMoves.{Fits, fits_trail, fits_meets}}
-use Rattle.legacy_decoder_engine.proofs.{FrontMoves.{write_meets, end_meets, report_meets}, Widths.{idx_units, option_units}, TwoByteCosts.cost_test}
-use Rattle.legacy_decoder_engine.proofs.{TwoByteCosts.{units_test, trail_cost}, CallUnderWay.same_rooms, RoomMoves.{first_room, held_room_is, HasCosts}}
-use Rattle.legacy_decoder_engine.proofs.{RoomMoves.{IsSloped, sloped_rooms}, SettledSteps.{settles_test, one_test, one_option, trail_settles, or_settles}}
-use Rattle.{legacy_decoder_engine.proofs.SettledSteps.write_test, legacy_chinese.specs.Gb18030Machine.{gb18030_pending, gb18030_step, gb18030_machine}}
+use Rattle.{std.specs.Char.{is_ascii, is_ascii_digit}, legacy_text.proofs.CodeUnits.length-code_units-ascii, legacy_tables.specs.Indexes.range}
+use Rattle.legacy_base.specs.{Fronts.{Front, cut}, Grammar.{Grammar, gb18030, events_of}, Gb18030.{gb18030_scalars, gb18030_range_pointer, gb18030_fourth}}
+use Rattle.legacy_base.{specs.{Gb18030.{gb18030_third, gb18030_second, gb18030_front}, States.{is_lead, gb18030_may_hold, rests}}, proofs.Cuts.cut-nil}
+use Rattle.{legacy_base.proofs.FrontLaws.gb18030_front-of, legacy_decoder_engine.specs.{Steps.{DecoderMachine, WriteMeets, end_events, Meets}, StepUnits.units}}
+use Rattle.legacy_decoder_engine.specs.{StepUnits.{IsWidth, Cost}, StatesAfterSteps.{IsOneOrMarked, Settles}, Shown.{IsShown, WriteSettles}}
+use Rattle.legacy_decoder_engine.proofs.{FrontMoves.{Fits, fits_trail, fits_meets, write_meets, end_meets, report_meets}, Widths.{idx_units, option_units}}
+use Rattle.legacy_decoder_engine.proofs.{TwoByteCosts.{cost_test, units_test, trail_cost}, CallUnderWay.same_rooms, RoomMoves.{first_room, held_room_is}}
+use Rattle.legacy_decoder_engine.proofs.{RoomMoves.{HasCosts, IsSloped, sloped_rooms}, SettledSteps.{settles_test, one_test, one_option, trail_settles}}
+use Rattle.{legacy_decoder_engine.proofs.SettledSteps.{or_settles, write_test}, legacy_chinese.specs.Gb18030Machine.{gb18030_pending, gb18030_step}}
+use Rattle.legacy_chinese.specs.Gb18030Machine.{gb18030_machine}
 
 -- a lead is no other first byte
 pub lead_other : (b : ℕ) → is_lead b ≡ true → (is_ascii b ≡ false) × ((b == 0x80) ≡ false) × (is_ascii_digit b ≡ false)
@@ -74,13 +74,13 @@ module _ (index : List ℕ) (ranges : List (ℕ × ℕ)) where
   -- ---- rooms
 
   costs : HasCosts g machine length 6
-  costs = record { to_is = λ held b. refl; cost = cost }
-    where
-      cost : (len : ℕ → ℕ) (narrow wide : ℕ) → IsWidth len narrow wide → (held : List ℕ) (b : ℕ) → gb18030_may_hold held ≡ true →
-          rests g held ≡ true → AreBytes held → IsByte b →
-          Cost len narrow (act_room narrow wide (state_of g held) (takes b)) length 6 held b (machine.step held b)
-      cost len narrow wide w [] b h r bytes byte = rw (first_room (is_ascii b) 1 wide) (grind (arith, cost_test, ltb-true))
-      cost len narrow wide w (a ∷ held) b h r bytes byte = rw (held_room_is (is_ascii b) true 1 wide) (held_cost _ _ _ w index ranges a held b h)
+  costs = record {
+    to_is = λ held b. refl;
+    cost = λ len narrow wide w. elim [
+      | [] ↦ λ b h r bytes byte. rw (first_room (is_ascii b) 1 wide) (grind (arith, cost_test, ltb-true))
+      | a ∷ held ↦ λ b h r bytes byte. rw (held_room_is (is_ascii b) true 1 wide) (held_cost _ _ _ w index ranges a held b h)
+    ];
+  }
 
   sloped : IsSloped g machine length 6
   sloped = grind (arith, digit_other, length-code_units-ascii)

@@ -1,5 +1,5 @@
 use Rattle.{std.proofs.Common.{arith, ◌∙◌}, legacy_encoder_engine.proofs.{CachedPairs.{asked, all-right}, WalkedPairs.walked-right}}
-use Rattle.legacy_chinese.proofs.Gb18030Walk.{goes-by-pointers, rows-asked}
+use Rattle.legacy_chinese.proofs.Gb18030Walk.{goes-by-pointers}
 use Rattle.legacy_chinese.proofs.gb18030.encoder.Gb18030EncoderEncodesPairs.fill_pairs.Goals as goal
 
 pub returns : goal.returns
@@ -9,4 +9,4 @@ returns c =
     let long = c.fill.auto.entries ∙ c.requires in
     let walked = walked-right _ _ _ _ _ goes c.fill.new.entries long c.fill.ensures in
     let rows = rw c.gb18030_rows.ensures at c.ask_rows.ensures in
-    grind (arith, all-right, walked, asked, rows-asked)
+    grind (arith, all-right, walked, asked)
