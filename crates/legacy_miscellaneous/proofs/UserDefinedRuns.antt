@@ -1,10 +1,10 @@
 -- The runs of x-user-defined.
 use Rattle.std.proofs.Common.{◌≡◌, true, ℕ, zero, suc, ◌+◌, ◌-◌, ◌%◌, ◌<◌, ◌≤◌, ◌^◌, ◌==◌, List, [], ◌++◌, bit_and, bit_xor, refl, arith, IsAscii, length, take}
-use Rattle.std.proofs.{Common.{drop, get_or, All}, lemmas.{Bool.{agree_below_at, eqb-true, Decides.nat_tests}, List.Elements.{All-nil, All-from_get_or}}}
-use Rattle.{std.{proofs.lemmas.List.{take_more, take_all, length-drop, get_or-drop}, specs.Char.IsScalar}, legacy_tables.specs.Unicode.IsByte}
-use Rattle.{legacy_base.specs.{States.new_state, Grammar.user_defined}, legacy_text.specs.{declared.destination.Destination.Ghosts, EncodingForm.code_units}}
-use Rattle.{legacy_text.specs.EncodingForm.{all_code_units, total_unit_count}, legacy_decoder_engine.specs.{declared.moves.Fed.TheVariants.One, ReadAhead.Runs}}
-use Rattle.legacy_decoder_engine.{specs.{ReadAhead.{IsSingle, HasAscii, ReadsAhead}, Moves.Feeds}, proofs.RunForms.{ascii_is, single_runs, has_ascii}}
+use Rattle.std.proofs.{Common.{drop, get_or}, lemmas.{Bool.{agree_below_at, eqb-true, Decides.nat_tests}, List.{Elements.All-nil, take_more, take_all}}}
+use Rattle.{std.{proofs.lemmas.List.{length-drop, get_or-drop}, specs.Char.IsScalar}, legacy_tables.specs.Unicode.IsByte, legacy_base.specs.States.new_state}
+use Rattle.{legacy_base.specs.Grammar.user_defined, legacy_text.specs.{declared.destination.Destination.Ghosts, EncodingForm.{code_units, all_code_units}}}
+use Rattle.{legacy_text.specs.EncodingForm.total_unit_count, legacy_decoder_engine.specs.{declared.moves.Fed.TheVariants.One, ReadAhead.{Runs, IsSingle}}}
+use Rattle.legacy_decoder_engine.{specs.{ReadAhead.{HasAscii, ReadsAhead}, Moves.Feeds}, proofs.RunForms.{ascii_is, single_runs, has_ascii}}
 use Rattle.legacy_decoder_engine.proofs.{JoinedRuns.{reads_more, reads_written, reads_ascii}, WrittenRuns.{runs_none, runs_more, rest_of, all_short, short}}
 use Rattle.{legacy_decoder_engine.proofs.WrittenRuns.{three_fit, one_unit, writes_none, writes_one}, legacy_miscellaneous.specs.UserDefinedUnits.unit_of_byte}
 use Rattle.legacy_miscellaneous.proofs.UserDefinedShown.{user_defined_shown}
@@ -13,21 +13,15 @@ use Rattle.legacy_decoder_engine.proofs.Feeding as moves
 pub user_defined_ascii : HasAscii user_defined
 user_defined_ascii = has_ascii user_defined_shown (λ b. refl) (λ b h. let a = ascii_is b h in rw a refl)
 
--- ---- the scalar of a byte
-
-abbrev scalar_is : ℕ → ℕ → Type 0
-scalar_is b c = c ≡ unit_of_byte b
-
 -- each byte is a run of its own
-pub is_single : (b c : ℕ) → b < 2 ^ 8 → IsScalar c → scalar_is b c → IsSingle user_defined b c
+pub is_single : (b c : ℕ) → b < 2 ^ 8 → IsScalar c → c ≡ unit_of_byte b → IsSingle user_defined b c
 is_single b c byte scalar e = (grind arith, single_runs user_defined_shown b c byte scalar refl (rw e (grind arith)))
 
 -- the move of a byte
-pub feeds : (b c : ℕ) → b < 2 ^ 8 → IsScalar c → scalar_is b c → Feeds (new_state user_defined) b (new_state user_defined) (One c)
+pub feeds : (b c : ℕ) → b < 2 ^ 8 → IsScalar c → c ≡ unit_of_byte b → Feeds (new_state user_defined) b (new_state user_defined) (One c)
 feeds b c byte scalar e = moves.feeds user_defined_shown [] refl (All-nil IsByte) b byte refl (One c) [] (grind arith)
 
--- ---- the unit of a byte by its bits
-
+-- the unit of a byte by its bits
 pub bits_are : (b : ℕ) → b < 256 → bit_and ((bit_xor b 128 + 65408) % 65536) 63487 ≡ unit_of_byte b
 bits_are b h = eqb-true _ _ (agree_below_at (λ b. bit_and ((bit_xor b 128 + 65408) % 65536) 63487 == unit_of_byte b) (λ _. true) 256 b refl h)
 
@@ -51,11 +45,6 @@ units_run source units (suc r) bytes within room are =
 -- each byte of the rest of a source is a byte
 pub rest_bytes : (source : List ℕ) (at : ℕ) → ((k : ℕ) → get_or source k 0 < 2 ^ 8) → (k : ℕ) → get_or (take (length source - at) (drop at source)) k 0 < 2 ^ 8
 rest_bytes source at bytes k = grind (arith, rest_of, get_or-drop)
-
--- the units of eight bytes are scalars
-pub units_are_scalars : (source units : List ℕ) → ((k : ℕ) → get_or source k 0 < 2 ^ 8) → length units ≡ 8 →
-    ((k : ℕ) → k < 8 → get_or units k 0 ≡ unit_of_byte (get_or source k 0)) → All IsScalar units
-units_are_scalars source units bytes long are = grind (arith, All-from_get_or IsScalar units 0, unit_scalar)
 
 -- eight more bytes are read, and their units are written
 pub eight_more : {D : Type 0} (T : Ghosts D) (source units : List ℕ) {old mid new : D} (at : ℕ) → ((k : ℕ) → get_or source k 0 < 2 ^ 8) →

@@ -1,5 +1,5 @@
-use Rattle.{std.proofs.Common.arith, legacy_decoder_engine.proofs.WrittenRuns.reads_none, legacy_miscellaneous.proofs.UserDefinedRuns.rest_bytes}
-use Rattle.legacy_miscellaneous.proofs.UserDefinedRuns.{units_are_scalars, eight_more}
+use Rattle.{std.{proofs.{lemmas.List.Elements.All-from_get_or, Common.arith}, specs.Char.IsScalar}, legacy_miscellaneous.proofs.UserDefinedRuns.unit_scalar}
+use Rattle.{legacy_miscellaneous.proofs.UserDefinedRuns.{rest_bytes, eight_more}, legacy_decoder_engine.proofs.WrittenRuns.reads_none}
 use Rattle.legacy_miscellaneous.proofs.user_defined.blocks.read_eights.Goals as goal
 
 pub loop-at-init : goal.loop-at-init
@@ -7,7 +7,8 @@ loop-at-init g c = reads_none _ _ _ _
 
 pub put_eight-requires-clause-scalars : goal.put_eight-requires-clause-scalars
 put_eight-requires-clause-scalars g c =
-    units_are_scalars _ _ (rest_bytes c.args.src.now _ (λ k. (c.type_inv.src k).fits)) c.units_of.ensures.count c.units_of.ensures.same
+    let low = rest_bytes c.args.src.now c.loop-at.at (λ k. (c.type_inv.src k).fits) in
+    grind (arith, All-from_get_or IsScalar c.units_of.result 0, unit_scalar, low)
 
 pub loop-at-preserved : goal.loop-at-preserved
 loop-at-preserved g c =

@@ -20,6 +20,4 @@ returns-then-src-count-lt128-clause-ahead g c =
     p.room p.loan
 
 pub returns-clause-ahead : goal.returns-clause-ahead
-returns-clause-ahead g c =
-    let e = c.put_front-count.ensures in
-    reads_more (reads_front _ _ _ _ _ e.read (omega arith) e.ascii (omega (arith, c.free.ensures)) e.contents e.room e.loan) c.read_eights-read.ensures
+returns-clause-ahead g c = reads_more (grind (arith, reads_front)) c.read_eights-read.ensures
