@@ -1,10 +1,7 @@
 -- A walk over the pointers of index Big5 lists the codes of all scalars from U+0080 on.
-use Rattle.std.proofs.{Common.{◌+◌, ◌/◌, ◌≤◌, refl, arith}, lemmas.Bool.le-ltb}
-use Rattle.legacy_tables.specs.AcceptedTables.{AcceptedIndexes}
-use Rattle.legacy_tables.proofs.{Accepted.big5-scalars, PointerBounds.big5-bound}
-use Rattle.legacy_base.specs.{Big5.{big5_code, big5_bytes}, Encoders.big5}
-use Rattle.legacy_encoder_engine.proofs.WalkedPairs.{GoesByPointers, by-pairs, halves}
-use Rattle.legacy_chinese.specs.Big5Codes.{big5_mark, big5_mark-some}
+use Rattle.{std.proofs.{Common.{◌+◌, ◌/◌, ◌≤◌, refl, arith}, lemmas.Bool.le-ltb}, legacy_tables.specs.AcceptedTables.AcceptedIndexes}
+use Rattle.{legacy_tables.proofs.{Accepted.big5-scalars, PointerBounds.big5-bound}, legacy_base.specs.{Big5.{big5_code, big5_bytes}, Encoders.big5}}
+use Rattle.{legacy_encoder_engine.proofs.WalkedPairs.{GoesByPointers, by-pairs, halves}, legacy_chinese.specs.Big5Codes.{big5_mark, big5_mark-some}}
 use Rattle.legacy_tables.specs.declared.tables.packed.PackedPart.TheVariants as parts
 
 pub goes-by-pointers : (tables : AcceptedIndexes) → GoesByPointers (big5 tables.flat.big5) parts.Big5Order big5_mark tables.flat.big5 (λ c. 0x80 ≤ c)

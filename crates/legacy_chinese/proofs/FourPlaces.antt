@@ -1,12 +1,8 @@
 -- The tables contain the parts of the four bytes; the ranges are read at their pointer.
-use Rattle.std.proofs.Common.{◌≡◌, ℕ, ◌≤◌, ◌<◌, List, [], ◌∷◌, get_or, Bool, cond, Some, None, refl}
-use Rattle.std.proofs.{Common.arith, lemmas.Bool.Decides.nat_tests}
-use Rattle.legacy_tables.specs.{AcceptedTables.AcceptedIndexes, Indexes.range}
-use Rattle.legacy_base.specs.{Grammar.gb18030}
-use Rattle.legacy_decoder_engine.proofs.PairPlaces.{read}
-use Rattle.legacy_decoder_engine.specs.ReadAhead.{Runs}
-use Rattle.legacy_chinese.specs.{FourPlaces.{lead_part, digit_part, four_place}, declared.gb18030.four_places.TheConstants.{LEADS, DIGITS}}
-use Rattle.legacy_chinese.proofs.Gb18030Held.{four}
+use Rattle.std.proofs.{Common.{◌≡◌, ℕ, ◌≤◌, ◌<◌, List, [], ◌∷◌, get_or, Some, None, refl, arith}, lemmas.Bool.Decides.nat_tests}
+use Rattle.{legacy_tables.specs.{AcceptedTables.AcceptedIndexes, Indexes.range}, legacy_base.specs.Grammar.gb18030}
+use Rattle.{legacy_decoder_engine.{proofs.PairPlaces.read, specs.ReadAhead.Runs}, legacy_chinese.specs.FourPlaces.{lead_part, digit_part, four_place}}
+use Rattle.legacy_chinese.{specs.declared.gb18030.four_places.TheConstants.{LEADS, DIGITS}, proofs.Gb18030Held.four}
 
 pub lead_read : (b : ℕ) → b < 256 → get_or LEADS b 0 ≡ lead_part b
 unfolding lead_part
@@ -16,13 +12,10 @@ pub digit_read : (b : ℕ) → b < 256 → get_or DIGITS b 0 ≡ digit_part b
 unfolding digit_part
 digit_read = read DIGITS digit_part refl
 
-part_small : (t : Bool) (n : ℕ) → n ≤ 1_240_000 → cond t n 1_240_000 ≤ 1_240_000
-part_small t n h = grind arith
-
 -- the pointer is a number of 32 bits
 pub four_small : (a b c d : ℕ) → a < 256 → b < 256 → c < 256 → d < 256 → four_place a b c d < 0x1_0000_0000
 unfolding lead_part digit_part
-four_small a b c d h i j k = grind (arith, part_small)
+four_small a b c d h i j k = grind (arith, nat_tests)
 
 -- past all pointers there is no scalar
 pub range_past : (ranges : List (ℕ × ℕ)) (p : ℕ) → 1_237_576 ≤ p → range ranges p ≡ None
@@ -30,13 +23,8 @@ unfolding range
 range_past ranges p h = grind (arith, nat_tests)
 
 -- the scalar at the pointer is the scalar of the four bytes
-pub four_placed : (tables : AcceptedIndexes) (a b c d x : ℕ) → range tables.flat.ranges (four_place a b c d) ≡ Some x
-    → Runs (gb18030 tables.flat.gb18030 tables.flat.ranges) (a ∷ b ∷ c ∷ d ∷ []) (x ∷ [])
-unfolding lead_part digit_part
-four_placed tables a b c d x e = grind (arith, nat_tests, four tables a b c d x, range_past)
-
--- the same of a number that is the pointer, and a list that is the ranges
 pub four_at : (tables : AcceptedIndexes) (list : List (ℕ × ℕ)) (p a b c d x : ℕ) → list ≡ tables.flat.ranges → p ≡ four_place a b c d
     → range list p ≡ Some x
     → Runs (gb18030 tables.flat.gb18030 tables.flat.ranges) (a ∷ b ∷ c ∷ d ∷ []) (x ∷ [])
-four_at tables list p a b c d x same place e = grind (arith, four_placed)
+unfolding lead_part digit_part
+four_at tables list p a b c d x same place e = grind (arith, nat_tests, four tables a b c d x, range_past)

@@ -1,9 +1,7 @@
 -- A pair that is the code of a scalar in gb18030 or in GBK.
-use Rattle.std.proofs.Common.{◌≡◌, ◌≢◌, ℕ, ◌+◌, ◌<◌, ◌≤◌, List, [], ◌∷◌, Some, None, option_map, arith}
-use Rattle.std.proofs.{lemmas.Bool.ne_eqb, lemmas.Bool.Decides.nat_tests}
-use Rattle.legacy_tables.specs.{Indexes.gb18030_pua_of, Pointers.range_pointer_of}
-use Rattle.legacy_tables.proofs.PointerBounds.{range-bound}
-use Rattle.legacy_base.specs.Gb18030.{gb18030_code, gb18030_range_bytes}
+use Rattle.std.proofs.{Common.{◌≡◌, ◌≢◌, ℕ, ◌+◌, ◌<◌, ◌≤◌, List, [], ◌∷◌, Some, None, option_map, arith}, lemmas.Bool.{ne_eqb, Decides.nat_tests}}
+use Rattle.{legacy_tables.{specs.{Indexes.gb18030_pua_of, Pointers.range_pointer_of}, proofs.PointerBounds.range-bound}, legacy_base.specs.Gb18030.gb18030_code}
+use Rattle.legacy_base.specs.Gb18030.{gb18030_range_bytes}
 
 -- a scalar's pointer of four bytes is below their number
 pub pointer_bound : (ranges : List (ℕ × ℕ)) (c p : ℕ) → range_pointer_of ranges c ≡ Some p → p < 1237576

@@ -1,11 +1,8 @@
 -- The entry of index gb18030 at the sum of a lead's place and a trail's place.
-use Rattle.std.proofs.Common.{arith, ◌≡◌, ℕ, ◌+◌, ◌≤◌, List, [], length, cond, refl}
-use Rattle.std.specs.Prelude.{option_to_list}
-use Rattle.legacy_tables.specs.Indexes.{idx}
-use Rattle.legacy_base.specs.{Gb18030.gb18030_scalars, States.is_lead}
-use Rattle.legacy_decoder_engine.specs.Places.{IsTableOf, lead_place}
-use Rattle.legacy_chinese.specs.{Gb18030Places.gb18030_trail_place, declared.gb18030.pair_places.TheConstants.TRAILS}
-use Rattle.legacy_decoder_engine.proofs.PairPlaces.{none_past, pair_entry}
+use Rattle.{std.{proofs.Common.{arith, ◌≡◌, ℕ, ◌+◌, ◌≤◌, List, [], length, cond, refl}, specs.Prelude.option_to_list}, legacy_tables.specs.Indexes.idx}
+use Rattle.{legacy_base.specs.{Gb18030.gb18030_scalars, States.is_lead}, legacy_decoder_engine.specs.Places.{IsTableOf, lead_place}}
+use Rattle.{legacy_decoder_engine.proofs.PairPlaces.{none_past, pair_entry}, legacy_chinese.specs.Gb18030Places.gb18030_trail_place}
+use Rattle.legacy_chinese.specs.declared.gb18030.pair_places.TheConstants.{TRAILS}
 
 pub gb18030_trails_are : IsTableOf gb18030_trail_place TRAILS
 unfolding gb18030_trail_place

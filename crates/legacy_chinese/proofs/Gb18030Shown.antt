@@ -1,65 +1,97 @@
--- The steps of gb18030 agree with its grammar.
-use Rattle.std.proofs.Common.{◌≡◌, ℕ, ◌+◌, ◌<◌, ◌≤◌, List, [], ◌∷◌, length, true, refl, inl, arith}
-use Rattle.std.proofs.lemmas.Bool.Decides.{nat_tests}
-use Rattle.std.specs.Char.{is_ascii, is_ascii_digit}
-use Rattle.legacy_tables.specs.Unicode.{IsByte, AreBytes}
-use Rattle.legacy_base.specs.{Grammar.{Grammar, gb18030}, States.{DecoderState, gb18030_may_hold, rests, state_of}, DecoderActs.{act_room, takes}}
-use Rattle.legacy_base.specs.Lengths.{LengthQuery, to_utf16, query_form, room}
-use Rattle.legacy_decoder_engine.specs.{Steps.DecoderMachine, StepUnits.{IsWidth, Cost, WritePays}, Shown.{IsShown, WriteSettles}}
-use Rattle.legacy_chinese.specs.Gb18030Machine.{gb18030_machine, gb18030_pending}
-use Rattle.legacy_decoder_engine.proofs.{Widths.width_of, CallUnderWay.same_rooms, RoomMoves.{first_room, held_room_is, HasCosts, IsSloped, sloped_rooms}}
-use Rattle.legacy_decoder_engine.proofs.SettledSteps.{write_test}
-use Rattle.legacy_chinese.proofs.{Gb18030Meets.gb18030_meets, Gb18030Costs.{gb18030_first_cost, gb18030_held_cost}, Gb18030Settles.gb18030_settles}
-use Rattle.legacy_chinese.proofs.Gb18030Settles.{gb18030_write}
+-- The machine of gb18030 agrees with its grammar.
+use Rattle.std.proofs.{Common.{◌≡◌, ℕ, ◌<◌, ◌≤◌, List, [], ◌∷◌, length, true, false, refl, ◌==◌, arith}, lemmas.Bool.{false≢true, ltb-true, Decides.nat_tests}}
+use Rattle.{std.specs.Char.{is_ascii, is_ascii_digit}, legacy_text.proofs.CodeUnits.length-code_units-ascii, legacy_tables.specs.Indexes.range}
+use Rattle.legacy_base.specs.{Fronts.{Front, cut}, Grammar.{Grammar, gb18030, events_of}, Gb18030.{gb18030_scalars, gb18030_range_pointer, gb18030_fourth}}
+use Rattle.legacy_base.{specs.{Gb18030.{gb18030_third, gb18030_second, gb18030_front}, States.{is_lead, gb18030_may_hold, rests}}, proofs.Cuts.cut-nil}
+use Rattle.{legacy_base.proofs.FrontLaws.gb18030_front-of, legacy_decoder_engine.specs.{Steps.{DecoderMachine, WriteMeets, end_events, Meets}, StepUnits.units}}
+use Rattle.legacy_decoder_engine.specs.{StepUnits.{IsWidth, Cost}, StatesAfterSteps.{IsOneOrMarked, Settles}, Shown.{IsShown, WriteSettles}}
+use Rattle.legacy_decoder_engine.proofs.{FrontMoves.{Fits, fits_trail, fits_meets, write_meets, end_meets, report_meets}, Widths.{idx_units, option_units}}
+use Rattle.legacy_decoder_engine.proofs.{TwoByteCosts.{cost_test, units_test, trail_cost}, CallUnderWay.same_rooms, RoomMoves.{first_room, held_room_is}}
+use Rattle.legacy_decoder_engine.proofs.{RoomMoves.{HasCosts, IsSloped, sloped_rooms}, SettledSteps.{settles_test, one_test, one_option, trail_settles}}
+use Rattle.{legacy_decoder_engine.proofs.SettledSteps.{or_settles, write_test}, legacy_chinese.specs.Gb18030Machine.{gb18030_pending, gb18030_step}}
+use Rattle.legacy_chinese.specs.Gb18030Machine.{gb18030_machine}
 
-digit_below : (b : ℕ) → is_ascii_digit b ≡ true → b < 0x80
-digit_below b h = grind (arith, nat_tests)
+-- a lead is no other first byte
+pub lead_other : (b : ℕ) → is_lead b ≡ true → (is_ascii b ≡ false) × ((b == 0x80) ≡ false) × (is_ascii_digit b ≡ false)
+lead_other b is = grind (arith, nat_tests)
+
+digit_other : (b : ℕ) → is_ascii_digit b ≡ true → (is_lead b ≡ false) × (b < 0x80)
+digit_other b h = grind (arith, nat_tests)
+
+module _ (len : ℕ → ℕ) (narrow wide : ℕ) (w : IsWidth len narrow wide) where
+  held_cost : (index : List ℕ) (ranges : List (ℕ × ℕ)) (a : ℕ) (held : List ℕ) (b : ℕ) → gb18030_may_hold (a ∷ held) ≡ true →
+      Cost len narrow wide length 6 (a ∷ held) b (gb18030_step index ranges (a ∷ held) b)
+  held_cost index ranges a held b h =
+      let few = λ (d e : ℕ). option_units len narrow wide w (range ranges (gb18030_range_pointer a d e b)) in
+      let pair : units len (gb18030_scalars index a b) ≤ wide = grind (arith, units_test, idx_units) in
+      let trail = trail_cost len narrow wide w wide 6 a b (gb18030_scalars index a b) pair (omega arith) (omega arith) (omega arith) in
+      grind (arith, cost_test, few, false≢true)
+
+scalars_one : (index : List ℕ) (a b : ℕ) → IsOneOrMarked false (gb18030_scalars index a b)
+scalars_one index a b = grind (arith, one_test, one_option)
 
 module _ (index : List ℕ) (ranges : List (ℕ × ℕ)) where
   abbrev g : Grammar
   g = gb18030 index ranges
 
+  abbrev front : ℕ → List ℕ → Front
+  front = gb18030_front index ranges
+
   abbrev machine : DecoderMachine
   machine = gb18030_machine index ranges
 
+  -- ---- fronts
+
+  fits : (held : List ℕ) (b : ℕ) → gb18030_may_hold held ≡ true → rests g held ≡ true → Fits front gb18030_may_hold held b (gb18030_step index ranges held b)
+  unfolding gb18030_front gb18030_second gb18030_third gb18030_fourth
+  fits [] b h r = grind arith
+  fits (first ∷ []) b h r = let lead : is_lead first ≡ true = grind arith in grind (arith, fits_trail, lead_other)
+  fits (first ∷ second ∷ []) b h r = grind (arith, lead_other)
+  fits (first ∷ second ∷ third ∷ []) b h r = grind (arith, lead_other)
+  fits (first ∷ second ∷ third ∷ fourth ∷ held) b h r = absurd (false≢true h)
+
+  ev_is : (bytes : List ℕ) → events_of g bytes ≡ cut front 0 0 bytes
+  unfolding events_of
+  ev_is bytes = refl
+
+  -- a digit to write
+  written : (b : ℕ) (held : List ℕ) → gb18030_may_hold (b ∷ held) ≡ true → is_ascii_digit b ≡ true → WriteMeets g (b ∷ held) 1 b
+  unfolding gb18030_front
+  written b held h d =
+      write_meets g front ev_is (b ∷ held) 1 b (λ more. grind (arith, nat_tests)) (omega arith) (omega arith) (grind (arith, digit_other, false≢true))
+
+  all_end : (held : List ℕ) → gb18030_may_hold held ≡ true → rests g held ≡ true → events_of g held ≡ end_events held
+  unfolding gb18030_front gb18030_second gb18030_third gb18030_fourth
+  all_end held h r = let ends = end_meets g front ev_is in grind (arith, ends, lead_other, ev_is, cut-nil front, false≢true)
+
+  meets : Meets g machine
+  meets =
+      let steps = fits_meets g front ev_is gb18030_may_hold (λ held. refl) in
+      let reports = report_meets g front ev_is in
+      let some = λ (b : ℕ) (rest : List ℕ). (gb18030_front-of {P = ⊥} index ranges (λ n. absurd n) (λ p c q n. absurd n) b rest).some in
+      grind (arith, steps, fits, written, all_end, reports, some, false≢true)
+
+  -- ---- rooms
+
   costs : HasCosts g machine length 6
-  costs = record { to_is = λ held b. refl; cost = cost }
-    where
-      cost : (len : ℕ → ℕ) (narrow wide : ℕ) → IsWidth len narrow wide → (held : List ℕ) (b : ℕ) → gb18030_may_hold held ≡ true →
-          rests g held ≡ true → AreBytes held → IsByte b →
-          Cost len narrow (act_room narrow wide (state_of g held) (takes b)) length 6 held b (machine.step held b)
-      cost len narrow wide w [] b h r bytes byte = rw (first_room (is_ascii b) 1 wide) (gb18030_first_cost len narrow wide w b)
-      cost len narrow wide w (a ∷ held) b h r bytes byte = rw (held_room_is (is_ascii b) true 1 wide) (gb18030_held_cost _ _ _ w index ranges a held b h)
-
-  -- writing a held-back digit pays its room
-  digit_pays : (len : ℕ → ℕ) (narrow wide : ℕ) → IsWidth len narrow wide → (room : DecoderState → ℕ → ℕ) →
-      ((b : ℕ) (held : List ℕ) (n : ℕ) → room (state_of g held) n + 1 ≤ room (state_of g (b ∷ held)) n) →
-      (held : List ℕ) → WritePays len narrow wide room g held (gb18030_pending held)
-  digit_pays len narrow wide h room h1 held = grind (arith, digit_below)
-
-  digit_falls : (query : LengthQuery) (b : ℕ) (held : List ℕ) (n : ℕ) → room query (state_of g held) n + 1 ≤ room query (state_of g (b ∷ held)) n
-  digit_falls query b held n = grind arith
+  costs = record {
+    to_is = λ held b. refl;
+    cost = λ len narrow wide w. elim [
+      | [] ↦ λ b h r bytes byte. rw (first_room (is_ascii b) 1 wide) (grind (arith, cost_test, ltb-true))
+      | a ∷ held ↦ λ b h r bytes byte. rw (held_room_is (is_ascii b) true 1 wide) (held_cost _ _ _ w index ranges a held b h)
+    ];
+  }
 
   sloped : IsSloped g machine length 6
-  sloped = record {
-    heavy = λ b held h. omega arith;
-    falls = elim [ to_utf16 ↦ λ held held' n n' u h. omega arith | _ ↦ λ held held' n n' u h. omega arith ];
-    writes = λ query held h r bytes. digit_pays _ _ _ (width_of (query_form query)) (room query) (digit_falls query) held;
-    reads = elim [ to_utf16 ↦ λ held. omega arith | _ ↦ λ held. omega arith ];
-    holds = elim [ to_utf16 ↦ λ b held h. omega arith | _ ↦ λ b held h. omega arith ];
-  }
+  sloped = grind (arith, digit_other, length-code_units-ascii)
+
+  -- ---- states
+
+  settles : (held : List ℕ) (b : ℕ) → gb18030_may_hold held ≡ true → rests g held ≡ true → Settles g held b (gb18030_step index ranges held b)
+  settles held b h r = grind (arith, nat_tests, settles_test, lead_other, trail_settles, scalars_one, or_settles, one_option, false≢true)
 
   write_settles : (held : List ℕ) → gb18030_may_hold held ≡ true → WriteSettles g held (gb18030_pending held)
-  write_settles held h = grind (arith, write_test, gb18030_write)
+  write_settles held h = grind (arith, write_test, lead_other, digit_other, false≢true)
 
-  pub gb18030_shown : IsShown (gb18030 index ranges) (gb18030_machine index ranges)
-  gb18030_shown = record {
-    meets = gb18030_meets index ranges;
-    rooms = λ query. sloped_rooms g machine length 6 (gb18030_meets index ranges) costs sloped query;
-    settles = gb18030_settles index ranges;
-    write_settles = write_settles;
-    same_rooms = λ held b. same_rooms g;
-    same_marks = λ held b. refl;
-    ascii_first = λ s b a. rw a refl;
-    swallows = inl refl;
-  }
+  pub gb18030_shown : IsShown g machine
+  gb18030_shown = let rooms = sloped_rooms g machine length 6 meets costs sloped in grind (arith, meets, rooms, settles, write_settles, same_rooms)

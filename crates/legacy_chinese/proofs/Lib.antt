@@ -1,8 +1,5 @@
 -- Each decoder takes the steps of its machine, and each machine keeps to its grammar.
 pub mod AsciiBehind
-pub mod Gb18030Meets
-pub mod Gb18030Costs
-pub mod Gb18030Settles
 pub mod Gb18030Shown
 pub mod Gb18030Held
 pub mod FourPlaces

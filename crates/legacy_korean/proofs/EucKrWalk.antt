@@ -1,10 +1,7 @@
 -- A walk over the pointers of index EUC-KR lists the codes of all scalars from U+0080 on.
-use Rattle.std.proofs.{Common.{◌+◌, ◌/◌, ◌≤◌, refl, arith}, lemmas.Bool.le-ltb}
-use Rattle.legacy_tables.specs.AcceptedTables.{AcceptedIndexes}
-use Rattle.legacy_tables.proofs.{Accepted.euc_kr-scalars, PointerBounds.euc-kr-bound}
-use Rattle.legacy_base.specs.{EucKr.{euc_kr_code, euc_kr_bytes}, Encoders.euc_kr}
-use Rattle.legacy_encoder_engine.proofs.WalkedPairs.{GoesByPointers, by-pairs, halves}
-use Rattle.legacy_korean.specs.EucKrCodes.{euc_kr_mark, euc_kr_mark-some}
+use Rattle.{std.proofs.{Common.{◌+◌, ◌/◌, ◌≤◌, refl, arith}, lemmas.Bool.le-ltb}, legacy_tables.specs.AcceptedTables.AcceptedIndexes}
+use Rattle.{legacy_tables.proofs.{Accepted.euc_kr-scalars, PointerBounds.euc-kr-bound}, legacy_base.specs.{EucKr.{euc_kr_code, euc_kr_bytes}, Encoders.euc_kr}}
+use Rattle.{legacy_encoder_engine.proofs.WalkedPairs.{GoesByPointers, by-pairs, halves}, legacy_korean.specs.EucKrCodes.{euc_kr_mark, euc_kr_mark-some}}
 use Rattle.legacy_tables.specs.declared.tables.packed.PackedPart.TheVariants as parts
 
 pub goes-by-pointers : (tables : AcceptedIndexes) → GoesByPointers (euc_kr tables.flat.euc_kr) parts.EucKrOrder euc_kr_mark tables.flat.euc_kr (λ c. 0x80 ≤ c)

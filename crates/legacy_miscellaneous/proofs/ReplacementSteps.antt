@@ -1,27 +1,35 @@
--- The moves of the replacement decoder, which holds nothing back.
-use Rattle.std.proofs.{Common.{◌≡◌, ℕ, [], Bool, true, false, refl}, lemmas.List.Elements.All-nil}
-use Rattle.legacy_tables.specs.Unicode.{IsByte}
-use Rattle.legacy_base.specs.{Grammar.{replacement, events_of}, States.state_of}
-use Rattle.legacy_decoder_engine.specs.{declared.moves.Fed.TheVariants.{Nothing, MalformedSequence}, Moves.{IsCovered, Feeds}}
-use Rattle.legacy_miscellaneous.proofs.ReplacementShown.{replacement_shown}
+-- The machine of the replacement decoder agrees with its grammar, and its moves hold nothing back.
+use Rattle.std.proofs.{Common.{◌≡◌, ℕ, [], Bool, true, false, refl, arith}, lemmas.{Bool.false≢true, List.Elements.All-nil}}
+use Rattle.{legacy_tables.specs.Unicode.IsByte, legacy_base.specs.{Grammar.{replacement, events_of}, States.state_of, Lengths.{LengthQuery, query_form}}}
+use Rattle.{legacy_base.specs.Replacement.replacement_events, legacy_decoder_engine.specs.declared.moves.Fed.TheVariants.{Nothing, MalformedSequence}}
+use Rattle.legacy_decoder_engine.{specs.{Moves.{IsCovered, Feeds}, Steps.Meets, Shown.{KeepsRooms, IsShown}}, proofs.OneByteMeets.{few_held, no_report}}
+use Rattle.legacy_decoder_engine.proofs.{RoomMoves.{no_short_room, cond_most}, Widths.width_of, CallUnderWay.same_rooms}
+use Rattle.legacy_miscellaneous.specs.ReplacementMachine.{replacement_machine}
 use Rattle.legacy_decoder_engine.proofs.Feeding as moves
+
+module _ (reported : Bool) where
+  meets : Meets (replacement reported) (replacement_machine reported)
+  unfolding events_of replacement_events
+  meets = grind (arith, few_held, no_report, false≢true)
+
+  rooms : (query : LengthQuery) → KeepsRooms query (replacement reported) (replacement_machine reported)
+  rooms query = let w = width_of (query_form query) in grind (arith, no_short_room, cond_most, false≢true)
+
+  shown : IsShown (replacement reported) (replacement_machine reported)
+  shown = grind (arith, meets, rooms, false≢true, same_rooms)
+
+  pub covered : IsCovered (state_of (replacement reported) [])
+  covered = moves.covered shown [] refl (All-nil IsByte)
+
+  pub ends_none : events_of (replacement reported) [] ≡ []
+  ends_none = moves.ends_none shown [] refl (All-nil IsByte) refl refl
 
 -- the first byte is reported as malformed
 pub feeds_first : (reported : Bool) (b : ℕ) → IsByte b → reported ≡ false →
     Feeds (state_of (replacement reported) []) b (state_of (replacement true) []) (MalformedSequence 1 0 false)
-feeds_first reported b byte e =
-    rw e (moves.feeds (replacement_shown false) [] refl (All-nil IsByte) b byte refl (MalformedSequence 1 0 false) []
-    (record { answer = refl; holds = refl; scalar = tt }))
+feeds_first reported b byte e = rw e (moves.feeds (shown false) [] refl (All-nil IsByte) b byte refl (MalformedSequence 1 0 false) [] (grind arith))
 
 -- each byte after it is dropped
 pub feeds_more : (reported : Bool) (b : ℕ) → IsByte b → reported ≡ true →
     Feeds (state_of (replacement reported) []) b (state_of (replacement reported) []) Nothing
-feeds_more reported b byte e =
-    rw e (moves.feeds (replacement_shown true) [] refl (All-nil IsByte) b byte refl Nothing [] (record { answer = refl; holds = refl; scalar = tt }))
-
-module _ (reported : Bool) where
-  pub covered : IsCovered (state_of (replacement reported) [])
-  covered = moves.covered (replacement_shown reported) [] refl (All-nil IsByte)
-
-  pub ends_none : events_of (replacement reported) [] ≡ []
-  ends_none = moves.ends_none (replacement_shown reported) [] refl (All-nil IsByte) refl refl
+feeds_more reported b byte e = rw e (moves.feeds (shown true) [] refl (All-nil IsByte) b byte refl Nothing [] (grind arith))

@@ -1,38 +1,27 @@
 -- The runs of x-user-defined.
-use Rattle.std.proofs.Common.{◌≡◌, true, ℕ, zero, suc, ◌+◌, ◌-◌, ◌%◌, ◌<◌, ◌≤◌, ◌^◌, ◌==◌, List, [], ◌++◌, bit_and, bit_xor, refl}
-use Rattle.std.proofs.Common.{arith, IsAscii, length, take, drop, get_or, All}
-use Rattle.std.proofs.{lemmas.Bool.{agree_below_at, eqb-true}, lemmas.Bool.Decides.nat_tests, lemmas.List.Elements.{All-nil, All-from_get_or}}
-use Rattle.std.proofs.lemmas.List.{take_more, take_all, length-drop, get_or-drop}
-use Rattle.legacy_tables.specs.Unicode.{IsByte}
-use Rattle.legacy_base.specs.{States.new_state, Grammar.user_defined}
-use Rattle.std.specs.Char.{IsScalar}
-use Rattle.legacy_text.specs.{declared.destination.Destination.Ghosts, EncodingForm.{code_units, all_code_units, total_unit_count}}
-use Rattle.legacy_decoder_engine.specs.{declared.moves.Fed.TheVariants.One, ReadAhead.{Runs, IsSingle, HasAscii, ReadsAhead}}
-use Rattle.legacy_decoder_engine.specs.Moves.{Feeds}
-use Rattle.legacy_decoder_engine.proofs.{RunForms.{ascii_is, single_runs, has_ascii}, JoinedRuns.{reads_more, reads_written, reads_ascii}}
-use Rattle.legacy_decoder_engine.proofs.WrittenRuns.{runs_none, runs_more, rest_of, all_short, short, three_fit, one_unit, writes_none, writes_one}
-use Rattle.legacy_miscellaneous.specs.UserDefinedUnits.{unit_of_byte}
+use Rattle.std.proofs.Common.{◌≡◌, true, ℕ, zero, suc, ◌+◌, ◌-◌, ◌%◌, ◌<◌, ◌≤◌, ◌^◌, ◌==◌, List, [], ◌++◌, bit_and, bit_xor, refl, arith, IsAscii, length, take}
+use Rattle.std.proofs.{Common.{drop, get_or}, lemmas.{Bool.{agree_below_at, eqb-true, Decides.nat_tests}, List.{Elements.All-nil, take_more, take_all}}}
+use Rattle.{std.{proofs.lemmas.List.{length-drop, get_or-drop}, specs.Char.IsScalar}, legacy_tables.specs.Unicode.IsByte, legacy_base.specs.States.new_state}
+use Rattle.{legacy_base.specs.Grammar.user_defined, legacy_text.specs.{declared.destination.Destination.Ghosts, EncodingForm.{code_units, all_code_units}}}
+use Rattle.{legacy_text.specs.EncodingForm.total_unit_count, legacy_decoder_engine.specs.{declared.moves.Fed.TheVariants.One, ReadAhead.{Runs, IsSingle}}}
+use Rattle.legacy_decoder_engine.{specs.{ReadAhead.{HasAscii, ReadsAhead}, Moves.Feeds}, proofs.RunForms.{ascii_is, single_runs, has_ascii}}
+use Rattle.legacy_decoder_engine.proofs.{JoinedRuns.{reads_more, reads_written, reads_ascii}, WrittenRuns.{runs_none, runs_more, rest_of, all_short, short}}
+use Rattle.{legacy_decoder_engine.proofs.WrittenRuns.{three_fit, one_unit, writes_none, writes_one}, legacy_miscellaneous.specs.UserDefinedUnits.unit_of_byte}
 use Rattle.legacy_miscellaneous.proofs.UserDefinedShown.{user_defined_shown}
 use Rattle.legacy_decoder_engine.proofs.Feeding as moves
 
 pub user_defined_ascii : HasAscii user_defined
 user_defined_ascii = has_ascii user_defined_shown (λ b. refl) (λ b h. let a = ascii_is b h in rw a refl)
 
--- ---- the scalar of a byte
-
-abbrev scalar_is : ℕ → ℕ → Type 0
-scalar_is b c = c ≡ unit_of_byte b
-
 -- each byte is a run of its own
-pub is_single : (b c : ℕ) → b < 2 ^ 8 → IsScalar c → scalar_is b c → IsSingle user_defined b c
+pub is_single : (b c : ℕ) → b < 2 ^ 8 → IsScalar c → c ≡ unit_of_byte b → IsSingle user_defined b c
 is_single b c byte scalar e = (grind arith, single_runs user_defined_shown b c byte scalar refl (rw e (grind arith)))
 
 -- the move of a byte
-pub feeds : (b c : ℕ) → b < 2 ^ 8 → IsScalar c → scalar_is b c → Feeds (new_state user_defined) b (new_state user_defined) (One c)
+pub feeds : (b c : ℕ) → b < 2 ^ 8 → IsScalar c → c ≡ unit_of_byte b → Feeds (new_state user_defined) b (new_state user_defined) (One c)
 feeds b c byte scalar e = moves.feeds user_defined_shown [] refl (All-nil IsByte) b byte refl (One c) [] (grind arith)
 
--- ---- the unit of a byte by its bits
-
+-- the unit of a byte by its bits
 pub bits_are : (b : ℕ) → b < 256 → bit_and ((bit_xor b 128 + 65408) % 65536) 63487 ≡ unit_of_byte b
 bits_are b h = eqb-true _ _ (agree_below_at (λ b. bit_and ((bit_xor b 128 + 65408) % 65536) 63487 == unit_of_byte b) (λ _. true) 256 b refl h)
 
@@ -48,20 +37,14 @@ units_run : (source units : List ℕ) (r : ℕ) → ((k : ℕ) → get_or source
 units_run source units zero bytes within room are = runs_none user_defined
 units_run source units (suc r) bytes within room are =
     let is = are r (omega arith) in
-    let one = is_single _ _ (bytes r) (rw is (unit_scalar _ (bytes r))) is in
     let more : suc r ≡ r + 1 = omega arith in
     rw (more, take_more units r 0 (omega arith), take_more source r 0 (omega arith))
-    (runs_more _ _ _ _ _ (units_run source units r bytes (omega arith) (omega arith) (λ k h. are k (omega arith))) one.1)
+    (runs_more _ _ _ _ _ (units_run source units r bytes (omega arith) (omega arith) (λ k h. are k (omega arith)))
+    (is_single _ _ (bytes r) (rw is (unit_scalar _ (bytes r))) is).1)
 
 -- each byte of the rest of a source is a byte
 pub rest_bytes : (source : List ℕ) (at : ℕ) → ((k : ℕ) → get_or source k 0 < 2 ^ 8) → (k : ℕ) → get_or (take (length source - at) (drop at source)) k 0 < 2 ^ 8
-rest_bytes source at bytes k = rw (rest_of source at, get_or-drop at source k 0) (bytes (at + k))
-
--- the units of eight bytes are scalars
-pub units_are_scalars : (source units : List ℕ) → ((k : ℕ) → get_or source k 0 < 2 ^ 8) → length units ≡ 8 →
-    ((k : ℕ) → k < 8 → get_or units k 0 ≡ unit_of_byte (get_or source k 0)) → All IsScalar units
-units_are_scalars source units bytes long are =
-    grind (arith, All-from_get_or IsScalar units 0, unit_scalar)
+rest_bytes source at bytes k = grind (arith, rest_of, get_or-drop)
 
 -- eight more bytes are read, and their units are written
 pub eight_more : {D : Type 0} (T : Ghosts D) (source units : List ℕ) {old mid new : D} (at : ℕ) → ((k : ℕ) → get_or source k 0 < 2 ^ 8) →
@@ -71,13 +54,10 @@ pub eight_more : {D : Type 0} (T : Ghosts D) (source units : List ℕ) {old mid 
     ReadsAhead T (new_state user_defined) source (at + 8) old new
 eight_more T source units {old} {mid} {new} at bytes within long before enough are contents room loan =
     let rest : List ℕ = take (length source - at) (drop at source) in
-    let longer : length rest ≡ length source - at = grind (arith, rest_of, length-drop) in
-    let low = rest_bytes source at bytes in
-    let all : take 8 units ≡ units = take_all 8 units (omega arith) in
-    let few = all_short T.form units (λ k h. grind (arith, are k, low k)) in
-    let run = units_run rest units 8 low (omega arith) (omega arith) are in
-    reads_more before (reads_written (omega arith) (record { scalars = units; runs = rw all at run; written = contents; room = room; loan = loan })
-    (omega (arith, few, room)) (omega arith))
+    let longer : 8 ≤ length rest = grind (arith, rest_of, length-drop) in
+    let few = all_short T.form units (λ k h. grind (arith, are k, rest_bytes source at bytes k)) in
+    let run = units_run rest units 8 (rest_bytes source at bytes) longer (omega arith) are in
+    reads_more before (grind (arith, reads_written, take_all 8 units, run))
 
 -- ---- ASCII, and a byte after it
 
@@ -90,9 +70,7 @@ module _ {D : Type 0} (T : Ghosts D) (source : List ℕ) (r : ℕ) (old mid : D)
 
     pub reads_byte : (new : D) (c : ℕ) → r < 64 → IsSingle user_defined (get_or source r 0) c → T.contents new ≡ T.contents mid ++ code_units T.form c
         → T.room new + length (code_units T.form c) ≡ T.room mid → T.loan new ≡ T.loan mid → ReadsAhead T (new_state user_defined) source (r + 1) old new
-    reads_byte new c less single more less_room same =
-        reads_written (omega arith) (writes_one T source r c (omega arith) reads_front.writes single.1 more less_room same)
-        (omega (arith, room, less_room, short T.form c single.0)) (omega arith)
+    reads_byte new c less single more less_room same = grind (arith, reads_front, writes_one, reads_written, short)
 
 -- the lemmas for a loop that reads bytes one by one
 pub ruleset byte_steps = (writes_none, writes_one, one_unit, three_fit, short, is_single)

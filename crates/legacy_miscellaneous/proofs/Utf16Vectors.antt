@@ -1,10 +1,7 @@
 -- The units of a vector of bytes.
 use Rattle.std.proofs.Common.{◌≡◌, ◌∙◌, ℕ, ◌+◌, ◌-◌, ◌*◌, ◌%◌, ◌<◌, ◌≤◌, List, ◌++◌, true, false, length, map, take, get_or, sym, subst, arith}
-use Rattle.std.proofs.{lemmas.List.{get_or-take, get_or_append_left, length-take-le}, lemmas.List.FromFn.get_or-map-range_with_len}
-use Rattle.std.proofs.{lemmas.List.FromFn.length-map-range_with_len}
-use Rattle.std.specs.{List.range_with_len, Simd.Lanes.{number_l, digits_l}}
-use Rattle.legacy_tables.specs.Unicode.{IsByte}
-use Rattle.legacy_text.proofs.ScalarTurns.{lane}
+use Rattle.std.proofs.lemmas.List.{get_or-take, get_or_append_left, length-take-le, FromFn.{get_or-map-range_with_len, length-map-range_with_len}}
+use Rattle.{std.specs.{List.range_with_len, Simd.Lanes.{number_l, digits_l}}, legacy_tables.specs.Unicode.IsByte, legacy_text.proofs.ScalarTurns.lane}
 use Rattle.legacy_miscellaneous.specs.Utf16Decoder.{unit_at}
 
 -- units in little-endian order

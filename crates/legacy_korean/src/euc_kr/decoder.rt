@@ -65,6 +65,7 @@ impl LaneCodec for EucKr {
     }
 
     #[inline]
+    #[tactic(auto, using(crate::proofs::EucKrPlaces::pair_form))]
     fn front(tables: &FlatTables<'_>, lead: u8, trail: u8) -> CommonForm {
         match form_scalar(tables, lead, trail) {
             Some(scalar) => CommonForm::Pair(scalar),

@@ -1,5 +1,4 @@
-use Rattle.std.proofs.Common.{sym, arith}
-use Rattle.legacy_chinese.proofs.FourPlaces.{range_past}
+use Rattle.{std.proofs.Common.{sym, arith}, legacy_chinese.proofs.FourPlaces.range_past}
 use Rattle.legacy_chinese.proofs.gb18030.four_byte_blocks.far_scalar.Goals as goal
 
 pub returns-then-pointer-gt1237575 : goal.returns-then-pointer-gt1237575

@@ -1,5 +1,4 @@
-use Rattle.std.proofs.Common.{arith}
-use Rattle.legacy_chinese.proofs.FourPlaces.{lead_read, digit_read, four_small}
+use Rattle.{std.proofs.Common.arith, legacy_chinese.proofs.FourPlaces.{lead_read, digit_read, four_small}}
 use Rattle.legacy_chinese.proofs.gb18030.four_places.four_pointer.Goals as goal
 
 pub returns-clause-place : goal.returns-clause-place
@@ -7,13 +6,5 @@ returns-clause-place c = grind (arith, lead_read, digit_read)
 
 pub returns-clause-small : goal.returns-clause-small
 returns-clause-small c =
-    rw (
-      c.from.ensures,
-      c.from-2.ensures,
-      c.from-3.ensures,
-      c.from-4.ensures,
-      lead_read c.args.first (omega arith),
-      digit_read c.args.second (omega arith),
-      lead_read c.args.third (omega arith),
-      digit_read c.args.fourth (omega arith),
-    ) (four_small c.args.first c.args.second c.args.third c.args.fourth (omega arith) (omega arith) (omega arith) (omega arith))
+    let small = four_small c.args.first c.args.second c.args.third c.args.fourth in
+    omega (arith, returns-clause-place c, small (omega arith) (omega arith) (omega arith) (omega arith))

@@ -1,5 +1,4 @@
-use Rattle.std.proofs.Common.{◌≡◌, ℕ, take, slice_index, true, false}
-use Rattle.legacy_chinese.specs.Gb18030List.{is_in_rows}
+use Rattle.{std.proofs.Common.{◌≡◌, ℕ, take, slice_index, true, false}, legacy_chinese.specs.Gb18030List.is_in_rows}
 use Rattle.legacy_chinese.proofs.gb18030.list.ask_rows.Given as goal
 
 -- the entries of the rows that were passed are right, and the others are unchanged

@@ -1,6 +1,5 @@
-use Rattle.legacy_decoder_engine.specs.Places.{lead_place}
-use Rattle.legacy_decoder_engine.proofs.PairPlaces.{rows_are}
-use Rattle.legacy_korean.proofs.EucKrPlaces.{euc_kr_trail_place, euc_kr_trails_are, euc_kr_entry}
+use Rattle.{legacy_decoder_engine.{specs.Places.lead_place, proofs.PairPlaces.rows_are}, legacy_korean.proofs.EucKrPlaces.euc_kr_trail_place}
+use Rattle.legacy_korean.proofs.EucKrPlaces.{euc_kr_trails_are, euc_kr_entry}
 use Rattle.legacy_korean.proofs.euc_kr.decoder.form_scalar.Goals as goal
 
 pub returns-clause-value : goal.returns-clause-value

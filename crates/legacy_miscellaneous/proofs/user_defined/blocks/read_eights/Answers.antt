@@ -1,6 +1,5 @@
-use Rattle.std.proofs.Common.{arith}
-use Rattle.legacy_decoder_engine.proofs.WrittenRuns.{reads_none}
-use Rattle.legacy_miscellaneous.proofs.UserDefinedRuns.{rest_bytes, units_are_scalars, eight_more}
+use Rattle.{std.{proofs.{lemmas.List.Elements.All-from_get_or, Common.arith}, specs.Char.IsScalar}, legacy_miscellaneous.proofs.UserDefinedRuns.unit_scalar}
+use Rattle.{legacy_miscellaneous.proofs.UserDefinedRuns.{rest_bytes, eight_more}, legacy_decoder_engine.proofs.WrittenRuns.reads_none}
 use Rattle.legacy_miscellaneous.proofs.user_defined.blocks.read_eights.Goals as goal
 
 pub loop-at-init : goal.loop-at-init
@@ -8,11 +7,11 @@ loop-at-init g c = reads_none _ _ _ _
 
 pub put_eight-requires-clause-scalars : goal.put_eight-requires-clause-scalars
 put_eight-requires-clause-scalars g c =
-    units_are_scalars _ _ (rest_bytes c.args.src.now _ (λ k. let f = c.type_inv.src k in omega arith)) c.units_of.ensures.count c.units_of.ensures.same
+    let low = rest_bytes c.args.src.now c.loop-at.at (λ k. (c.type_inv.src k).fits) in
+    grind (arith, All-from_get_or IsScalar c.units_of.result 0, unit_scalar, low)
 
 pub loop-at-preserved : goal.loop-at-preserved
 loop-at-preserved g c =
     let e = c.put_eight.ensures in
-    eight_more g.T.Destination c.args.src.now c.units_of.result c.loop-at.at (λ k. let f = c.type_inv.src k in omega arith)
-    (omega (arith, c.loop-at-test.true))
-    c.units_of.ensures.count c.loop-at.invariant (omega (arith, c.free.ensures, c.if-free-ge35.true)) c.units_of.ensures.same e.contents e.room e.loan
+    eight_more g.T.Destination c.args.src.now c.units_of.result c.loop-at.at (λ k. (c.type_inv.src k).fits) (omega arith)
+    c.units_of.ensures.count c.loop-at.invariant (omega (arith, c.free.ensures)) c.units_of.ensures.same e.contents e.room e.loan

@@ -1,7 +1,4 @@
-use Rattle.std.proofs.Common.{◌-◌, length}
-use Rattle.legacy_base.specs.Grammar.{user_defined}
-use Rattle.legacy_base.specs.States.{new_state}
-use Rattle.legacy_decoder_engine.specs.ReadAhead.{ReadsAhead}
+use Rattle.{std.proofs.Common.{◌-◌, length}, legacy_base.specs.{Grammar.user_defined, States.new_state}, legacy_decoder_engine.specs.ReadAhead.ReadsAhead}
 use Rattle.legacy_miscellaneous.proofs.user_defined.blocks.read_eights.Given as goal
 
 -- the bytes before this place are read

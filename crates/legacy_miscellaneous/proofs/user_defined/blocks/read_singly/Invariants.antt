@@ -1,6 +1,4 @@
-use Rattle.std.proofs.Common.{◌+◌, ◌*◌, ◌-◌, ◌≤◌, take}
-use Rattle.legacy_base.specs.Grammar.{user_defined}
-use Rattle.legacy_decoder_engine.specs.ReadAhead.{Writes}
+use Rattle.{std.proofs.Common.{◌+◌, ◌*◌, ◌-◌, ◌≤◌, take}, legacy_base.specs.Grammar.user_defined, legacy_decoder_engine.specs.ReadAhead.Writes}
 use Rattle.legacy_miscellaneous.proofs.user_defined.blocks.read_singly.Given as goal
 
 -- the bytes read are written, with at most three code units for each

@@ -1,6 +1,4 @@
-use Rattle.std.proofs.Common.{◌≡◌, ◌+◌, ◌-◌, ◌≤◌, take}
-use Rattle.legacy_base.specs.Grammar.{user_defined}
-use Rattle.legacy_decoder_engine.specs.ReadAhead.{Writes}
+use Rattle.{std.proofs.Common.{◌≡◌, ◌+◌, ◌-◌, ◌≤◌, take}, legacy_base.specs.Grammar.user_defined, legacy_decoder_engine.specs.ReadAhead.Writes}
 use Rattle.legacy_miscellaneous.proofs.user_defined.blocks.read_units.Given as goal
 
 -- each byte that was read was written as one unit

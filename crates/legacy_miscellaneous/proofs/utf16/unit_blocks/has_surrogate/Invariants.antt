@@ -1,5 +1,4 @@
-use Rattle.std.proofs.Common.{◌≡◌, ◌-◌, ◌<◌, ◌≤◌, ℕ, false, get_or, length}
-use Rattle.std.specs.Char.{IsScalar}
+use Rattle.std.{proofs.Common.{◌≡◌, ◌-◌, ◌<◌, ◌≤◌, ℕ, false, get_or, length}, specs.Char.IsScalar}
 use Rattle.legacy_miscellaneous.proofs.utf16.unit_blocks.has_surrogate.Given as goal
 
 -- the units before `at` are scalars, unless a surrogate was found

@@ -1,5 +1,4 @@
-use Rattle.std.proofs.Common.{◌≡◌, ◌+◌, ◌-◌, ◌<◌, ◌≤◌, ℕ, length}
-use Rattle.std.specs.Prelude.{slice_index}
+use Rattle.std.{proofs.Common.{◌≡◌, ◌+◌, ◌-◌, ◌<◌, ◌≤◌, ℕ, length}, specs.Prelude.slice_index}
 use Rattle.legacy_miscellaneous.proofs.utf16.unit_blocks.put_narrow.Given as goal
 
 -- the first units are stored, and what is before them is unchanged

@@ -1,5 +1,4 @@
-use Rattle.std.proofs.Common.{◌∙◌, sym}
-use Rattle.legacy_miscellaneous.proofs.Utf16Bounds.{both_below}
+use Rattle.{std.proofs.Common.{◌∙◌, sym}, legacy_miscellaneous.proofs.Utf16Bounds.both_below}
 use Rattle.legacy_miscellaneous.proofs.utf16.vectors.greater_units.Goals as goal
 
 pub returns : goal.returns

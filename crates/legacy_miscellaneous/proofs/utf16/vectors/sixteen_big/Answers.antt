@@ -1,6 +1,5 @@
-use Rattle.std.proofs.Common.{arith}
 use Rattle.legacy_miscellaneous.proofs.Utf16Vectors.{big}
 use Rattle.legacy_miscellaneous.proofs.utf16.vectors.sixteen_big.Goals as goal
 
 pub returns : goal.returns
-returns c = big 16 c.args.src.now c.requires (λ i. let f = c.type_inv.src i in omega arith)
+returns c = big 16 c.args.src.now c.requires (λ i. (c.type_inv.src i).fits)

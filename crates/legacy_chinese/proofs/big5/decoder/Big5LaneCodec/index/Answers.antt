@@ -1,14 +1,11 @@
-use Rattle.std.proofs.Common.{◌≡◌, ◌∙◌, ◌+◌, ◌/◌, ◌%◌, ◌≤◌, length, get_or, ap, arith}
-use Rattle.legacy_tables.specs.Indexes.{idx}
-use Rattle.legacy_tables.proofs.Accepted.{big5-scalars, length-big5}
-use Rattle.legacy_chinese.specs.Big5Places.{big5_place, big5_lead_place, big5_trail_place}
-use Rattle.legacy_chinese.proofs.Big5Places.{big5_runs, some_entry}
+use Rattle.{std.proofs.{lemmas.Bool.Decides.nat_tests, Common.{◌≡◌, ◌+◌, ◌/◌, ◌%◌, ◌≤◌, length, get_or, arith}}, legacy_tables.proofs.Accepted.big5-scalars}
+use Rattle.{legacy_tables.proofs.Accepted.length-big5, legacy_chinese.specs.Big5Places.{big5_place, big5_lead_place, big5_trail_place}}
+use Rattle.legacy_chinese.proofs.Big5Places.{big5_runs}
 use Rattle.legacy_chinese.proofs.big5.decoder.Big5LaneCodec.index.Goals as goal
 
 pub returns-clause-pairs : goal.returns-clause-pairs
 returns-clause-pairs c tables code small past within narrow some =
-    let entry = get_or tables.flat.big5 (big5_place code) 0 in
     let short : length tables.flat.big5 ≤ 65535 = let most = length-big5 tables.flat tables.accepted in omega arith in
     let at : big5_place code ≡ big5_lead_place (code % 256) + big5_trail_place (code / 256) = omega (arith, within, short) in
-    let runs = big5_runs tables (code % 256) (code / 256) entry (omega arith) (omega arith) (some_entry entry some ∙ ap (idx tables.flat.big5) at) in
-    (big5-scalars tables.flat tables.accepted (big5_place code) 0 within, (narrow, runs))
+    let runs = big5_runs tables (code % 256) (code / 256) (get_or tables.flat.big5 (big5_place code) 0) in
+    grind (arith, nat_tests, big5-scalars tables.flat tables.accepted (big5_place code) 0, runs)

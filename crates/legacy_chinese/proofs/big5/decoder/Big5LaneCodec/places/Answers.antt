@@ -1,5 +1,4 @@
-use Rattle.std.proofs.Common.{◌/◌, ◌%◌}
-use Rattle.legacy_chinese.specs.Big5Places.{big5_lead_place, big5_trail_place}
+use Rattle.{std.proofs.Common.{◌/◌, ◌%◌}, legacy_chinese.specs.Big5Places.{big5_lead_place, big5_trail_place}}
 use Rattle.legacy_chinese.proofs.big5.decoder.Big5LaneCodec.places.Goals as goal
 
 pub returns : goal.returns

@@ -1,6 +1,4 @@
-use Rattle.std.proofs.Common.{◌∙◌}
-use Rattle.legacy_encoder_engine.proofs.WalkedPairs.{all-past-ascii}
-use Rattle.legacy_chinese.proofs.Big5Walk.{goes-by-pointers}
+use Rattle.{std.proofs.Common.◌∙◌, legacy_encoder_engine.proofs.WalkedPairs.all-past-ascii, legacy_chinese.proofs.Big5Walk.goes-by-pointers}
 use Rattle.legacy_chinese.proofs.big5.encoder.Big5FillsPairs.fill.Goals as goal
 
 pub returns : goal.returns

@@ -1,11 +1,7 @@
-use Rattle.std.proofs.Common.{[]}
-use Rattle.legacy_decoder_engine.specs.declared.moves.Fed.TheVariants.{One}
-use Rattle.legacy_chinese.proofs.Gb18030Held.{feeds, takes_pair}
+use Rattle.{std.proofs.Common.arith, legacy_chinese.proofs.Gb18030Held.{feeds, takes_pair}}
 use Rattle.legacy_chinese.proofs.gb18030.decoder.Gb18030DecoderDecoderMoves.feed.Goals as goal
 
 pub returns-in-Some : goal.returns-in-Some
 returns-in-Some c =
-    let tables = c.args.self.now.tables.now in
-    let e = c.in-Some.ensures in
-    feeds tables c.args.self.now.held c.args.byte c.ranges.byte.fits c.requires (One c.in-Some.scalar) []
-    (rw c.in-First.is (takes_pair tables c.in-First.first c.args.byte c.in-Some.scalar e.value e.scalar))
+    let fed = feeds c.args.self.now.tables.now c.args.self.now.held c.args.byte in
+    let pair = takes_pair c.args.self.now.tables.now c.in-First.first c.args.byte c.in-Some.scalar in grind (arith, fed, pair)

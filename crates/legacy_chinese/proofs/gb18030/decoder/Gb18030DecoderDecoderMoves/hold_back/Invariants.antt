@@ -1,6 +1,4 @@
-use Rattle.std.proofs.Common.{◌-◌, ◌≤◌, take, length}
-use Rattle.legacy_decoder_engine.specs.Moves.{HoldsBytes}
-use Rattle.legacy_chinese.specs.Gb18030Decoder.{gb18030_state}
+use Rattle.{std.proofs.Common.{◌-◌, ◌≤◌, take, length}, legacy_decoder_engine.specs.Moves.HoldsBytes, legacy_chinese.specs.Gb18030Decoder.gb18030_state}
 use Rattle.legacy_chinese.proofs.gb18030.decoder.Gb18030DecoderDecoderMoves.hold_back.Given as goal
 
 -- the bytes before the place are held back

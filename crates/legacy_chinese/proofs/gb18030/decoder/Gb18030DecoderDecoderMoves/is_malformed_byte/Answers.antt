@@ -1,5 +1,4 @@
-use Rattle.std.proofs.lemmas.Bool.{eqb-true}
-use Rattle.legacy_chinese.proofs.Gb18030Held.{malformed_byte}
+use Rattle.{std.proofs.lemmas.Bool.eqb-true, legacy_chinese.proofs.Gb18030Held.malformed_byte}
 use Rattle.legacy_chinese.proofs.gb18030.decoder.Gb18030DecoderDecoderMoves.is_malformed_byte.Goals as goal
 
 pub returns-in-Nothing : goal.returns-in-Nothing

@@ -1,8 +1,5 @@
-use Rattle.std.proofs.Common.{arith, ◌∙◌, sym}
-use Rattle.legacy_base.specs.Grammar.{gb18030}
-use Rattle.legacy_decoder_engine.proofs.{JoinedRuns.reads_idle, WrittenRuns.reads_none}
-use Rattle.legacy_chinese.specs.Gb18030Decoder.{gb18030_state}
-use Rattle.legacy_chinese.proofs.Gb18030Held.{ascii, idle}
+use Rattle.{std.proofs.Common.arith, legacy_decoder_engine.proofs.{JoinedRuns.reads_idle, WrittenRuns.reads_none}}
+use Rattle.legacy_chinese.{specs.Gb18030Decoder.gb18030_state, proofs.Gb18030Held.{ascii, idle}}
 use Rattle.legacy_chinese.proofs.gb18030.decoder.Gb18030DecoderDecoderMoves.read_runs.Goals as goal
 
 pub returns-then-not-in_neutral_state : goal.returns-then-not-in_neutral_state
@@ -12,9 +9,4 @@ pub returns-in-Some : goal.returns-in-Some
 returns-in-Some g c = grind (arith, reads_idle, idle)
 
 pub returns-in-None : goal.returns-in-None
-returns-in-None g c =
-    let tables = c.args.self.now.tables.now in
-    record {
-      runs = reads_idle (idle c.args.self.now (sym c.in_neutral_state.ensures ∙ c.if-not-in_neutral_state.false))
-          (c.read_ascii.ensures.ahead (gb18030 tables.flat.gb18030 tables.flat.ranges) (ascii tables));
-    }
+returns-in-None g c = let read = c.read_ascii.ensures.ahead _ (ascii c.args.self.now.tables.now) in grind (arith, reads_idle, idle, read)

@@ -1,6 +1,4 @@
-use Rattle.std.proofs.Common.{◌/◌, ◌%◌}
-use Rattle.legacy_decoder_engine.specs.Places.{lead_place}
-use Rattle.legacy_chinese.specs.Gb18030Places.{gb18030_trail_place}
+use Rattle.{std.proofs.Common.{◌/◌, ◌%◌}, legacy_decoder_engine.specs.Places.lead_place, legacy_chinese.specs.Gb18030Places.gb18030_trail_place}
 use Rattle.legacy_chinese.proofs.gb18030.four_byte_blocks.Gb18030LaneCodec.places.Goals as goal
 
 pub returns : goal.returns

@@ -1,6 +1,4 @@
-use Rattle.std.proofs.Common.{◌≡◌, ◌+◌, ◌-◌, ◌≤◌, take, length}
-use Rattle.legacy_tables.specs.RangeParts.{IsRangePart}
-use Rattle.legacy_base.specs.Grammar.{gb18030}
+use Rattle.{std.proofs.Common.{◌≡◌, ◌+◌, ◌-◌, ◌≤◌, take, length}, legacy_tables.specs.RangeParts.IsRangePart, legacy_base.specs.Grammar.gb18030}
 use Rattle.legacy_decoder_engine.specs.ReadAhead.{Writes}
 use Rattle.legacy_chinese.proofs.gb18030.four_byte_blocks.Gb18030LaneCodec.read_longer.Given as goal
 

@@ -1,5 +1,4 @@
-use Rattle.legacy_decoder_engine.proofs.LeadHeld.{ascii}
-use Rattle.legacy_korean.specs.EucKrShown.{euc_kr_codec}
+use Rattle.{legacy_decoder_engine.proofs.LeadHeld.ascii, legacy_korean.specs.EucKrShown.euc_kr_codec}
 use Rattle.legacy_korean.proofs.euc_kr.decoder.EucKrLaneCodec.is_uncommon.Goals as goal
 
 pub returns-then-byte-ge128 : goal.returns-then-byte-ge128

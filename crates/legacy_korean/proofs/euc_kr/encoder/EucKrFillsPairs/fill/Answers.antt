@@ -1,6 +1,4 @@
-use Rattle.std.proofs.Common.{◌∙◌}
-use Rattle.legacy_encoder_engine.proofs.WalkedPairs.{all-past-ascii}
-use Rattle.legacy_korean.proofs.EucKrWalk.{goes-by-pointers}
+use Rattle.{std.proofs.Common.◌∙◌, legacy_encoder_engine.proofs.WalkedPairs.all-past-ascii, legacy_korean.proofs.EucKrWalk.goes-by-pointers}
 use Rattle.legacy_korean.proofs.euc_kr.encoder.EucKrFillsPairs.fill.Goals as goal
 
 pub returns : goal.returns

@@ -1,5 +1,4 @@
-use Rattle.legacy_miscellaneous.specs.Utf16Decoder.{utf16_state}
-use Rattle.legacy_decoder_engine.proofs.WrittenRuns.{reads_none}
+use Rattle.{legacy_miscellaneous.specs.Utf16Decoder.utf16_state, legacy_decoder_engine.proofs.WrittenRuns.reads_none}
 use Rattle.legacy_miscellaneous.proofs.utf16.decoder.Utf16DecoderDecoderMoves.read_runs.Goals as goal
 
 pub returns-then-not-matches : goal.returns-then-not-matches

@@ -1,6 +1,5 @@
-use Rattle.std.proofs.Common.{arith}
-use Rattle.legacy_miscellaneous.proofs.Utf16Runs.{writes_unit}
-use Rattle.legacy_decoder_engine.proofs.WrittenRuns.{writes_none, reads_none, short}
+use Rattle.{std.proofs.Common.arith, legacy_miscellaneous.proofs.Utf16Runs.writes_unit, legacy_decoder_engine.proofs.WrittenRuns.{writes_none, reads_none}}
+use Rattle.legacy_decoder_engine.proofs.WrittenRuns.{short}
 use Rattle.legacy_miscellaneous.proofs.utf16.unit_blocks.SixteensBlocks.read_block.Goals as goal
 
 pub returns-then-src-lt32-clause-ahead : goal.returns-then-src-lt32-clause-ahead

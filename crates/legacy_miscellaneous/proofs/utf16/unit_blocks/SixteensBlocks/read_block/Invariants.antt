@@ -1,6 +1,4 @@
-use Rattle.std.proofs.Common.{◌+◌, ◌*◌, ◌-◌, ◌≤◌, take}
-use Rattle.legacy_base.specs.Grammar.{utf16}
-use Rattle.legacy_decoder_engine.specs.ReadAhead.{Writes}
+use Rattle.{std.proofs.Common.{◌+◌, ◌*◌, ◌-◌, ◌≤◌, take}, legacy_base.specs.Grammar.utf16, legacy_decoder_engine.specs.ReadAhead.Writes}
 use Rattle.legacy_miscellaneous.proofs.utf16.unit_blocks.SixteensBlocks.read_block.Given as goal
 
 -- the units before `at` are written, each as at most three code units

@@ -1,5 +1,4 @@
-use Rattle.std.proofs.Common.{ℕ, ◌-◌, ◌*◌, ◌≤◌}
-use Rattle.legacy_miscellaneous.specs.Utf16Decoder.{AreBelow, AreUnitsBelow}
+use Rattle.{std.proofs.Common.{ℕ, ◌-◌, ◌*◌, ◌≤◌}, legacy_miscellaneous.specs.Utf16Decoder.{AreBelow, AreUnitsBelow}}
 use Rattle.legacy_miscellaneous.proofs.utf16.unit_blocks.Units.are_below.Given as goal
 
 -- no unit of the groups that were read is greater than that of its lane

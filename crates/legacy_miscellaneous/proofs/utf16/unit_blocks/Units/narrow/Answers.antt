@@ -1,18 +1,14 @@
-use Rattle.std.proofs.Common.{◌-◌, arith}
-use Rattle.legacy_miscellaneous.proofs.Utf16Runs.{unit_after}
+use Rattle.{std.proofs.Common.{◌-◌, arith, refl}, legacy_miscellaneous.proofs.Utf16Runs.unit_after}
 use Rattle.legacy_miscellaneous.proofs.utf16.unit_blocks.Units.narrow.Goals as goal
 
 pub loop-at-preserved : goal.loop-at-preserved
-loop-at-preserved c =
-    let big_endian = c.args.self.now.big_endian in
-    let src = c.args.src.now in
-    let at = c.loop-at.at in
-    let i = c.loop-at.invariant in
-    let e = c.put_narrow.ensures in
-    record {
-      within = omega (arith, i.within, i.sixteens, i.long, c.requires.sixteens, c.loop-at-test.true, c.put_narrow.auto.block);
-      sixteens = omega (arith, i.sixteens);
-      long = omega (arith, i.long, c.put_narrow.auto.block);
-      narrow = λ k h low.
-          let j = k - at in grind (arith, i.narrow k, e.before k, e.narrow j, c.sixteen_units-units.ensures j, unit_after big_endian src at j);
-    }
+loop-at-preserved c = record {
+  within = omega arith;
+  sixteens = omega arith;
+  long = omega arith;
+  narrow = λ k h low.
+      let j = k - c.loop-at.at in
+      let e = c.put_narrow.ensures in
+      let is = unit_after c.args.self.now.big_endian c.args.src.now c.loop-at.at _ j refl in
+      grind (arith, c.loop-at.invariant.narrow k, e.before k, e.narrow j, c.sixteen_units-units.ensures j, is);
+}

@@ -1,5 +1,4 @@
-use Rattle.std.proofs.Common.{◌≡◌, ◌-◌, ◌%◌, ◌≤◌, length}
-use Rattle.legacy_miscellaneous.specs.Utf16Decoder.{HasAsciiUnits}
+use Rattle.{std.proofs.Common.{◌≡◌, ◌-◌, ◌%◌, ◌≤◌, length}, legacy_miscellaneous.specs.Utf16Decoder.HasAsciiUnits}
 use Rattle.legacy_miscellaneous.proofs.utf16.unit_blocks.Units.narrow.Given as goal
 
 -- the units before `at` are in the block
