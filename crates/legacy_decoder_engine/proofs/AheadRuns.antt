@@ -99,7 +99,7 @@ module _ {D : Type 0} {T : Ghosts D} where
     ahead_going {now} {next} {read} {r} {old} {new} i reads = (
       i.0 ++ reads.writes.scalars,
       elim (cases_lt 0 r) [
-        | inl some ↦ going_then i.1 i.3 (run_going reads some) some
+        | inl some ↦ going_then i.1 _ i.3 (run_going reads some) some
         | inr z ↦
             let none : r ≡ 0 = omega arith in
             rw (reads.stays none, none, add-zero read, reads_nothing reads none, append-nil i.0) i.1

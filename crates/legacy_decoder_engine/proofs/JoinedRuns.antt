@@ -1,10 +1,11 @@
 -- Runs that are read one after another.
-use Rattle.std.proofs.Common.{◌≡◌, ◌∙◌, ℕ, ◌+◌, ◌-◌, ◌<◌, ◌≤◌, List, ◌++◌, length, take, drop, sym, ap, subst, arith, IsAscii}
-use Rattle.std.proofs.{lemmas.List.{take-take, length-take, length-take-le, length-drop}, Math.Seq.take-add}
+use Rattle.std.proofs.Common.{◌≡◌, ℕ, ◌+◌, ◌-◌, ◌<◌, ◌≤◌, List, ◌++◌, length, take, drop, sym, subst, arith, IsAscii}
+use Rattle.std.proofs.{lemmas.List.{length-take, length-take-le, length-drop}, Math.Seq.take-add}
 use Rattle.legacy_text.specs.{declared.destination.Destination.Ghosts}
 use Rattle.legacy_base.specs.{Grammar.Grammar, States.{DecoderState, new_state}}
 use Rattle.legacy_decoder_engine.specs.ReadAhead.{HasAscii, IsIdle, Writes, WritesTo, ReadsTo, ReadsAhead}
-use Rattle.legacy_decoder_engine.proofs.{AheadRuns.{reads_nothing, with_empty}, CallUnderWay.{same_rooms, both_rooms}, WrittenRuns.{writes_then, writes_ascii}}
+use Rattle.legacy_decoder_engine.proofs.{AheadRuns.{reads_nothing, with_empty}, CallUnderWay.{same_rooms, both_rooms}}
+use Rattle.legacy_decoder_engine.proofs.WrittenRuns.{rest_of, writes_then, writes_ascii}
 
 module _ {D : Type 0} {T : Ghosts D} {source : List ℕ} {old mid new : D} {r s : ℕ} where
   -- a run, and then a run after it
@@ -12,23 +13,11 @@ module _ {D : Type 0} {T : Ghosts D} {source : List ℕ} {old mid new : D} {r s 
       → ReadsTo T next last (take (length source - r) (drop r source)) s mid new
       → ReadsTo T first last source (r + s) old new
   reads_then {first} {next} {last} a b =
-      let n : ℕ = length source - r in
-      let l = length-take n (drop r source) in
-      let d = length-drop r source in
-      let w = b.within in
-      let low : s ≤ n = omega arith in
-      let place : take (r + s) source ≡ take r source ++ take s (take (length source - r) (drop r source))
-      = take-add r s source ∙ ap (λ bytes. take r source ++ bytes) (sym (take-take s n (drop r source) low)) in
-      record {
-        within = let v = a.within in omega arith;
-        idle = λ h. grind arith;
-        empties = λ h. grind arith;
-        stays = λ e. b.stays (omega arith) ∙ a.stays (omega arith);
-        rooms = both_rooms first.grammar next.grammar last.grammar a.rooms b.rooms;
-        writes = subst (λ bytes. WritesTo T first.grammar last.grammar bytes old new) (sym place) (writes_then T a.writes b.writes);
-        slack = λ h. let nothing = reads_nothing b in grind arith;
-        had = λ h. grind arith;
-      }
+      let writes : WritesTo T first.grammar last.grammar (take (r + s) source) old new =
+      rw (take-add r s source, ← rest_of source r) (writes_then T a.writes b.writes) in
+      let nothing = reads_nothing b in
+      let room = b.writes.room in
+      grind (arith, both_rooms, length-take, length-drop)
 
   -- the same in one state
   pub reads_more : {state : DecoderState} → ReadsAhead T state source r old mid → ReadsAhead T state (take (length source - r) (drop r source)) s mid new

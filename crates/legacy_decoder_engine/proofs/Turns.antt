@@ -1,6 +1,7 @@
 -- The turns of a loop that takes four at a time.
 use Rattle.std.proofs.{Common.{◌≡◌, ℕ, ◌+◌, ◌-◌, ◌*◌, ◌/◌, ◌%◌, ◌<◌, ◌≤◌, refl, arith}, lemmas.Bool.Decides.nat_tests}
 use Rattle.std.proofs.Math.Nat.{le-mul_of_pos_right}
+use Rattle.legacy_decoder_engine.proofs.{JoinedRuns.reads_written, WrittenRuns.{reads_none, writes_none, writes_run}}
 
 -- all turns, before the first
 pub all_turns : (size turns : ℕ) → size * (4 * (turns / 4) + turns % 4) ≡ size * turns
@@ -16,3 +17,6 @@ last_turns size left rest h = let e : 4 * left + rest ≡ rest = omega arith in 
 
 -- a single turn of some
 pub ruleset one_turn = (le-mul_of_pos_right)
+
+-- four turns after another, and the rest
+pub ruleset turning = (reads_written, reads_none, writes_none, writes_run, all_turns, four_turns, last_turns)

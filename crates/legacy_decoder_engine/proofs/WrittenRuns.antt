@@ -21,11 +21,7 @@ pub runs_then : (g h k : Grammar) (xs ys cs ds : List ℕ) → RunsTo g h xs cs 
 runs_then g h k xs ys cs ds a b = record {
   events = λ more. simp (append_assoc, a.events, b.events, shift-append, shift-scalars, shift-shift, map-append, length-append);
   scalar = All-append IsScalar cs ds a.scalar b.scalar;
-  lowers = λ query n.
-      let p = b.lowers query n in
-      let q = a.lowers query (n + length ys) in
-      let e : n + length (xs ++ ys) ≡ (n + length ys) + length xs = omega (arith, length-append xs ys) in
-      rw e (omega (arith, total_unit_count-append (query_form query) cs ds));
+  lowers = λ query n. grind (arith, a.lowers query (n + length ys), b.lowers query n, length-append xs ys, total_unit_count-append (query_form query) cs ds);
 }
 
 -- the same in one grammar

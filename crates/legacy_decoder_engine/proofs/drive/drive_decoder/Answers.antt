@@ -40,7 +40,8 @@ loop-read-preserved g c =
     let fed = c.feed-fed.result in
     let e = c.put_fed.ensures in (
       i.0 ++ fed_scalars fed,
-      going_feed i.1 i.3 fed (omega (arith, i.1.within, c.if-read-src.false)) c.feed-fed.ensures (grind (arith, c.in_default-fed.not-MalformedSequence)) enough,
+      going_feed i.1 _ i.3 fed (omega (arith, i.1.within, c.if-read-src.false)) c.feed-fed.ensures
+          (grind (arith, c.in_default-fed.not-MalformedSequence)) enough,
       written g.T.Destination _ _ _ i.0 (fed_scalars fed) i.2 e.contents,
       omega (arith, total_unit_count-append g.T.Destination.form i.0 (fed_scalars fed), e.room, i.3),
       e.loan ∙ i.4,
