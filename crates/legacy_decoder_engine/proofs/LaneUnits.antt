@@ -84,16 +84,14 @@ module _ (g : Grammar) where
 
 -- ---- the front of the input
 
-forms_split : (n : ℕ) (codes : List ℕ) → forms_of (take n codes) ++ forms_of (drop n codes) ≡ forms_of codes
-forms_split n codes = sym (flat_map-append form_of (take n codes) (drop n codes)) ∙ ap forms_of (take-append-drop n codes)
-
 -- the forms of fewer codes are also the front of the input
 pub front_forms : (n count bytes : ℕ) (codes src : List ℕ) → n ≤ count → forms_of (take count codes) ≡ take bytes src
     → take (length (forms_of (take n codes))) src ≡ forms_of (take n codes)
 front_forms n count bytes codes src most front =
     let xs = forms_of (take n codes) in
     let ys = forms_of (drop n (take count codes)) in
-    let all : xs ++ ys ≡ take bytes src = ap (λ l. forms_of l ++ ys) (sym (take-take n count codes most)) ∙ forms_split n (take count codes) ∙ front in
+    let whole = ap (λ l. l ++ drop n (take count codes)) (sym (take-take n count codes most)) ∙ take-append-drop n (take count codes) in
+    let all : xs ++ ys ≡ take bytes src = sym (flat_map-append form_of (take n codes) (drop n (take count codes))) ∙ ap forms_of whole ∙ front in
     let within : length xs ≤ bytes = omega (arith, length-append xs ys, ap length all, length-take bytes src) in
     sym (take-take (length xs) bytes src within) ∙ ap (take (length xs)) (sym all) ∙ take-append_seam xs ys
 

@@ -49,11 +49,6 @@ abbrev pub Falls : (DecoderState → ℕ → ℕ) → Grammar → (List ℕ → 
 Falls room g wt slope = (held held' : List ℕ) (n n' u : ℕ) → 2 * u + slope * (n' + wt held') ≤ slope * (n + wt held)
     → room (state_of g held') n' + u ≤ room (state_of g held) n
 
-pub sloped_pays : (room : DecoderState → ℕ → ℕ) (g : Grammar) (wt : List ℕ → ℕ) (slope : ℕ) → Falls room g wt slope → (held held' : List ℕ) (left n u : ℕ) →
-    2 * u + slope * (wt held' + left) ≤ slope * (wt held + 1) → room (state_of g held') (n + left) + u ≤ room (state_of g held) (n + 1)
-sloped_pays room g wt slope sloped held held' left n u h =
-    sloped held held' (n + 1) (n + left) u (grind (arith, mul-add))
-
 -- ---- a whole codec
 
 -- the code units that a codec's steps write, in either encoding form
@@ -102,8 +97,9 @@ module _ (g : Grammar) (m : DecoderMachine) (wt : List ℕ → ℕ) (paid : ℕ)
       let cost = costs.cost (unit_count (query_form query)) (bmp_room (query_form query)) (wide_room (query_form query)) w in
       record {
         step_fits = λ held b h r bytes byte. (cost held b h r bytes byte).fits;
-        step_pays = λ held b n h r bytes byte. rw (costs.to_is held b) (sloped_pays (room query) g wt (query_slope paid query) (is.falls query) held _ _ n _
-            (paid_of query wt paid _ held b (m.step held b) (cost held b h r bytes byte)));
+        step_pays = λ held b n h r bytes byte.
+            let pays = paid_of query wt paid _ held b (m.step held b) (cost held b h r bytes byte) in
+            rw (costs.to_is held b) (is.falls query held _ (n + 1) (n + step_left (m.step held b)) _ (grind (arith, mul-add)));
         write_pays = is.writes query;
         report_pays = λ b held h r. is.falls query (b ∷ held) [] 0 0 _ (grind (arith, mul-le-mul_left, is.heavy b held h));
         reads_covered = λ held b n h p. grind (arith, narrow_read, cond_both, w, room-rises);

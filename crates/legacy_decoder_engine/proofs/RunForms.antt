@@ -24,36 +24,39 @@ Leads g m held b (next ∷ rest) c =
     × Leads g m (held ++ b ∷ []) next rest c
 
 module _ {g : Grammar} {m : DecoderMachine} (shown : IsShown g m) where
-  leads_events : (held : List ℕ) (b : ℕ) (rest : List ℕ) (c : ℕ) → may_hold g held ≡ true → rests g held ≡ true → Leads g m held b rest c
-      → (more : List ℕ) → events_of g (held ++ (b ∷ rest ++ more)) ≡ Scalar c ∷ shift (length held + length (b ∷ rest)) (events_of g more)
-  leads_events held b [] c may resting l more = grind (arith, all_dropped)
-  leads_events held b (next ∷ rest) c may resting l more =
-      let n : length (held ++ b ∷ []) + length (next ∷ rest) ≡ length held + length (b ∷ next ∷ rest) = omega (arith, length-append held (b ∷ [])) in
-      let later = leads_events (held ++ b ∷ []) next rest c l.3 l.4 l.5 more in cc (append_assoc held (b ∷ []) (next ∷ rest ++ more))
-
-  leads_lowers : (held : List ℕ) (b : ℕ) (rest : List ℕ) (c : ℕ) → may_hold g held ≡ true → rests g held ≡ true → AreBytes held → Leads g m held b rest c
-      → (query : LengthQuery) (n : ℕ)
-      → room query (state_of g []) n + total_unit_count (query_form query) (c ∷ []) ≤ room query (state_of g held) (n + length (b ∷ rest))
-  leads_lowers held b [] c may resting bytes l query n =
-      let p = (shown.rooms query).step_pays held b n may resting bytes l.0 in
-      let p' = rw (l.1, l.2, all_dropped (suc (length held)) held b refl, add-zero n) at p in
-      omega (arith, p', units-total (query_form query) (c ∷ []))
-  leads_lowers held b (next ∷ rest) c may resting bytes l query n =
-      let p = (shown.rooms query).step_pays held b (n + length (next ∷ rest)) may resting bytes l.0 in
-      let p' = rw (l.1, l.2, add-zero (n + length (next ∷ rest))) at p in
-      let e : n + length (b ∷ next ∷ rest) ≡ n + length (next ∷ rest) + 1 = omega arith in
-      let more =
-      leads_lowers (held ++ b ∷ []) next rest c l.3 l.4 (All-append IsByte held (b ∷ []) bytes (All-cons IsByte b [] l.0 (All-nil IsByte))) l.5 query n in
-      rw e (omega (arith, p', more))
+  -- the events of such bytes, and the room that they save
+  leads : (held : List ℕ) (b : ℕ) (rest : List ℕ) (c : ℕ) → may_hold g held ≡ true → rests g held ≡ true → AreBytes held → Leads g m held b rest c
+      → ((more : List ℕ) → events_of g (held ++ (b ∷ rest ++ more)) ≡ Scalar c ∷ shift (length held + length (b ∷ rest)) (events_of g more))
+      × ((query : LengthQuery) (n : ℕ)
+      → room query (state_of g []) n + total_unit_count (query_form query) (c ∷ []) ≤ room query (state_of g held) (n + length (b ∷ rest)))
+  leads held b [] c may resting bytes l = (
+    λ more. grind (arith, all_dropped),
+    λ query n.
+        let p = (shown.rooms query).step_pays held b n may resting bytes l.0 in
+        let p' = rw (l.1, l.2, all_dropped (suc (length held)) held b refl, add-zero n) at p in
+        omega (arith, p', units-total (query_form query) (c ∷ [])),
+  )
+  leads held b (next ∷ rest) c may resting bytes l =
+      let later = leads (held ++ b ∷ []) next rest c l.3 l.4 (All-append IsByte held (b ∷ []) bytes (All-cons IsByte b [] l.0 (All-nil IsByte))) l.5 in (
+        λ more.
+            let n : length (held ++ b ∷ []) + length (next ∷ rest) ≡ length held + length (b ∷ next ∷ rest) = omega (arith, length-append held (b ∷ [])) in
+            cc (append_assoc held (b ∷ []) (next ∷ rest ++ more), later.0 more),
+        λ query n.
+            let p = (shown.rooms query).step_pays held b (n + length (next ∷ rest)) may resting bytes l.0 in
+            let p' = rw (l.1, l.2, add-zero (n + length (next ∷ rest))) at p in
+            let e : n + length (b ∷ next ∷ rest) ≡ n + length (next ∷ rest) + 1 = omega arith in
+            rw e (omega (arith, p', later.1 query n)),
+      )
 
   runs : (b : ℕ) (rest : List ℕ) (c : ℕ) → IsScalar c → Leads g m [] b rest c → Runs g (b ∷ rest) (c ∷ [])
-  runs b rest c scalar l = record {
-    events = λ more.
-        let n : length {A = ℕ} [] + length (b ∷ rest) ≡ length (b ∷ rest) = omega arith in
-        leads_events [] b rest c (may_none g) (rests-none g) l more ∙ ap (λ n. Scalar c ∷ shift n (events_of g more)) n;
-    scalar = All-cons IsScalar c [] scalar (All-nil IsScalar);
-    lowers = λ query n. leads_lowers [] b rest c (may_none g) (rests-none g) (All-nil IsByte) l query n;
-  }
+  runs b rest c scalar l =
+      let all = leads [] b rest c (may_none g) (rests-none g) (All-nil IsByte) l in
+      let n : length {A = ℕ} [] + length (b ∷ rest) ≡ length (b ∷ rest) = omega arith in
+      record {
+        events = λ more. all.0 more ∙ ap (λ n. Scalar c ∷ shift n (events_of g more)) n;
+        scalar = All-cons IsScalar c [] scalar (All-nil IsScalar);
+        lowers = all.1;
+      }
 
   -- a byte that gives one scalar
   pub single_runs : (b c : ℕ) → IsByte b → IsScalar c → m.to [] b ≡ g → m.step [] b ≡ finish (reads 1 (c ∷ [])) → Runs g (b ∷ []) (c ∷ [])

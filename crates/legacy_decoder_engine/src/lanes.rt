@@ -202,6 +202,7 @@ fn units_of<C: LaneCodec>(tables: &FlatTables<'_>, kept: &[u16], places: &[u32])
 
 /// Writes the codes in the first `groups` groups of eight, up to one with an uncommon code, and returns their number.
 #[inline(always)]
+#[tactic(auto, using(crate::proofs::WrittenRuns::no_bytes))]
 fn put_groups<C: LaneCodec, T: Destination>(
     tables: &FlatTables<'_>,
     kept: &[u16],
@@ -238,6 +239,7 @@ fn put_groups<C: LaneCodec, T: Destination>(
 ///
 /// Stops before a group of eight if fewer than 32 code units are free. Stores what is kept of the codes over them.
 #[inline(always)]
+#[tactic(auto, using(crate::proofs::WrittenRuns::no_bytes))]
 fn put_codes<C: LaneCodec, T: Destination>(
     tables: &FlatTables<'_>,
     codes: &mut [u16],
@@ -360,6 +362,7 @@ fn begins_many<C: LaneCodec>(src: &[u8]) -> bool {
 /// Reads blocks with many bytes past ASCII from the front, four at a time, and forms of more than two bytes among them.
 // A load of codes that were stored in parts waits for these stores. All of four blocks are stored before it.
 #[inline(always)]
+#[tactic(auto, using(crate::proofs::WrittenRuns::no_bytes))]
 fn read_long<C: LaneCodec, T: Destination>(
     tables: &FlatTables<'_>,
     guess: &Cell<usize>,
@@ -386,6 +389,7 @@ fn read_long<C: LaneCodec, T: Destination>(
 /// Reads blocks with many bytes past ASCII from the front, and returns the number of bytes read.
 // Most runs of such blocks between tags are short: the larger arrays are made after a few blocks.
 #[inline(always)]
+#[tactic(auto, using(crate::proofs::WrittenRuns::no_bytes))]
 fn read_short<C: LaneCodec, T: Destination>(
     tables: &FlatTables<'_>,
     guess: &Cell<usize>,
@@ -559,6 +563,7 @@ fn form_at<C: LaneCodec>(
 /// Reads the last bytes of the input, up to an uncommon form. Returns the number of bytes read, which may be 0.
 // Any block is longer, so one loop reads every form.
 #[inline(always)]
+#[tactic(auto, using(crate::proofs::WrittenRuns::writes_none, crate::proofs::WrittenRuns::four_fit))]
 fn read_last<C: LaneCodec, T: Destination>(
     blocks: &LaneBlocks<'_, '_, C>,
     src: &[u8],
@@ -586,6 +591,7 @@ fn read_last<C: LaneCodec, T: Destination>(
 /// Returns the number of bytes read, and whether a block with many bytes past ASCII may follow.
 // Most runs of pairs between tags are short, and lanes are no faster in them. Forms are counted since the last long ASCII.
 #[inline(always)]
+#[tactic(auto, using(crate::proofs::WrittenRuns::no_bytes))]
 fn read_few<C: LaneCodec, T: Destination>(
     blocks: &LaneBlocks<'_, '_, C>,
     src: &[u8],
@@ -632,6 +638,7 @@ impl<C: LaneCodec> Blocks for LaneBlocks<'_, '_, C> {
 
     // Malformed sequences often follow one another. No block is begun at an uncommon byte.
     #[inline(always)]
+    #[tactic(auto, using(crate::proofs::WrittenRuns::no_bytes))]
     fn read_block<T: Destination>(&self, src: &[u8], dst: &mut T) -> (usize, bool) {
         if begins_uncommon::<C>(src) {
             return (0, false);

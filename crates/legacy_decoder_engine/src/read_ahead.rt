@@ -93,6 +93,7 @@ pub trait Blocks {
 
 /// Reads blocks from the front while another may follow, and returns the number of bytes read, which may be 0.
 #[inline(always)]
+#[tactic(auto, using(crate::proofs::WrittenRuns::no_bytes))]
 pub fn read_blocks<B: Blocks, T: Destination>(blocks: &B, src: &[u8], dst: &mut T) -> usize
     ensures { ReadsAhead T.Destination (new_state (B.grammar blocks.now)) src.now result dst.old dst.new }
 {
@@ -110,6 +111,7 @@ pub fn read_blocks<B: Blocks, T: Destination>(blocks: &B, src: &[u8], dst: &mut 
 ///
 /// Returns the number of bytes read, and whether all of them were whole blocks.
 #[inline(always)]
+#[tactic(auto, using(crate::proofs::WrittenRuns::no_bytes))]
 fn read_wide_blocks<T: Destination>(src: &[u8], dst: &mut T) -> (usize, bool)
     ensures read { result.0 ≤ length src.now }
     ensures ahead { (grammar : Grammar) → HasAscii grammar → ReadsAhead T.Destination (new_state grammar) src.now result.0 dst.old dst.new }
@@ -139,6 +141,7 @@ fn read_short_blocks<T: Destination>(src: &[u8], dst: &mut T) -> usize
 /// Reads ASCII from the front by blocks, and returns the number of bytes read.
 // The byte after a malformed sequence is often past ASCII. No block is begun there.
 #[inline(always)]
+#[tactic(auto, using(crate::proofs::WrittenRuns::no_bytes))]
 pub fn read_ascii<T: Destination>(src: &[u8], dst: &mut T) -> usize
     ensures read { result ≤ length src.now }
     ensures ahead { (grammar : Grammar) → HasAscii grammar → ReadsAhead T.Destination (new_state grammar) src.now result dst.old dst.new }

@@ -2,9 +2,6 @@ use Rattle.std.proofs.Common.{◌*◌, ◌+◌, ◌/◌, arith}
 use Rattle.legacy_decoder_engine.proofs.LaneUnits.{few_units, known_scalars, next_written, none_written}
 use Rattle.legacy_decoder_engine.proofs.lanes.put_codes.Goals as goal
 
-pub returns-then-entries-eq0-clause-writes : goal.returns-then-entries-eq0-clause-writes
-returns-then-entries-eq0-clause-writes g c = none_written g.T.Destination _ c.args.codes.now _ _
-
 pub put_groups-at-requires-clause-lanes : goal.put_groups-at-requires-clause-lanes
 put_groups-at-requires-clause-lanes g c =
     record { codes = c.args.codes.now; lanes = λ k h. c.split_codes.ensures.lanes k (omega (arith, h, c.min-groups.ensures)) }

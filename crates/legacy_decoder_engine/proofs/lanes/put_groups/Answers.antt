@@ -3,9 +3,6 @@ use Rattle.std.proofs.lemmas.List.{take_all}
 use Rattle.legacy_decoder_engine.proofs.{LaneUnits.{known_scalars, next_written, none_written}, WrittenRuns.all_short}
 use Rattle.legacy_decoder_engine.proofs.lanes.put_groups.Goals as goal
 
-pub loop-group-init : goal.loop-group-init
-loop-group-init g c = record { within = omega arith; slack = omega arith; writes = λ codes h lanes. none_written g.T.Destination _ codes _ _ }
-
 pub put_eight-requires-clause-scalars : goal.put_eight-requires-clause-scalars
 put_eight-requires-clause-scalars g c =
     known_scalars _ g.C.LaneCodec.place (8 * c.loop-group.group) (8 * c.args.groups) c.requires.lanes.codes c.args.kept.now c.args.places.now _

@@ -2,9 +2,6 @@ use Rattle.std.proofs.{Common.{ℕ, arith}, lemmas.List.{length-take, length-dro
 use Rattle.legacy_decoder_engine.proofs.{JoinedRuns.reads_more, WrittenRuns.reads_none}
 use Rattle.legacy_decoder_engine.proofs.lanes.read_few.Goals as goal
 
-pub loop-at-init : goal.loop-at-init
-loop-at-init g c = reads_none _ _ _ _
-
 pub returns-then-src-at-lt16-clause-ahead : goal.returns-then-src-at-lt16-clause-ahead
 returns-then-src-at-lt16-clause-ahead g c = reads_more (reads_more c.loop-at.invariant (c.read_ascii-ascii.ensures.ahead _ c.requires)) c.read_last.ensures
 

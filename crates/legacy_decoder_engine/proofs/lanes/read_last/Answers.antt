@@ -2,16 +2,8 @@ use Rattle.std.proofs.{Common.{ℕ, ◌-◌, take, drop, length, length-drop, ar
 use Rattle.legacy_decoder_engine.proofs.WrittenRuns.{writes_none, writes_put, writes_run, four_fit}
 use Rattle.legacy_decoder_engine.proofs.lanes.read_last.Goals as goal
 
-pub loop-at-init : goal.loop-at-init
-loop-at-init g c =
-    let grammar = g.C.LaneCodec.grammar c.args.blocks.now.tables.now.flat in
-    (omega arith, writes_none g.T.Destination grammar c.args.dst.now, λ h. absurd (omega arith), λ h. absurd (omega arith))
-
 pub form_at-requires-clause-ascii : goal.form_at-requires-clause-ascii
 form_at-requires-clause-ascii g c = rw c.copied-tables.ensures c.requires
-
-pub put-requires : goal.put-requires
-put-requires g c = four_fit g.T.Destination.form c.in-Some.scalar _ (omega (arith, c.free.ensures, c.if-free-ge7.true))
 
 pub loop-at-preserved : goal.loop-at-preserved
 loop-at-preserved g c =

@@ -3,8 +3,5 @@ use Rattle.legacy_decoder_engine.proofs.WrittenRuns.{writes_none, writes_one, wr
 use Rattle.legacy_decoder_engine.proofs.common_forms.FormsInTurnForms.read_forms.Goals.{in-Pair, in-Single+else-byte-next-lt128}
 use Rattle.legacy_decoder_engine.proofs.common_forms.FormsInTurnForms.read_forms.Goals as goal
 
-pub loop-left-init : goal.loop-left-init
-loop-left-init g c = (omega arith, omega arith, writes_none g.T.Destination (g.F.CommonForms.grammar c.args.self.now.forms.now) c.args.dst.now)
-
 pub loop-left-preserved : goal.loop-left-preserved
 loop-left-preserved g c = grind (arith, in-Pair, short, writes_two, in-Single+else-byte-next-lt128, writes_one)
