@@ -37,12 +37,9 @@ runs_nothing g cs h =
 -- a call is in progress, and the destination contains what was written
 abbrev pub IsUnderWay : {D : Type 0} → Ghosts D → Bool → DecoderState → List ℕ → D → DecoderState → ℕ → D → Type 0
 IsUnderWay T last before source first now read new =
-    (scalars : List ℕ) × Going T.form last before source (T.room first) now read scalars
-    × (T.contents new ≡ T.contents first ++ all_code_units T.form scalars)
-    × (T.room new + total_unit_count T.form scalars ≡ T.room first)
-    × (T.loan new ≡ T.loan first)
+    (scalars : List ℕ) × Going T.form last before source (T.room first) now read scalars × (T.contents new ≡ T.contents first ++ all_code_units T.form scalars)
+    × (T.room new + total_unit_count T.form scalars ≡ T.room first) × (T.loan new ≡ T.loan first)
 
--- code units were written after those before
 pub written : {D : Type 0} (T : Ghosts D) (first old new : D) (scalars ds : List ℕ) → T.contents old ≡ T.contents first ++ all_code_units T.form scalars
     → T.contents new ≡ T.contents old ++ all_code_units T.form ds → T.contents new ≡ T.contents first ++ all_code_units T.form (scalars ++ ds)
 written T first old new scalars ds e f = grind (arith, append_assoc, all_code_units-append)
@@ -55,7 +52,6 @@ module _ {D : Type 0} {T : Ghosts D} where
       let none : RunsTo before.grammar after.grammar [] ds = subst (λ n. RunsTo before.grammar after.grammar (take n source) ds) e reads.writes.runs in
       runs_nothing before.grammar ds (subst (λ s. RunsTo before.grammar s.grammar [] ds) (reads.stays e) none)
 
-  -- a run is a call in progress
   run_going : {last : Bool} {s next : DecoderState} {source : List ℕ} {old new : D} {r : ℕ} → (reads : ReadsTo T s next source r old new) → 0 < r
       → Going T.form last s source (T.room old) next r reads.writes.scalars
   run_going {last} {s} {next} {source} {old} {new} {r} reads some =

@@ -23,12 +23,10 @@ same_rooms g = record { full = λ form. refl; report = λ form. refl; wants = λ
 pub both_rooms : (g h k : Grammar) → SameRooms g h → SameRooms h k → SameRooms g k
 both_rooms g h k a b = grind arith
 
--- no bytes are held back
 pub holds_none : (form : EncodingForm) (free : ℕ) (state : DecoderState) → HoldsBytes form free state [] state
 unfolding HoldsBytes
 holds_none form free state = refl
 
--- one more byte is held back
 pub holds_more : (form : EncodingForm) (free : ℕ) (a b c : DecoderState) (bytes : List ℕ) (byte : ℕ) → HoldsBytes form free a bytes b → Feeds b byte c Nothing
     → read_room form b byte ≤ free → HoldsBytes form free a (bytes ++ byte ∷ []) c
 unfolding HoldsBytes
@@ -39,11 +37,8 @@ front_nil : (xs ys : List ℕ) → xs ++ ys ≡ [] → xs ≡ []
 front_nil [] ys e = refl
 front_nil (x ∷ xs) ys e = cc
 
--- the next byte
 next_byte : (source : List ℕ) (read : ℕ) → read < length source → drop read source ≡ get_or source read 0 ∷ drop (read + 1) source
 next_byte source read h = drop-cons source read 0 h ∙ rw add-one refl
-
--- ---- rooms
 
 module _ (form : EncodingForm) (g : Grammar) where
   pub HadRoom-same : (h : Grammar) (previous : Option ℕ) (free : ℕ) (cs : List ℕ) → SameRooms g h → HadRoom form h previous free cs
@@ -88,7 +83,6 @@ module _ {form : EncodingForm} {last : Bool} where
       let written = behind before [] h.passed now [] (Scalar c ∷ []) source h.progress in
       grind (arith, HadRooms-released, All-cons, All-nil, room_needed-release, length-append)
 
-  -- a byte is read
   fed_going : {before : DecoderState} {byte : ℕ} {rest : List ℕ} {free : ℕ} {next : DecoderState} (fed : Fed) → rests before.grammar before.held ≡ true
       → Feeds before byte next fed → (RevealsMalformed fed → ⊥) → read_room form before byte ≤ free
       → Going form last before (byte ∷ rest) free next 1 (fed_scalars fed)
@@ -114,7 +108,6 @@ module _ {form : EncodingForm} {last : Bool} where
   -- ---- the acts that end a call
 
   module _ {s : DecoderState} {free : ℕ} where
-    -- nothing is done
     call_none : {source : List ℕ} (answer : DecoderResult) → (IsMalformed answer → ⊥) → may_hold s.grammar s.held ≡ true
         → (answer ≡ InputEmpty → (0 ≡ length source) × (rests s.grammar s.held ≡ true) × (IsTrue last → events_of s.grammar s.held ≡ []))
         → (answer ≡ OutputFull → LacksRoom form s source last free × IsCovered s) → (LacksRoom form s source last free → answer ≡ OutputFull)
@@ -145,7 +138,6 @@ module _ {form : EncodingForm} {last : Bool} where
     call_malformed {source} {next} {a} {b} n passed within allowed f progress had malformed_sequence full lowers =
         grind (arith, length-drop, All-nil, sub-zero, HadRooms-none)
 
-    -- a byte reveals a malformed sequence
     call_fed : {byte : ℕ} {rest : List ℕ} {next : DecoderState} {a b : ℕ} (unread : Bool) (n : ℕ) → rests s.grammar s.held ≡ true
         → Feeds s byte next (MalformedSequence a b unread)
         → read_room form s byte ≤ free → n ≤ length (byte ∷ rest) → drop n (byte ∷ rest) ≡ unread_byte byte (MalformedSequence a b unread) ++ rest
@@ -161,21 +153,16 @@ module _ {form : EncodingForm} {last : Bool} where
 
     -- the held-back bytes are reported at the end of input
     call_report : {next : DecoderState} {a b : ℕ} → last ≡ true → rests s.grammar s.held ≡ true → events_of s.grammar s.held ≢ []
-        → release_room_in form s.grammar ≤ free
-        → Reports s next a b → DecoderCall form s [] last free next (Malformed a b) 0 []
+        → release_room_in form s.grammar ≤ free → Reports s next a b → DecoderCall form s [] last free next (Malformed a b) 0 []
     call_report {next} {a} {b} end r some enough f =
         grind (arith, call_malformed {source = []} {next = next} {a = a} {b = b} 0 f.passed, room_needed-report)
 
-    -- the call ends after its input
     call_finish : {next : DecoderState} (answer : DecoderResult) → rests s.grammar s.held ≡ true → may_hold s.grammar s.held ≡ true
-        → Finishes form s last free next answer
-        → DecoderCall form s [] last free next answer 0 [] × (IsMalformed answer ⊎ (next ≡ s))
+        → Finishes form s last free next answer → DecoderCall form s [] last free next answer 0 [] × (IsMalformed answer ⊎ (next ≡ s))
     call_finish answer h h1 h2 = grind (arith, call_none {source = []} InputEmpty, call_full, room_needed-none, room_needed-report, call_report)
 
-    -- the held-back scalar lacks its room
     pub call_full_release : {source : List ℕ} → IsCovered s → may_hold s.grammar s.held ≡ true → rests s.grammar s.held ≡ false
-        → free < release_room_in form s.grammar
-        → DecoderCall form s source last free s OutputFull 0 []
+        → free < release_room_in form s.grammar → DecoderCall form s source last free s OutputFull 0 []
     call_full_release {source} c m r lacks = call_full m c (omega (arith, lacks, room_needed-release form s source last r))
 
   -- ---- what follows on a call in progress
@@ -189,7 +176,6 @@ module _ {form : EncodingForm} {last : Bool} where
     still : LacksRoom form before source last free → LacksRoom form now (drop read source) last left
     still l = let e = a.once l in rw (left_is, e.0, e.1, e.2, sub-zero free) l
 
-    -- a call goes on
     pub going_then : {next : DecoderState} {n : ℕ} {ds : List ℕ} → Going form last now (drop read source) left next n ds → 0 < n
         → Going form last before source free next (read + n) (scalars ++ ds)
     going_then {next} {n} {ds} b some =
@@ -260,7 +246,6 @@ module _ {form : EncodingForm} {last : Bool} where
         → read_room form now (get_or source read 0) ≤ left → Going form last before source free next (read + 1) (scalars ++ fed_scalars fed)
     going_feed fed h f sound enough = going_then (rw (next_byte source read h) (fed_going fed a.resting f sound enough)) (omega arith)
 
-    -- the next byte lacks its room
     pub call_lacks : read < length source → IsCovered now → left < read_room form now (get_or source read 0)
         → DecoderCall form before source last free now OutputFull read scalars
     call_lacks h c lacks =
@@ -277,7 +262,6 @@ module _ {form : EncodingForm} {last : Bool} where
           → DecoderCall form before source last free next (Malformed x y) read scalars
       call_unread f = call_here (rw (next_byte source read h) (call_fed true 0 a.resting f enough (omega arith) refl)) (inl tt)
 
-    -- all bytes are read
     pub call_end : {next : DecoderState} {answer : DecoderResult} → read ≡ length source → Finishes form now last left next answer
         → DecoderCall form before source last free next answer read scalars
     call_end {next} {answer} all f =
@@ -285,7 +269,6 @@ module _ {form : EncodingForm} {last : Bool} where
         let end = call_finish answer a.resting a.allowed f in
         call_here (rw nothing_left end.0) end.1
 
-  -- bytes are held back
   pub held_going : {before : DecoderState} {source : List ℕ} {free : ℕ} {now : DecoderState} {read : ℕ} {scalars : List ℕ} {next : DecoderState}
       → Going form last before source free now read scalars → (left : ℕ) → left + total_unit_count form scalars ≡ free → (n : ℕ) → n ≤ length (drop read source)
       → HoldsBytes form left now (take n (drop read source)) next → Going form last before source free next (read + n) scalars

@@ -18,14 +18,10 @@ use Rattle.legacy_decoder_engine.specs.Shown.{IsShown}
 use Rattle.legacy_base.proofs.{Rooms.release-full, GrammarLaws.{may_none, rests-none}}
 use Rattle.legacy_decoder_engine.proofs.{RoomMoves.all_needs, CallUnderWay.same_rooms}
 
--- ---- rooms of all three queries
-
 -- the code units of scalars, counted one by one
 pub units-total : (form : EncodingForm) (cs : List ℕ) → units (unit_count form) cs ≡ total_unit_count form cs
 units-total form [] = refl
 units-total form (c ∷ cs) = let e = units-total form cs in omega (arith, length-append (code_units form c) (all_code_units form cs))
-
--- ---- the room that the scalars of a step had
 
 -- a byte needs less than the full room only if it is ASCII and nothing is held back; then it is its own scalar
 module _ (narrow wide : ℕ) {g : Grammar} {m : DecoderMachine} (shown : IsShown g m) (b : ℕ) (unreported : has_reported g ≡ false) where
@@ -70,7 +66,6 @@ module _ {g : Grammar} {m : DecoderMachine} (shown : IsShown g m) (held : List �
     had_is form free (finish (reads n cs)) e le = grind (arith, short_or_usual, had_usual, settled)
     had_is form free s e le = tt
 
-    -- any step at the byte is a move
     step_feeds : (s : Step) → m.step held b ≡ s → All IsScalar (fed_scalars (fed_of s held b))
         → Feeds (state_of g held) b (state_of to (step_held s held b)) (fed_of s held b)
     step_feeds (finish (reads n (c ∷ d ∷ x ∷ cs))) e scalar = absurd (settled _ e).1
@@ -95,11 +90,9 @@ module _ {g : Grammar} {m : DecoderMachine} (shown : IsShown g m) (held : List �
           omega (arith, pays, units-total (query_form query) (fed_scalars (fed_of s held b)));
     }
 
-    -- a decoder that took the step has made the move
     pub feeds : (fed : Fed) (kept : List ℕ) → Took (m.step held b) held b fed kept → Feeds (state_of g held) b (state_of (m.to held b) kept) fed
     feeds fed kept took = grind (arith, All-cons, All-nil, step_feeds)
 
-  -- the held-back scalar is written
   pub releases : (n c : ℕ) → rests g held ≡ false → m.pending held ≡ Some (n, c) → IsScalar c → Releases (state_of g held) (state_of g (drop n held)) c
   releases n c r e scalar =
       let w = (rw e at (shown.meets.writes held may)).1 in
@@ -108,7 +101,6 @@ module _ {g : Grammar} {m : DecoderMachine} (shown : IsShown g m) (held : List �
       let pays = λ (query : LengthQuery). rw e at ((shown.rooms query).write_pays held may r bytes) in
       grind (arith, same_rooms, pays to_utf8, pays to_utf16, pays)
 
-  -- at the end of input all held-back bytes are reported
   pub reports_all : rests g held ≡ true → held ≢ [] → Reports (state_of g held) (state_of g []) (length held) 0
   reports_all r some = by_held held may r some where
     by_held : (l : List ℕ) → may_hold g l ≡ true → rests g l ≡ true → l ≢ [] → Reports (state_of g l) (state_of g []) (length l) 0

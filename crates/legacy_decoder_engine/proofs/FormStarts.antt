@@ -17,19 +17,15 @@ asked past starts first all = record {
   next = λ i below. let both = ap (λ n. bit_at n i) all in grind (arith, bit_at_and, bit_at_xor, bit_at-suc, bit_at_ones 63 i below, bit_at-lt, both);
 }
 
--- the lowest bit is set
 pub lowest_set : (n : ℕ) → bit_at (bit_or n 1) 0 ≡ 1
 lowest_set n = rw bit_at_or (omega (arith, bit_at-lt n 0))
 
--- the bits of the bytes past ASCII
 pub past_bits : (block : List ℕ) → length block ≡ 64
     → ArePast (mask_l (map (top 7) (zip2 (λ a b. cond (leb a b) (2 ^ 8 - 1) 0) (replicate 64 128) block)) % 2 ^ 64) block
 past_bits block long i h =
     let mask = tops_compared w8 leb (replicate 64 128) block ∙ ap (λ n. zip2 leb (replicate n 128) block) (sym long) ∙ splat_zip2 leb 128 block in
     let short = mask_l-mod (map (λ b. leb 128 b) block) 64 (omega (arith, length-map block (λ b. leb 128 b), long)) in
     rw (mask, short) (grind (arith, bit_mask_l, leb, get_or-map, nat_tests))
-
--- ---- the ASCII bytes from a place on
 
 -- the bits from the place after the next byte past ASCII on
 pub past_behind : (past n at : ℕ) (bytes : List ℕ) → ArePastFrom past bytes at → ArePastFrom (past / 2 ^ n / 2 ^ 1) bytes (at + n + 1)
@@ -50,8 +46,6 @@ module _ (past at : ℕ) (bytes : List ℕ) (small : past < 2 ^ 64) (are : ArePa
       let none : past ≡ 0 → trailing_zeros w64 past ≡ 64 = λ e. ap (trailing_zeros w64) e ∙ trailing_of_zero 64 in
       grind (arith, nat_tests)
 
--- ---- the forms from a place on
-
 one_byte : (block rest : List ℕ) (i : ℕ) → i < length block → take i block ++ (get_or block i 0 ∷ rest) ≡ take (i + 1) block ++ rest
 one_byte block rest i h = rw (take_more block i 0 h) (sym (append_assoc (take i block) (get_or block i 0 ∷ []) rest))
 
@@ -69,7 +63,6 @@ module _ (block : List ℕ) (past starts end : ℕ) (long : 72 ≤ length block)
   unfolding places
   skipped m i none = let half = shr-shr starts i 1 in grind (arith, nat_tests)
 
-  -- a form starts at byte i
   started : (m i : ℕ) → bit_at starts i ≡ 1 → forms (suc m) i ≡ form_of (code_at block i) ++ forms m (i + 1)
   unfolding places
   started m i some = let half = shr-shr starts i 1 in grind (arith, nat_tests)
@@ -108,13 +101,10 @@ module _ (block : List ℕ) (past starts end : ℕ) (long : 72 ≤ length block)
       let place : i + suc k ≡ i + 1 + 0 = omega arith in
       rw (place, skipped m i none) (fronts m (i + 1) 0 (omega arith) (omega arith) (omega arith) (λ h. omega (arith, next_starts i (omega arith), none)))
 
-  -- the forms at the starts are the front of the block
   pub picked : forms_of (map (code_at block) (places 0 end starts)) ≡ take end block
   picked =
       let whole : starts / 1 ≡ starts = omega arith in
       rw whole at (fronts end 0 0 (omega arith) (omega arith) (omega arith) (λ h. are.first))
-
--- ---- where the whole forms end
 
 -- no form of two bytes starts at the byte before one that starts such a form
 apart : (past starts n : ℕ) → AreStarts past starts → n < 63 → bit_at (bit_and starts past) (suc n) ≡ 1 → bit_at (bit_and starts past) n ≡ 0

@@ -38,8 +38,6 @@ at_most v most = zip2 (λ a b. mask_if (leb a b)) v (replicate 8 most)
 abbrev times : List ℕ → ℕ → List ℕ
 times v width = zip2 (λ a b. a * b % 2 ^ 16) v (replicate 8 width)
 
--- ---- rows
-
 module _ (lead leads trail trails width : ℕ) (lead_room : lead + leads < 256) (trail_room : trail + trails < 256) (rows : leads * width + trails < 65535) where
   abbrev row_places : List ℕ → List ℕ
   row_places v =
@@ -57,8 +55,6 @@ module _ (lead leads trail trails width : ℕ) (lead_room : lead + leads < 256) 
   pub lanes_are : (v : List ℕ) → length v ≡ 8 → Each1 (Fits w16) v → row_places v ≡ map (row_place lead leads trail trails width) v
   lanes_are = lane_by_lane row_places (row_place lead leads trail trails width) row_is (λ a b c d e g h i. refl)
 
--- ---- leads
-
 module _ (lead leads width : ℕ) (room : lead + leads < 256) (rows : leads * width < 65535) where
   abbrev lead_places : List ℕ → List ℕ
   lead_places v = let row = columns (firsts v) lead in sel_l (map (top 15) (at_most row leads)) (times row width) (replicate 8 65535)
@@ -71,8 +67,6 @@ module _ (lead leads width : ℕ) (room : lead + leads < 256) (rows : leads * wi
 
   pub leads_are : (v : List ℕ) → length v ≡ 8 → Each1 (Fits w16) v → lead_places v ≡ map (lead_place_of lead leads width) v
   leads_are = lane_by_lane lead_places (lead_place_of lead leads width) lead_is (λ a b c d e g h i. refl)
-
--- ---- trails
 
 module _ (second last : ℕ) (gap : 128 ≤ second) (some : second ≤ last) (byte : last < 256) where
   abbrev trail_places : List ℕ → List ℕ
@@ -87,8 +81,6 @@ module _ (second last : ℕ) (gap : 128 ≤ second) (some : second ≤ last) (by
 
   pub trails_are : (v : List ℕ) → length v ≡ 8 → Each1 (Fits w16) v → trail_places v ≡ map (trail_place_of second last) v
   trails_are = lane_by_lane trail_places (trail_place_of second last) trail_is (λ a b c d e g h i. refl)
-
--- ---- sums
 
 abbrev place_sums : List ℕ → List ℕ → List ℕ
 place_sums leads trails =

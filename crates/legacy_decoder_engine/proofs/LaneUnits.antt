@@ -11,7 +11,7 @@ use Rattle.std.specs.{Char.IsScalar, List.count_by, Int.bit_at, Int.RustNames.co
 use lib.Lanes.{Each1, zip2, sel_l, top, mask_l, chunk, put_chunk}
 use Rattle.legacy_text.specs.{declared.destination.Destination.Ghosts, EncodingForm.{EncodingForm, all_code_units, total_unit_count}}
 use Rattle.legacy_base.specs.Grammar.{Grammar}
-use Rattle.legacy_decoder_engine.proofs.{LanePlaces.{mask_if, lane_by_lane}, WrittenRuns.{runs_none, runs_more, writes_none, writes_then, all_short}}
+use Rattle.legacy_decoder_engine.proofs.{LanePlaces.{mask_if, lane_by_lane}, WrittenRuns.{runs_none, runs_more, writes_then, all_short}}
 use Rattle.legacy_decoder_engine.specs.ReadAhead.{HasAscii, Runs}
 use Rattle.legacy_decoder_engine.specs.LaneCodes.{kept_of, place_of, unit_at, ArePairs, AreLanes, IsLane, IsForm, AreForms, AreWritten}
 use Rattle.legacy_decoder_engine.specs.PickedForms.{form_of, forms_of}
@@ -49,27 +49,21 @@ chosen_at ks es m n k h =
 pub unit_small : (kept entry : ℕ) → kept < 65536 → entry < 65536 → unit_at kept entry < 65536
 unit_small kept entry low low' = grind (arith, nat_tests)
 
--- an entry of the first n entries from a place on
 get_from : (at n : ℕ) (xs : List ℕ) (k : ℕ) → k < n → get_or (take n (drop at xs)) k 0 ≡ get_or xs (at + k) 0
 get_from at n xs k h = get_or-take n (drop at xs) k 0 h ∙ get_or-drop at xs k 0
 
--- what is kept of a code, and the place of its entry
 pub lane_is : (pointer : ℕ → ℕ) (last code : ℕ) → code < 65536 → IsLane pointer code (kept_of pointer last code) (place_of pointer last code)
 lane_is pointer last code small = record { small = small; first = λ some. grind (arith, nat_tests); place_is = λ h. grind (arith, nat_tests) }
 
--- ---- the units of forms
-
 module _ (g : Grammar) (ascii : HasAscii g) (entries : List ℕ) (pointer : ℕ → ℕ) (pairs : ArePairs g entries pointer) where
   pub is_form : (code kept place entry unit : ℕ) → unit < 65536 → IsLane pointer code kept place → place < length entries
-      → (entry ≢ 0 → entry ≡ get_or entries place 0)
-      → unit ≡ unit_at kept entry → unit ≢ 0 → IsForm g code kept unit
+      → (entry ≢ 0 → entry ≡ get_or entries place 0) → unit ≡ unit_at kept entry → unit ≢ 0 → IsForm g code kept unit
   is_form code kept place entry unit narrow lane within looked_up is some =
       let byte : code % 256 < 128 → Runs g (code % 256 ∷ []) (code % 256 ∷ []) = ascii (code % 256) in
       let pair = pairs code lane.small in
       grind (arith, nat_tests, byte, pair)
 
 module _ (g : Grammar) where
-  -- the first codes
   first_forms : (n : ℕ) (cs ks us : List ℕ) → n ≤ length cs → n ≤ length ks → n ≤ length us
       → ((k : ℕ) → k < n → IsForm g (get_or cs k 0) (get_or ks k 0) (get_or us k 0))
       → Runs g (forms_of (take n cs)) (take n us) × (length (forms_of (take n cs)) + count_by (λ k. ltb k 128) (take n ks) ≡ 2 * n)
@@ -81,8 +75,6 @@ module _ (g : Grammar) where
         omega (arith, length-append (form_of c) (forms_of (take n cs)), sum_by-cons (λ k. cond (ltb k 128) 1 0) k (take n ks), one.counted, more.1),
       )
   first_forms (suc n) cs ks us p q r each = absurd (omega arith)
-
--- ---- the front of the input
 
 -- the forms of fewer codes are also the front of the input
 pub front_forms : (n count bytes : ℕ) (codes src : List ℕ) → n ≤ count → forms_of (take count codes) ≡ take bytes src
@@ -100,8 +92,6 @@ pub picked_more : (count next at bytes : ℕ) (codes new src part : List ℕ) �
     → forms_of (take next new) ≡ forms_of (take count codes) ++ part → part ≡ take bytes (drop at src) → forms_of (take next new) ≡ take (at + bytes) src
 picked_more count next at bytes codes new src part before more here =
     more ∙ ap (λ l. l ++ part) before ∙ ap (λ l. take at src ++ l) here ∙ sym (take-add at bytes src)
-
--- ---- how many lanes are ASCII
 
 pub ascii_lanes : (ks : List ℕ) → length ks ≡ 8
     → (count_ones (mask_l (map (top 15) (zip2 (λ a b. mask_if (ltb a b)) ks (replicate 8 128))) % 2 ^ 64) ≡ count_by (λ k. ltb k 128) ks)
@@ -121,21 +111,16 @@ ascii_first n ks within = grind (arith, sum_by-append, sum_by-replicate, count_b
 pub ascii_more : (at n next : ℕ) (ks : List ℕ) → next ≡ at + n → at + 8 ≤ length ks → n ≤ 8
     → count_by (λ k. ltb k 128) (take next ks) ≡ count_by (λ k. ltb k 128) (take at ks) + count_by (λ k. ltb k 128) (take n (chunk at 8 ks))
 ascii_more at n next ks e room most =
-    ap (λ m. count_by (λ k. ltb k 128) (take m ks)) e
-    ∙ ap (count_by (λ k. ltb k 128)) (take-add at n ks)
+    ap (λ m. count_by (λ k. ltb k 128) (take m ks)) e ∙ ap (count_by (λ k. ltb k 128)) (take-add at n ks)
     ∙ sum_by-append (λ k. cond (ltb k 128) 1 0) (take at ks) (take n (drop at ks))
     ∙ ap (λ (l : List ℕ). count_by (λ k. ltb k 128) (take at ks) + count_by (λ k. ltb k 128) l)
     (ap (take n) (chunk-drop at 8 ks) ∙ take-append-le n (chunk at 8 ks) (drop (at + 8) ks) (omega (arith, most, length-chunk at 8 ks room)))
-
--- ---- units that are 0
 
 pub unit_known : (us : List ℕ) → length us ≡ 8 → (k : ℕ) → k < 8
     → bit_at (mask_l (map (top 15) (zip2 (λ a b. mask_if (eqb a b)) us (replicate 8 0))) % 2 ^ 64) k ≡ 0 → get_or us k 0 ≢ 0
 unit_known us long k h unset none =
     let bit = rw (bitmask_splat w16 eqb us 8 0 long (omega arith)) at unset in
     grind (arith, bit_mask_l, get_or-map)
-
--- ---- groups of eight that are stored
 
 -- eight more entries, each a function of the code at its place, if the codes from there on are as they were
 pub next_eight_stored : (f : ℕ → ℕ) (group : ℕ) (codes now old found : List ℕ) → found ≡ map f (chunk (8 * group) 8 now) → 8 * (group + 1) ≤ length now
@@ -154,13 +139,6 @@ next_eight_stored f group codes now old found is room room' same before k h = el
       let loaded = get_or-chunk (8 * group) 8 now j 0 (omega arith) in
       cc (same k above)
 ]
-
--- ---- forms that are written
-
-pub none_written : {D : Type 0} (T : Ghosts D) (g : Grammar) (codes kept : List ℕ) (x : D) → AreWritten T g codes kept 0 x x
-none_written T g codes kept x = record { writes = writes_none T g x; counted = refl }
-
--- ---- units that a destination writes
 
 -- the first of eight units, which take 24 code units at most
 pub few_units : (form : EncodingForm) (few : ℕ) (us : List ℕ) → length us ≡ 8 → ((k : ℕ) → k < 8 → get_or us k 0 < 65536) → few ≤ 8

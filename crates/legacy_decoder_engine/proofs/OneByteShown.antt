@@ -11,7 +11,6 @@ use Rattle.legacy_decoder_engine.specs.{Shown.IsShown}
 use Rattle.legacy_decoder_engine.proofs.{CallUnderWay.same_rooms, FrontMoves.{fits_meets}, OneByteMeets.{few_held, no_report}}
 use Rattle.legacy_decoder_engine.proofs.{RoomMoves.{HasCosts, sloped_rooms}, SettledSteps.{one_option, or_settles}}
 
--- the profile of such a decoder
 abbrev pub one_byte_profile : (ℕ → List ℕ → Front) → Bool → Profile
 one_byte_profile front short = record (byte_profile (cut front 0 0)) { short_ascii = short }
 

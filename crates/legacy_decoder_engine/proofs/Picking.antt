@@ -50,14 +50,11 @@ all_codes : (xs : List ℕ) → Each1 (Fits w8) xs → (x : ℕ) → x < 256
 unfolding row
 all_codes xs fits x h =
     ap (λ l. digits_l 65536 8 (number_l 256 l)) (shuffled xs 0 (row x) (omega (arith, row_long x h)) (row_within x h))
-    ∙ ap (λ n. digits_l 65536 n (number_l 256 (map (λ j. get_or xs j 0) (row x)))) (sym (eight_long x h))
-    ∙ codes xs (below_256 xs fits) (eight_places x)
+    ∙ ap (λ n. digits_l 65536 n (number_l 256 (map (λ j. get_or xs j 0) (row x)))) (sym (eight_long x h)) ∙ codes xs (below_256 xs fits) (eight_places x)
 
 pub codes_picked : (xs : List ℕ) → Each1 (Fits w8) xs → (x : ℕ) → x < 256
     → take (length (places 0 8 x)) (digits_l 65536 8 (number_l 256 (swz_l w8 16 xs 0 (row x)))) ≡ map (code_at xs) (places 0 8 x)
 codes_picked xs fits x h = simp (all_codes, take-map, take-take, places_most, take-append_seam)
-
--- ---- eight places of a block
 
 counted : (x : ℕ) → x < 256 → count_ones x ≡ length (places 0 8 x)
 unfolding places count_ones
@@ -84,8 +81,6 @@ codes_stored block from x all found at small long room e =
     let most : length (places 0 8 x) ≤ length found = omega (arith, places_most x small) in
     let same = rw zero_in at (moved block from 0 8 x (omega arith)) in
     rw (put_chunk_is at all found (omega arith), place, take-append-add, take-append-le _ found behind most, e, same) refl
-
--- ---- places of a word eight by eight
 
 pub low_places : (b k x : ℕ) → places b k (x % 2 ^ k) ≡ places b k x
 unfolding places
@@ -119,8 +114,6 @@ next_eight f g x count count_next before after all h e s =
 pub no_more : (f : ℕ → ℕ) (g x : ℕ) (before : List ℕ) → g ≡ 8 → before ++ map f (places (8 * g) (64 - 8 * g) x) ≡ before
 unfolding places
 no_more f g x before e = ap (λ k. before ++ map f (places (8 * k) (64 - 8 * k) x)) e ∙ append-nil before
-
--- ---- places below an end
 
 no_places : (b n : ℕ) → places b n 0 ≡ []
 unfolding places

@@ -11,8 +11,6 @@ use Rattle.legacy_decoder_engine.specs.{Steps.{Step, step_held, DecoderMachine, 
 use Rattle.legacy_decoder_engine.specs.Shown.{KeepsRooms}
 use Rattle.legacy_decoder_engine.proofs.Widths.{width_of}
 
--- ---- tests
-
 pub first_room : (t : Bool) (x y : ℕ) → cond ((t && true) && true) x y ≡ cond t x y
 first_room t x y = grind (arith, nat_tests)
 
@@ -24,8 +22,6 @@ no_short_room t x y = grind (arith, nat_tests)
 
 pub cond_most : (t : Bool) (x y z : ℕ) → x ≤ z → y ≤ z → cond t x y ≤ z
 cond_most t x y z h k = grind (arith, nat_tests)
-
--- ---- the next act
 
 -- no next act needs more than the room if none of the three kinds of acts does
 pub all_needs : (narrow wide : ℕ) (room : ℕ → ℕ) (g : Grammar) (m : DecoderMachine) → Meets g m → rests g [] ≡ true → (held : List ℕ) → may_hold g held ≡ true →
@@ -42,21 +38,16 @@ all_needs narrow wide room g m meets empty held may take write unread last =
     at_rest r (b ∷ unread) = take b (length (b ∷ unread)) (omega arith)
     at_rest r [] = rw (meets.ends held may r) (grind (arith, write 0))
 
--- ---- rooms that fall by a slope for each byte, or for each two
-
 -- each byte less lowers the room by at least half of `slope`
 abbrev pub Falls : (DecoderState → ℕ → ℕ) → Grammar → (List ℕ → ℕ) → ℕ → Type 0
 Falls room g wt slope = (held held' : List ℕ) (n n' u : ℕ) → 2 * u + slope * (n' + wt held') ≤ slope * (n + wt held)
     → room (state_of g held') n' + u ≤ room (state_of g held) n
 
--- ---- a whole codec
-
 -- the code units that a codec's steps write, in either encoding form
 pub record HasCosts (g : Grammar) (m : DecoderMachine) (wt : List ℕ → ℕ) (slope : ℕ) : Type 0 where
   pub to_is : (held : List ℕ) (b : ℕ) → m.to held b ≡ g
   pub cost : (len : ℕ → ℕ) (narrow wide : ℕ) → IsWidth len narrow wide → (held : List ℕ) (b : ℕ) → may_hold g held ≡ true → rests g held ≡ true
-      → AreBytes held → IsByte b →
-      Cost len narrow (act_room narrow wide (state_of g held) (takes b)) wt slope held b (m.step held b)
+      → AreBytes held → IsByte b → Cost len narrow (act_room narrow wide (state_of g held) (takes b)) wt slope held b (m.step held b)
 
 -- twice the code units by which each byte less lowers the room
 abbrev pub query_slope : ℕ → LengthQuery → ℕ
@@ -82,8 +73,6 @@ paid_of : (query : LengthQuery) (wt : List ℕ → ℕ) (paid at_most : ℕ) (he
     2 * step_units (unit_count (query_form query)) (replacement_units query) s + query_slope paid query *
     (wt (step_held s held b) + step_left s) ≤ query_slope paid query * (wt held + 1)
 paid_of query wt paid at_most held b s h = grind arith
-
--- ---- the room of an act, in any codec
 
 pub narrow_read : (narrow wide : ℕ) → narrow ≤ wide → (g : Grammar) → (narrow ≤ full_room narrow wide g) × (full_room narrow wide g ≤ wide)
 narrow_read narrow wide rises g = grind arith

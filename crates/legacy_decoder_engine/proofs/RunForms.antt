@@ -58,22 +58,18 @@ module _ {g : Grammar} {m : DecoderMachine} (shown : IsShown g m) where
         lowers = all.1;
       }
 
-  -- a byte that gives one scalar
   pub single_runs : (b c : ℕ) → IsByte b → IsScalar c → m.to [] b ≡ g → m.step [] b ≡ finish (reads 1 (c ∷ [])) → Runs g (b ∷ []) (c ∷ [])
   single_runs b c byte scalar to_is is = runs b [] c scalar (byte, to_is, is)
 
-  -- a lead and a trail that give one scalar
   pub pair_runs : (lead trail c : ℕ) → IsByte lead → IsByte trail → IsScalar c → may_hold g (lead ∷ []) ≡ true → rests g (lead ∷ []) ≡ true →
       m.to [] lead ≡ g → m.to (lead ∷ []) trail ≡ g →
       m.step [] lead ≡ hold → m.step (lead ∷ []) trail ≡ finish (reads 2 (c ∷ [])) → Runs g (lead ∷ trail ∷ []) (c ∷ [])
   pair_runs lead trail c byte byte' scalar may resting to_first to_second first second =
       runs lead (trail ∷ []) c scalar (byte, to_first, first, may, resting, (byte', to_second, second))
 
-  -- four bytes that give one scalar
   pub four_runs : (a b c d x : ℕ) → IsByte a → IsByte b → IsByte c → IsByte d → IsScalar x →
       may_hold g (a ∷ []) ≡ true → may_hold g (a ∷ b ∷ []) ≡ true → may_hold g (a ∷ b ∷ c ∷ []) ≡ true →
-      rests g (a ∷ []) ≡ true → rests g (a ∷ b ∷ []) ≡ true → rests g (a ∷ b ∷ c ∷ []) ≡ true →
-      ((held : List ℕ) (byte : ℕ) → m.to held byte ≡ g) →
+      rests g (a ∷ []) ≡ true → rests g (a ∷ b ∷ []) ≡ true → rests g (a ∷ b ∷ c ∷ []) ≡ true → ((held : List ℕ) (byte : ℕ) → m.to held byte ≡ g) →
       m.step [] a ≡ hold → m.step (a ∷ []) b ≡ hold → m.step (a ∷ b ∷ []) c ≡ hold → m.step (a ∷ b ∷ c ∷ []) d ≡ finish (reads 4 (x ∷ [])) →
       Runs g (a ∷ b ∷ c ∷ d ∷ []) (x ∷ [])
   four_runs a b c d x byte_a byte_b byte_c byte_d scalar may_a may_b may_c rest_a rest_b rest_c to_same first second third fourth =

@@ -55,8 +55,6 @@ module _ (g : Grammar) (front : ℕ → List ℕ → Front) (is_lead_byte : ℕ 
   unfolding events_of
   ev_is bytes = ap (λ p. p.events bytes) is.profile_is
 
-  -- ---- all steps
-
   all_ends : (held : List ℕ) → single_lead_may_hold is_lead_byte held ≡ true → events_of g held ≡ end_events held
   all_ends [] h = ev_is [] ∙ cut-nil front
   all_ends (b ∷ held) h = end_meets g front ev_is b held (grind (arith, lead_holds, false≢true))
@@ -68,8 +66,6 @@ module _ (g : Grammar) (front : ℕ → List ℕ → Front) (is_lead_byte : ℕ 
   two_byte_meets =
       let meets = fits_meets g front ev_is (single_lead_may_hold is_lead_byte) may_is in
       grind (arith, may_is, is.profile_is, meets, false≢true, fits_trail, lead_holds, all_ends, all_reports)
-
--- ---- tests of the first byte
 
 pub first_test : (is_lead_byte : ℕ → Bool) (paid b : ℕ) (t : Bool) (s₁ s₂ : Step) →
     (t ≡ true → IsFirst is_lead_byte paid b s₁) → (t ≡ false → IsFirst is_lead_byte paid b s₂) → IsFirst is_lead_byte paid b (cond t s₁ s₂)

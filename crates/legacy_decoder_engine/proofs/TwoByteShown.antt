@@ -43,8 +43,7 @@ module _ (grammar : FlatIndexes → Grammar) (front : FlatIndexes → ℕ → Li
     (is : (flat : FlatIndexes) → IsTwoByte (grammar flat) (front flat) is_lead_byte first (scalars flat)) (paid : ℕ)
     (firsts : (b : ℕ) → IsFirst is_lead_byte paid b (first b)) where
   pub lead_codec : ((flat : FlatIndexes) → AreAccepted flat → HasTwoByteRooms (grammar flat) (scalars flat) paid)
-      → ((b : ℕ) → is_lead_byte b ≡ true → b < 0x100) →
-      IsLeadCodec grammar is_lead_byte first scalars
+      → ((b : ℕ) → is_lead_byte b ≡ true → b < 0x100) → IsLeadCodec grammar is_lead_byte first scalars
   lead_codec rooms bytes =
       let shown = λ (flat : FlatIndexes) (accepted : AreAccepted flat).
       two_byte_shown (grammar flat) (front flat) is_lead_byte first (scalars flat) (is flat) paid firsts (rooms flat accepted) in

@@ -1,5 +1,5 @@
 use Rattle.std.proofs.Common.{◌*◌, ◌+◌, ◌/◌, arith}
-use Rattle.legacy_decoder_engine.proofs.LaneUnits.{few_units, known_scalars, next_written, none_written}
+use Rattle.legacy_decoder_engine.proofs.LaneUnits.{few_units, known_scalars, next_written}
 use Rattle.legacy_decoder_engine.proofs.lanes.put_codes.Goals as goal
 
 pub put_groups-at-requires-clause-lanes : goal.put_groups-at-requires-clause-lanes

@@ -1,5 +1,5 @@
 use Rattle.std.proofs.{Common.{ℕ, arith}, lemmas.List.{length-take, length-drop}}
-use Rattle.legacy_decoder_engine.proofs.{JoinedRuns.reads_more, WrittenRuns.reads_none}
+use Rattle.legacy_decoder_engine.proofs.{JoinedRuns.reads_more}
 use Rattle.legacy_decoder_engine.proofs.lanes.read_few.Goals as goal
 
 pub returns-then-src-at-lt16-clause-ahead : goal.returns-then-src-at-lt16-clause-ahead

@@ -1,5 +1,5 @@
 use Rattle.std.proofs.{Common.{ℕ, ◌-◌, take, drop, length, length-drop, arith}, lemmas.List.length-take}
-use Rattle.legacy_decoder_engine.proofs.WrittenRuns.{writes_none, writes_put, writes_run, four_fit}
+use Rattle.legacy_decoder_engine.proofs.WrittenRuns.{writes_put, writes_run, four_fit}
 use Rattle.legacy_decoder_engine.proofs.lanes.read_last.Goals as goal
 
 pub form_at-requires-clause-ascii : goal.form_at-requires-clause-ascii

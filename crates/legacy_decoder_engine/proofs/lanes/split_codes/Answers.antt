@@ -1,5 +1,5 @@
-use Rattle.std.proofs.Common.{◌≡◌, ◌∙◌, ◌+◌, ◌-◌, ◌*◌, ◌<◌, ◌≤◌, ℕ, get_or, length, map, arith}
-use Rattle.std.proofs.lemmas.{Bool.cases_lt, List.map-id, Simd.{get_or-chunk, get_or-put_chunk_above}}
+use Rattle.std.proofs.Common.{◌∙◌, ◌+◌, ◌-◌, ◌*◌, ◌<◌, ◌≤◌, ℕ, get_or, length, map, arith}
+use Rattle.std.proofs.lemmas.{List.map-id, Simd.{get_or-chunk, get_or-put_chunk_above}}
 use Rattle.legacy_decoder_engine.specs.LaneCodes.{kept_of, place_of}
 use Rattle.legacy_decoder_engine.proofs.LaneUnits.{lane_is, next_eight_stored}
 use Rattle.legacy_decoder_engine.proofs.lanes.split_codes.Goals as goal

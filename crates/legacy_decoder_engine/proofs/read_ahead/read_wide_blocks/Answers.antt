@@ -1,5 +1,5 @@
 use Rattle.std.proofs.{Common.{ℕ, arith}, lemmas.List.{length-take, length-drop}}
-use Rattle.legacy_decoder_engine.proofs.{JoinedRuns.{reads_ascii, reads_more}, WrittenRuns.reads_none}
+use Rattle.legacy_decoder_engine.proofs.{JoinedRuns.{reads_ascii, reads_more}}
 use Rattle.legacy_decoder_engine.proofs.read_ahead.read_wide_blocks.Goals as goal
 
 pub returns-then-count-lt64-clause-ahead : goal.returns-then-count-lt64-clause-ahead

@@ -1,5 +1,5 @@
 use Rattle.std.proofs.Common.{arith}
-use Rattle.legacy_decoder_engine.proofs.WrittenRuns.{writes_none, writes_one, writes_two, short}
+use Rattle.legacy_decoder_engine.proofs.WrittenRuns.{writes_one, writes_two, short}
 use Rattle.legacy_decoder_engine.proofs.common_forms.FormsInTurnForms.read_forms.Goals.{in-Pair, in-Single+else-byte-next-lt128}
 use Rattle.legacy_decoder_engine.proofs.common_forms.FormsInTurnForms.read_forms.Goals as goal
 

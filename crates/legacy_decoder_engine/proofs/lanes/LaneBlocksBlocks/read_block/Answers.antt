@@ -1,4 +1,4 @@
-use Rattle.legacy_decoder_engine.proofs.{JoinedRuns.reads_more, WrittenRuns.reads_none}
+use Rattle.legacy_decoder_engine.proofs.{JoinedRuns.reads_more}
 use Rattle.legacy_decoder_engine.proofs.lanes.LaneBlocksBlocks.read_block.Goals as goal
 
 pub returns-clause-ahead : goal.returns-clause-ahead
