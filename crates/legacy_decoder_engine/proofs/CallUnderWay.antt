@@ -224,13 +224,8 @@ module _ {form : EncodingForm} {last : Bool} where
           input_empty = λ e. grind (arith, c.input_empty e);
           output_full = λ e. rw (← drop-drop n read source) (omega (arith, c.output_full e));
           full_at_once = λ l. grind (arith, c.full_at_once (still l), a.once l);
-          room_after_malformed = λ m.
-              malformed_room_at form before.grammar (read + n) _ (λ z. grind (arith, nat_tests, c.room_after_malformed m, a.rooms.report form))
-              (λ p. elim (cases_lt 0 n) [ inl q ↦ grind (arith, nat_tests, c.room_after_malformed m) | inr z ↦ a.held (omega arith) (was_held z m) ]);
-          room_held = λ p ne. elim (cases_lt 0 n) [
-            | inl q ↦ omega (arith, c.room_held q ne, full)
-            | inr z ↦ a.held (omega arith) (elim kind [ inl m ↦ was_held z m | inr e ↦ λ none. ne (ap DecoderState.held e ∙ none) ])
-          ];
+          room_after_malformed = λ m. grind (arith, nat_tests, malformed_room_at, c.room_after_malformed m, a.rooms.report form, was_held);
+          room_held = λ p ne. grind (arith, nat_tests, c.room_held, was_held);
           had_room = a.had;
           lowers = λ query q more z. rw (← drop-drop n read source) (omega (arith, a.lowers query q more, c.lowers query q more z));
           suffices = suffices;

@@ -46,13 +46,6 @@ module _ (past at : ℕ) (bytes : List ℕ) (small : past < 2 ^ 64) (are : ArePa
       let none : past ≡ 0 → trailing_zeros w64 past ≡ 64 = λ e. ap (trailing_zeros w64) e ∙ trailing_of_zero 64 in
       grind (arith, nat_tests)
 
-one_byte : (block rest : List ℕ) (i : ℕ) → i < length block → take i block ++ (get_or block i 0 ∷ rest) ≡ take (i + 1) block ++ rest
-one_byte block rest i h = rw (take_more block i 0 h) (sym (append_assoc (take i block) (get_or block i 0 ∷ []) rest))
-
-two_bytes : (block rest : List ℕ) (i : ℕ) → i + 1 < length block
-    → take i block ++ (get_or block i 0 ∷ get_or block (i + 1) 0 ∷ rest) ≡ take (i + 2) block ++ rest
-two_bytes block rest i h = grind (arith, append_assoc, take_two)
-
 module _ (block : List ℕ) (past starts end : ℕ) (long : 72 ≤ length block) (small : (j : ℕ) → get_or block j 0 < 256)
     (are_past : ArePast past block) (are : AreStarts past starts) (most : end ≤ 64) (is_end : IsEnd past starts end) where
   abbrev forms : ℕ → ℕ → List ℕ
@@ -77,8 +70,12 @@ module _ (block : List ℕ) (past starts end : ℕ) (long : 72 ≤ length block)
     where
       go : (t : Bool) → take i block ++ (cond t (get_or block i 0 ∷ []) (get_or block i 0 ∷ get_or block (i + 1) 0 ∷ []) ++ rest)
           ≡ take (i + 1 + cond t 0 1) block ++ rest
-      go true = let e : i + 1 + 0 ≡ i + 1 = omega arith in rw e (one_byte block rest i (omega arith))
-      go false = let e : i + 1 + 1 ≡ i + 2 = omega arith in rw e (two_bytes block rest i (omega arith))
+      go true =
+          let e : i + 1 + 0 ≡ i + 1 = omega arith in
+          rw (e, take_more block i 0 (omega arith)) (sym (append_assoc (take i block) (get_or block i 0 ∷ []) rest))
+      go false =
+          let e : i + 1 + 1 ≡ i + 2 = omega arith in
+          rw (e, take_two block i (omega arith)) (sym (append_assoc (take i block) (get_or block i 0 ∷ get_or block (i + 1) 0 ∷ []) rest))
 
   -- a second byte is before the end
   room_left : (m i : ℕ) → i + suc m ≡ end → bit_at starts i ≡ 1 → bit_at past i ≤ m

@@ -21,23 +21,22 @@ module _ {D : Type 0} {T : Ghosts D} {source : List ℕ} {old mid new : D} {r s 
       → ReadsAhead T state source (r + s) old new
   reads_more a b = reads_then a b
 
--- a decoder that holds nothing back reads as a new one
-pub reads_idle : {D : Type 0} {T : Ghosts D} {state : DecoderState} {source : List ℕ} {old new : D} {r : ℕ} → IsIdle state
-    → ReadsAhead T (new_state state.grammar) source r old new → ReadsAhead T state source r old new
-reads_idle {D} {T} {state} {source} {old} {new} {r} idle reads = subst (λ s. ReadsAhead T s source r old new) (sym (with_empty state idle.empty)) reads
+module _ {D : Type 0} {T : Ghosts D} {source : List ℕ} {old new : D} {r : ℕ} where
+  -- a decoder that holds nothing back reads as a new one
+  pub reads_idle : {state : DecoderState} → IsIdle state → ReadsAhead T (new_state state.grammar) source r old new → ReadsAhead T state source r old new
+  reads_idle {state} idle reads = subst (λ s. ReadsAhead T s source r old new) (sym (with_empty state idle.empty)) reads
 
--- the bytes read and the scalars written, with the room left if there are any
-pub reads_front : {D : Type 0} {T : Ghosts D} {g : Grammar} {source : List ℕ} {old new : D} {r : ℕ} → r ≤ length source → Writes T g (take r source) old new
-    → (0 < r → 3 ≤ T.room new) → (0 < r → 4 ≤ T.room old) → ReadsAhead T (new_state g) source r old new
-reads_front {D} {T} {g} within writes slack had = grind (arith, same_rooms)
+  module _ {g : Grammar} where
+    -- the bytes read and the scalars written, with the room left if there are any
+    pub reads_front : r ≤ length source → Writes T g (take r source) old new → (0 < r → 3 ≤ T.room new) → (0 < r → 4 ≤ T.room old)
+        → ReadsAhead T (new_state g) source r old new
+    reads_front within writes slack had = grind (arith, same_rooms)
 
--- the same with the room left
-pub reads_written : {D : Type 0} {T : Ghosts D} {g : Grammar} {source : List ℕ} {old new : D} {r : ℕ} → r ≤ length source → Writes T g (take r source) old new
-    → 3 ≤ T.room new → 4 ≤ T.room old → ReadsAhead T (new_state g) source r old new
-reads_written within writes slack had = reads_front within writes (λ h. slack) (λ h. had)
+    -- the same with the room left
+    pub reads_written : r ≤ length source → Writes T g (take r source) old new → 3 ≤ T.room new → 4 ≤ T.room old → ReadsAhead T (new_state g) source r old new
+    reads_written within writes slack had = reads_front within writes (λ h. slack) (λ h. had)
 
--- ASCII bytes that are written as they are
-pub reads_ascii : {D : Type 0} {T : Ghosts D} {g : Grammar} {source : List ℕ} {old new : D} {r : ℕ} → HasAscii g → r ≤ length source → IsAscii (take r source)
-    → T.contents new ≡ T.contents old ++ take r source → T.room new + r ≡ T.room old → T.loan new ≡ T.loan old → (0 < r → 3 ≤ T.room new)
-    → ReadsAhead T (new_state g) source r old new
-reads_ascii {D} {T} {g} {source} {old} {new} {r} law within ascii written room loan slack = grind (arith, length-take-le, reads_front, writes_ascii)
+    -- ASCII bytes that are written as they are
+    pub reads_ascii : HasAscii g → r ≤ length source → IsAscii (take r source) → T.contents new ≡ T.contents old ++ take r source → T.room new + r ≡ T.room old
+        → T.loan new ≡ T.loan old → (0 < r → 3 ≤ T.room new) → ReadsAhead T (new_state g) source r old new
+    reads_ascii law within ascii written room loan slack = grind (arith, length-take-le, reads_front, writes_ascii)

@@ -126,3 +126,5 @@ module _ {D : Type 0} (T : Ghosts D) where
       grind (arith, all_code_units_ascii)
 
 pub ruleset no_bytes = (same_rooms, writes_none)
+
+pub ruleset one_by_one = (writes_none, writes_one, writes_two, three_fit, short)

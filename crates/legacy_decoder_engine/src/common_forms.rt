@@ -63,7 +63,7 @@ impl<F: CommonForms> Forms for FormsInTurn<'_, F> {
 
     /// Reads the forms, and also stops at two ASCII bytes in a row.
     #[inline(always)]
-    #[tactic(auto, using(crate::proofs::WrittenRuns::writes_none, crate::proofs::WrittenRuns::three_fit, crate::proofs::WrittenRuns::writes_one, crate::proofs::WrittenRuns::short))]
+    #[tactic(auto, using(crate::proofs::WrittenRuns::one_by_one))]
     fn read_forms<T: Destination>(&self, src: &[u8], dst: &mut T, most: usize) -> usize {
         let mut at = 0;
         let mut left = most;
