@@ -117,10 +117,7 @@ module _ {g : Grammar} {m : DecoderMachine} (shown : IsShown g m) (held : List �
           progress = record {
             counts = omega arith;
             rest = grind (arith, drop-length);
-            events = λ more l. elim (l refl) [
-              | inl z ↦ rw (zero_place, z) (grind arith)
-              | inr b ↦ rw zero_place (shown.meets.reports (x ∷ xs) more m r' (omega arith) (rw zero_place at b))
-            ];
+            events = λ more l. grind (arith, l refl, shown.meets.reports (x ∷ xs) more m r');
           };
           holds = grind arith;
           allowed = may_none g;

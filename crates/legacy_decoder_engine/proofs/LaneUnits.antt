@@ -11,7 +11,7 @@ use Rattle.std.specs.{Char.IsScalar, List.count_by, Int.bit_at, Int.RustNames.co
 use lib.Lanes.{Each1, zip2, sel_l, top, mask_l, chunk, put_chunk}
 use Rattle.legacy_text.specs.{declared.destination.Destination.Ghosts, EncodingForm.{EncodingForm, all_code_units, total_unit_count}}
 use Rattle.legacy_base.specs.Grammar.{Grammar}
-use Rattle.legacy_decoder_engine.proofs.{LanePlaces.{mask_if, lane_by_lane}, WrittenRuns.{runs_none, runs_more, writes_then, all_short}}
+use Rattle.legacy_decoder_engine.proofs.{LanePlaces.{mask_if, lane_by_lane}, WrittenRuns.{rest_of, runs_none, runs_more, writes_then, all_short}}
 use Rattle.legacy_decoder_engine.specs.ReadAhead.{HasAscii, Runs}
 use Rattle.legacy_decoder_engine.specs.LaneCodes.{kept_of, place_of, unit_at, ArePairs, AreLanes, IsLane, IsForm, AreForms, AreWritten}
 use Rattle.legacy_decoder_engine.specs.PickedForms.{form_of, forms_of}
@@ -49,9 +49,6 @@ chosen_at ks es m n k h =
 pub unit_small : (kept entry : ℕ) → kept < 65536 → entry < 65536 → unit_at kept entry < 65536
 unit_small kept entry low low' = grind (arith, nat_tests)
 
-get_from : (at n : ℕ) (xs : List ℕ) (k : ℕ) → k < n → get_or (take n (drop at xs)) k 0 ≡ get_or xs (at + k) 0
-get_from at n xs k h = get_or-take n (drop at xs) k 0 h ∙ get_or-drop at xs k 0
-
 pub lane_is : (pointer : ℕ → ℕ) (last code : ℕ) → code < 65536 → IsLane pointer code (kept_of pointer last code) (place_of pointer last code)
 lane_is pointer last code small = record { small = small; first = λ some. grind (arith, nat_tests); place_is = λ h. grind (arith, nat_tests) }
 
@@ -59,9 +56,7 @@ module _ (g : Grammar) (ascii : HasAscii g) (entries : List ℕ) (pointer : ℕ 
   pub is_form : (code kept place entry unit : ℕ) → unit < 65536 → IsLane pointer code kept place → place < length entries
       → (entry ≢ 0 → entry ≡ get_or entries place 0) → unit ≡ unit_at kept entry → unit ≢ 0 → IsForm g code kept unit
   is_form code kept place entry unit narrow lane within looked_up is some =
-      let byte : code % 256 < 128 → Runs g (code % 256 ∷ []) (code % 256 ∷ []) = ascii (code % 256) in
-      let pair = pairs code lane.small in
-      grind (arith, nat_tests, byte, pair)
+      grind (arith, nat_tests, ascii (code % 256), pairs code lane.small)
 
 module _ (g : Grammar) where
   first_forms : (n : ℕ) (cs ks us : List ℕ) → n ≤ length cs → n ≤ length ks → n ≤ length us
@@ -123,21 +118,19 @@ unit_known us long k h unset none =
     grind (arith, bit_mask_l, get_or-map)
 
 -- eight more entries, each a function of the code at its place, if the codes from there on are as they were
-pub next_eight_stored : (f : ℕ → ℕ) (group : ℕ) (codes now old found : List ℕ) → found ≡ map f (chunk (8 * group) 8 now) → 8 * (group + 1) ≤ length now
-    → 8 * (group + 1) ≤ length old → ((k : ℕ) → 8 * group ≤ k → get_or now k 0 ≡ get_or codes k 0)
-    → ((k : ℕ) → k < 8 * group → get_or old k 0 ≡ f (get_or codes k 0)) → (k : ℕ) → k < 8 * (group + 1)
-    → get_or (put_chunk (8 * group) old found) k 0 ≡ f (get_or codes k 0)
-next_eight_stored f group codes now old found is room room' same before k h = elim (cases_lt k (8 * group)) [
-  | inl below ↦ get_or-put_chunk_below (8 * group) old found k 0 below ∙ before k below
+pub next_eight_stored : (f : ℕ → ℕ) (at next : ℕ) (codes now old found : List ℕ) → next ≡ at + 8 → found ≡ map f (chunk at 8 now) → next ≤ length now
+    → next ≤ length old → ((k : ℕ) → at ≤ k → get_or now k 0 ≡ get_or codes k 0) → ((k : ℕ) → k < at → get_or old k 0 ≡ f (get_or codes k 0))
+    → (k : ℕ) → k < next → get_or (put_chunk at old found) k 0 ≡ f (get_or codes k 0)
+next_eight_stored f at next codes now old found more is room room' same before k h = elim (cases_lt k at) [
+  | inl below ↦ get_or-put_chunk_below at old found k 0 below ∙ before k below
   | inr above ↦
-      let j = k - 8 * group in
-      let e : 8 * group + j ≡ k = omega arith in
-      let eight : length (chunk (8 * group) 8 now) ≡ 8 = length-chunk (8 * group) 8 now (omega arith) in
-      let long : length found ≡ 8 = ap length is ∙ length-map (chunk (8 * group) 8 now) f ∙ eight in
-      let stored = get_or-put_chunk_at (8 * group) old found j 0 (omega (arith, long)) (omega (arith, long)) in
-      let mapped = get_or-map f (chunk (8 * group) 8 now) j 0 0 (omega (arith, eight)) in
-      let loaded = get_or-chunk (8 * group) 8 now j 0 (omega arith) in
-      cc (same k above)
+      let j = k - at in
+      let e : at + j ≡ k = omega arith in
+      let eight = length-chunk at 8 now (omega arith) in
+      let long : length found ≡ 8 = ap length is ∙ length-map (chunk at 8 now) f ∙ eight in
+      let stored = get_or-put_chunk_at at old found j 0 (omega (arith, long)) (omega (arith, long)) in
+      let mapped = get_or-map f (chunk at 8 now) j 0 0 (omega (arith, eight)) in
+      cc (same k above, get_or-chunk at 8 now j 0 (omega arith))
 ]
 
 -- the first of eight units, which take 24 code units at most
@@ -145,28 +138,24 @@ pub few_units : (form : EncodingForm) (few : ℕ) (us : List ℕ) → length us 
     → total_unit_count form (take few us) ≤ 24
 few_units form few us long small most = grind (arith, length-take-le, all_short, get_or-take)
 
--- ---- eight lanes from a place on, of slices that begin there
-
-module _ (g : Grammar) (pointer : ℕ → ℕ) (at most : ℕ) (codes kept places us : List ℕ) (below : at + 8 ≤ most) (room : most ≤ length kept)
-    (room' : most ≤ length places) (long : length us ≡ 8) (lanes : AreLanes pointer most codes kept places)
+-- eight lanes from a place on, of slices that begin there
+module _ (g : Grammar) (pointer : ℕ → ℕ) (at most : ℕ) (codes kept places us : List ℕ) (below : at + 8 ≤ most) (long : length us ≡ 8)
+    (lanes : AreLanes pointer most codes kept places)
     (forms : AreForms g pointer (take (length kept - at) (drop at kept)) (take (length places - at) (drop at places)) us) where
   is_form_at : (k : ℕ) → k < 8 → get_or us k 0 ≢ 0 → IsForm g (get_or (drop at codes) k 0) (get_or (drop at kept) k 0) (get_or us k 0)
-  is_form_at k h some =
-      rw (get_or-take (length kept - at) (drop at kept) k 0 (omega arith)) at (forms (drop at codes) (λ j below'.
-      rw (get_or-drop at codes j 0, get_from at (length kept - at) kept j (omega arith), get_from at (length places - at) places j (omega arith))
-      (lanes (at + j) (omega arith))) k h some)
+  is_form_at = (rw (rest_of kept at, rest_of places at) at forms) (drop at codes) (λ k h.
+      rw (get_or-drop at codes k 0, get_or-drop at kept k 0, get_or-drop at places k 0) (lanes (at + k) (omega arith)))
 
   -- units that are 0 or scalars are scalars
   pub known_scalars : All IsScalar us
-  known_scalars =
-      let known = λ (k : ℕ) (h : k < 8) (some : get_or us k 0 ≢ 0). (is_form_at k h some).scalar in
-      All-from_get_or IsScalar us 0 (λ k h. grind (arith, nat_tests))
+  known_scalars = All-from_get_or IsScalar us 0 (λ k h. grind (arith, nat_tests, is_form_at k))
 
   -- the first of the units are written, after those before them
-  pub next_written : {D : Type 0} (T : Ghosts D) (few : ℕ) {x y z : D} → few ≤ 8 → most ≤ length codes → ((k : ℕ) → k < few → get_or us k 0 ≢ 0)
+  pub next_written : {D : Type 0} (T : Ghosts D) (few : ℕ) {x y z : D} → few ≤ 8 → most ≤ length codes → most ≤ length kept
+      → ((k : ℕ) → k < few → get_or us k 0 ≢ 0)
       → AreWritten T g codes kept at x y → T.contents z ≡ T.contents y ++ all_code_units T.form (take few us)
       → T.room z + total_unit_count T.form (take few us) ≡ T.room y → T.loan z ≡ T.loan y → AreWritten T g codes kept (at + few) x z
-  next_written T few some room'' known before contents room_is loan =
+  next_written T few some room room' known before contents room_is loan =
       let next =
       first_forms g few (drop at codes) (drop at kept) us (omega (arith, length-drop at codes)) (omega (arith, length-drop at kept)) (omega arith)
       (λ k h. is_form_at k (omega arith) (known k h)) in

@@ -46,10 +46,7 @@ short form c h = grind (arith, length-code_units-bmp)
 
 pub all_short : (form : EncodingForm) (cs : List ℕ) → ((k : ℕ) → k < length cs → get_or cs k 0 < 65536) → total_unit_count form cs ≤ 3 * length cs
 all_short form [] small = omega arith
-all_short form (c ∷ cs) small =
-    let one = short form c (small zero (omega arith)) in
-    let more = all_short form cs (λ k h. small (suc k) (omega arith)) in
-    simp length-append (omega arith)
+all_short form (c ∷ cs) small = grind (arith, length-append, short form c (small zero (omega arith)), all_short form cs (λ k h. small (suc k) (omega arith)))
 
 pub three_fit : (form : EncodingForm) (c room : ℕ) → c < 65536 → 3 ≤ room → length (code_units form c) ≤ room
 three_fit form c room h k = let s = short form c h in omega arith
@@ -100,8 +97,7 @@ module _ {D : Type 0} (T : Ghosts D) where
       pub writes_one : at < length src → Writes T g (take at src) x y → Runs g (get_or src at 0 ∷ []) (c ∷ [])
           → T.contents z ≡ T.contents y ++ code_units T.form c
           → T.room z + length (code_units T.form c) ≡ T.room y → T.loan z ≡ T.loan y → Writes T g (take (at + 1) src) x z
-      writes_one h a run contents room loan =
-          subst (λ l. Writes T g l x z) (sym (take_more src at 0 h)) (writes_then a (writes_put (get_or src at 0 ∷ []) c run contents room loan))
+      writes_one h a run contents room loan = rw (take_more src at 0 h) (writes_then a (writes_put _ c run contents room loan))
 
       pub writes_two : at + 1 < length src → Writes T g (take at src) x y → Runs g (get_or src at 0 ∷ get_or src (at + 1) 0 ∷ []) (c ∷ [])
           → T.contents z ≡ T.contents y ++ code_units T.form c

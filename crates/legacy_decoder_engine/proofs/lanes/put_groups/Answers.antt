@@ -6,8 +6,7 @@ use Rattle.legacy_decoder_engine.proofs.lanes.put_groups.Goals as goal
 pub put_eight-requires-clause-scalars : goal.put_eight-requires-clause-scalars
 put_eight-requires-clause-scalars g c =
     known_scalars _ g.C.LaneCodec.place (8 * c.loop-group.group) (8 * c.args.groups) c.requires.lanes.codes c.args.kept.now c.args.places.now _
-    (omega (arith, c.loop-group-test.true)) c.requires.kept c.requires.places (omega (arith, c.units_of-units.type_inv)) c.requires.lanes.lanes
-    c.units_of-units.ensures.forms
+    (omega (arith, c.loop-group-test.true)) (omega (arith, c.units_of-units.type_inv)) c.requires.lanes.lanes c.units_of-units.ensures.forms
 
 pub loop-group-preserved : goal.loop-group-preserved
 loop-group-preserved g c =
@@ -24,6 +23,6 @@ loop-group-preserved g c =
       slack = omega (arith, i.slack, e.room, most, long);
       writes = λ codes room lanes. rw eight
           (next_written _ g.C.LaneCodec.place (8 * c.loop-group.group) (8 * c.args.groups) codes c.args.kept.now c.args.places.now units
-          (omega (arith, c.loop-group-test.true)) c.requires.kept c.requires.places long lanes c.units_of-units.ensures.forms T 8 (omega arith) room
+          (omega (arith, c.loop-group-test.true)) long lanes c.units_of-units.ensures.forms T 8 (omega arith) room c.requires.kept
           (c.are_known.ensures c.if-not-are_known.false) (i.writes codes room lanes) (rw all e.contents) (rw all e.room) e.loan);
     }
