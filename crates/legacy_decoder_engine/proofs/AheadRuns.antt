@@ -21,10 +21,8 @@ unfolding HadRoom
 ample form g previous free [] h = tt
 ample form g previous free (c ∷ cs) h =
     let l = length-append (code_units form c) (all_code_units form cs) in
-    let m = full_most form g in
-    let w = wide_most form in
     let s = some_unit form c in
-    (λ w'. omega arith, ample form g (Some c) (free - unit_count form c) cs (omega arith))
+    (λ w. omega (arith, full_most form g, wide_most form), ample form g (Some c) (free - unit_count form c) cs (omega arith))
 
 pub with_empty : (s : DecoderState) → s.held ≡ [] → s ≡ new_state s.grammar
 with_empty s e = ap (λ h. record { grammar = s.grammar; held = h }) e
@@ -81,11 +79,9 @@ module _ {D : Type 0} {T : Ghosts D} where
         scalar = runs.scalar;
         once = λ l. absurd (omega (arith, reads.had some, lacks_small T.form s source last (T.room old) l, wide_most T.form));
         lowers = λ query q more.
-            let l = runs.lowers query (length (drop r source) + more) in
             let count : length (drop r source) + more + length (take r source) ≡ length source + more =
             omega (arith, long, reads.within, length-drop r source) in
-            let l' = rw (q, count) at l in
-            rw (with_empty next none', with_empty s none) l';
+            rw (with_empty next none', with_empty s none) (rw (q, count) at (runs.lowers query (length (drop r source) + more)));
       }
 
   module _ {last : Bool} {before : DecoderState} {source : List ℕ} (first : D) where

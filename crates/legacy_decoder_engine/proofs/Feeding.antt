@@ -106,20 +106,17 @@ module _ {g : Grammar} {m : DecoderMachine} (shown : IsShown g m) (held : List �
     by_held : (l : List ℕ) → may_hold g l ≡ true → rests g l ≡ true → l ≢ [] → Reports (state_of g l) (state_of g []) (length l) 0
     by_held [] m r' n = absurd (n refl)
     by_held (x ∷ xs) m r' n =
-        let few = shown.meets.few (x ∷ xs) m in
-        let zero_place : length (x ∷ xs) - length (x ∷ xs) ≡ 0 = omega arith in
-        let all = append-nil (x ∷ xs) in
-        let none : events_of g [] ≡ [] = shown.meets.ends [] (may_none g) (rests-none g) in
         let ends = shown.meets.ends (x ∷ xs) m r' in
+        let none = shown.meets.ends [] (may_none g) (rests-none g) in
         record {
           passed = length (x ∷ xs);
           holding = λ z. cc;
           progress = record {
             counts = omega arith;
             rest = grind (arith, drop-length);
-            events = λ more l. grind (arith, l refl, shown.meets.reports (x ∷ xs) more m r');
+            events = λ more l. grind (arith, l refl, shown.meets.reports (x ∷ xs) more m r', append-nil (x ∷ xs));
           };
-          holds = grind arith;
+          holds = grind (arith, shown.meets.few (x ∷ xs) m);
           allowed = may_none g;
           lowers = λ query. (shown.rooms query).report_pays x xs m r';
         }

@@ -13,9 +13,7 @@ module _ {D : Type 0} {T : Ghosts D} {source : List ℕ} {old mid new : D} {r s 
   reads_then {first} {next} {last} a b =
       let writes : WritesTo T first.grammar last.grammar (take (r + s) source) old new =
       rw (take-add r s source, ← rest_of source r) (writes_then T a.writes b.writes) in
-      let nothing = reads_nothing b in
-      let room = b.writes.room in
-      grind (arith, both_rooms, length-take, length-drop)
+      grind (arith, both_rooms, length-take, length-drop, reads_nothing b, b.writes.room)
 
   pub reads_more : {state : DecoderState} → ReadsAhead T state source r old mid → ReadsAhead T state (take (length source - r) (drop r source)) s mid new
       → ReadsAhead T state source (r + s) old new

@@ -32,9 +32,8 @@ module _ {g : Grammar} {m : DecoderMachine} (shown : IsShown g m) where
   leads held b [] c may resting bytes l = (
     λ more. grind (arith, all_dropped),
     λ query n.
-        let p = (shown.rooms query).step_pays held b n may resting bytes l.0 in
-        let p' = rw (l.1, l.2, all_dropped (suc (length held)) held b refl, add-zero n) at p in
-        omega (arith, p', units-total (query_form query) (c ∷ [])),
+        let pays = rw (l.1, l.2, all_dropped (suc (length held)) held b refl, add-zero n) at ((shown.rooms query).step_pays held b n may resting bytes l.0) in
+        omega (arith, pays, units-total (query_form query) (c ∷ [])),
   )
   leads held b (next ∷ rest) c may resting bytes l =
       let later = leads (held ++ b ∷ []) next rest c l.3 l.4 (All-append IsByte held (b ∷ []) bytes (All-cons IsByte b [] l.0 (All-nil IsByte))) l.5 in (
@@ -42,10 +41,10 @@ module _ {g : Grammar} {m : DecoderMachine} (shown : IsShown g m) where
             let n : length (held ++ b ∷ []) + length (next ∷ rest) ≡ length held + length (b ∷ next ∷ rest) = omega (arith, length-append held (b ∷ [])) in
             cc (append_assoc held (b ∷ []) (next ∷ rest ++ more), later.0 more),
         λ query n.
-            let p = (shown.rooms query).step_pays held b (n + length (next ∷ rest)) may resting bytes l.0 in
-            let p' = rw (l.1, l.2, add-zero (n + length (next ∷ rest))) at p in
-            let e : n + length (b ∷ next ∷ rest) ≡ n + length (next ∷ rest) + 1 = omega arith in
-            rw e (omega (arith, p', later.1 query n)),
+            let k = n + length (next ∷ rest) in
+            let pays = rw (l.1, l.2, add-zero k) at ((shown.rooms query).step_pays held b k may resting bytes l.0) in
+            let e : n + length (b ∷ next ∷ rest) ≡ k + 1 = omega arith in
+            rw e (omega (arith, pays, later.1 query n)),
       )
 
   runs : (b : ℕ) (rest : List ℕ) (c : ℕ) → IsScalar c → Leads g m [] b rest c → Runs g (b ∷ rest) (c ∷ [])
