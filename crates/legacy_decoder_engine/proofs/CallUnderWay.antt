@@ -80,8 +80,7 @@ module _ {form : EncodingForm} {last : Bool} where
   pub going_release : {before : DecoderState} {source : List ℕ} {free : ℕ} {now : DecoderState} {c : ℕ} → rests before.grammar before.held ≡ false
       → release_room_in form before.grammar ≤ free → Releases before now c → Going form last before source free now 0 (c ∷ [])
   going_release {before} {source} {free} {now} {c} r enough h =
-      let written = behind before [] h.passed now [] (Scalar c ∷ []) source h.progress in
-      grind (arith, HadRooms-released, All-cons, All-nil, room_needed-release, length-append)
+      grind (arith, behind before [] h.passed now [] (Scalar c ∷ []) source h.progress, HadRooms-released, All-cons, All-nil, room_needed-release, length-append)
 
   fed_going : {before : DecoderState} {byte : ℕ} {rest : List ℕ} {free : ℕ} {next : DecoderState} (fed : Fed) → rests before.grammar before.held ≡ true
       → Feeds before byte next fed → (RevealsMalformed fed → ⊥) → read_room form before byte ≤ free
@@ -244,8 +243,8 @@ module _ {form : EncodingForm} {last : Bool} where
     pub call_lacks : read < length source → IsCovered now → left < read_room form now (get_or source read 0)
         → DecoderCall form before source last free now OutputFull read scalars
     call_lacks h c lacks =
-        let needs = room_needed-read form now (get_or source read 0) (drop (read + 1) source) last a.resting in
-        call_here (call_full a.allowed c (rw (next_byte source read h) (omega (arith, lacks, needs)))) (inr refl)
+        call_here (call_full a.allowed c (rw (next_byte source read h)
+        (omega (arith, lacks, room_needed-read form now (get_or source read 0) (drop (read + 1) source) last a.resting)))) (inr refl)
 
     -- the next byte reveals a malformed sequence, and is read or not
     module _ {next : DecoderState} {x y : ℕ} (h : read < length source) (enough : read_room form now (get_or source read 0) ≤ left) where

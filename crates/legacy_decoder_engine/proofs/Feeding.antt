@@ -86,8 +86,7 @@ module _ {g : Grammar} {m : DecoderMachine} (shown : IsShown g m) (held : List �
       had = λ form free. had_is form free s e;
       scalar = scalar;
       lowers = λ query n.
-          let pays = rw e at ((shown.rooms query).step_pays held b n may resting bytes byte) in
-          omega (arith, pays, units-total (query_form query) (fed_scalars (fed_of s held b)));
+          omega (arith, rw e at ((shown.rooms query).step_pays held b n may resting bytes byte), units-total (query_form query) (fed_scalars (fed_of s held b)));
     }
 
     pub feeds : (fed : Fed) (kept : List ℕ) → Took (m.step held b) held b fed kept → Feeds (state_of g held) b (state_of (m.to held b) kept) fed
@@ -134,8 +133,7 @@ module _ {g : Grammar} {m : DecoderMachine} (shown : IsShown g m) (held : List �
   -- there is something to report if bytes are held back, even if a scalar is still to be written
   pub ends_held : held ≢ [] → events_of g held ≢ []
   ends_held n =
-      let writes = shown.meets.writes held may in
-      let first = λ (p : ℕ × ℕ) (e : m.pending held ≡ Some p). (rw e at writes).1.goes_on [] in
+      let first = λ (p : ℕ × ℕ) (e : m.pending held ≡ Some p). (rw e at (shown.meets.writes held may)).1.goes_on [] in
       grind (arith, append-nil, ends_some, first)
 
 -- a byte that is malformed by itself in the machine, if nothing is held back

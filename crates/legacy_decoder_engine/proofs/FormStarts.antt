@@ -36,15 +36,13 @@ past_behind past n at bytes are k h =
 module _ (past at : ℕ) (bytes : List ℕ) (small : past < 2 ^ 64) (are : ArePastFrom past bytes at) where
   -- the bytes before the lowest bit are ASCII
   pub ascii_before : (k : ℕ) → k < trailing_zeros w64 past → at + k < 64 → get_or bytes (at + k) 0 < 128
-  ascii_before k h within = let is = are k within in let bits = bit_at-trailing_zeros w64 past in grind (arith, nat_tests, bit_at-zero k)
+  ascii_before k h within = grind (arith, nat_tests, bit_at-zero k, are k within, bit_at-trailing_zeros w64 past)
 
   -- and the byte at it is not
   pub past_at : trailing_zeros w64 past < 64 → at + trailing_zeros w64 past < 64 → 128 ≤ get_or bytes (at + trailing_zeros w64 past) 0
   past_at some within =
-      let is = are (trailing_zeros w64 past) within in
-      let bits = bit_at-trailing_zeros w64 past in
       let none : past ≡ 0 → trailing_zeros w64 past ≡ 64 = λ e. ap (trailing_zeros w64) e ∙ trailing_of_zero 64 in
-      grind (arith, nat_tests)
+      grind (arith, nat_tests, are (trailing_zeros w64 past) within, bit_at-trailing_zeros w64 past)
 
 module _ (block : List ℕ) (past starts end : ℕ) (long : 72 ≤ length block) (small : (j : ℕ) → get_or block j 0 < 256)
     (are_past : ArePast past block) (are : AreStarts past starts) (most : end ≤ 64) (is_end : IsEnd past starts end) where

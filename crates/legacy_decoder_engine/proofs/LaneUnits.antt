@@ -114,8 +114,7 @@ ascii_more at n next ks e room most =
 pub unit_known : (us : List ℕ) → length us ≡ 8 → (k : ℕ) → k < 8
     → bit_at (mask_l (map (top 15) (zip2 (λ a b. mask_if (eqb a b)) us (replicate 8 0))) % 2 ^ 64) k ≡ 0 → get_or us k 0 ≢ 0
 unit_known us long k h unset none =
-    let bit = rw (bitmask_splat w16 eqb us 8 0 long (omega arith)) at unset in
-    grind (arith, bit_mask_l, get_or-map)
+    grind (arith, bit_mask_l, get_or-map, rw (bitmask_splat w16 eqb us 8 0 long (omega arith)) at unset)
 
 -- eight more entries, each a function of the code at its place, if the codes from there on are as they were
 pub next_eight_stored : (f : ℕ → ℕ) (at next : ℕ) (codes now old found : List ℕ) → next ≡ at + 8 → found ≡ map f (chunk at 8 now) → next ≤ length now
@@ -128,9 +127,12 @@ next_eight_stored f at next codes now old found more is room room' same before k
       let e : at + j ≡ k = omega arith in
       let eight = length-chunk at 8 now (omega arith) in
       let long : length found ≡ 8 = ap length is ∙ length-map (chunk at 8 now) f ∙ eight in
-      let stored = get_or-put_chunk_at at old found j 0 (omega (arith, long)) (omega (arith, long)) in
-      let mapped = get_or-map f (chunk at 8 now) j 0 0 (omega (arith, eight)) in
-      cc (same k above, get_or-chunk at 8 now j 0 (omega arith))
+      cc (
+        same k above,
+        get_or-chunk at 8 now j 0 (omega arith),
+        get_or-put_chunk_at at old found j 0 (omega (arith, long)) (omega (arith, long)),
+        get_or-map f (chunk at 8 now) j 0 0 (omega (arith, eight)),
+      )
 ]
 
 -- the first of eight units, which take 24 code units at most

@@ -64,8 +64,7 @@ moved : (bs : List ℕ) (from base n x : ℕ) → base + n < 16 → map (code_at
 unfolding places
 moved bs from base zero x h = refl
 moved bs from base (suc n) x h =
-    let rest = moved bs from (base + 1) n (x / 2) (omega arith) in
-    grind (arith, nat_tests, get_or-chunk from 16 bs base 0, get_or-chunk from 16 bs (base + 1) 0)
+    grind (arith, nat_tests, get_or-chunk from 16 bs base 0, get_or-chunk from 16 bs (base + 1) 0, moved bs from (base + 1) n (x / 2))
 
 -- codes that are stored at a place of a list
 pub codes_stored : (block : List ℕ) (from x : ℕ) (all found : List ℕ) (at : ℕ) → x < 256 → length found ≡ 8 → at + 8 ≤ length all

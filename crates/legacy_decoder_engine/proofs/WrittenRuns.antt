@@ -118,8 +118,7 @@ module _ {D : Type 0} (T : Ghosts D) where
   pub writes_ascii : (g : Grammar) (old new : D) (bytes : List ℕ) → HasAscii g → IsAscii bytes → T.contents new ≡ T.contents old ++ bytes
       → T.room new + length bytes ≡ T.room old → T.loan new ≡ T.loan old → Writes T g bytes old new
   writes_ascii g old new bytes law ascii contents room loan =
-      let runs = runs_ascii g law bytes ascii in
-      grind (arith, all_code_units_ascii)
+      grind (arith, all_code_units_ascii, runs_ascii g law bytes ascii)
 
 pub ruleset no_bytes = (same_rooms, writes_none)
 
