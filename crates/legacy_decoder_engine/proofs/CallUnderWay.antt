@@ -1,21 +1,20 @@
 -- The moves of a decoder make a call.
-use Rattle.std.proofs.Common.{◌≡◌, ◌≢◌, ◌∙◌, ℕ, zero, suc, ◌+◌, ◌-◌, ◌≤◌, ◌<◌, List, [], ◌∷◌, ◌++◌, length, map, get_or, take, drop, refl, ap, subst}
-use Rattle.std.proofs.Common.{arith, add-zero, add-one, append-nil, drop-cons, drop_of_length-le, length-append, length-drop, Bool, true, false, IsTrue, Some}
-use Rattle.std.proofs.{Common.{None, Option, ◌⊎◌, inl, inr, All}, lemmas.List.{map-append, drop-drop}, lemmas.List.Elements.{All-append, All-nil, All-cons}}
+use Rattle.std.proofs.Common.{◌≡◌, ◌≢◌, ◌∙◌, ℕ, zero, suc, ◌+◌, ◌-◌, ◌≤◌, ◌<◌, List, [], ◌∷◌, ◌++◌, length, map, get_or, take, drop, refl, ap, subst, arith}
+use Rattle.std.proofs.Common.{add-zero, add-one, append-nil, drop-cons, drop_of_length-le, length-append, length-drop, Bool, true, false, IsTrue, Some, None}
+use Rattle.std.proofs.{Common.{Option, ◌⊎◌, inl, inr, All}, lemmas.List.{map-append, drop-drop}, lemmas.List.Elements.{All-append, All-nil, All-cons}}
 use Rattle.std.proofs.{Math.Nat.sub-zero, lemmas.Bool.{true≢false, cases_lt}, lemmas.Bool.Decides.nat_tests}
 use Rattle.std.specs.Char.{IsScalar}
 use Rattle.legacy_text.specs.EncodingForm.{EncodingForm, unit_count, total_unit_count}
 use Rattle.legacy_text.proofs.CodeUnits.{total_unit_count-append}
 use Rattle.legacy_base.specs.{declared.results.DecoderResult.TheVariants.{InputEmpty, OutputFull, Malformed}, States.{DecoderState, may_hold, rests}}
 use Rattle.legacy_base.specs.{DecoderActs.{LacksRoom, HadRoom, HadRooms, malformed_room, full_room_in, release_room_in}, Lengths.{LengthQuery, query_form}}
-use Rattle.legacy_base.specs.{Lengths.{replacement_units, room}, Calls.{Progress, DecoderCall, IsMalformedSequence, IsMalformed, HoldsBack, reported_events}}
-use Rattle.legacy_base.specs.{Calls.may_report_end, declared.results.DecodeEvent.TheVariants.{Scalar, Bad}, declared.results.DecoderResult.DecoderResult}
-use Rattle.legacy_base.specs.{Lengths.query_answer, Events.shift, Grammar.{Grammar, events_of}}
+use Rattle.legacy_base.specs.{Lengths.{replacement_units, room, query_answer}, Calls.{Progress, DecoderCall, IsMalformedSequence, IsMalformed, HoldsBack}}
+use Rattle.legacy_base.specs.{Calls.{reported_events, may_report_end}, declared.results.DecodeEvent.TheVariants.{Scalar, Bad}}
+use Rattle.legacy_base.specs.{declared.results.DecoderResult.DecoderResult, Events.shift, Grammar.{Grammar, events_of}}
 use Rattle.legacy_base.proofs.{Progress.{stay, at_last, behind, after_that}, Rooms.{HadRooms-append, HadRooms-none, HadRooms-released, room_needed-release}}
 use Rattle.legacy_base.proofs.{Rooms.{room_needed-read, room_needed-report, room_needed-none}, Enough.room-answer, Shifts.shift-scalars}
-use Rattle.legacy_decoder_engine.specs.{declared.moves.Fed.TheVariants.{Nothing, MalformedSequence}, Moves.{SameRooms, Feeds, Releases, Reports}}
-use Rattle.legacy_decoder_engine.specs.Moves.{Finishes, IsCovered, HoldsBytes, RevealsMalformed, read_room, fed_scalars, unread_byte}
-use Rattle.legacy_decoder_engine.specs.declared.moves.Fed.{Fed}
+use Rattle.legacy_decoder_engine.specs.{declared.moves.Fed.TheVariants.{Nothing, MalformedSequence}, Moves.{SameRooms, Feeds, Releases, Reports, Finishes}}
+use Rattle.legacy_decoder_engine.specs.{Moves.{IsCovered, HoldsBytes, RevealsMalformed, read_room, fed_scalars, unread_byte}, declared.moves.Fed.Fed}
 
 pub same_rooms : (g : Grammar) → SameRooms g g
 same_rooms g = record { full = λ form. refl; report = λ form. refl; wants = λ p c. refl }

@@ -1,20 +1,16 @@
 -- A machine that agrees with its grammar and keeps its rooms makes the moves that the loop requires.
 use Rattle.std.proofs.Common.{◌≡◌, ◌≢◌, ◌∙◌, ℕ, suc, ◌-◌, ◌≤◌, List, [], ◌∷◌, ◌++◌, length, drop, refl, ap, subst, arith, append-nil, length-append}
-use Rattle.std.proofs.Common.{length-drop, drop_of_length-le, true, false, ◌&&◌, ◌⊎◌, Some, None, inl, inr, All}
-use Rattle.std.proofs.{lemmas.List.{drop-append-le, nil_from_length}, lemmas.List.Elements.{All-nil, All-cons}, lemmas.Bool.Decides.nat_tests}
-use Rattle.std.proofs.Math.Seq.{drop-length}
+use Rattle.std.proofs.{Common.{length-drop, drop_of_length-le, true, false, ◌&&◌, ◌⊎◌, Some, None, inl, inr, All}, lemmas.List.drop-append-le}
+use Rattle.std.proofs.{lemmas.List.nil_from_length, lemmas.List.Elements.{All-nil, All-cons}, lemmas.Bool.Decides.nat_tests, Math.Seq.drop-length}
 use Rattle.std.specs.Char.{IsScalar, is_ascii}
 use Rattle.legacy_text.specs.EncodingForm.{EncodingForm, Utf8, Utf16, code_units, unit_count, all_code_units, total_unit_count, bmp_room, wide_room}
 use Rattle.legacy_tables.specs.Unicode.{IsByte, AreBytes}
-use Rattle.legacy_base.specs.{States.{rests, may_hold, state_of}, DecoderActs.{act_room, takes, full_room, has_short_ascii, has_reported}}
-use Rattle.legacy_base.specs.{DecoderActs.{has_marks, full_room_in, HadRoom}, Lengths.{LengthQuery, to_utf16, to_utf8}}
-use Rattle.legacy_base.specs.{Lengths.{query_form, room}, Fronts.{reads, malformed}}
+use Rattle.legacy_base.specs.{States.{rests, may_hold, state_of}, DecoderActs.{act_room, takes, full_room, has_short_ascii, has_reported, has_marks}}
+use Rattle.legacy_base.specs.{DecoderActs.{full_room_in, HadRoom}, Lengths.{LengthQuery, to_utf16, to_utf8, query_form, room}, Fronts.{reads, malformed}}
 use Rattle.legacy_base.specs.{declared.results.DecodeEvent.TheVariants.Scalar, Grammar.{Grammar, events_of}, Calls.{IsMalformedByte, Progress}}
-use Rattle.legacy_decoder_engine.specs.Moves.{IsCovered, read_room, fed_scalars, Feeds, Releases, Reports}
-use Rattle.legacy_decoder_engine.specs.Steps.{Step, finish, step_held, step_length, StepMeets}
-use Rattle.legacy_decoder_engine.specs.{Steps.DecoderMachine, Feeding.{fed_of, Took}}
-use Rattle.legacy_decoder_engine.specs.{StepUnits.{units, step_units}, declared.moves.Fed.Fed, StatesAfterSteps.{IsOneOrMarked, Settles}}
-use Rattle.legacy_decoder_engine.specs.Shown.{IsShown}
+use Rattle.legacy_decoder_engine.specs.{Moves.{IsCovered, read_room, fed_scalars, Feeds, Releases, Reports}, Steps.{Step, finish, step_held, step_length}}
+use Rattle.legacy_decoder_engine.specs.{Steps.{StepMeets, DecoderMachine}, Feeding.{fed_of, Took}, StepUnits.{units, step_units}, declared.moves.Fed.Fed}
+use Rattle.legacy_decoder_engine.specs.{StatesAfterSteps.{IsOneOrMarked, Settles}, Shown.IsShown}
 use Rattle.legacy_base.proofs.{Rooms.release-full, GrammarLaws.{may_none, rests-none}}
 use Rattle.legacy_decoder_engine.proofs.{RoomMoves.all_needs, CallUnderWay.same_rooms}
 

@@ -1,7 +1,6 @@
 -- The places of eight codes lane by lane, and the entries at them.
-use Rattle.std.proofs.Common.{◌≡◌, ◌≢◌, ℕ, ◌+◌, ◌-◌, ◌*◌, ◌/◌, ◌%◌, ◌^◌, ◌<◌, ◌≤◌, ◌++◌, min, Bool, cond, leb, ltb, List, [], ◌∷◌, length, map}
-use Rattle.std.proofs.{Common.{refl, replicate, bit_and, subst, arith, w16, Fits, option_to_list}, Math.Nat.mul-le-mul_right, lemmas.Bool.Decides.nat_tests}
-use Rattle.std.proofs.lemmas.Nat.{and_mask}
+use Rattle.std.proofs.Common.{◌≡◌, ◌≢◌, ℕ, ◌+◌, ◌-◌, ◌*◌, ◌/◌, ◌%◌, ◌^◌, ◌<◌, ◌≤◌, ◌++◌, min, Bool, cond, leb, ltb, List, [], ◌∷◌, length, map, refl, replicate}
+use Rattle.std.proofs.{Common.{bit_and, subst, arith, w16, Fits, option_to_list}, Math.Nat.mul-le-mul_right, lemmas.Bool.Decides.nat_tests, lemmas.Nat.and_mask}
 use lib.Lanes.{Each1, zip2, sel_l, top}
 use Rattle.legacy_tables.specs.Indexes.{entry_scalar}
 use Rattle.legacy_text.proofs.UnitLanes.{of_eight}

@@ -1,20 +1,18 @@
 -- The units of eight codes, lane by lane, are the scalars of their forms.
-use Rattle.std.proofs.Common.{◌≡◌, ◌≢◌, ◌∙◌, ℕ, zero, suc, ◌+◌, ◌-◌, ◌*◌, ◌%◌, ◌^◌, ◌<◌, ◌≤◌, cond, ltb, leb, eqb, All, List, []}
-use Rattle.std.proofs.Common.{◌∷◌, ◌++◌, length, get_or, map, take, drop, replicate, bit_and, bit_or, refl, sym, ap, arith, w16, Fits, length-append}
-use Rattle.std.proofs.{Common.{inl, inr}, lemmas.Bool.{cases_lt}, lemmas.Bool.Decides.nat_tests, lemmas.Nat.and_mask}
-use Rattle.std.proofs.lemmas.List.{take-take, take-append-drop, take-append-le, length-take, length-take-le, length-drop, length-map, get_or-take, get_or-drop}
-use Rattle.std.proofs.{lemmas.List.Sums.{sum_by-cons, sum_by-append, count_by-le-length}, lemmas.List.Folds.sum_by-replicate, lemmas.Grind.flat_map-append}
-use Rattle.std.proofs.{Math.Seq.{take-append_seam, take-add}, lemmas.Simd.{tops_compared, zip2_splat, get_or-sel_l}}
-use Rattle.std.proofs.lemmas.Simd.{bitmask_splat, bit_mask_l, ones-mask_l, length-chunk, chunk-drop, get_or-chunk, get_or-put_chunk_below, get_or-put_chunk_at}
-use Rattle.std.proofs.lemmas.List.{get_or-map, Elements.All-from_get_or}
+use Rattle.std.proofs.Common.{◌≡◌, ◌≢◌, ◌∙◌, ℕ, zero, suc, ◌+◌, ◌-◌, ◌*◌, ◌%◌, ◌^◌, ◌<◌, ◌≤◌, cond, ltb, leb, eqb, All, List, [], ◌∷◌, ◌++◌, length, get_or}
+use Rattle.std.proofs.{Common.{map, take, drop, replicate, bit_and, bit_or, refl, sym, ap, arith, w16, Fits, length-append, inl, inr}, lemmas.Bool.cases_lt}
+use Rattle.std.proofs.{lemmas.Bool.Decides.nat_tests, lemmas.Nat.and_mask, lemmas.List.{take-take, take-append-drop, take-append-le, length-take}}
+use Rattle.std.proofs.{lemmas.List.{length-take-le, length-drop, length-map, get_or-take, get_or-drop, get_or-map}, lemmas.List.Sums.sum_by-cons}
+use Rattle.std.proofs.{lemmas.List.Sums.{sum_by-append, count_by-le-length}, lemmas.List.Folds.sum_by-replicate, lemmas.Grind.flat_map-append}
+use Rattle.std.proofs.{Math.Seq.{take-append_seam, take-add}, lemmas.Simd.{tops_compared, zip2_splat, get_or-sel_l, bitmask_splat, bit_mask_l, ones-mask_l}}
+use Rattle.std.proofs.{lemmas.Simd.{length-chunk, chunk-drop, get_or-chunk, get_or-put_chunk_below, get_or-put_chunk_at}, lemmas.List.Elements.All-from_get_or}
 use Rattle.std.specs.{Char.IsScalar, List.count_by, Int.bit_at, Int.RustNames.count_ones}
 use lib.Lanes.{Each1, zip2, sel_l, top, mask_l, chunk, put_chunk}
 use Rattle.legacy_text.specs.{declared.destination.Destination.Ghosts, EncodingForm.{EncodingForm, all_code_units, total_unit_count}}
 use Rattle.legacy_base.specs.Grammar.{Grammar}
 use Rattle.legacy_decoder_engine.proofs.{LanePlaces.{mask_if, lane_by_lane}, WrittenRuns.{rest_of, runs_none, runs_more, writes_then, all_short}}
-use Rattle.legacy_decoder_engine.specs.ReadAhead.{HasAscii, Runs}
-use Rattle.legacy_decoder_engine.specs.LaneCodes.{kept_of, place_of, unit_at, ArePairs, AreLanes, IsLane, IsForm, AreForms, AreWritten}
-use Rattle.legacy_decoder_engine.specs.PickedForms.{form_of, forms_of}
+use Rattle.legacy_decoder_engine.specs.{ReadAhead.{HasAscii, Runs}, LaneCodes.{kept_of, place_of, unit_at, ArePairs, AreLanes, IsLane, IsForm, AreForms}}
+use Rattle.legacy_decoder_engine.specs.{LaneCodes.AreWritten, PickedForms.{form_of, forms_of}}
 
 module _ (pointer : ℕ → ℕ) (last : ℕ) where
   abbrev pub vector_kept : List ℕ → List ℕ → List ℕ

@@ -1,7 +1,6 @@
 -- The moves of a decoder with leads, by the lead that it holds back.
-use Rattle.std.proofs.Common.{arith}
-use Rattle.std.proofs.{Common.{◌≡◌, ◌≢◌, ◌∙◌, ℕ, List, [], ◌∷◌, Bool, Option, Some, None, is_some, ◌&&◌, true, false, refl}, lemmas.List.Elements.All-nil}
-use Rattle.std.proofs.lemmas.List.Elements.{All-cons}
+use Rattle.std.proofs.Common.{arith, ◌≡◌, ◌≢◌, ◌∙◌, ℕ, List, [], ◌∷◌, Bool, Option, Some, None, is_some, ◌&&◌, true, false, refl}
+use Rattle.std.proofs.lemmas.List.Elements.{All-nil, All-cons}
 use Rattle.std.specs.Char.{IsScalar}
 use Rattle.legacy_tables.specs.{Unicode.{IsByte, AreBytes}, AcceptedTables.AcceptedIndexes, Indexes.FlatIndexes}
 use Rattle.legacy_base.specs.{States.{may_hold, is_empty}, Grammar.{Grammar, events_of}, Calls.IsMalformedByte, Fronts.malformed}

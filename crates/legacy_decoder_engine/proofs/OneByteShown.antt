@@ -1,15 +1,13 @@
 -- The proof for the decoders of single bytes, which hold nothing back, from the few facts that each shows.
-use Rattle.std.proofs.Common.{◌≡◌, ℕ, ◌<◌, List, [], ◌∷◌, Bool, cond, Option, option_to_list, ap, arith}
-use Rattle.std.proofs.lemmas.Bool.{cond_both, false≢true, ltb-true}
+use Rattle.std.proofs.{Common.{◌≡◌, ℕ, ◌<◌, List, [], ◌∷◌, Bool, cond, Option, option_to_list, ap, arith}, lemmas.Bool.{cond_both, false≢true, ltb-true}}
 use Rattle.std.specs.{Char.is_ascii, Option.IfSome}
 use Rattle.legacy_tables.specs.Unicode.{IsByte}
-use Rattle.legacy_base.specs.{Fronts.{Front, reads, malformed, reads_or, cut}, Profile.{Profile, byte_profile, is_empty, weightless}}
-use Rattle.legacy_base.specs.{Grammar.{Grammar, profile, events_of}, States.{may_hold}}
+use Rattle.legacy_base.specs.{Fronts.{Front, reads, malformed, reads_or, cut}, Profile.{Profile, byte_profile, is_empty, weightless}, Grammar.Grammar}
+use Rattle.legacy_base.specs.{Grammar.{profile, events_of}, States.may_hold}
 use Rattle.legacy_base.proofs.Cuts.{cut-nil}
-use Rattle.legacy_decoder_engine.specs.{Steps.{Step, finish, no_pending, DecoderMachine, Meets}}
-use Rattle.legacy_decoder_engine.specs.{Shown.IsShown}
-use Rattle.legacy_decoder_engine.proofs.{CallUnderWay.same_rooms, FrontMoves.{fits_meets}, OneByteMeets.{few_held, no_report}}
-use Rattle.legacy_decoder_engine.proofs.{RoomMoves.{HasCosts, sloped_rooms}, SettledSteps.{one_option, or_settles}}
+use Rattle.legacy_decoder_engine.specs.{Steps.{Step, finish, no_pending, DecoderMachine, Meets}, Shown.IsShown}
+use Rattle.legacy_decoder_engine.proofs.{CallUnderWay.same_rooms, FrontMoves.fits_meets, OneByteMeets.{few_held, no_report}, RoomMoves.{HasCosts, sloped_rooms}}
+use Rattle.legacy_decoder_engine.proofs.SettledSteps.{one_option, or_settles}
 
 abbrev pub one_byte_profile : (ℕ → List ℕ → Front) → Bool → Profile
 one_byte_profile front short = record (byte_profile (cut front 0 0)) { short_ascii = short }

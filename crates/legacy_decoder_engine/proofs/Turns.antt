@@ -1,6 +1,5 @@
 -- The turns of a loop that takes four at a time.
-use Rattle.std.proofs.{Common.{◌≡◌, ℕ, ◌+◌, ◌-◌, ◌*◌, ◌/◌, ◌%◌, ◌<◌, ◌≤◌, refl, arith}, lemmas.Bool.Decides.nat_tests}
-use Rattle.std.proofs.Math.Nat.{le-mul_of_pos_right}
+use Rattle.std.proofs.{Common.{◌≡◌, ℕ, ◌+◌, ◌-◌, ◌*◌, ◌/◌, ◌%◌, ◌<◌, ◌≤◌, refl, arith}, lemmas.Bool.Decides.nat_tests, Math.Nat.le-mul_of_pos_right}
 use Rattle.legacy_decoder_engine.proofs.{JoinedRuns.reads_written, WrittenRuns.{reads_none, writes_none, writes_run}}
 
 pub all_turns : (size turns : ℕ) → size * (4 * (turns / 4) + turns % 4) ≡ size * turns

@@ -1,6 +1,5 @@
 -- The code units that the steps write in codecs with sequences of one and two bytes.
-use Rattle.std.proofs.{Common.{◌≡◌, ℕ, ◌*◌, ◌≤◌, List, [], ◌∷◌, length, Bool, true, false, cond, arith}, lemmas.Bool.ltb-true}
-use Rattle.std.proofs.lemmas.Bool.Decides.{nat_tests}
+use Rattle.std.proofs.{Common.{◌≡◌, ℕ, ◌*◌, ◌≤◌, List, [], ◌∷◌, length, Bool, true, false, cond, arith}, lemmas.Bool.ltb-true, lemmas.Bool.Decides.nat_tests}
 use Rattle.std.specs.Char.{is_ascii}
 use Rattle.legacy_tables.specs.Unicode.{is_katakana_byte}
 use Rattle.legacy_decoder_engine.specs.{Steps.{Step, trail_step}, StepUnits.{units, IsWidth, Cost}}

@@ -1,6 +1,5 @@
 use Rattle.std.proofs.{Common.{◌≡◌, ◌∙◌, length, take, drop, ap, sym, arith}, lemmas.List.{take-take, length-take-le, length-drop}}
-use Rattle.legacy_decoder_engine.proofs.{LaneUnits.picked_more, WrittenRuns.rest_of}
-use Rattle.legacy_decoder_engine.proofs.block_picks.pick_blocks.Goals.{then-rest-ge72, else-rest-ge72}
+use Rattle.legacy_decoder_engine.proofs.{LaneUnits.picked_more, WrittenRuns.rest_of, block_picks.pick_blocks.Goals.{then-rest-ge72, else-rest-ge72}}
 use Rattle.legacy_decoder_engine.proofs.block_picks.pick_blocks.Goals as goal
 
 pub loop-left-preserved : goal.loop-left-preserved

@@ -1,5 +1,4 @@
-use Rattle.std.proofs.Common.{◌+◌, ◌*◌, ◌%◌, ◌≤◌, ltb, length, ap, arith}
-use Rattle.std.proofs.lemmas.{List.take_all, Simd.length-chunk}
+use Rattle.std.proofs.{Common.{◌+◌, ◌*◌, ◌%◌, ◌≤◌, ltb, length, ap, arith}, lemmas.List.take_all, lemmas.Simd.length-chunk}
 use Rattle.std.specs.List.{count_by}
 use lib.Lanes.{chunk}
 use Rattle.legacy_decoder_engine.proofs.LaneUnits.{ascii_first, ascii_more}

@@ -1,5 +1,4 @@
-use Rattle.std.proofs.Common.{◌≡◌, ◌*◌, ◌+◌, length, take, arith}
-use Rattle.std.proofs.lemmas.List.{take_all}
+use Rattle.std.proofs.{Common.{◌≡◌, ◌*◌, ◌+◌, length, take, arith}, lemmas.List.take_all}
 use Rattle.legacy_decoder_engine.proofs.{LaneUnits.{known_scalars, next_written}, WrittenRuns.all_short}
 use Rattle.legacy_decoder_engine.proofs.lanes.put_groups.Goals as goal
 
