@@ -108,5 +108,4 @@ module _ {D : Type 0} {T : Ghosts D} where
         → IsUnderWay T last before source first next (read + r + h) new
     front_going {now} {mid} {next} {read} {r} {h} {old} {new} i reads within holds =
         let j = ahead_going i (subst (λ l. ReadsTo T now mid l r old new) (rest_of source read) reads) in
-        let whole = rest_of source (read + r) in
-        (j.0, held_going j.1 _ j.3 h (rw whole at within) (rw whole at holds), j.2, j.3, j.4)
+        (j.0, held_going j.1 _ j.3 h (rw (rest_of source (read + r)) at within) (rw (rest_of source (read + r)) at holds), j.2, j.3, j.4)

@@ -1,7 +1,7 @@
 -- The moves of a decoder make a call.
 use Rattle.std.proofs.Common.{◌≡◌, ◌≢◌, ◌∙◌, ℕ, zero, suc, ◌+◌, ◌-◌, ◌≤◌, ◌<◌, List, [], ◌∷◌, ◌++◌, length, map, get_or, take, drop, refl, ap, subst, arith}
 use Rattle.std.proofs.Common.{add-zero, add-one, append-nil, drop-cons, drop_of_length-le, length-append, length-drop, Bool, true, false, IsTrue, Some, None}
-use Rattle.std.proofs.{Common.{Option, ◌⊎◌, inl, inr, All}, lemmas.List.{map-append, drop-drop}, lemmas.List.Elements.{All-append, All-nil, All-cons}}
+use Rattle.std.proofs.{Common.{Option, ◌⊎◌, inl, inr, All}, lemmas.List.{map-append, drop-drop, nil_from_length}, lemmas.List.Elements.{All-append, All-nil, All-cons}}
 use Rattle.std.proofs.{Math.Nat.sub-zero, lemmas.Bool.{true≢false, cases_lt}, lemmas.Bool.Decides.nat_tests}
 use Rattle.std.specs.Char.{IsScalar}
 use Rattle.legacy_text.specs.EncodingForm.{EncodingForm, unit_count, total_unit_count}
@@ -31,10 +31,6 @@ pub holds_more : (form : EncodingForm) (free : ℕ) (a b c : DecoderState) (byte
 unfolding HoldsBytes
 holds_more form free a b c [] byte e feeds room = subst (λ s. HoldsBytes form free s (byte ∷ []) c) e (c, feeds, room, refl)
 holds_more form free a b c (x ∷ bytes) byte held feeds room = (held.0, held.1, held.2, holds_more form free held.0 b c bytes byte held.3 feeds room)
-
-front_nil : (xs ys : List ℕ) → xs ++ ys ≡ [] → xs ≡ []
-front_nil [] ys e = refl
-front_nil (x ∷ xs) ys e = cc
 
 next_byte : (source : List ℕ) (read : ℕ) → read < length source → drop read source ≡ get_or source read 0 ∷ drop (read + 1) source
 next_byte source read h = drop-cons source read 0 h ∙ rw add-one refl
@@ -190,7 +186,7 @@ module _ {form : EncodingForm} {last : Bool} where
           had = HadRooms-append form before free scalars ds a.released a.had
               (HadRoom-same form before.grammar now.grammar None (free - total_unit_count form scalars) ds a.rooms
               (subst (λ n. HadRoom form now.grammar None n ds) left_is (rw a.resting at b.had)));
-          released = λ e z. a.released e (front_nil scalars ds z);
+          released = λ e z. a.released e (nil_from_length scalars (omega (arith, ap length z, length-append scalars ds)));
           fits = omega (arith, b.fits, units);
           scalar = All-append IsScalar scalars ds a.scalar b.scalar;
           once = λ l. absurd (omega (arith, some, (b.once (still l)).0));

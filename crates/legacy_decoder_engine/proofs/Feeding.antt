@@ -43,14 +43,11 @@ module _ {g : Grammar} {m : DecoderMachine} (shown : IsShown g m) (held : List �
   }
 
   module _ (b : ℕ) (byte : IsByte b) (resting : rests g held ≡ true) where
-    abbrev to : Grammar
-    to = m.to held b
+    meets : (s : Step) → m.step held b ≡ s → StepMeets g held b s (m.to held b)
+    meets s e = subst (λ s. StepMeets g held b s (m.to held b)) e (shown.meets.steps held b may resting)
 
-    meets : (s : Step) → m.step held b ≡ s → StepMeets g held b s to
-    meets s e = subst (λ s. StepMeets g held b s to) e (shown.meets.steps held b may resting)
-
-    settled : (s : Step) → m.step held b ≡ s → Settles to held b s
-    settled s e = subst (λ s. Settles to held b s) e (shown.settles held b may resting)
+    settled : (s : Step) → m.step held b ≡ s → Settles (m.to held b) held b s
+    settled s e = subst (λ s. Settles (m.to held b) held b s) e (shown.settles held b may resting)
 
     fits_step : (form : EncodingForm) (s : Step) → m.step held b ≡ s → step_units (unit_count form) (bmp_room form) s ≤ read_room form (state_of g held) b
     fits_step Utf8 s e = rw (← e) ((shown.rooms to_utf8).step_fits held b may resting bytes byte)
@@ -63,7 +60,7 @@ module _ {g : Grammar} {m : DecoderMachine} (shown : IsShown g m) (held : List �
     had_is form free s e le = tt
 
     step_feeds : (s : Step) → m.step held b ≡ s → All IsScalar (fed_scalars (fed_of s held b))
-        → Feeds (state_of g held) b (state_of to (step_held s held b)) (fed_of s held b)
+        → Feeds (state_of g held) b (state_of (m.to held b) (step_held s held b)) (fed_of s held b)
     step_feeds (finish (reads n (c ∷ d ∷ x ∷ cs))) e scalar = absurd (settled _ e).1
     step_feeds s e scalar = record {
       passed = step_length s;

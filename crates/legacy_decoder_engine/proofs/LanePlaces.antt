@@ -48,8 +48,7 @@ module _ (lead leads trail trails width : ℕ) (lead_room : lead + leads < 256) 
   row_is : (c : ℕ) → c < 65536 → row_places (c ∷ []) ≡ row_place lead leads trail trails width c ∷ []
   row_is c small =
       let most : c % 256 - lead ≤ leads → (c % 256 - lead) * width ≤ leads * width = mul-le-mul_right width in
-      let low = and_mask c 8 in
-      rw low (grind (arith, nat_tests))
+      rw (and_mask c 8) (grind (arith, nat_tests))
 
   pub lanes_are : (v : List ℕ) → length v ≡ 8 → Each1 (Fits w16) v → row_places v ≡ map (row_place lead leads trail trails width) v
   lanes_are = lane_by_lane row_places (row_place lead leads trail trails width) row_is (λ a b c d e g h i. refl)
@@ -61,8 +60,7 @@ module _ (lead leads width : ℕ) (room : lead + leads < 256) (rows : leads * wi
   lead_is : (c : ℕ) → c < 65536 → lead_places (c ∷ []) ≡ lead_place_of lead leads width c ∷ []
   lead_is c small =
       let most : c % 256 - lead ≤ leads → (c % 256 - lead) * width ≤ leads * width = mul-le-mul_right width in
-      let low = and_mask c 8 in
-      rw low (grind (arith, nat_tests))
+      rw (and_mask c 8) (grind (arith, nat_tests))
 
   pub leads_are : (v : List ℕ) → length v ≡ 8 → Each1 (Fits w16) v → lead_places v ≡ map (lead_place_of lead leads width) v
   leads_are = lane_by_lane lead_places (lead_place_of lead leads width) lead_is (λ a b c d e g h i. refl)

@@ -75,15 +75,14 @@ module _ {D : Type 0} (T : Ghosts D) where
   pub reads_none : (state : DecoderState) (source : List ℕ) (old : D) → ReadsAhead T state source 0 old old
   reads_none state source old = grind (arith, same_rooms, writes_none)
 
-  module _ {g h k : Grammar} {xs ys : List ℕ} {x y z : D} where
-    pub writes_then : WritesTo T g h xs x y → WritesTo T h k ys y z → WritesTo T g k (xs ++ ys) x z
-    writes_then a b = record {
-      scalars = a.scalars ++ b.scalars;
-      runs = runs_then g h k xs ys a.scalars b.scalars a.runs b.runs;
-      written = simp (b.written, a.written, append_assoc, all_code_units-append);
-      room = omega (arith, total_unit_count-append T.form a.scalars b.scalars, a.room, b.room);
-      loan = b.loan ∙ a.loan;
-    }
+  pub writes_then : {g h k : Grammar} {xs ys : List ℕ} {x y z : D} → WritesTo T g h xs x y → WritesTo T h k ys y z → WritesTo T g k (xs ++ ys) x z
+  writes_then {g} {h} {k} {xs} {ys} a b = record {
+    scalars = a.scalars ++ b.scalars;
+    runs = runs_then g h k xs ys a.scalars b.scalars a.runs b.runs;
+    written = simp (b.written, a.written, append_assoc, all_code_units-append);
+    room = omega (arith, total_unit_count-append T.form a.scalars b.scalars, a.room, b.room);
+    loan = b.loan ∙ a.loan;
+  }
 
   module _ {g : Grammar} {y z : D} where
     pub writes_put : (bytes : List ℕ) (c : ℕ) → Runs g bytes (c ∷ []) → T.contents z ≡ T.contents y ++ code_units T.form c

@@ -11,8 +11,7 @@ loop-group-preserved c =
     let at = 8 * c.loop-group.group in
     let room : at + 8 ≤ length ks = omega (arith, c.requires, c.loop-group-test.true) in
     let more = ascii_more at 8 (8 * (c.loop-group.group + 1)) ks (omega arith) room (omega arith) in
-    let all = ap (count_by (λ k. ltb k 128)) (take_all 8 (chunk at 8 ks) (omega (arith, length-chunk at 8 ks room))) in
-    grind (arith, c.byte_count-bytes.ensures)
+    grind (arith, c.byte_count-bytes.ensures, take_all 8 (chunk at 8 ks), length-chunk at 8 ks room)
 
 pub returns : goal.returns
 returns c =

@@ -8,16 +8,11 @@ form_at-requires-clause-ascii g c = rw c.copied-tables.ensures c.requires
 pub loop-at-preserved : goal.loop-at-preserved
 loop-at-preserved g c =
     let T = g.T.Destination in
-    let src = c.args.src.now in
-    let at = c.loop-at.at in
     let i = c.loop-at.invariant in
     let e = c.put.ensures in
-    let form = c.in-Some.ensures in
-    let bytes = take c.in-Some.length (take (length src - at) (drop at src)) in
-    let runs = rw c.copied-tables.ensures at form.2 in
-    let small = four_fit T.form c.in-Some.scalar 4 (omega arith) in (
+    let form = c.in-Some.ensures in (
       omega (arith, i.0, form.1, length-take {A = ℕ}, length-drop {A = ℕ}),
-      writes_run T src at c.in-Some.length i.1 (writes_put T bytes c.in-Some.scalar runs e.contents e.room e.loan),
-      λ h. omega (arith, c.free.ensures, c.if-free-ge7.true, e.room, small),
+      writes_run T _ _ c.in-Some.length i.1 (writes_put T _ c.in-Some.scalar (rw c.copied-tables.ensures at form.2) e.contents e.room e.loan),
+      λ h. omega (arith, c.free.ensures, c.if-free-ge7.true, e.room, four_fit T.form c.in-Some.scalar 4 (omega arith)),
       λ h. omega (arith, c.free.ensures, c.if-free-ge7.true, i.1.room),
     )
