@@ -2,7 +2,7 @@
 use Rattle.std.proofs.Common.{◌≡◌, ◌≢◌, ◌∙◌, ℕ, zero, suc, ◌+◌, ◌-◌, ◌≤◌, ◌<◌, List, [], ◌∷◌, ◌++◌, length, map, get_or, take, drop, refl, ap, subst, arith}
 use Rattle.std.proofs.Common.{add-zero, add-one, append-nil, drop-cons, drop_of_length-le, length-append, length-drop, Bool, true, false, IsTrue, Some, None}
 use Rattle.std.proofs.{Common.{Option, ◌⊎◌, inl, inr, All}, lemmas.List.{map-append, drop-drop, nil_from_length}, lemmas.List.Elements.{All-append, All-nil, All-cons}}
-use Rattle.std.proofs.{Math.Nat.sub-zero, lemmas.Bool.{true≢false, cases_lt}, lemmas.Bool.Decides.nat_tests}
+use Rattle.std.proofs.{Math.Nat.sub-zero, lemmas.Bool.{true≢false}, lemmas.Bool.Decides.nat_tests}
 use Rattle.std.specs.Char.{IsScalar}
 use Rattle.legacy_text.specs.EncodingForm.{EncodingForm, unit_count, total_unit_count}
 use Rattle.legacy_text.proofs.CodeUnits.{total_unit_count-append}

@@ -1,6 +1,6 @@
 -- A machine that agrees with its grammar and keeps its rooms makes the moves that the loop requires.
-use Rattle.std.proofs.Common.{◌≡◌, ◌≢◌, ◌∙◌, ℕ, suc, ◌-◌, ◌≤◌, List, [], ◌∷◌, ◌++◌, length, drop, refl, ap, subst, arith, append-nil, length-append}
-use Rattle.std.proofs.{Common.{length-drop, drop_of_length-le, true, false, ◌&&◌, ◌⊎◌, Some, None, inl, inr, All}, lemmas.List.drop-append-le}
+use Rattle.std.proofs.Common.{◌≡◌, ◌≢◌, ◌∙◌, ℕ, suc, ◌≤◌, List, [], ◌∷◌, ◌++◌, length, drop, refl, ap, subst, arith, append-nil, length-append}
+use Rattle.std.proofs.{Common.{length-drop, drop_of_length-le, true, false, ◌&&◌, ◌⊎◌, Some, None, All}, lemmas.List.drop-append-le}
 use Rattle.std.proofs.{lemmas.List.nil_from_length, lemmas.List.Elements.{All-nil, All-cons}, lemmas.Bool.Decides.nat_tests, Math.Seq.drop-length}
 use Rattle.std.specs.Char.{IsScalar, is_ascii}
 use Rattle.legacy_text.specs.EncodingForm.{EncodingForm, Utf8, Utf16, code_units, unit_count, all_code_units, total_unit_count, bmp_room, wide_room}

@@ -19,7 +19,6 @@ pub enum CommonForm {
 
 /// The common forms of a codec, with nothing held back between two of them.
 pub trait CommonForms {
-    /// The grammar.
     ghost grammar: { Self → Grammar };
 
     /// What a form requires of the grammar.
@@ -90,7 +89,7 @@ impl<F: CommonForms> Forms for FormsInTurn<'_, F> {
     }
 }
 
-/// Reads common forms from the front of at most `most` bytes, up to an uncommon one, and returns the number of bytes read.
+/// Reads common forms from the front of at most `most` bytes, up to an uncommon one. Returns the number of bytes read.
 #[inline(always)]
 pub fn read_forms<F: CommonForms, T: Destination>(
     forms: &F,

@@ -50,9 +50,8 @@ pub trait LaneCodec {
         false
     }
 
-    /// Returns how many of the first `end` bytes of a block are before a form of more than two bytes.
-    ///
-    /// It is given the bits of the bytes past ASCII, and those of the leads if all forms past ASCII are pairs.
+    /// Returns how many of the first `end` bytes of a block are before a form of more than two bytes, given the bits of the
+    /// bytes past ASCII, and those of the leads if all forms past ASCII are pairs.
     // A block is cut there, so that no code after it is picked and looked up for nothing.
     #[inline(always)]
     fn end_of_pairs(block: u8x64, past: u64, leads: u64, end: usize) -> usize
@@ -62,9 +61,8 @@ pub trait LaneCodec {
         end
     }
 
-    /// Reads forms of more than two bytes, and maybe ASCII between them, and returns the number of bytes read.
-    ///
-    /// `guess` is what the codec keeps from one such form to the next.
+    /// Reads forms of more than two bytes, and maybe ASCII between them, and returns the number of bytes read. `guess` is
+    /// what the codec keeps from one such form to the next.
     #[inline(always)]
     #[tactic(auto, using(crate::proofs::WrittenRuns::no_bytes))]
     fn read_longer<T: Destination>(
@@ -100,7 +98,6 @@ pub trait LaneCodec {
         ensures pairs { (tables : AcceptedIndexes) → ArePairs (grammar tables.flat) (entries tables.flat) place }
         ensures wide { is_narrow_index result ≡ false → result ≡ names.Big5 };
 
-    /// Returns the places of eight codes.
     fn places(codes: u16x8) -> u16x8
         ensures { result ≡ map place codes };
 
@@ -185,7 +182,7 @@ fn known_count(units: u16x8) -> usize
     (zeros.trailing_zeros() as usize).min(8)
 }
 
-/// Returns the units of eight codes, with 0 for an uncommon code, from what is kept of them and the places of their entries.
+/// Returns the units of eight codes, with 0 for an uncommon one, from what is kept of them and the places of their entries.
 #[inline(always)]
 fn units_of<C: LaneCodec>(tables: &FlatTables<'_>, kept: &[u16], places: &[u32]) -> u16x8
     requires ascii { HasAscii (C.grammar tables.now.flat) }
@@ -298,9 +295,7 @@ fn byte_total(kept: &[u16], count: usize) -> usize
     bytes + byte_count(last) - (8 - rest)
 }
 
-/// Reads forms in blocks with many bytes past ASCII, up to an uncommon one or the end of the room.
-///
-/// Returns the number of bytes read, and whether another block may follow.
+/// Reads forms in blocks with many bytes past ASCII, and returns the number of bytes read, and whether more may follow.
 #[inline(always)]
 #[tactic(auto, using(crate::proofs::JoinedRuns::reads_front, crate::proofs::LaneUnits::front_forms))]
 fn read_front<C: LaneCodec, T: Destination>(
@@ -469,7 +464,6 @@ struct LaneForms<'a, C: LaneCodec> {
 }
 
 impl<'a, C: LaneCodec> LaneForms<'a, C> {
-    /// Returns the common forms over these tables.
     #[inline(always)]
     fn new(tables: &FlatTables<'a>) -> LaneForms<'a, C>
         ensures { result.tables.flat ≡ tables.now.flat }
@@ -508,9 +502,7 @@ pub struct LaneBlocks<'a, 'b, C: LaneCodec> {
 }
 
 impl<'a, 'b, C: LaneCodec> LaneBlocks<'a, 'b, C> {
-    /// Returns the blocks over these tables.
-    ///
-    /// `guess` is what the codec keeps from one form of more than two bytes to the next, if it has such forms.
+    /// Returns the blocks over these tables, and what the codec keeps from one form of more than two bytes to the next.
     #[inline(always)]
     pub fn new(tables: &'a FlatTables<'b>, guess: &'a Cell<usize>) -> LaneBlocks<'a, 'b, C>
         ensures { result.tables.now ≡ tables.now }
@@ -586,9 +578,8 @@ fn read_last<C: LaneCodec, T: Destination>(
     at
 }
 
-/// Reads ASCII by blocks and other forms one by one from the front, up to an uncommon form or to many forms.
-///
-/// Returns the number of bytes read, and whether a block with many bytes past ASCII may follow.
+/// Reads ASCII by blocks and other forms one by one, up to an uncommon form or to many forms. Returns the number of bytes
+/// read, and whether a block with many bytes past ASCII may follow.
 // Most runs of pairs between tags are short, and lanes are no faster in them. Forms are counted since the last long ASCII.
 #[inline(always)]
 #[tactic(auto, using(crate::proofs::WrittenRuns::no_bytes))]

@@ -28,9 +28,7 @@ pub enum Fed {
     One(char),
     /// It completed a sequence with these two scalars, in this order.
     Two(char, char),
-    /// A malformed sequence of `length` bytes, with `back` bytes held back after it.
-    ///
-    /// If `unread` is true, the byte was not read.
+    /// A malformed sequence of `length` bytes, with `back` bytes held back after it; if `unread`, the byte was not read.
     MalformedSequence { length: u8, back: u8, unread: bool },
 }
 
@@ -40,8 +38,6 @@ pub trait DecoderMoves {
     ghost state: { Self → DecoderState };
 
     /// Returns whether no held-back scalar is to be written first. Nothing changes.
-    ///
-    /// In every state, the held-back bytes are those that the codec may hold back.
     fn rests(&self) -> bool
         ensures is { result ≡ rests (state self.now).grammar (state self.now).held }
         ensures allowed { may_hold (state self.now).grammar (state self.now).held ≡ true };
@@ -87,11 +83,9 @@ pub trait DecoderMoves {
         false
     }
 
-    /// Reads a run of common sequences from the front of the input and writes their scalars.
+    /// Reads a run of common sequences from the front of the input or a part of it, and returns the number of bytes read.
     ///
-    /// Returns the number of bytes read, which may be any part of the run. The decoder changes only with bytes that
-    /// switch its mode. It reads only if at least four code units are free, and leaves three, so that no act of the
-    /// machine would have lacked room. A decoder without common sequences reads nothing.
+    /// It reads only if at least four code units are free, and leaves three, so that no act would have lacked room.
     #[inline(always)]
     #[tactic(auto, using(crate::proofs::WrittenRuns::no_bytes))]
     fn read_runs<T: Destination>(&mut self, src: &[u8], dst: &mut T) -> usize

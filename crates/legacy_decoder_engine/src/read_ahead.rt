@@ -9,7 +9,6 @@ use legacy_base::Destination;
 
 /// Forms that follow one another, with nothing held back between two of them.
 pub trait Forms {
-    /// The grammar.
     ghost grammar: { Self → Grammar };
 
     /// What a run requires of the grammar.
@@ -82,7 +81,6 @@ pub fn read_one<F: Forms, T: Destination>(forms: &F, src: &[u8], dst: &mut T) ->
 
 /// Blocks that follow one another, with nothing held back between two of them. For each, room is tested once.
 pub trait Blocks {
-    /// The grammar.
     ghost grammar: { Self → Grammar };
 
     /// Reads the block at the front or a part of it, and returns the number of bytes read, and whether another may follow.
@@ -107,9 +105,8 @@ pub fn read_blocks<B: Blocks, T: Destination>(blocks: &B, src: &[u8], dst: &mut 
     }
 }
 
-/// Reads ASCII from the front by blocks of 64 bytes, but no block that ends fewer than 64 bytes before the end.
-///
-/// Returns the number of bytes read, and whether all of them were whole blocks.
+/// Reads ASCII from the front by blocks of 64 bytes, but none that ends fewer than 64 bytes before the end. Returns the
+/// number of bytes read, and whether all of them were whole blocks.
 #[inline(always)]
 #[tactic(auto, using(crate::proofs::WrittenRuns::no_bytes))]
 fn read_wide_blocks<T: Destination>(src: &[u8], dst: &mut T) -> (usize, bool)

@@ -1,5 +1,4 @@
-use Rattle.std.proofs.{Common.{◌+◌, ◌*◌, ◌%◌, ◌≤◌, ltb, length, ap, arith}, lemmas.List.take_all, lemmas.Simd.length-chunk}
-use Rattle.std.specs.List.{count_by}
+use Rattle.std.proofs.{Common.{◌+◌, ◌*◌, ◌%◌, ◌≤◌, length, arith}, lemmas.List.take_all, lemmas.Simd.length-chunk}
 use lib.Lanes.{chunk}
 use Rattle.legacy_decoder_engine.proofs.LaneUnits.{ascii_first, ascii_more}
 use Rattle.legacy_decoder_engine.proofs.lanes.byte_total.Goals as goal

@@ -1,4 +1,4 @@
-use Rattle.std.proofs.{Common.{◌≡◌, ◌≤◌, ◌∙◌, length, take, ap, arith}, lemmas.List.length-take}
+use Rattle.std.proofs.{Common.{◌≡◌, ◌≤◌, length, take, ap, arith}, lemmas.List.length-take}
 use Rattle.legacy_decoder_engine.specs.{PickedForms.forms_of}
 use Rattle.legacy_decoder_engine.proofs.{JoinedRuns.reads_front, LaneUnits.front_forms}
 use Rattle.legacy_decoder_engine.proofs.lanes.read_front.Goals as goal

@@ -1,4 +1,4 @@
-use Rattle.std.proofs.{Common.{ℕ, ◌-◌, take, drop, length, length-drop, arith}, lemmas.List.length-take}
+use Rattle.std.proofs.{Common.{ℕ, length-drop, arith}, lemmas.List.length-take}
 use Rattle.legacy_decoder_engine.proofs.WrittenRuns.{writes_put, writes_run, four_fit}
 use Rattle.legacy_decoder_engine.proofs.lanes.read_last.Goals as goal
 
