@@ -490,6 +490,21 @@ impl<C: LaneCodec> CommonForms for LaneForms<'_, C> {
     }
 }
 
+/// Reads common forms from the front of at most `most` bytes, up to an uncommon one, and returns the number of bytes read.
+#[inline(always)]
+fn read_in_turn<C: LaneCodec, T: Destination>(
+    tables: &FlatTables<'_>,
+    src: &[u8],
+    most: usize,
+    dst: &mut T,
+) -> usize
+    requires { HasAscii (C.grammar tables.now.flat) }
+    ensures { ReadsAhead T.Destination (new_state (C.grammar tables.now.flat)) src.now result dst.old dst.new }
+{
+    let forms = LaneForms::<C>::new(tables);
+    read_forms(&forms, src, most, dst)
+}
+
 /// The blocks of a codec over flat tables, if nothing is held back.
 #[derive(Drop)]
 pub struct LaneBlocks<'a, 'b, C: LaneCodec> {
@@ -609,8 +624,7 @@ fn read_few<C: LaneCodec, T: Destination>(
             }
             continue;
         }
-        let forms = LaneForms::<C>::new(blocks.tables);
-        let few = read_forms(&forms, &src[at..], delay, dst);
+        let few = read_in_turn::<C, T>(blocks.tables, &src[at..], delay, dst);
         at += few;
         if few == 0 {
             return (at, false);
@@ -643,6 +657,20 @@ impl<C: LaneCodec> Blocks for LaneBlocks<'_, '_, C> {
     }
 }
 
+/// Reads the form at the front, and returns the number of bytes read.
+#[inline(always)]
+fn read_alone<C: LaneCodec, T: Destination>(
+    tables: &FlatTables<'_>,
+    src: &[u8],
+    dst: &mut T,
+) -> usize
+    requires { HasAscii (C.grammar tables.now.flat) }
+    ensures { ReadsAhead T.Destination (new_state (C.grammar tables.now.flat)) src.now result dst.old dst.new }
+{
+    let forms = LaneForms::<C>::new(tables);
+    read_one(&FormsInTurn { forms: &forms }, src, dst)
+}
+
 /// Reads blocks of a codec from the front, but nothing at an uncommon byte, and one form if an uncommon byte follows it.
 // Malformed sequences often follow one another, or have a single form between them. Neither costs a call.
 #[inline(always)]
@@ -658,8 +686,7 @@ pub fn read_common<C: LaneCodec, T: Destination>(
         return 0;
     }
     if stands_alone::<C>(src) {
-        let forms = LaneForms::<C>::new(blocks.tables);
-        return read_one(&FormsInTurn { forms: &forms }, src, dst);
+        return read_alone::<C, T>(blocks.tables, src, dst);
     }
     read_blocks(blocks, src, dst)
 }
