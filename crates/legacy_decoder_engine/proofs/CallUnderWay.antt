@@ -65,8 +65,6 @@ pub record Going (form : EncodingForm) (last : Bool) (before : DecoderState) (so
       room query now (length (drop read source) + more) + total_unit_count form scalars ≤ room query before (length source + more)
 
 module _ {form : EncodingForm} {last : Bool} where
-  -- ---- the moves
-
   pub going_start : {before : DecoderState} {source : List ℕ} {free : ℕ} → rests before.grammar before.held ≡ true → may_hold before.grammar before.held ≡ true
       → Going form last before source free before 0 []
   going_start {before} {source} {free} r m =

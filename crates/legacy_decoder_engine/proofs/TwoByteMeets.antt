@@ -75,8 +75,6 @@ pub front_test : (scalars : ℕ → List ℕ) (rest : List ℕ) (t : Bool) (f₁
     f₁ ≡ step_front scalars rest s₁ → f₂ ≡ step_front scalars rest s₂ → cond t f₁ f₂ ≡ step_front scalars rest (cond t s₁ s₂)
 front_test scalars rest t f₁ f₂ s₁ s₂ h h1 = grind arith
 
--- ---- codecs whose first bytes are ASCII, leads past ASCII, or malformed
-
 module _ (is_lead_byte : ℕ → Bool) (are_leads : (b : ℕ) → is_lead_byte b ≡ true → IsPastAscii b) where
   pub lead_byte_below : (b : ℕ) → is_lead_byte b ≡ true → b < 0x100
   lead_byte_below b h = (are_leads b h).1
@@ -87,8 +85,6 @@ module _ (is_lead_byte : ℕ → Bool) (are_leads : (b : ℕ) → is_lead_byte b
 pub lead_front_is : (is_lead_byte : ℕ → Bool) (scalars : ℕ → List ℕ) (rest : List ℕ) (pair : Front) (b : ℕ) → pair ≡ step_front scalars rest hold →
     cond (is_ascii b) (reads 1 (b ∷ [])) (cond (is_lead_byte b) pair (malformed 1)) ≡ step_front scalars rest (lead_first is_lead_byte b)
 lead_front_is is_lead_byte scalars rest pair b e = grind (arith, front_test)
-
--- ---- codecs whose leads are 81 to FE
 
 pub is_lead-past : (b : ℕ) → is_lead b ≡ true → IsPastAscii b
 is_lead-past b h = (grind (arith, nat_tests), grind (arith, nat_tests))

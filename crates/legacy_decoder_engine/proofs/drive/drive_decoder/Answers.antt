@@ -81,10 +81,5 @@ returns-then-not-has_room-clause-call g c =
 
 pub returns-clause-call : goal.returns-clause-call
 returns-clause-call g c =
-    let T = g.T.Destination in
     let i = front_going c.args.dst.now c.loop-read.invariant c.read_runs-read.ensures.runs c.hold_back-read.ensures.within c.hold_back-read.ensures.holds in
-    let all = c.if-read-src.true in (
-      i.0,
-      rw (← all) (call_end i.1 _ i.3 all c.finish.ensures),
-      i.2,
-    )
+    (i.0, rw (← c.if-read-src.true) (call_end i.1 _ i.3 c.if-read-src.true c.finish.ensures), i.2)
