@@ -57,7 +57,6 @@ module _ (g : Grammar) (front : ℕ → List ℕ → Front) (ev_is : (bytes : Li
       let goes_on = λ (more : List ℕ). ev_front (held ++ b ∷ more) _ (malformed n) (fits.0 more) (fits.1) (drop-append-le n held (b ∷ more) (fits.2)) in
       grind (arith, may_is, length-drop)
 
-  -- the held-back scalar is written whatever bytes follow
   pub write_meets : (held : List ℕ) (n c : ℕ) → ((more : List ℕ) → HasFront front (held ++ more) (reads n (c ∷ []))) → 0 < n → n ≤ length held
       → may_hold g (drop n held) ≡ true → WriteMeets g held n c
   write_meets held n c has pos le may =

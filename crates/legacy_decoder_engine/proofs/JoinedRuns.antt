@@ -30,11 +30,9 @@ module _ {D : Type 0} {T : Ghosts D} {source : List ℕ} {old new : D} {r : ℕ}
         → ReadsAhead T (new_state g) source r old new
     reads_front within writes slack had = grind (arith, same_rooms)
 
-    -- the same with the room left
     pub reads_written : r ≤ length source → Writes T g (take r source) old new → 3 ≤ T.room new → 4 ≤ T.room old → ReadsAhead T (new_state g) source r old new
     reads_written within writes slack had = reads_front within writes (λ h. slack) (λ h. had)
 
-    -- ASCII bytes that are written as they are
     pub reads_ascii : HasAscii g → r ≤ length source → IsAscii (take r source) → T.contents new ≡ T.contents old ++ take r source → T.room new + r ≡ T.room old
         → T.loan new ≡ T.loan old → (0 < r → 3 ≤ T.room new) → ReadsAhead T (new_state g) source r old new
     reads_ascii law within ascii written room loan slack = grind (arith, length-take-le, reads_front, writes_ascii)

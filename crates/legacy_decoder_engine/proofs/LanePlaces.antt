@@ -94,6 +94,5 @@ module _ (lead trail : ℕ → ℕ) where
       → place_sums leads trails ≡ map (λ code. min (lead code + trail code) 65535) codes
   sums_are codes leads trails s t e f = rw (e, f) (sums codes (subst (λ l. Each1 (Fits w16) l) e s) (subst (λ l. Each1 (Fits w16) l) f t))
 
--- an entry that is not 0 is a scalar
 pub entry_is : (e : ℕ) → e ≢ 0 → option_to_list (entry_scalar e) ≡ e ∷ []
 entry_is e some = grind (arith, nat_tests)

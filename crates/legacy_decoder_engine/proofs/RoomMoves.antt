@@ -77,7 +77,6 @@ paid_of query wt paid at_most held b s h = grind arith
 pub narrow_read : (narrow wide : ℕ) → narrow ≤ wide → (g : Grammar) → (narrow ≤ full_room narrow wide g) × (full_room narrow wide g ≤ wide)
 narrow_read narrow wide rises g = grind arith
 
--- the rooms of a codec that fall by slopes
 module _ (g : Grammar) (m : DecoderMachine) (wt : List ℕ → ℕ) (paid : ℕ) (meets : Meets g m) (costs : HasCosts g m wt paid) (is : IsSloped g m wt paid)
     (query : LengthQuery) where
   pub sloped_rooms : KeepsRooms query g m

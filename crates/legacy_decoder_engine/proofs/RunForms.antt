@@ -75,7 +75,6 @@ module _ {g : Grammar} {m : DecoderMachine} (shown : IsShown g m) where
       let last : Leads g m (a ∷ b ∷ []) c (d ∷ []) x = (byte_c, to_same (a ∷ b ∷ []) c, third, may_c, rest_c, (byte_d, to_same (a ∷ b ∷ c ∷ []) d, fourth)) in
       runs a (b ∷ c ∷ d ∷ []) x scalar (byte_a, to_same [] a, first, may_a, rest_a, (byte_b, to_same (a ∷ []) b, second, may_b, rest_b, last))
 
-  -- each ASCII byte is its own scalar if that is so in the machine
   pub has_ascii : ((b : ℕ) → m.to [] b ≡ g) → ((b : ℕ) → b < 0x80 → m.step [] b ≡ finish (reads 1 (b ∷ []))) → HasAscii g
   has_ascii to_is first b h = single_runs b b (omega arith) (small b h) (to_is b) (first b h) where
     small : (x : ℕ) → x < 128 → IsScalar x

@@ -9,7 +9,6 @@ use Rattle.legacy_decoder_engine.specs.StepUnits.{units, IsWidth, IsNarrowIndex}
 pub width_of : (form : EncodingForm) → IsWidth (unit_count form) (bmp_room form) (wide_room form)
 width_of form = grind (arith, length-code_units-ascii, length-code_units-bmp, length-code_units-wide, encode_2, cases_lt)
 
--- an entry of a narrow index is below U+10000
 pub narrow_entry : (index : List ℕ) (p : ℕ) → IsNarrowIndex index → get_or index p 0 < 0x1_0000
 narrow_entry index p h = grind (arith, All-get_or, get_or_past, cases_lt)
 

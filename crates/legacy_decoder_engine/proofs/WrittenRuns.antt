@@ -23,12 +23,10 @@ runs_then g h k xs ys cs ds a b = record {
 pub runs_more : (g : Grammar) (xs ys cs ds : List ℕ) → Runs g xs cs → Runs g ys ds → Runs g (xs ++ ys) (cs ++ ds)
 runs_more g xs ys cs ds a b = runs_then g g g xs ys cs ds a b
 
--- ASCII bytes, if each is its own scalar
 pub runs_ascii : (g : Grammar) → HasAscii g → (xs : List ℕ) → IsAscii xs → Runs g xs xs
 runs_ascii g law [] h = runs_none g
 runs_ascii g law (x ∷ xs) h = runs_more g (x ∷ []) xs (x ∷ []) xs (law x (h 0)) (runs_ascii g law xs (λ i. h (suc i)))
 
--- a scalar that is an ASCII byte
 pub runs_byte : {g : Grammar} → HasAscii g → (b c : ℕ) → b < 128 → c ≡ b → Runs g (b ∷ []) (c ∷ [])
 runs_byte {g} law b c below e = subst (λ x. Runs g (b ∷ []) (x ∷ [])) (sym e) (law b below)
 
@@ -111,7 +109,6 @@ module _ {D : Type 0} (T : Ghosts D) where
         → Writes T g (take (at + r) src) x z
     writes_run src at r a b = grind (arith, take-add, writes_then, rest_of)
 
-  -- ASCII bytes that were copied
   pub writes_ascii : (g : Grammar) (old new : D) (bytes : List ℕ) → HasAscii g → IsAscii bytes → T.contents new ≡ T.contents old ++ bytes
       → T.room new + length bytes ≡ T.room old → T.loan new ≡ T.loan old → Writes T g bytes old new
   writes_ascii g old new bytes law ascii contents room loan =
