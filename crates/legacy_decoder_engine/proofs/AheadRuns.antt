@@ -21,10 +21,8 @@ unfolding HadRoom
 ample form g previous free [] h = tt
 ample form g previous free (c ∷ cs) h =
     let l = length-append (code_units form c) (all_code_units form cs) in
-    let m = full_most form g in
-    let w = wide_most form in
     let s = some_unit form c in
-    (λ w'. omega arith, ample form g (Some c) (free - unit_count form c) cs (omega arith))
+    (λ w. omega (arith, full_most form g, wide_most form), ample form g (Some c) (free - unit_count form c) cs (omega arith))
 
 pub with_empty : (s : DecoderState) → s.held ≡ [] → s ≡ new_state s.grammar
 with_empty s e = ap (λ h. record { grammar = s.grammar; held = h }) e
@@ -37,12 +35,9 @@ runs_nothing g cs h =
 -- a call is in progress, and the destination contains what was written
 abbrev pub IsUnderWay : {D : Type 0} → Ghosts D → Bool → DecoderState → List ℕ → D → DecoderState → ℕ → D → Type 0
 IsUnderWay T last before source first now read new =
-    (scalars : List ℕ) × Going T.form last before source (T.room first) now read scalars
-    × (T.contents new ≡ T.contents first ++ all_code_units T.form scalars)
-    × (T.room new + total_unit_count T.form scalars ≡ T.room first)
-    × (T.loan new ≡ T.loan first)
+    (scalars : List ℕ) × Going T.form last before source (T.room first) now read scalars × (T.contents new ≡ T.contents first ++ all_code_units T.form scalars)
+    × (T.room new + total_unit_count T.form scalars ≡ T.room first) × (T.loan new ≡ T.loan first)
 
--- code units were written after those before
 pub written : {D : Type 0} (T : Ghosts D) (first old new : D) (scalars ds : List ℕ) → T.contents old ≡ T.contents first ++ all_code_units T.form scalars
     → T.contents new ≡ T.contents old ++ all_code_units T.form ds → T.contents new ≡ T.contents first ++ all_code_units T.form (scalars ++ ds)
 written T first old new scalars ds e f = grind (arith, append_assoc, all_code_units-append)
@@ -55,7 +50,6 @@ module _ {D : Type 0} {T : Ghosts D} where
       let none : RunsTo before.grammar after.grammar [] ds = subst (λ n. RunsTo before.grammar after.grammar (take n source) ds) e reads.writes.runs in
       runs_nothing before.grammar ds (subst (λ s. RunsTo before.grammar s.grammar [] ds) (reads.stays e) none)
 
-  -- a run is a call in progress
   run_going : {last : Bool} {s next : DecoderState} {source : List ℕ} {old new : D} {r : ℕ} → (reads : ReadsTo T s next source r old new) → 0 < r
       → Going T.form last s source (T.room old) next r reads.writes.scalars
   run_going {last} {s} {next} {source} {old} {new} {r} reads some =
@@ -85,11 +79,9 @@ module _ {D : Type 0} {T : Ghosts D} where
         scalar = runs.scalar;
         once = λ l. absurd (omega (arith, reads.had some, lacks_small T.form s source last (T.room old) l, wide_most T.form));
         lowers = λ query q more.
-            let l = runs.lowers query (length (drop r source) + more) in
             let count : length (drop r source) + more + length (take r source) ≡ length source + more =
             omega (arith, long, reads.within, length-drop r source) in
-            let l' = rw (q, count) at l in
-            rw (with_empty next none', with_empty s none) l';
+            rw (with_empty next none', with_empty s none) (rw (q, count) at (runs.lowers query (length (drop r source) + more)));
       }
 
   module _ {last : Bool} {before : DecoderState} {source : List ℕ} (first : D) where
@@ -99,7 +91,7 @@ module _ {D : Type 0} {T : Ghosts D} where
     ahead_going {now} {next} {read} {r} {old} {new} i reads = (
       i.0 ++ reads.writes.scalars,
       elim (cases_lt 0 r) [
-        | inl some ↦ going_then i.1 i.3 (run_going reads some) some
+        | inl some ↦ going_then i.1 _ i.3 (run_going reads some) some
         | inr z ↦
             let none : r ≡ 0 = omega arith in
             rw (reads.stays none, none, add-zero read, reads_nothing reads none, append-nil i.0) i.1
@@ -116,5 +108,4 @@ module _ {D : Type 0} {T : Ghosts D} where
         → IsUnderWay T last before source first next (read + r + h) new
     front_going {now} {mid} {next} {read} {r} {h} {old} {new} i reads within holds =
         let j = ahead_going i (subst (λ l. ReadsTo T now mid l r old new) (rest_of source read) reads) in
-        let whole = rest_of source (read + r) in
-        (j.0, held_going j.1 _ j.3 h (rw whole at within) (rw whole at holds), j.2, j.3, j.4)
+        (j.0, held_going j.1 _ j.3 h (rw (rest_of source (read + r)) at within) (rw (rest_of source (read + r)) at holds), j.2, j.3, j.4)

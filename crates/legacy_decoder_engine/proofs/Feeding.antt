@@ -1,31 +1,23 @@
 -- A machine that agrees with its grammar and keeps its rooms makes the moves that the loop requires.
-use Rattle.std.proofs.Common.{◌≡◌, ◌≢◌, ◌∙◌, ℕ, suc, ◌-◌, ◌≤◌, List, [], ◌∷◌, ◌++◌, length, drop, refl, ap, subst, arith, append-nil, length-append}
-use Rattle.std.proofs.Common.{length-drop, drop_of_length-le, true, false, ◌&&◌, ◌⊎◌, Some, None, inl, inr, All}
-use Rattle.std.proofs.{lemmas.List.{drop-append-le, nil_from_length}, lemmas.List.Elements.{All-nil, All-cons}, lemmas.Bool.Decides.nat_tests}
-use Rattle.std.proofs.Math.Seq.{drop-length}
+use Rattle.std.proofs.Common.{◌≡◌, ◌≢◌, ◌∙◌, ℕ, suc, ◌≤◌, List, [], ◌∷◌, ◌++◌, length, drop, refl, ap, subst, arith, append-nil, length-append}
+use Rattle.std.proofs.{Common.{length-drop, drop_of_length-le, true, false, ◌&&◌, ◌⊎◌, Some, None, All}, lemmas.List.drop-append-le}
+use Rattle.std.proofs.{lemmas.List.nil_from_length, lemmas.List.Elements.{All-nil, All-cons}, lemmas.Bool.Decides.nat_tests, Math.Seq.drop-length}
 use Rattle.std.specs.Char.{IsScalar, is_ascii}
 use Rattle.legacy_text.specs.EncodingForm.{EncodingForm, Utf8, Utf16, code_units, unit_count, all_code_units, total_unit_count, bmp_room, wide_room}
 use Rattle.legacy_tables.specs.Unicode.{IsByte, AreBytes}
-use Rattle.legacy_base.specs.{States.{rests, may_hold, state_of}, DecoderActs.{act_room, takes, full_room, has_short_ascii, has_reported}}
-use Rattle.legacy_base.specs.{DecoderActs.{has_marks, full_room_in, HadRoom}, Lengths.{LengthQuery, to_utf16, to_utf8}}
-use Rattle.legacy_base.specs.{Lengths.{query_form, room}, Fronts.{reads, malformed}}
+use Rattle.legacy_base.specs.{States.{rests, may_hold, state_of}, DecoderActs.{act_room, takes, full_room, has_short_ascii, has_reported, has_marks}}
+use Rattle.legacy_base.specs.{DecoderActs.{full_room_in, HadRoom}, Lengths.{LengthQuery, to_utf16, to_utf8, query_form, room}, Fronts.{reads, malformed}}
 use Rattle.legacy_base.specs.{declared.results.DecodeEvent.TheVariants.Scalar, Grammar.{Grammar, events_of}, Calls.{IsMalformedByte, Progress}}
-use Rattle.legacy_decoder_engine.specs.Moves.{IsCovered, read_room, fed_scalars, Feeds, Releases, Reports}
-use Rattle.legacy_decoder_engine.specs.Steps.{Step, finish, step_held, step_length, StepMeets}
-use Rattle.legacy_decoder_engine.specs.{Steps.DecoderMachine, Feeding.{fed_of, Took}}
-use Rattle.legacy_decoder_engine.specs.{StepUnits.{units, step_units}, declared.moves.Fed.Fed, StatesAfterSteps.{IsOneOrMarked, Settles}}
-use Rattle.legacy_decoder_engine.specs.Shown.{IsShown}
+use Rattle.legacy_decoder_engine.specs.{Moves.{IsCovered, read_room, fed_scalars, Feeds, Releases, Reports}, Steps.{Step, finish, step_held, step_length}}
+use Rattle.legacy_decoder_engine.specs.{Steps.{StepMeets, DecoderMachine}, Feeding.{fed_of, Took}, StepUnits.{units, step_units}, declared.moves.Fed.Fed}
+use Rattle.legacy_decoder_engine.specs.{StatesAfterSteps.{IsOneOrMarked, Settles}, Shown.IsShown}
 use Rattle.legacy_base.proofs.{Rooms.release-full, GrammarLaws.{may_none, rests-none}}
 use Rattle.legacy_decoder_engine.proofs.{RoomMoves.all_needs, CallUnderWay.same_rooms}
-
--- ---- rooms of all three queries
 
 -- the code units of scalars, counted one by one
 pub units-total : (form : EncodingForm) (cs : List ℕ) → units (unit_count form) cs ≡ total_unit_count form cs
 units-total form [] = refl
 units-total form (c ∷ cs) = let e = units-total form cs in omega (arith, length-append (code_units form c) (all_code_units form cs))
-
--- ---- the room that the scalars of a step had
 
 -- a byte needs less than the full room only if it is ASCII and nothing is held back; then it is its own scalar
 module _ (narrow wide : ℕ) {g : Grammar} {m : DecoderMachine} (shown : IsShown g m) (b : ℕ) (unreported : has_reported g ≡ false) where
@@ -51,14 +43,11 @@ module _ {g : Grammar} {m : DecoderMachine} (shown : IsShown g m) (held : List �
   }
 
   module _ (b : ℕ) (byte : IsByte b) (resting : rests g held ≡ true) where
-    abbrev to : Grammar
-    to = m.to held b
+    meets : (s : Step) → m.step held b ≡ s → StepMeets g held b s (m.to held b)
+    meets s e = subst (λ s. StepMeets g held b s (m.to held b)) e (shown.meets.steps held b may resting)
 
-    meets : (s : Step) → m.step held b ≡ s → StepMeets g held b s to
-    meets s e = subst (λ s. StepMeets g held b s to) e (shown.meets.steps held b may resting)
-
-    settled : (s : Step) → m.step held b ≡ s → Settles to held b s
-    settled s e = subst (λ s. Settles to held b s) e (shown.settles held b may resting)
+    settled : (s : Step) → m.step held b ≡ s → Settles (m.to held b) held b s
+    settled s e = subst (λ s. Settles (m.to held b) held b s) e (shown.settles held b may resting)
 
     fits_step : (form : EncodingForm) (s : Step) → m.step held b ≡ s → step_units (unit_count form) (bmp_room form) s ≤ read_room form (state_of g held) b
     fits_step Utf8 s e = rw (← e) ((shown.rooms to_utf8).step_fits held b may resting bytes byte)
@@ -70,9 +59,8 @@ module _ {g : Grammar} {m : DecoderMachine} (shown : IsShown g m) (held : List �
     had_is form free (finish (reads n cs)) e le = grind (arith, short_or_usual, had_usual, settled)
     had_is form free s e le = tt
 
-    -- any step at the byte is a move
     step_feeds : (s : Step) → m.step held b ≡ s → All IsScalar (fed_scalars (fed_of s held b))
-        → Feeds (state_of g held) b (state_of to (step_held s held b)) (fed_of s held b)
+        → Feeds (state_of g held) b (state_of (m.to held b) (step_held s held b)) (fed_of s held b)
     step_feeds (finish (reads n (c ∷ d ∷ x ∷ cs))) e scalar = absurd (settled _ e).1
     step_feeds s e scalar = record {
       passed = step_length s;
@@ -91,15 +79,12 @@ module _ {g : Grammar} {m : DecoderMachine} (shown : IsShown g m) (held : List �
       had = λ form free. had_is form free s e;
       scalar = scalar;
       lowers = λ query n.
-          let pays = rw e at ((shown.rooms query).step_pays held b n may resting bytes byte) in
-          omega (arith, pays, units-total (query_form query) (fed_scalars (fed_of s held b)));
+          omega (arith, rw e at ((shown.rooms query).step_pays held b n may resting bytes byte), units-total (query_form query) (fed_scalars (fed_of s held b)));
     }
 
-    -- a decoder that took the step has made the move
     pub feeds : (fed : Fed) (kept : List ℕ) → Took (m.step held b) held b fed kept → Feeds (state_of g held) b (state_of (m.to held b) kept) fed
     feeds fed kept took = grind (arith, All-cons, All-nil, step_feeds)
 
-  -- the held-back scalar is written
   pub releases : (n c : ℕ) → rests g held ≡ false → m.pending held ≡ Some (n, c) → IsScalar c → Releases (state_of g held) (state_of g (drop n held)) c
   releases n c r e scalar =
       let w = (rw e at (shown.meets.writes held may)).1 in
@@ -108,29 +93,22 @@ module _ {g : Grammar} {m : DecoderMachine} (shown : IsShown g m) (held : List �
       let pays = λ (query : LengthQuery). rw e at ((shown.rooms query).write_pays held may r bytes) in
       grind (arith, same_rooms, pays to_utf8, pays to_utf16, pays)
 
-  -- at the end of input all held-back bytes are reported
   pub reports_all : rests g held ≡ true → held ≢ [] → Reports (state_of g held) (state_of g []) (length held) 0
   reports_all r some = by_held held may r some where
     by_held : (l : List ℕ) → may_hold g l ≡ true → rests g l ≡ true → l ≢ [] → Reports (state_of g l) (state_of g []) (length l) 0
     by_held [] m r' n = absurd (n refl)
     by_held (x ∷ xs) m r' n =
-        let few = shown.meets.few (x ∷ xs) m in
-        let zero_place : length (x ∷ xs) - length (x ∷ xs) ≡ 0 = omega arith in
-        let all = append-nil (x ∷ xs) in
-        let none : events_of g [] ≡ [] = shown.meets.ends [] (may_none g) (rests-none g) in
         let ends = shown.meets.ends (x ∷ xs) m r' in
+        let none = shown.meets.ends [] (may_none g) (rests-none g) in
         record {
           passed = length (x ∷ xs);
           holding = λ z. cc;
           progress = record {
             counts = omega arith;
             rest = grind (arith, drop-length);
-            events = λ more l. elim (l refl) [
-              | inl z ↦ rw (zero_place, z) (grind arith)
-              | inr b ↦ rw zero_place (shown.meets.reports (x ∷ xs) more m r' (omega arith) (rw zero_place at b))
-            ];
+            events = λ more l. grind (arith, l refl, shown.meets.reports (x ∷ xs) more m r', append-nil (x ∷ xs));
           };
-          holds = grind arith;
+          holds = grind (arith, shown.meets.few (x ∷ xs) m);
           allowed = may_none g;
           lowers = λ query. (shown.rooms query).report_pays x xs m r';
         }
@@ -148,8 +126,7 @@ module _ {g : Grammar} {m : DecoderMachine} (shown : IsShown g m) (held : List �
   -- there is something to report if bytes are held back, even if a scalar is still to be written
   pub ends_held : held ≢ [] → events_of g held ≢ []
   ends_held n =
-      let writes = shown.meets.writes held may in
-      let first = λ (p : ℕ × ℕ) (e : m.pending held ≡ Some p). (rw e at writes).1.goes_on [] in
+      let first = λ (p : ℕ × ℕ) (e : m.pending held ≡ Some p). (rw e at (shown.meets.writes held may)).1.goes_on [] in
       grind (arith, append-nil, ends_some, first)
 
 -- a byte that is malformed by itself in the machine, if nothing is held back

@@ -14,8 +14,7 @@ HasFront front (b ∷ rest) f = front b rest ≡ f
 
 -- the events of the front, and then those of the bytes after it
 pub front_move : (front : ℕ → List ℕ → Front) (bytes behind : List ℕ) (f : Front) → HasFront front bytes f → 0 < front_length f
-    → drop (front_length f) bytes ≡ behind →
-    cut front 0 0 bytes ≡ front_events 0 f ++ shift (front_length f) (cut front 0 0 behind)
+    → drop (front_length f) bytes ≡ behind → cut front 0 0 bytes ≡ front_events 0 f ++ shift (front_length f) (cut front 0 0 behind)
 front_move front bytes behind f h h1 h2 = grind (arith, cut-front)
 
 -- the front of a step is the same for every continuation
@@ -27,19 +26,16 @@ Fits front may held b (leave n) = ((more : List ℕ) → HasFront front (held ++
 
 -- if the events of a list begin with a malformed sequence of n bytes, its front is that sequence
 front_reported : (front : ℕ → List ℕ → Front) (b : ℕ) (rest : List ℕ) (n : ℕ) (f : Front) → front b rest ≡ f → 0 < front_length f
-    → BeginsWith (cut front 0 0 (b ∷ rest)) (Bad 0 n ∷ []) →
-    f ≡ malformed n
+    → BeginsWith (cut front 0 0 (b ∷ rest)) (Bad 0 n ∷ []) → f ≡ malformed n
 front_reported front b rest n (reads k []) e some g =
     absurd (no_sooner k 0 n (cut front 0 0 (drop k (b ∷ rest))) g.0 some (sym (front_move front (b ∷ rest) _ (reads k []) e some refl) ∙ g.1))
 front_reported front b rest n f e some g =
     let all = sym (front_move front (b ∷ rest) (drop (front_length f) (b ∷ rest)) f e some refl) ∙ g.1 in cc
 
--- a step that depends on a test
 pub fits_test : (front : ℕ → List ℕ → Front) (may : List ℕ → Bool) (held : List ℕ) (b : ℕ) (t : Bool) (s₁ s₂ : Step) →
     (t ≡ true → Fits front may held b s₁) → (t ≡ false → Fits front may held b s₂) → Fits front may held b (cond t s₁ s₂)
 fits_test front may held b t s₁ s₂ h h1 = grind arith
 
--- the trail rule
 pub fits_trail : (front : ℕ → List ℕ → Front) (may : List ℕ → Bool) (held : List ℕ) (scalars : List ℕ) (t : ℕ) → may [] ≡ true → 0 < length held →
     ((more : List ℕ) → HasFront front (held ++ t ∷ more) (reads_or (length held + 1) scalars (trail_rule (length held) t))) →
     Fits front may held t (trail_step (length held) scalars t)
@@ -61,7 +57,6 @@ module _ (g : Grammar) (front : ℕ → List ℕ → Front) (ev_is : (bytes : Li
       let goes_on = λ (more : List ℕ). ev_front (held ++ b ∷ more) _ (malformed n) (fits.0 more) (fits.1) (drop-append-le n held (b ∷ more) (fits.2)) in
       grind (arith, may_is, length-drop)
 
-  -- the held-back scalar is written whatever bytes follow
   pub write_meets : (held : List ℕ) (n c : ℕ) → ((more : List ℕ) → HasFront front (held ++ more) (reads n (c ∷ []))) → 0 < n → n ≤ length held
       → may_hold g (drop n held) ≡ true → WriteMeets g held n c
   write_meets held n c has pos le may =

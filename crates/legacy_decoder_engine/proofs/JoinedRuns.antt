@@ -1,64 +1,38 @@
 -- Runs that are read one after another.
-use Rattle.std.proofs.Common.{◌≡◌, ◌∙◌, ℕ, ◌+◌, ◌-◌, ◌<◌, ◌≤◌, List, ◌++◌, length, take, drop, sym, ap, subst, arith, IsAscii}
-use Rattle.std.proofs.{lemmas.List.{take-take, length-take, length-take-le, length-drop}, Math.Seq.take-add}
+use Rattle.std.proofs.Common.{◌≡◌, ℕ, ◌+◌, ◌-◌, ◌<◌, ◌≤◌, List, ◌++◌, length, take, drop, sym, subst, arith, IsAscii}
+use Rattle.std.proofs.{lemmas.List.{length-take, length-take-le, length-drop}, Math.Seq.take-add}
 use Rattle.legacy_text.specs.{declared.destination.Destination.Ghosts}
 use Rattle.legacy_base.specs.{Grammar.Grammar, States.{DecoderState, new_state}}
 use Rattle.legacy_decoder_engine.specs.ReadAhead.{HasAscii, IsIdle, Writes, WritesTo, ReadsTo, ReadsAhead}
-use Rattle.legacy_decoder_engine.proofs.{AheadRuns.{reads_nothing, with_empty}, CallUnderWay.{same_rooms, both_rooms}, WrittenRuns.{writes_then, writes_ascii}}
+use Rattle.legacy_decoder_engine.proofs.{AheadRuns.{reads_nothing, with_empty}, CallUnderWay.{same_rooms, both_rooms}}
+use Rattle.legacy_decoder_engine.proofs.WrittenRuns.{rest_of, writes_then, writes_ascii}
 
 module _ {D : Type 0} {T : Ghosts D} {source : List ℕ} {old mid new : D} {r s : ℕ} where
-  -- a run, and then a run after it
   pub reads_then : {first next last : DecoderState} → ReadsTo T first next source r old mid
-      → ReadsTo T next last (take (length source - r) (drop r source)) s mid new
-      → ReadsTo T first last source (r + s) old new
+      → ReadsTo T next last (take (length source - r) (drop r source)) s mid new → ReadsTo T first last source (r + s) old new
   reads_then {first} {next} {last} a b =
-      let n : ℕ = length source - r in
-      let l = length-take n (drop r source) in
-      let d = length-drop r source in
-      let w = b.within in
-      let low : s ≤ n = omega arith in
-      let place : take (r + s) source ≡ take r source ++ take s (take (length source - r) (drop r source))
-      = take-add r s source ∙ ap (λ bytes. take r source ++ bytes) (sym (take-take s n (drop r source) low)) in
-      record {
-        within = let v = a.within in omega arith;
-        idle = λ h. grind arith;
-        empties = λ h. grind arith;
-        stays = λ e. b.stays (omega arith) ∙ a.stays (omega arith);
-        rooms = both_rooms first.grammar next.grammar last.grammar a.rooms b.rooms;
-        writes = subst (λ bytes. WritesTo T first.grammar last.grammar bytes old new) (sym place) (writes_then T a.writes b.writes);
-        slack = λ h. let nothing = reads_nothing b in grind arith;
-        had = λ h. grind arith;
-      }
+      let writes : WritesTo T first.grammar last.grammar (take (r + s) source) old new =
+      rw (take-add r s source, ← rest_of source r) (writes_then T a.writes b.writes) in
+      grind (arith, both_rooms, length-take, length-drop, reads_nothing b, b.writes.room)
 
-  -- the same in one state
   pub reads_more : {state : DecoderState} → ReadsAhead T state source r old mid → ReadsAhead T state (take (length source - r) (drop r source)) s mid new
       → ReadsAhead T state source (r + s) old new
   reads_more a b = reads_then a b
 
--- a decoder that holds nothing back reads as a new one
-pub reads_idle : {D : Type 0} {T : Ghosts D} {state : DecoderState} {source : List ℕ} {old new : D} {r : ℕ} → IsIdle state
-    → ReadsAhead T (new_state state.grammar) source r old new
-    → ReadsAhead T state source r old new
-reads_idle {D} {T} {state} {source} {old} {new} {r} idle reads = subst (λ s. ReadsAhead T s source r old new) (sym (with_empty state idle.empty)) reads
+module _ {D : Type 0} {T : Ghosts D} {source : List ℕ} {old new : D} {r : ℕ} where
+  -- a decoder that holds nothing back reads as a new one
+  pub reads_idle : {state : DecoderState} → IsIdle state → ReadsAhead T (new_state state.grammar) source r old new → ReadsAhead T state source r old new
+  reads_idle {state} idle reads = subst (λ s. ReadsAhead T s source r old new) (sym (with_empty state idle.empty)) reads
 
--- the bytes read and the scalars written, with the room left if there are any
-pub reads_front : {D : Type 0} {T : Ghosts D} {g : Grammar} {source : List ℕ} {old new : D} {r : ℕ} → r ≤ length source → Writes T g (take r source) old new
-    → (0 < r → 3 ≤ T.room new)
-    → (0 < r → 4 ≤ T.room old)
-    → ReadsAhead T (new_state g) source r old new
-reads_front {D} {T} {g} within writes slack had = grind (arith, same_rooms)
+  module _ {g : Grammar} where
+    -- the bytes read and the scalars written, with the room left if there are any
+    pub reads_front : r ≤ length source → Writes T g (take r source) old new → (0 < r → 3 ≤ T.room new) → (0 < r → 4 ≤ T.room old)
+        → ReadsAhead T (new_state g) source r old new
+    reads_front within writes slack had = grind (arith, same_rooms)
 
--- the same with the room left
-pub reads_written : {D : Type 0} {T : Ghosts D} {g : Grammar} {source : List ℕ} {old new : D} {r : ℕ} → r ≤ length source → Writes T g (take r source) old new
-    → 3 ≤ T.room new → 4 ≤ T.room old
-    → ReadsAhead T (new_state g) source r old new
-reads_written within writes slack had = reads_front within writes (λ h. slack) (λ h. had)
+    pub reads_written : r ≤ length source → Writes T g (take r source) old new → 3 ≤ T.room new → 4 ≤ T.room old → ReadsAhead T (new_state g) source r old new
+    reads_written within writes slack had = reads_front within writes (λ h. slack) (λ h. had)
 
--- ASCII bytes that are written as they are
-pub reads_ascii : {D : Type 0} {T : Ghosts D} {g : Grammar} {source : List ℕ} {old new : D} {r : ℕ} → HasAscii g → r ≤ length source → IsAscii (take r source)
-    → T.contents new ≡ T.contents old ++ take r source
-    → T.room new + r ≡ T.room old
-    → T.loan new ≡ T.loan old
-    → (0 < r → 3 ≤ T.room new)
-    → ReadsAhead T (new_state g) source r old new
-reads_ascii {D} {T} {g} {source} {old} {new} {r} law within ascii written room loan slack = grind (arith, length-take-le, reads_front, writes_ascii)
+    pub reads_ascii : HasAscii g → r ≤ length source → IsAscii (take r source) → T.contents new ≡ T.contents old ++ take r source → T.room new + r ≡ T.room old
+        → T.loan new ≡ T.loan old → (0 < r → 3 ≤ T.room new) → ReadsAhead T (new_state g) source r old new
+    reads_ascii law within ascii written room loan slack = grind (arith, length-take-le, reads_front, writes_ascii)

@@ -1,7 +1,6 @@
 -- The moves of a decoder with leads, by the lead that it holds back.
-use Rattle.std.proofs.Common.{arith}
-use Rattle.std.proofs.{Common.{◌≡◌, ◌≢◌, ◌∙◌, ℕ, List, [], ◌∷◌, Bool, Option, Some, None, is_some, ◌&&◌, true, false, refl}, lemmas.List.Elements.All-nil}
-use Rattle.std.proofs.lemmas.List.Elements.{All-cons}
+use Rattle.std.proofs.Common.{arith, ◌≡◌, ◌≢◌, ◌∙◌, ℕ, List, [], ◌∷◌, Bool, Option, Some, None, is_some, ◌&&◌, true, false, refl}
+use Rattle.std.proofs.lemmas.List.Elements.{All-nil, All-cons}
 use Rattle.std.specs.Char.{IsScalar}
 use Rattle.legacy_tables.specs.{Unicode.{IsByte, AreBytes}, AcceptedTables.AcceptedIndexes, Indexes.FlatIndexes}
 use Rattle.legacy_base.specs.{States.{may_hold, is_empty}, Grammar.{Grammar, events_of}, Calls.IsMalformedByte, Fronts.malformed}
@@ -11,7 +10,6 @@ use Rattle.legacy_decoder_engine.specs.LeadCodecs.{held_bytes, lead_state}
 use Rattle.legacy_decoder_engine.proofs.RunForms.{has_ascii, pair_runs, ascii_is}
 use Rattle.legacy_decoder_engine.proofs.Feeding as feeding
 
--- a neutral decoder holds nothing back
 pub neutral_empty : (bytes : List ℕ) → (is_empty bytes && true) ≡ true → bytes ≡ []
 neutral_empty bytes h = grind arith
 
@@ -42,8 +40,7 @@ module _ {L : Type 0} {grammar : FlatIndexes → Grammar} {is_lead_byte : ℕ �
   pub covered : (held : Option L) → IsCovered (lead_state grammar byte tables held)
   covered held = feeding.covered shown (held_bytes byte held) (may held) (are_bytes held)
 
-  pub feeds : (held : Option L) (b : ℕ) → IsByte b →
-      (fed : Fed) (kept : Option L)
+  pub feeds : (held : Option L) (b : ℕ) → IsByte b → (fed : Fed) (kept : Option L)
       → Took (two_byte_step first (scalars tables.flat) (held_bytes byte held) b) (held_bytes byte held) b fed (held_bytes byte kept) →
       Feeds (lead_state grammar byte tables held) b (lead_state grammar byte tables kept) fed
   feeds held b is_byte fed kept took =
@@ -62,6 +59,5 @@ module _ {L : Type 0} {grammar : FlatIndexes → Grammar} {is_lead_byte : ℕ �
   pub malformed_byte : (b : ℕ) → first b ≡ finish (malformed 1) → IsMalformedByte (lead_state grammar byte tables None) b
   malformed_byte b e = feeding.malformed_byte shown b e refl
 
-  -- a decoder without a lead
   pub idle : (held : Option L) → is_some held ≡ false → IsIdle (lead_state grammar byte tables held)
   idle held e = record { empty = grind arith; ascii = ascii is tables }

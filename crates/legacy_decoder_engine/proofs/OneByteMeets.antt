@@ -6,6 +6,5 @@ use Rattle.legacy_decoder_engine.specs.Steps.{ReportMeets}
 pub few_held : (held : List ℕ) → is_empty held ≡ true → length held ≤ 3
 few_held held h = grind (arith, false≢true)
 
--- nothing is ever reported at the end of input
 pub no_report : (g : Grammar) (held more : List ℕ) → is_empty held ≡ true → ReportMeets g held more
 no_report g held more h h1 = grind (arith, false≢true)

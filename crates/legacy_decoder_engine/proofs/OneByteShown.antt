@@ -1,17 +1,14 @@
 -- The proof for the decoders of single bytes, which hold nothing back, from the few facts that each shows.
-use Rattle.std.proofs.Common.{◌≡◌, ℕ, ◌<◌, List, [], ◌∷◌, Bool, cond, Option, option_to_list, ap, arith}
-use Rattle.std.proofs.lemmas.Bool.{cond_both, false≢true, ltb-true}
+use Rattle.std.proofs.{Common.{◌≡◌, ℕ, ◌<◌, List, [], ◌∷◌, Bool, cond, Option, option_to_list, ap, arith}, lemmas.Bool.{cond_both, false≢true, ltb-true}}
 use Rattle.std.specs.{Char.is_ascii, Option.IfSome}
 use Rattle.legacy_tables.specs.Unicode.{IsByte}
-use Rattle.legacy_base.specs.{Fronts.{Front, reads, malformed, reads_or, cut}, Profile.{Profile, byte_profile, is_empty, weightless}}
-use Rattle.legacy_base.specs.{Grammar.{Grammar, profile, events_of}, States.{may_hold}}
+use Rattle.legacy_base.specs.{Fronts.{Front, reads, malformed, reads_or, cut}, Profile.{Profile, byte_profile, is_empty, weightless}, Grammar.Grammar}
+use Rattle.legacy_base.specs.{Grammar.{profile, events_of}, States.may_hold}
 use Rattle.legacy_base.proofs.Cuts.{cut-nil}
-use Rattle.legacy_decoder_engine.specs.{Steps.{Step, finish, no_pending, DecoderMachine, Meets}}
-use Rattle.legacy_decoder_engine.specs.{Shown.IsShown}
-use Rattle.legacy_decoder_engine.proofs.{CallUnderWay.same_rooms, FrontMoves.{fits_meets}, OneByteMeets.{few_held, no_report}}
-use Rattle.legacy_decoder_engine.proofs.{RoomMoves.{HasCosts, sloped_rooms}, SettledSteps.{one_option, or_settles}}
+use Rattle.legacy_decoder_engine.specs.{Steps.{Step, finish, no_pending, DecoderMachine, Meets}, Shown.IsShown}
+use Rattle.legacy_decoder_engine.proofs.{CallUnderWay.same_rooms, FrontMoves.fits_meets, OneByteMeets.{few_held, no_report}, RoomMoves.{HasCosts, sloped_rooms}}
+use Rattle.legacy_decoder_engine.proofs.SettledSteps.{one_option, or_settles}
 
--- the profile of such a decoder
 abbrev pub one_byte_profile : (ℕ → List ℕ → Front) → Bool → Profile
 one_byte_profile front short = record (byte_profile (cut front 0 0)) { short_ascii = short }
 
@@ -37,8 +34,7 @@ module _ (g : Grammar) (front : ℕ → List ℕ → Front) (found : ℕ → Opt
 
   meets : Meets g machine
   meets =
-      let fits = fits_meets g front ev_is is_empty may_is in
-      grind (arith, fits, cond_both, may_is, ev_is, cut-nil, false≢true, no_report, few_held)
+      grind (arith, fits_meets g front ev_is is_empty may_is, cond_both, may_is, ev_is, cut-nil, false≢true, no_report, few_held)
 
   costs : HasCosts g machine weightless 6
   costs = grind (arith, may_is, false≢true, cond_both, ltb-true)

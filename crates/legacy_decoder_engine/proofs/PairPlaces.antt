@@ -12,8 +12,6 @@ pub rows_are : IsTableOf lead_place ROWS_OF_190
 unfolding lead_place
 rows_are = refl
 
--- ---- the entries at a sum
-
 pub idx_past : (index : List ℕ) (p : ℕ) → length index ≤ p → idx index p ≡ None
 idx_past index p h = ap entry_scalar (get_or_past index p 0 h)
 

@@ -50,14 +50,11 @@ all_codes : (xs : List ℕ) → Each1 (Fits w8) xs → (x : ℕ) → x < 256
 unfolding row
 all_codes xs fits x h =
     ap (λ l. digits_l 65536 8 (number_l 256 l)) (shuffled xs 0 (row x) (omega (arith, row_long x h)) (row_within x h))
-    ∙ ap (λ n. digits_l 65536 n (number_l 256 (map (λ j. get_or xs j 0) (row x)))) (sym (eight_long x h))
-    ∙ codes xs (below_256 xs fits) (eight_places x)
+    ∙ ap (λ n. digits_l 65536 n (number_l 256 (map (λ j. get_or xs j 0) (row x)))) (sym (eight_long x h)) ∙ codes xs (below_256 xs fits) (eight_places x)
 
 pub codes_picked : (xs : List ℕ) → Each1 (Fits w8) xs → (x : ℕ) → x < 256
     → take (length (places 0 8 x)) (digits_l 65536 8 (number_l 256 (swz_l w8 16 xs 0 (row x)))) ≡ map (code_at xs) (places 0 8 x)
 codes_picked xs fits x h = simp (all_codes, take-map, take-take, places_most, take-append_seam)
-
--- ---- eight places of a block
 
 counted : (x : ℕ) → x < 256 → count_ones x ≡ length (places 0 8 x)
 unfolding places count_ones
@@ -67,10 +64,7 @@ moved : (bs : List ℕ) (from base n x : ℕ) → base + n < 16 → map (code_at
 unfolding places
 moved bs from base zero x h = refl
 moved bs from base (suc n) x h =
-    let first = get_or-chunk from 16 bs base 0 (omega arith) in
-    let second = get_or-chunk from 16 bs (base + 1) 0 (omega arith) in
-    let rest = moved bs from (base + 1) n (x / 2) (omega arith) in
-    grind (arith, nat_tests)
+    grind (arith, nat_tests, get_or-chunk from 16 bs base 0, get_or-chunk from 16 bs (base + 1) 0, moved bs from (base + 1) n (x / 2))
 
 -- codes that are stored at a place of a list
 pub codes_stored : (block : List ℕ) (from x : ℕ) (all found : List ℕ) (at : ℕ) → x < 256 → length found ≡ 8 → at + 8 ≤ length all
@@ -85,25 +79,18 @@ codes_stored block from x all found at small long room e =
     let same = rw zero_in at (moved block from 0 8 x (omega arith)) in
     rw (put_chunk_is at all found (omega arith), place, take-append-add, take-append-le _ found behind most, e, same) refl
 
--- ---- places of a word eight by eight
-
 pub low_places : (b k x : ℕ) → places b k (x % 2 ^ k) ≡ places b k x
 unfolding places
 low_places b zero x = refl
 low_places b (suc k) x =
-    let last = mod-mod-pow x k 1 in
-    let half = field x k 1 in
-    let rest = low_places (b + 1) k (x / 2) in
-    grind (arith, nat_tests)
+    grind (arith, nat_tests, mod-mod-pow x k 1, field x k 1, low_places (b + 1) k (x / 2))
 
 pub split_places : (b k m x : ℕ) → places b (k + m) x ≡ places b k x ++ places (b + k) m (x / 2 ^ k)
 unfolding places
 split_places b zero m x = grind arith
 split_places b (suc k) m x =
-    let half = shr-shr x 1 k in
-    let rest = split_places (b + 1) k m (x / 2) in
     let n : suc k + m ≡ suc (k + m) = omega arith in
-    ap (λ i. places b i x) n ∙ rw rest (grind (arith, nat_tests))
+    ap (λ i. places b i x) n ∙ rw (split_places (b + 1) k m (x / 2)) (grind (arith, nat_tests, shr-shr x 1 k))
 
 -- one turn of the loop: eight more places
 pub next_eight : (f : ℕ → ℕ) (g x count count_next : ℕ) (codes_before codes_after : List ℕ) (all : List ℕ) → g < 8
@@ -111,16 +98,12 @@ pub next_eight : (f : ℕ → ℕ) (g x count count_next : ℕ) (codes_before co
     → take count_next codes_after ≡ take count codes_before ++ map f (places (8 * g) 8 (x % 256))
     → all ≡ take count_next codes_after ++ map f (places (8 * (g + 1)) (64 - 8 * (g + 1)) (x / 256))
 next_eight f g x count count_next before after all h e s =
-    let split = split_places (8 * g) 8 (64 - 8 * (g + 1)) x in
-    let low = low_places (8 * g) 8 x in
-    grind (arith, map-append, append_assoc)
+    grind (arith, map-append, append_assoc, split_places (8 * g) 8 (64 - 8 * (g + 1)) x, low_places (8 * g) 8 x)
 
 -- after the last turn no places are left
 pub no_more : (f : ℕ → ℕ) (g x : ℕ) (before : List ℕ) → g ≡ 8 → before ++ map f (places (8 * g) (64 - 8 * g) x) ≡ before
 unfolding places
 no_more f g x before e = ap (λ k. before ++ map f (places (8 * k) (64 - 8 * k) x)) e ∙ append-nil before
-
--- ---- places below an end
 
 no_places : (b n : ℕ) → places b n 0 ≡ []
 unfolding places

@@ -11,8 +11,6 @@ use Rattle.legacy_decoder_engine.specs.{Steps.{Step, step_held, DecoderMachine, 
 use Rattle.legacy_decoder_engine.specs.Shown.{KeepsRooms}
 use Rattle.legacy_decoder_engine.proofs.Widths.{width_of}
 
--- ---- tests
-
 pub first_room : (t : Bool) (x y : ℕ) → cond ((t && true) && true) x y ≡ cond t x y
 first_room t x y = grind (arith, nat_tests)
 
@@ -24,8 +22,6 @@ no_short_room t x y = grind (arith, nat_tests)
 
 pub cond_most : (t : Bool) (x y z : ℕ) → x ≤ z → y ≤ z → cond t x y ≤ z
 cond_most t x y z h k = grind (arith, nat_tests)
-
--- ---- the next act
 
 -- no next act needs more than the room if none of the three kinds of acts does
 pub all_needs : (narrow wide : ℕ) (room : ℕ → ℕ) (g : Grammar) (m : DecoderMachine) → Meets g m → rests g [] ≡ true → (held : List ℕ) → may_hold g held ≡ true →
@@ -42,26 +38,16 @@ all_needs narrow wide room g m meets empty held may take write unread last =
     at_rest r (b ∷ unread) = take b (length (b ∷ unread)) (omega arith)
     at_rest r [] = rw (meets.ends held may r) (grind (arith, write 0))
 
--- ---- rooms that fall by a slope for each byte, or for each two
-
 -- each byte less lowers the room by at least half of `slope`
 abbrev pub Falls : (DecoderState → ℕ → ℕ) → Grammar → (List ℕ → ℕ) → ℕ → Type 0
 Falls room g wt slope = (held held' : List ℕ) (n n' u : ℕ) → 2 * u + slope * (n' + wt held') ≤ slope * (n + wt held)
     → room (state_of g held') n' + u ≤ room (state_of g held) n
 
-pub sloped_pays : (room : DecoderState → ℕ → ℕ) (g : Grammar) (wt : List ℕ → ℕ) (slope : ℕ) → Falls room g wt slope → (held held' : List ℕ) (left n u : ℕ) →
-    2 * u + slope * (wt held' + left) ≤ slope * (wt held + 1) → room (state_of g held') (n + left) + u ≤ room (state_of g held) (n + 1)
-sloped_pays room g wt slope sloped held held' left n u h =
-    sloped held held' (n + 1) (n + left) u (grind (arith, mul-add))
-
--- ---- a whole codec
-
 -- the code units that a codec's steps write, in either encoding form
 pub record HasCosts (g : Grammar) (m : DecoderMachine) (wt : List ℕ → ℕ) (slope : ℕ) : Type 0 where
   pub to_is : (held : List ℕ) (b : ℕ) → m.to held b ≡ g
   pub cost : (len : ℕ → ℕ) (narrow wide : ℕ) → IsWidth len narrow wide → (held : List ℕ) (b : ℕ) → may_hold g held ≡ true → rests g held ≡ true
-      → AreBytes held → IsByte b →
-      Cost len narrow (act_room narrow wide (state_of g held) (takes b)) wt slope held b (m.step held b)
+      → AreBytes held → IsByte b → Cost len narrow (act_room narrow wide (state_of g held) (takes b)) wt slope held b (m.step held b)
 
 -- twice the code units by which each byte less lowers the room
 abbrev pub query_slope : ℕ → LengthQuery → ℕ
@@ -88,12 +74,9 @@ paid_of : (query : LengthQuery) (wt : List ℕ → ℕ) (paid at_most : ℕ) (he
     (wt (step_held s held b) + step_left s) ≤ query_slope paid query * (wt held + 1)
 paid_of query wt paid at_most held b s h = grind arith
 
--- ---- the room of an act, in any codec
-
 pub narrow_read : (narrow wide : ℕ) → narrow ≤ wide → (g : Grammar) → (narrow ≤ full_room narrow wide g) × (full_room narrow wide g ≤ wide)
 narrow_read narrow wide rises g = grind arith
 
--- the rooms of a codec that fall by slopes
 module _ (g : Grammar) (m : DecoderMachine) (wt : List ℕ → ℕ) (paid : ℕ) (meets : Meets g m) (costs : HasCosts g m wt paid) (is : IsSloped g m wt paid)
     (query : LengthQuery) where
   pub sloped_rooms : KeepsRooms query g m
@@ -102,8 +85,9 @@ module _ (g : Grammar) (m : DecoderMachine) (wt : List ℕ → ℕ) (paid : ℕ)
       let cost = costs.cost (unit_count (query_form query)) (bmp_room (query_form query)) (wide_room (query_form query)) w in
       record {
         step_fits = λ held b h r bytes byte. (cost held b h r bytes byte).fits;
-        step_pays = λ held b n h r bytes byte. rw (costs.to_is held b) (sloped_pays (room query) g wt (query_slope paid query) (is.falls query) held _ _ n _
-            (paid_of query wt paid _ held b (m.step held b) (cost held b h r bytes byte)));
+        step_pays = λ held b n h r bytes byte.
+            let pays = paid_of query wt paid _ held b (m.step held b) (cost held b h r bytes byte) in
+            rw (costs.to_is held b) (is.falls query held _ (n + 1) (n + step_left (m.step held b)) _ (grind (arith, mul-add)));
         write_pays = is.writes query;
         report_pays = λ b held h r. is.falls query (b ∷ held) [] 0 0 _ (grind (arith, mul-le-mul_left, is.heavy b held h));
         reads_covered = λ held b n h p. grind (arith, narrow_read, cond_both, w, room-rises);

@@ -24,60 +24,57 @@ Leads g m held b (next ∷ rest) c =
     × Leads g m (held ++ b ∷ []) next rest c
 
 module _ {g : Grammar} {m : DecoderMachine} (shown : IsShown g m) where
-  leads_events : (held : List ℕ) (b : ℕ) (rest : List ℕ) (c : ℕ) → may_hold g held ≡ true → rests g held ≡ true → Leads g m held b rest c
-      → (more : List ℕ) → events_of g (held ++ (b ∷ rest ++ more)) ≡ Scalar c ∷ shift (length held + length (b ∷ rest)) (events_of g more)
-  leads_events held b [] c may resting l more = grind (arith, all_dropped)
-  leads_events held b (next ∷ rest) c may resting l more =
-      let n : length (held ++ b ∷ []) + length (next ∷ rest) ≡ length held + length (b ∷ next ∷ rest) = omega (arith, length-append held (b ∷ [])) in
-      let later = leads_events (held ++ b ∷ []) next rest c l.3 l.4 l.5 more in cc (append_assoc held (b ∷ []) (next ∷ rest ++ more))
-
-  leads_lowers : (held : List ℕ) (b : ℕ) (rest : List ℕ) (c : ℕ) → may_hold g held ≡ true → rests g held ≡ true → AreBytes held → Leads g m held b rest c
-      → (query : LengthQuery) (n : ℕ)
-      → room query (state_of g []) n + total_unit_count (query_form query) (c ∷ []) ≤ room query (state_of g held) (n + length (b ∷ rest))
-  leads_lowers held b [] c may resting bytes l query n =
-      let p = (shown.rooms query).step_pays held b n may resting bytes l.0 in
-      let p' = rw (l.1, l.2, all_dropped (suc (length held)) held b refl, add-zero n) at p in
-      omega (arith, p', units-total (query_form query) (c ∷ []))
-  leads_lowers held b (next ∷ rest) c may resting bytes l query n =
-      let p = (shown.rooms query).step_pays held b (n + length (next ∷ rest)) may resting bytes l.0 in
-      let p' = rw (l.1, l.2, add-zero (n + length (next ∷ rest))) at p in
-      let e : n + length (b ∷ next ∷ rest) ≡ n + length (next ∷ rest) + 1 = omega arith in
-      let more =
-      leads_lowers (held ++ b ∷ []) next rest c l.3 l.4 (All-append IsByte held (b ∷ []) bytes (All-cons IsByte b [] l.0 (All-nil IsByte))) l.5 query n in
-      rw e (omega (arith, p', more))
+  -- the events of such bytes, and the room that they save
+  leads : (held : List ℕ) (b : ℕ) (rest : List ℕ) (c : ℕ) → may_hold g held ≡ true → rests g held ≡ true → AreBytes held → Leads g m held b rest c
+      → ((more : List ℕ) → events_of g (held ++ (b ∷ rest ++ more)) ≡ Scalar c ∷ shift (length held + length (b ∷ rest)) (events_of g more))
+      × ((query : LengthQuery) (n : ℕ)
+      → room query (state_of g []) n + total_unit_count (query_form query) (c ∷ []) ≤ room query (state_of g held) (n + length (b ∷ rest)))
+  leads held b [] c may resting bytes l = (
+    λ more. grind (arith, all_dropped),
+    λ query n.
+        let pays = rw (l.1, l.2, all_dropped (suc (length held)) held b refl, add-zero n) at ((shown.rooms query).step_pays held b n may resting bytes l.0) in
+        omega (arith, pays, units-total (query_form query) (c ∷ [])),
+  )
+  leads held b (next ∷ rest) c may resting bytes l =
+      let later = leads (held ++ b ∷ []) next rest c l.3 l.4 (All-append IsByte held (b ∷ []) bytes (All-cons IsByte b [] l.0 (All-nil IsByte))) l.5 in (
+        λ more.
+            let n : length (held ++ b ∷ []) + length (next ∷ rest) ≡ length held + length (b ∷ next ∷ rest) = omega (arith, length-append held (b ∷ [])) in
+            cc (append_assoc held (b ∷ []) (next ∷ rest ++ more), later.0 more),
+        λ query n.
+            let k = n + length (next ∷ rest) in
+            let pays = rw (l.1, l.2, add-zero k) at ((shown.rooms query).step_pays held b k may resting bytes l.0) in
+            let e : n + length (b ∷ next ∷ rest) ≡ k + 1 = omega arith in
+            rw e (omega (arith, pays, later.1 query n)),
+      )
 
   runs : (b : ℕ) (rest : List ℕ) (c : ℕ) → IsScalar c → Leads g m [] b rest c → Runs g (b ∷ rest) (c ∷ [])
-  runs b rest c scalar l = record {
-    events = λ more.
-        let n : length {A = ℕ} [] + length (b ∷ rest) ≡ length (b ∷ rest) = omega arith in
-        leads_events [] b rest c (may_none g) (rests-none g) l more ∙ ap (λ n. Scalar c ∷ shift n (events_of g more)) n;
-    scalar = All-cons IsScalar c [] scalar (All-nil IsScalar);
-    lowers = λ query n. leads_lowers [] b rest c (may_none g) (rests-none g) (All-nil IsByte) l query n;
-  }
+  runs b rest c scalar l =
+      let all = leads [] b rest c (may_none g) (rests-none g) (All-nil IsByte) l in
+      let n : length {A = ℕ} [] + length (b ∷ rest) ≡ length (b ∷ rest) = omega arith in
+      record {
+        events = λ more. all.0 more ∙ ap (λ n. Scalar c ∷ shift n (events_of g more)) n;
+        scalar = All-cons IsScalar c [] scalar (All-nil IsScalar);
+        lowers = all.1;
+      }
 
-  -- a byte that gives one scalar
   pub single_runs : (b c : ℕ) → IsByte b → IsScalar c → m.to [] b ≡ g → m.step [] b ≡ finish (reads 1 (c ∷ [])) → Runs g (b ∷ []) (c ∷ [])
   single_runs b c byte scalar to_is is = runs b [] c scalar (byte, to_is, is)
 
-  -- a lead and a trail that give one scalar
   pub pair_runs : (lead trail c : ℕ) → IsByte lead → IsByte trail → IsScalar c → may_hold g (lead ∷ []) ≡ true → rests g (lead ∷ []) ≡ true →
       m.to [] lead ≡ g → m.to (lead ∷ []) trail ≡ g →
       m.step [] lead ≡ hold → m.step (lead ∷ []) trail ≡ finish (reads 2 (c ∷ [])) → Runs g (lead ∷ trail ∷ []) (c ∷ [])
   pair_runs lead trail c byte byte' scalar may resting to_first to_second first second =
       runs lead (trail ∷ []) c scalar (byte, to_first, first, may, resting, (byte', to_second, second))
 
-  -- four bytes that give one scalar
   pub four_runs : (a b c d x : ℕ) → IsByte a → IsByte b → IsByte c → IsByte d → IsScalar x →
       may_hold g (a ∷ []) ≡ true → may_hold g (a ∷ b ∷ []) ≡ true → may_hold g (a ∷ b ∷ c ∷ []) ≡ true →
-      rests g (a ∷ []) ≡ true → rests g (a ∷ b ∷ []) ≡ true → rests g (a ∷ b ∷ c ∷ []) ≡ true →
-      ((held : List ℕ) (byte : ℕ) → m.to held byte ≡ g) →
+      rests g (a ∷ []) ≡ true → rests g (a ∷ b ∷ []) ≡ true → rests g (a ∷ b ∷ c ∷ []) ≡ true → ((held : List ℕ) (byte : ℕ) → m.to held byte ≡ g) →
       m.step [] a ≡ hold → m.step (a ∷ []) b ≡ hold → m.step (a ∷ b ∷ []) c ≡ hold → m.step (a ∷ b ∷ c ∷ []) d ≡ finish (reads 4 (x ∷ [])) →
       Runs g (a ∷ b ∷ c ∷ d ∷ []) (x ∷ [])
   four_runs a b c d x byte_a byte_b byte_c byte_d scalar may_a may_b may_c rest_a rest_b rest_c to_same first second third fourth =
       let last : Leads g m (a ∷ b ∷ []) c (d ∷ []) x = (byte_c, to_same (a ∷ b ∷ []) c, third, may_c, rest_c, (byte_d, to_same (a ∷ b ∷ c ∷ []) d, fourth)) in
       runs a (b ∷ c ∷ d ∷ []) x scalar (byte_a, to_same [] a, first, may_a, rest_a, (byte_b, to_same (a ∷ []) b, second, may_b, rest_b, last))
 
-  -- each ASCII byte is its own scalar if that is so in the machine
   pub has_ascii : ((b : ℕ) → m.to [] b ≡ g) → ((b : ℕ) → b < 0x80 → m.step [] b ≡ finish (reads 1 (b ∷ []))) → HasAscii g
   has_ascii to_is first b h = single_runs b b (omega arith) (small b h) (to_is b) (first b h) where
     small : (x : ℕ) → x < 128 → IsScalar x

@@ -55,8 +55,6 @@ module _ (g : Grammar) (front : ℕ → List ℕ → Front) (is_lead_byte : ℕ 
   unfolding events_of
   ev_is bytes = ap (λ p. p.events bytes) is.profile_is
 
-  -- ---- all steps
-
   all_ends : (held : List ℕ) → single_lead_may_hold is_lead_byte held ≡ true → events_of g held ≡ end_events held
   all_ends [] h = ev_is [] ∙ cut-nil front
   all_ends (b ∷ held) h = end_meets g front ev_is b held (grind (arith, lead_holds, false≢true))
@@ -66,10 +64,7 @@ module _ (g : Grammar) (front : ℕ → List ℕ → Front) (is_lead_byte : ℕ 
 
   pub two_byte_meets : Meets g (two_byte_machine g first scalars)
   two_byte_meets =
-      let meets = fits_meets g front ev_is (single_lead_may_hold is_lead_byte) may_is in
-      grind (arith, may_is, is.profile_is, meets, false≢true, fits_trail, lead_holds, all_ends, all_reports)
-
--- ---- tests of the first byte
+      grind (arith, may_is, is.profile_is, fits_meets g front ev_is (single_lead_may_hold is_lead_byte) may_is, false≢true, fits_trail, lead_holds, all_ends, all_reports)
 
 pub first_test : (is_lead_byte : ℕ → Bool) (paid b : ℕ) (t : Bool) (s₁ s₂ : Step) →
     (t ≡ true → IsFirst is_lead_byte paid b s₁) → (t ≡ false → IsFirst is_lead_byte paid b s₂) → IsFirst is_lead_byte paid b (cond t s₁ s₂)
@@ -79,8 +74,6 @@ first_test is_lead_byte paid b false s₁ s₂ f₁ f₂ = f₂ refl
 pub front_test : (scalars : ℕ → List ℕ) (rest : List ℕ) (t : Bool) (f₁ f₂ : Front) (s₁ s₂ : Step) →
     f₁ ≡ step_front scalars rest s₁ → f₂ ≡ step_front scalars rest s₂ → cond t f₁ f₂ ≡ step_front scalars rest (cond t s₁ s₂)
 front_test scalars rest t f₁ f₂ s₁ s₂ h h1 = grind arith
-
--- ---- codecs whose first bytes are ASCII, leads past ASCII, or malformed
 
 module _ (is_lead_byte : ℕ → Bool) (are_leads : (b : ℕ) → is_lead_byte b ≡ true → IsPastAscii b) where
   pub lead_byte_below : (b : ℕ) → is_lead_byte b ≡ true → b < 0x100
@@ -92,8 +85,6 @@ module _ (is_lead_byte : ℕ → Bool) (are_leads : (b : ℕ) → is_lead_byte b
 pub lead_front_is : (is_lead_byte : ℕ → Bool) (scalars : ℕ → List ℕ) (rest : List ℕ) (pair : Front) (b : ℕ) → pair ≡ step_front scalars rest hold →
     cond (is_ascii b) (reads 1 (b ∷ [])) (cond (is_lead_byte b) pair (malformed 1)) ≡ step_front scalars rest (lead_first is_lead_byte b)
 lead_front_is is_lead_byte scalars rest pair b e = grind (arith, front_test)
-
--- ---- codecs whose leads are 81 to FE
 
 pub is_lead-past : (b : ℕ) → is_lead b ≡ true → IsPastAscii b
 is_lead-past b h = (grind (arith, nat_tests), grind (arith, nat_tests))

@@ -6,11 +6,9 @@ use Rattle.legacy_tables.specs.Indexes.{idx}
 use Rattle.legacy_text.proofs.CodeUnits.{encode_2, length-code_units-ascii, length-code_units-bmp, length-code_units-wide}
 use Rattle.legacy_decoder_engine.specs.StepUnits.{units, IsWidth, IsNarrowIndex}
 
--- UTF-8 and UTF-16 have the properties of `IsWidth`
 pub width_of : (form : EncodingForm) → IsWidth (unit_count form) (bmp_room form) (wide_room form)
 width_of form = grind (arith, length-code_units-ascii, length-code_units-bmp, length-code_units-wide, encode_2, cases_lt)
 
--- an entry of a narrow index is below U+10000
 pub narrow_entry : (index : List ℕ) (p : ℕ) → IsNarrowIndex index → get_or index p 0 < 0x1_0000
 narrow_entry index p h = grind (arith, All-get_or, get_or_past, cases_lt)
 
@@ -23,8 +21,6 @@ module _ (len : ℕ → ℕ) (narrow wide : ℕ) (w : IsWidth len narrow wide) w
 
   pub option_units : (o : Option ℕ) → units len (option_to_list o) ≤ wide
   option_units o = grind arith
-
--- ---- entries
 
 pub idx_below : (index : List ℕ) (p c : ℕ) → IsNarrowIndex index → option_to_list (idx index p) ≡ c ∷ [] → c < 0x1_0000
 idx_below index p c narrow e = grind (arith, nat_tests, narrow_entry)

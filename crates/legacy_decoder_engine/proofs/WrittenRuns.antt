@@ -1,72 +1,52 @@
 -- Laws of runs of bytes and of the scalars written for them.
-use Rattle.std.proofs.Common.{add-zero, ◌≡◌, ◌∙◌, ℕ, zero, suc, ◌+◌, ◌-◌, ◌*◌, ◌≤◌, ◌<◌, List, [], ◌∷◌, ◌++◌, length, take, drop, get_or, refl, sym}
-use Rattle.std.proofs.{Common.{subst, arith, append_assoc, append-nil, length-append, IsAscii}, lemmas.List.{map-append, take_more, take_all, length-drop}}
+use Rattle.std.proofs.Common.{add-zero, ◌≡◌, ◌∙◌, ℕ, zero, suc, ◌+◌, ◌-◌, ◌*◌, ◌≤◌, ◌<◌, List, [], ◌∷◌, ◌++◌, length, take, drop, get_or, refl, sym, subst}
+use Rattle.std.proofs.{Common.{arith, append_assoc, append-nil, length-append, IsAscii}, lemmas.List.{map-append, take_more, take_all, length-drop}}
 use Rattle.std.proofs.{lemmas.List.Elements.{All-append, All-nil}, Math.Seq.take-add}
 use Rattle.std.specs.Char.{IsScalar}
-use Rattle.legacy_text.specs.EncodingForm.{EncodingForm, code_units, all_code_units, bmp_room, total_unit_count}
-use Rattle.legacy_text.specs.declared.destination.Destination.{Ghosts}
-use Rattle.legacy_base.specs.{Grammar.{Grammar, events_of}, Lengths.query_form}
-use Rattle.legacy_base.specs.States.{DecoderState}
+use Rattle.legacy_text.specs.{EncodingForm.{EncodingForm, code_units, all_code_units, bmp_room, total_unit_count}, declared.destination.Destination.Ghosts}
+use Rattle.legacy_base.specs.{Grammar.{Grammar, events_of}, Lengths.query_form, States.DecoderState}
 use Rattle.legacy_base.proofs.{Shifts.{shift-append, shift-zero, shift-shift, shift-scalars}, SameUnits.some_unit}
 use Rattle.legacy_text.proofs.CodeUnits.{all_code_units-append, total_unit_count-append, code_units_ascii, length-code_units-bmp, length-code_units-wide}
 use Rattle.legacy_decoder_engine.specs.ReadAhead.{HasAscii, RunsTo, Runs, WritesTo, Writes, ReadsAhead}
 use Rattle.legacy_decoder_engine.proofs.CallUnderWay.{same_rooms}
 
--- no bytes
 pub runs_none : (g : Grammar) → Runs g [] []
 runs_none g = record { events = λ more. sym (shift-zero (events_of g more)); scalar = All-nil IsScalar; lowers = λ query n. rw (add-zero n) (omega arith) }
 
--- bytes, and then more bytes
 pub runs_then : (g h k : Grammar) (xs ys cs ds : List ℕ) → RunsTo g h xs cs → RunsTo h k ys ds → RunsTo g k (xs ++ ys) (cs ++ ds)
 runs_then g h k xs ys cs ds a b = record {
   events = λ more. simp (append_assoc, a.events, b.events, shift-append, shift-scalars, shift-shift, map-append, length-append);
   scalar = All-append IsScalar cs ds a.scalar b.scalar;
-  lowers = λ query n.
-      let p = b.lowers query n in
-      let q = a.lowers query (n + length ys) in
-      let e : n + length (xs ++ ys) ≡ (n + length ys) + length xs = omega (arith, length-append xs ys) in
-      rw e (omega (arith, total_unit_count-append (query_form query) cs ds));
+  lowers = λ query n. grind (arith, a.lowers query (n + length ys), b.lowers query n, length-append xs ys, total_unit_count-append (query_form query) cs ds);
 }
 
--- the same in one grammar
 pub runs_more : (g : Grammar) (xs ys cs ds : List ℕ) → Runs g xs cs → Runs g ys ds → Runs g (xs ++ ys) (cs ++ ds)
 runs_more g xs ys cs ds a b = runs_then g g g xs ys cs ds a b
 
--- ASCII bytes, if each is its own scalar
 pub runs_ascii : (g : Grammar) → HasAscii g → (xs : List ℕ) → IsAscii xs → Runs g xs xs
 runs_ascii g law [] h = runs_none g
 runs_ascii g law (x ∷ xs) h = runs_more g (x ∷ []) xs (x ∷ []) xs (law x (h 0)) (runs_ascii g law xs (λ i. h (suc i)))
 
--- a scalar that is an ASCII byte
 pub runs_byte : {g : Grammar} → HasAscii g → (b c : ℕ) → b < 128 → c ≡ b → Runs g (b ∷ []) (c ∷ [])
 runs_byte {g} law b c below e = subst (λ x. Runs g (b ∷ []) (x ∷ [])) (sym e) (law b below)
 
--- the code units of ASCII bytes are the bytes
 pub all_code_units_ascii : (form : EncodingForm) (xs : List ℕ) → IsAscii xs → all_code_units form xs ≡ xs
 all_code_units_ascii form [] h = refl
 all_code_units_ascii form (x ∷ xs) h = rw (code_units_ascii form x (h 0), all_code_units_ascii form xs (λ i. h (suc i))) refl
 
--- any scalar fits into four code units
 pub four_fit : (form : EncodingForm) (c room : ℕ) → 4 ≤ room → length (code_units form c) ≤ room
 four_fit form c room h = grind (arith, length-code_units-wide)
 
--- a scalar up to U+FFFF has at most three code units
 pub short : (form : EncodingForm) (c : ℕ) → c < 65536 → length (code_units form c) ≤ 3
 short form c h = grind (arith, length-code_units-bmp)
 
--- scalars up to U+FFFF have at most three code units each
 pub all_short : (form : EncodingForm) (cs : List ℕ) → ((k : ℕ) → k < length cs → get_or cs k 0 < 65536) → total_unit_count form cs ≤ 3 * length cs
 all_short form [] small = omega arith
-all_short form (c ∷ cs) small =
-    let one = short form c (small zero (omega arith)) in
-    let more = all_short form cs (λ k h. small (suc k) (omega arith)) in
-    simp length-append (omega arith)
+all_short form (c ∷ cs) small = grind (arith, length-append, short form c (small zero (omega arith)), all_short form cs (λ k h. small (suc k) (omega arith)))
 
--- a scalar up to U+FFFF fits into three code units
 pub three_fit : (form : EncodingForm) (c room : ℕ) → c < 65536 → 3 ≤ room → length (code_units form c) ≤ room
 three_fit form c room h k = let s = short form c h in omega arith
 
--- a scalar up to U+FFFF is one code unit if the encoding form has a room of one for it
 pub one_unit : (form : EncodingForm) (c : ℕ) → bmp_room form ≡ 1 → c < 65536 → length (code_units form c) ≡ 1
 one_unit form c room h = let most = length-code_units-bmp form c h in let least = some_unit form c in omega arith
 
@@ -90,62 +70,50 @@ module _ {D : Type 0} (T : Ghosts D) where
   pub writes_none : (g : Grammar) (old : D) → Writes T g [] old old
   writes_none g old = record { scalars = []; runs = runs_none g; written = sym (append-nil (T.contents old)); room = add-zero (T.room old); loan = refl }
 
-  -- a run of no bytes
   pub reads_none : (state : DecoderState) (source : List ℕ) (old : D) → ReadsAhead T state source 0 old old
   reads_none state source old = grind (arith, same_rooms, writes_none)
 
-  module _ {g h k : Grammar} {xs ys : List ℕ} {x y z : D} where
-    -- scalars that were written, and then more
-    pub writes_then : WritesTo T g h xs x y → WritesTo T h k ys y z → WritesTo T g k (xs ++ ys) x z
-    writes_then a b = record {
-      scalars = a.scalars ++ b.scalars;
-      runs = runs_then g h k xs ys a.scalars b.scalars a.runs b.runs;
-      written = simp (b.written, a.written, append_assoc, all_code_units-append);
-      room = omega (arith, total_unit_count-append T.form a.scalars b.scalars, a.room, b.room);
-      loan = b.loan ∙ a.loan;
-    }
+  pub writes_then : {g h k : Grammar} {xs ys : List ℕ} {x y z : D} → WritesTo T g h xs x y → WritesTo T h k ys y z → WritesTo T g k (xs ++ ys) x z
+  writes_then {g} {h} {k} {xs} {ys} a b = record {
+    scalars = a.scalars ++ b.scalars;
+    runs = runs_then g h k xs ys a.scalars b.scalars a.runs b.runs;
+    written = simp (b.written, a.written, append_assoc, all_code_units-append);
+    room = omega (arith, total_unit_count-append T.form a.scalars b.scalars, a.room, b.room);
+    loan = b.loan ∙ a.loan;
+  }
 
   module _ {g : Grammar} {y z : D} where
-    -- a sequence whose scalar was put
     pub writes_put : (bytes : List ℕ) (c : ℕ) → Runs g bytes (c ∷ []) → T.contents z ≡ T.contents y ++ code_units T.form c
-        → T.room z + length (code_units T.form c) ≡ T.room y → T.loan z ≡ T.loan y
-        → Writes T g bytes y z
+        → T.room z + length (code_units T.form c) ≡ T.room y → T.loan z ≡ T.loan y → Writes T g bytes y z
     writes_put bytes c run contents room loan = grind (arith, append-nil)
 
   module _ {g : Grammar} {x y z : D} where
     module _ (src : List ℕ) (at c : ℕ) where
-      -- the next byte
       pub writes_one : at < length src → Writes T g (take at src) x y → Runs g (get_or src at 0 ∷ []) (c ∷ [])
           → T.contents z ≡ T.contents y ++ code_units T.form c
           → T.room z + length (code_units T.form c) ≡ T.room y → T.loan z ≡ T.loan y → Writes T g (take (at + 1) src) x z
-      writes_one h a run contents room loan =
-          subst (λ l. Writes T g l x z) (sym (take_more src at 0 h)) (writes_then a (writes_put (get_or src at 0 ∷ []) c run contents room loan))
+      writes_one h a run contents room loan = rw (take_more src at 0 h) (writes_then a (writes_put _ c run contents room loan))
 
-      -- the next pair of bytes
       pub writes_two : at + 1 < length src → Writes T g (take at src) x y → Runs g (get_or src at 0 ∷ get_or src (at + 1) 0 ∷ []) (c ∷ [])
           → T.contents z ≡ T.contents y ++ code_units T.form c
           → T.room z + length (code_units T.form c) ≡ T.room y → T.loan z ≡ T.loan y → Writes T g (take (at + 2) src) x z
       writes_two h a run contents room loan = grind (arith, take_two, writes_then, writes_put)
 
-      -- the next four-byte sequence
       pub writes_four : at + 3 < length src → Writes T g (take at src) x y
           → Runs g (get_or src at 0 ∷ get_or src (at + 1) 0 ∷ get_or src (at + 2) 0 ∷ get_or src (at + 3) 0 ∷ []) (c ∷ [])
           → T.contents z ≡ T.contents y ++ code_units T.form c → T.room z + length (code_units T.form c) ≡ T.room y → T.loan z ≡ T.loan y
           → Writes T g (take (at + 4) src) x z
       writes_four h a run contents room loan = grind (arith, take_four, writes_then, writes_put)
 
-    -- a run after the bytes that were read
     pub writes_run : (src : List ℕ) (at r : ℕ) → Writes T g (take at src) x y → Writes T g (take r (take (length src - at) (drop at src))) y z
         → Writes T g (take (at + r) src) x z
     writes_run src at r a b = grind (arith, take-add, writes_then, rest_of)
 
-  -- ASCII bytes that were copied
   pub writes_ascii : (g : Grammar) (old new : D) (bytes : List ℕ) → HasAscii g → IsAscii bytes → T.contents new ≡ T.contents old ++ bytes
-      → T.room new + length bytes ≡ T.room old → T.loan new ≡ T.loan old
-      → Writes T g bytes old new
+      → T.room new + length bytes ≡ T.room old → T.loan new ≡ T.loan old → Writes T g bytes old new
   writes_ascii g old new bytes law ascii contents room loan =
-      let runs = runs_ascii g law bytes ascii in
-      grind (arith, all_code_units_ascii)
+      grind (arith, all_code_units_ascii, runs_ascii g law bytes ascii)
 
--- a run of no bytes
 pub ruleset no_bytes = (same_rooms, writes_none)
+
+pub ruleset one_by_one = (writes_none, writes_one, writes_two, three_fit, short)

@@ -44,6 +44,11 @@ pub record IsForm (grammar : Grammar) (code kept unit : ℕ) : Type 0 where
   pub runs : Runs grammar (form_of code) (unit ∷ [])
   pub counted : length (form_of code) + cond (ltb kept 128) 1 0 ≡ 2
 
+-- A unit that is not 0 is the scalar of the form that its code begins with, whatever codes the lanes are kept of.
+abbrev pub AreForms : Grammar → (ℕ → ℕ) → List ℕ → List ℕ → List ℕ → Type 0
+AreForms grammar pointer kept places units = (codes : List ℕ) → AreLanes pointer 8 codes kept places → (k : ℕ) → k < 8 → get_or units k 0 ≢ 0 →
+    IsForm grammar (get_or codes k 0) (get_or kept k 0) (get_or units k 0)
+
 -- The forms of the first n codes are written. What is kept of the codes gives the forms' length.
 pub record AreWritten {D : Type 0} (T : Ghosts D) (grammar : Grammar) (codes kept : List ℕ) (n : ℕ) (x y : D) : Type 0 where
   pub writes : Writes T grammar (forms_of (take n codes)) x y

@@ -1,7 +1,6 @@
 //! Common forms one by one: bytes and pairs that each give one scalar up to U+FFFF. The machine does all the rest:
 //! malformed sequences, held-back bytes, small outputs.
-ghost use Rattle.legacy_base.specs.Grammar.{Grammar};
-ghost use Rattle.legacy_base.specs.States.{new_state};
+ghost use Rattle.legacy_base.specs.{Grammar.Grammar, States.new_state};
 ghost use Rattle.legacy_decoder_engine.specs.ReadAhead.{IsCommonForm, ReadsAhead};
 
 use crate::read_ahead::{Forms, read_run};
@@ -20,7 +19,6 @@ pub enum CommonForm {
 
 /// The common forms of a codec, with nothing held back between two of them.
 pub trait CommonForms {
-    /// The grammar.
     ghost grammar: { Self → Grammar };
 
     /// What a form requires of the grammar.
@@ -29,9 +27,7 @@ pub trait CommonForms {
     /// The smallest number of bytes of four forms.
     const FOUR_AT_LEAST: usize = 4;
 
-    /// Returns what is at the front of the input, given a byte and the byte after it.
-    ///
-    /// It is a scalar up to U+FFFF, or `Other` for an uncommon form, which the machine reads.
+    /// Returns what is at the front of the input, given its first two bytes: `Other` is left to the machine.
     fn form(&self, first: u8, second: u8) -> CommonForm
         requires { ready self.now }
         ensures { IsCommonForm (grammar self.now) first second result };
@@ -66,7 +62,7 @@ impl<F: CommonForms> Forms for FormsInTurn<'_, F> {
 
     /// Reads the forms, and also stops at two ASCII bytes in a row.
     #[inline(always)]
-    #[tactic(auto, using(crate::proofs::WrittenRuns::three_fit, crate::proofs::WrittenRuns::writes_one, crate::proofs::WrittenRuns::short))]
+    #[tactic(auto, using(crate::proofs::WrittenRuns::one_by_one))]
     fn read_forms<T: Destination>(&self, src: &[u8], dst: &mut T, most: usize) -> usize {
         let mut at = 0;
         let mut left = most;
@@ -93,9 +89,7 @@ impl<F: CommonForms> Forms for FormsInTurn<'_, F> {
     }
 }
 
-/// Reads common forms from the front of at most `most` bytes, up to an uncommon one.
-///
-/// Returns the number of bytes read, which may be 0. If it reads any, three code units stay free.
+/// Reads common forms from the front of at most `most` bytes, up to an uncommon one. Returns the number of bytes read.
 #[inline(always)]
 pub fn read_forms<F: CommonForms, T: Destination>(
     forms: &F,
@@ -104,8 +98,7 @@ pub fn read_forms<F: CommonForms, T: Destination>(
     dst: &mut T,
 ) -> usize
     requires { F.ready forms.now }
-    ensures { ReadsAhead T.Destination (new_state (F.grammar forms.now)) src.now result
-        dst.old dst.new }
+    ensures { ReadsAhead T.Destination (new_state (F.grammar forms.now)) src.now result dst.old dst.new }
 {
     let part = src.len().min(most);
     read_run(&FormsInTurn { forms }, &src[..part], dst)

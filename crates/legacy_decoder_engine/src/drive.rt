@@ -1,8 +1,7 @@
 //! The loop of all decoders, over the small moves that each decoder makes.
 ghost use Rattle.std.specs.Prelude.{◌≡◌, ℕ, ◌+◌, ◌<◌, ◌≤◌, ◌++◌, length, slice_index, true, false};
 ghost use Rattle.legacy_text.specs.EncodingForm.{all_code_units, total_unit_count};
-ghost use Rattle.legacy_base.specs.States.{rests};
-ghost use Rattle.legacy_base.specs.Calls.{IsDecoderCall, IsMalformedByte};
+ghost use Rattle.legacy_base.specs.{States.rests, Calls.{IsDecoderCall, IsMalformedByte}};
 ghost use Rattle.legacy_decoder_engine.specs.Moves.{room_units, fed_scalars, Finishes};
 
 use crate::moves::{DecoderMoves, Fed, Room};
@@ -25,8 +24,7 @@ fn has_room<T: Destination>(dst: &T, room: Room) -> bool
 #[inline(always)]
 fn put_fed<T: Destination>(dst: &mut T, fed: Fed)
     requires { total_unit_count T.form (fed_scalars fed) ≤ T.room dst.old }
-    ensures contents { T.contents dst.new ≡ T.contents dst.old ++ all_code_units T.form
-        (fed_scalars fed) }
+    ensures contents { T.contents dst.new ≡ T.contents dst.old ++ all_code_units T.form (fed_scalars fed) }
     ensures room { T.room dst.new + total_unit_count T.form (fed_scalars fed) ≡ T.room dst.old }
     ensures loan { T.loan dst.new ≡ T.loan dst.old }
 {
@@ -44,8 +42,7 @@ fn put_fed<T: Destination>(dst: &mut T, fed: Fed)
 #[inline(always)]
 fn finish<D: DecoderMoves, T: Destination>(decoder: &mut D, dst: &T, last: bool) -> DecoderResult
     requires { rests (D.state decoder.old).grammar (D.state decoder.old).held ≡ true }
-    ensures { Finishes T.form (D.state decoder.old) last (T.room dst.now)
-        (D.state decoder.new) result }
+    ensures { Finishes T.form (D.state decoder.old) last (T.room dst.now) (D.state decoder.new) result }
 {
     if !last || !decoder.has_rest() {
         return DecoderResult::InputEmpty;
@@ -59,13 +56,10 @@ fn finish<D: DecoderMoves, T: Destination>(decoder: &mut D, dst: &T, last: bool)
     }
 }
 
-/// Runs one call of a decoder.
+/// Runs one call of a decoder, and returns its result and the number of bytes read. With `last`, no input follows `src`.
 ///
-/// The decoder makes its moves until the input is read, the output lacks room, or a malformed
-/// sequence is to be reported. The result says which, with the number of bytes read from `src`. The
-/// scalars are in `dst`, after its earlier contents. With `last`, no input follows `src`. A
-/// held-back scalar that is to be written exists only at the beginning of a call. Runs of common
-/// sequences are read ahead of the moves.
+/// The decoder makes its moves until the input is read, the output lacks room, or a malformed sequence is to be reported.
+/// Runs of common sequences are read ahead. A held-back scalar is written only at the beginning of a call.
 #[inline(always)]
 pub fn drive_decoder<D: DecoderMoves, T: Destination>(
     decoder: &mut D,
@@ -73,11 +67,9 @@ pub fn drive_decoder<D: DecoderMoves, T: Destination>(
     dst: &mut T,
     last: bool,
 ) -> (DecoderResult, usize)
-    ensures call { IsDecoderCall T.form (D.state decoder.old) src.now last (T.room dst.old)
-        (D.state decoder.new)
+    ensures call { IsDecoderCall T.form (D.state decoder.old) src.now last (T.room dst.old) (D.state decoder.new)
         result.0 result.1 (T.contents dst.old) (T.contents dst.new) }
-    ensures room { T.room dst.new + length (T.contents dst.new)
-        ≡ T.room dst.old + length (T.contents dst.old) }
+    ensures room { T.room dst.new + length (T.contents dst.new) ≡ T.room dst.old + length (T.contents dst.old) }
     ensures loan { T.loan dst.new ≡ T.loan dst.old }
 {
     if !decoder.rests() {
@@ -122,8 +114,7 @@ pub fn drive_decoder<D: DecoderMoves, T: Destination>(
 #[inline]
 pub fn count_malformed_bytes<D: DecoderMoves>(decoder: &D, src: &[u8]) -> usize
     ensures count { result ≤ length src.now }
-    ensures malformed_byte { (k : ℕ) → k < result
-        → IsMalformedByte (D.state decoder.now) (slice_index src.now k) }
+    ensures malformed_byte { (k : ℕ) → k < result → IsMalformedByte (D.state decoder.now) (slice_index src.now k) }
 {
     let mut count = 0;
     while count < src.len() {

@@ -14,8 +14,7 @@ impl Lead {
     /// Returns the byte as a lead, or `None` if it is not one.
     #[inline]
     pub fn new(byte: u8) -> Option<Lead>
-        ensures { MatchOption result (is_lead byte ≡ false)
-            (λ lead. (lead.byte ≡ byte) × (is_lead byte ≡ true)) }
+        ensures { MatchOption result (is_lead byte ≡ false) (λ lead. (lead.byte ≡ byte) × (is_lead byte ≡ true)) }
     {
         if byte < 0x81 || byte > 0xFE {
             return None;

@@ -22,10 +22,8 @@ pub fn entry_count<C: LaneCodec>(tables: &FlatTables<'_>) -> usize
 #[inline(always)]
 pub fn entries_at<C: LaneCodec>(tables: &FlatTables<'_>, places: &[u32]) -> u16x8
     requires eight { 8 ≤ length places.now }
-    requires within { (k : ℕ) → k < 8 →
-        get_or places.now k 0 < length (C.entries tables.now.flat) }
-    ensures { (k : ℕ) → k < 8 → get_or result k 0 ≢ 0 →
-        get_or result k 0 ≡ get_or (C.entries tables.now.flat) (get_or places.now k 0) 0 }
+    requires within { (k : ℕ) → k < 8 → get_or places.now k 0 < length (C.entries tables.now.flat) }
+    ensures { (k : ℕ) → k < 8 → get_or result k 0 ≢ 0 → get_or result k 0 ≡ get_or (C.entries tables.now.flat) (get_or places.now k 0) 0 }
 {
     match C::index() {
         IndexName::Big5 => wide_entries(tables.wide(), places),
@@ -57,8 +55,7 @@ fn narrow_entries(index: &[u16], places: &[u32]) -> u16x8
 fn wide_entries(index: &[u32], places: &[u32]) -> u16x8
     requires eight { 8 ≤ length places.now }
     requires within { (k : ℕ) → k < 8 → get_or places.now k 0 < length index.now }
-    ensures { (k : ℕ) → k < 8 → get_or result k 0 ≢ 0 →
-        get_or result k 0 ≡ get_or index.now (get_or places.now k 0) 0 }
+    ensures { (k : ℕ) → k < 8 → get_or result k 0 ≢ 0 → get_or result k 0 ≡ get_or index.now (get_or places.now k 0) 0 }
 {
     let a = index[places[0] as usize];
     let b = index[places[1] as usize];

@@ -3,15 +3,12 @@
 // the destination's place there for each block.
 ghost use Rattle.std.specs.Prelude.{◌≡◌, ◌≢◌, ℕ, ◌+◌, ◌*◌, ◌/◌, ◌%◌, ◌<◌, ◌≤◌, ◌++◌, List, [], ◌∷◌, All, IfSome, true, false, length, map, take, get_or, count_by, ltb};
 ghost use Rattle.std.specs.Char.{IsScalar};
-ghost use Rattle.legacy_tables.specs.AcceptedTables.{AcceptedIndexes};
-ghost use Rattle.legacy_tables.specs.Indexes.{FlatIndexes};
-ghost use Rattle.legacy_tables.specs.Tables.{index_list, is_narrow_index};
-ghost use Rattle.legacy_tables.specs.declared.tables.IndexName.TheVariants as names;
-ghost use Rattle.legacy_base.specs.Grammar.{Grammar};
-ghost use Rattle.legacy_base.specs.States.{new_state};
+ghost use Rattle.legacy_tables.specs.{AcceptedTables.AcceptedIndexes, Indexes.FlatIndexes, Tables.{index_list, is_narrow_index}};
+ghost use Rattle.legacy_base.specs.{Grammar.Grammar, States.new_state};
 ghost use Rattle.legacy_decoder_engine.specs.ReadAhead.{HasAscii, IsCommonForm, ReadsAhead, Runs, Writes};
-ghost use Rattle.legacy_decoder_engine.specs.LaneCodes.{kept_of, place_of, unit_at, ArePairs, AreLanes, AreKept, IsForm, AreWritten};
+ghost use Rattle.legacy_decoder_engine.specs.LaneCodes.{kept_of, place_of, unit_at, ArePairs, AreLanes, AreKept, AreForms, AreWritten};
 ghost use Rattle.legacy_decoder_engine.specs.PickedForms.{forms_of};
+ghost use Rattle.legacy_tables.specs.declared.tables.IndexName.TheVariants as names;
 
 use crate::block_picks::pick_blocks;
 use crate::common_forms::{CommonForm, CommonForms, FormsInTurn, read_forms};
@@ -41,9 +38,7 @@ pub trait LaneCodec {
     fn is_uncommon(byte: u8) -> bool
         ensures { (tables : AcceptedIndexes) → HasAscii (grammar tables.flat) };
 
-    /// Returns what is at the front of the input, given a byte past ASCII and the byte after it.
-    ///
-    /// It is a scalar up to U+FFFF, or `Other` for an uncommon form, which the machine reads.
+    /// Returns what is at the front, given a byte past ASCII and the byte after it: `Other` is left to the machine.
     fn front(tables: &FlatTables<'_>, lead: u8, trail: u8) -> CommonForm
         requires { 0x80 ≤ lead }
         ensures { IsCommonForm (grammar tables.now.flat) lead trail result };
@@ -55,9 +50,8 @@ pub trait LaneCodec {
         false
     }
 
-    /// Returns how many of the first `end` bytes of a block are before a form of more than two bytes.
-    ///
-    /// It is given the bits of the bytes past ASCII, and those of the leads if all forms past ASCII are pairs.
+    /// Returns how many of the first `end` bytes of a block are before a form of more than two bytes, given the bits of the
+    /// bytes past ASCII, and those of the leads if all forms past ASCII are pairs.
     // A block is cut there, so that no code after it is picked and looked up for nothing.
     #[inline(always)]
     fn end_of_pairs(block: u8x64, past: u64, leads: u64, end: usize) -> usize
@@ -67,9 +61,8 @@ pub trait LaneCodec {
         end
     }
 
-    /// Reads forms of more than two bytes from the front, and returns the number of bytes read, which may be 0.
-    ///
-    /// It may also read ASCII between them. `guess` is what the codec keeps from one such form to the next.
+    /// Reads forms of more than two bytes, and maybe ASCII between them, and returns the number of bytes read. `guess` is
+    /// what the codec keeps from one such form to the next.
     #[inline(always)]
     #[tactic(auto, using(crate::proofs::WrittenRuns::no_bytes))]
     fn read_longer<T: Destination>(
@@ -87,9 +80,7 @@ pub trait LaneCodec {
         0
     }
 
-    /// Returns the scalar of the form of more than two bytes at the front, and the number of its bytes.
-    ///
-    /// Returns `None` if there is no such form. `guess` is what the codec keeps from one such form to the next.
+    /// Returns the scalar of the form of more than two bytes at the front, and the number of its bytes, or `None`.
     #[inline(always)]
     fn longer_at(tables: &FlatTables<'_>, guess: &Cell<usize>, src: &[u8]) -> Option<(char, usize)>
         ensures { IfSome result (λ form. (0 < form.1) × (form.1 ≤ length src.now)
@@ -104,11 +95,9 @@ pub trait LaneCodec {
     /// Returns the name of the index. An entry from U+0001 to U+FFFF is the scalar of its pair.
     fn index() -> IndexName
         ensures list { (flat : FlatIndexes) → index_list flat result ≡ entries flat }
-        ensures pairs { (tables : AcceptedIndexes) →
-            ArePairs (grammar tables.flat) (entries tables.flat) place }
+        ensures pairs { (tables : AcceptedIndexes) → ArePairs (grammar tables.flat) (entries tables.flat) place }
         ensures wide { is_narrow_index result ≡ false → result ≡ names.Big5 };
 
-    /// Returns the places of eight codes.
     fn places(codes: u16x8) -> u16x8
         ensures { result ≡ map place codes };
 
@@ -143,9 +132,7 @@ fn kept_and_places<C: LaneCodec>(codes: u16x8, last: u16) -> (u16x8, u16x8)
     (known.select(first, u16x8::splat(0)), found.simd_min(end))
 }
 
-/// Stores what is kept of each of the codes over it, and the places of their entries.
-///
-/// It splits the codes in the first `groups` groups of eight, in an index whose last place is `last`.
+/// Stores what is kept of the codes in the first `groups` groups of eight over them, and the places of their entries.
 // This loop runs before the loop of the look-ups: to take a place out of a vector costs more than to load it. A place has
 // 32 bits, as the compiler joins loads of eight places of 16 bits into a vector, and takes each place out of it again.
 #[inline(always)]
@@ -168,8 +155,7 @@ fn split_codes<C: LaneCodec>(codes: &mut [u16], places: &mut [u32], groups: usiz
 /// Returns what is kept if it is ASCII, and otherwise the entry, for each of eight codes.
 #[inline(always)]
 fn chosen(kept: u16x8, entries: u16x8) -> u16x8
-    ensures lanes { (k : ℕ) → k < 8 →
-        get_or result k 0 ≡ unit_at (get_or kept k 0) (get_or entries k 0) }
+    ensures lanes { (k : ℕ) → k < 8 → get_or result k 0 ≡ unit_at (get_or kept k 0) (get_or entries k 0) }
     ensures small { (k : ℕ) → k < 8 → get_or result k 0 < 0x1_0000 }
 {
     kept.simd_lt(u16x8::splat(0x80)).select(kept, entries)
@@ -196,31 +182,24 @@ fn known_count(units: u16x8) -> usize
     (zeros.trailing_zeros() as usize).min(8)
 }
 
-/// Returns the units of eight codes, with 0 for an uncommon code.
-///
-/// It is given what is kept of the codes, and the places of their entries.
+/// Returns the units of eight codes, with 0 for an uncommon one, from what is kept of them and the places of their entries.
 #[inline(always)]
 fn units_of<C: LaneCodec>(tables: &FlatTables<'_>, kept: &[u16], places: &[u32]) -> u16x8
     requires ascii { HasAscii (C.grammar tables.now.flat) }
     requires pairs { ArePairs (C.grammar tables.now.flat) (C.entries tables.now.flat) C.place }
     requires kept { 8 ≤ length kept.now }
     requires places { 8 ≤ length places.now }
-    requires within { (k : ℕ) → k < 8 →
-        get_or places.now k 0 < length (C.entries tables.now.flat) }
+    requires within { (k : ℕ) → k < 8 → get_or places.now k 0 < length (C.entries tables.now.flat) }
     ensures small { (k : ℕ) → k < 8 → get_or result k 0 < 0x1_0000 }
-    ensures forms { (codes : List ℕ) → AreLanes C.place 8 codes kept.now places.now →
-        (k : ℕ) → k < 8 → get_or result k 0 ≢ 0 →
-        IsForm (C.grammar tables.now.flat) (get_or codes k 0) (get_or kept.now k 0)
-        (get_or result k 0) }
+    ensures forms { AreForms (C.grammar tables.now.flat) C.place kept.now places.now result }
 {
     let entries = entries_at::<C>(tables, places);
     chosen(u16x8::from_slice(kept), entries)
 }
 
-/// Writes the codes in the first `groups` groups of eight, up to a group with an uncommon code.
-///
-/// It is given what is kept of the codes, and the places of their entries. Returns the number of groups written.
+/// Writes the codes in the first `groups` groups of eight, up to one with an uncommon code, and returns their number.
 #[inline(always)]
+#[tactic(auto, using(crate::proofs::WrittenRuns::no_bytes))]
 fn put_groups<C: LaneCodec, T: Destination>(
     tables: &FlatTables<'_>,
     kept: &[u16],
@@ -232,15 +211,12 @@ fn put_groups<C: LaneCodec, T: Destination>(
     requires pairs { ArePairs (C.grammar tables.now.flat) (C.entries tables.now.flat) C.place }
     requires kept { 8 * groups ≤ length kept.now }
     requires places { 8 * groups ≤ length places.now }
-    requires within { (k : ℕ) → k < 8 * groups →
-        get_or places.now k 0 < length (C.entries tables.now.flat) }
+    requires within { (k : ℕ) → k < 8 * groups → get_or places.now k 0 < length (C.entries tables.now.flat) }
     requires lanes { AreKept C.place (8 * groups) kept.now places.now }
     requires room { 32 * groups ≤ T.room dst.old }
     ensures most { result ≤ groups }
-    ensures writes { (codes : List ℕ) → 8 * groups ≤ length codes →
-        AreLanes C.place (8 * groups) codes kept.now places.now →
-        AreWritten T.Destination (C.grammar tables.now.flat) codes kept.now (8 * result) dst.old
-        dst.new }
+    ensures writes { (codes : List ℕ) → 8 * groups ≤ length codes → AreLanes C.place (8 * groups) codes kept.now places.now →
+        AreWritten T.Destination (C.grammar tables.now.flat) codes kept.now (8 * result) dst.old dst.new }
     ensures slack { T.room dst.old ≤ T.room dst.new + 24 * result }
 {
     let mut group = 0;
@@ -260,6 +236,7 @@ fn put_groups<C: LaneCodec, T: Destination>(
 ///
 /// Stops before a group of eight if fewer than 32 code units are free. Stores what is kept of the codes over them.
 #[inline(always)]
+#[tactic(auto, using(crate::proofs::WrittenRuns::no_bytes))]
 fn put_codes<C: LaneCodec, T: Destination>(
     tables: &FlatTables<'_>,
     codes: &mut [u16],
@@ -271,8 +248,7 @@ fn put_codes<C: LaneCodec, T: Destination>(
     requires codes { 8 * ((most + 7) / 8) ≤ length codes.old }
     requires places { 8 * ((most + 7) / 8) ≤ length places.old }
     ensures most { result ≤ most }
-    ensures writes { AreWritten T.Destination (C.grammar tables.now.flat) codes.old codes.new result
-        dst.old dst.new }
+    ensures writes { AreWritten T.Destination (C.grammar tables.now.flat) codes.old codes.new result dst.old dst.new }
     ensures slack { 0 < result → 3 ≤ T.room dst.new }
     ensures had { 0 < result → 4 ≤ T.room dst.old }
 {
@@ -319,10 +295,9 @@ fn byte_total(kept: &[u16], count: usize) -> usize
     bytes + byte_count(last) - (8 - rest)
 }
 
-/// Reads forms in blocks with many bytes past ASCII from the front, up to an uncommon one, or to the end of the room.
-///
-/// Returns the number of bytes read, and whether another block may follow.
+/// Reads forms in blocks with many bytes past ASCII, and returns the number of bytes read, and whether more may follow.
 #[inline(always)]
+#[tactic(auto, using(crate::proofs::JoinedRuns::reads_front, crate::proofs::LaneUnits::front_forms))]
 fn read_front<C: LaneCodec, T: Destination>(
     tables: &FlatTables<'_>,
     src: &[u8],
@@ -333,8 +308,7 @@ fn read_front<C: LaneCodec, T: Destination>(
     requires eights { length codes.old % 8 ≡ 0 }
     requires places { length places.old ≡ length codes.old }
     requires ascii { HasAscii (C.grammar tables.now.flat) }
-    ensures ahead { ReadsAhead T.Destination (new_state (C.grammar tables.now.flat)) src.now
-        result.0 dst.old dst.new }
+    ensures ahead { ReadsAhead T.Destination (new_state (C.grammar tables.now.flat)) src.now result.0 dst.old dst.new }
     ensures goes_on { result.1 ≡ true → 0 < result.0 }
 {
     let (count, bytes) = pick_blocks::<C>(src, codes);
@@ -363,9 +337,6 @@ fn read_any_longer<C: LaneCodec, T: Destination>(
 }
 
 /// Returns whether many of the first 64 bytes are past ASCII, or of the first 16 if there are fewer than 64.
-///
-/// Returns false if there are fewer than 16 bytes, if the 64 have forms of one byte past ASCII, or if a form of more than
-/// two bytes is at the front.
 // Four bytes tell most pieces of ASCII apart, before many are counted.
 #[inline(always)]
 fn begins_many<C: LaneCodec>(src: &[u8]) -> bool {
@@ -384,10 +355,9 @@ fn begins_many<C: LaneCodec>(src: &[u8]) -> bool {
 }
 
 /// Reads blocks with many bytes past ASCII from the front, four at a time, and forms of more than two bytes among them.
-///
-/// Returns the number of bytes read, which may be 0.
 // A load of codes that were stored in parts waits for these stores. All of four blocks are stored before it.
 #[inline(always)]
+#[tactic(auto, using(crate::proofs::WrittenRuns::no_bytes))]
 fn read_long<C: LaneCodec, T: Destination>(
     tables: &FlatTables<'_>,
     guess: &Cell<usize>,
@@ -411,9 +381,10 @@ fn read_long<C: LaneCodec, T: Destination>(
     }
 }
 
-/// Reads blocks with many bytes past ASCII from the front, and returns the number of bytes read, which may be 0.
+/// Reads blocks with many bytes past ASCII from the front, and returns the number of bytes read.
 // Most runs of such blocks between tags are short: the larger arrays are made after a few blocks.
 #[inline(always)]
+#[tactic(auto, using(crate::proofs::WrittenRuns::no_bytes))]
 fn read_short<C: LaneCodec, T: Destination>(
     tables: &FlatTables<'_>,
     guess: &Cell<usize>,
@@ -466,8 +437,6 @@ fn begins_uncommon<C: LaneCodec>(src: &[u8]) -> bool
 }
 
 /// Returns whether an uncommon byte follows the form at the front, which is taken to be one ASCII byte or two bytes.
-///
-/// Returns false if there are fewer than three bytes.
 #[inline(always)]
 fn stands_alone<C: LaneCodec>(src: &[u8]) -> bool {
     if src.len() < 3 {
@@ -495,7 +464,6 @@ struct LaneForms<'a, C: LaneCodec> {
 }
 
 impl<'a, C: LaneCodec> LaneForms<'a, C> {
-    /// Returns the common forms over these tables.
     #[inline(always)]
     fn new(tables: &FlatTables<'a>) -> LaneForms<'a, C>
         ensures { result.tables.flat ≡ tables.now.flat }
@@ -549,9 +517,7 @@ pub struct LaneBlocks<'a, 'b, C: LaneCodec> {
 }
 
 impl<'a, 'b, C: LaneCodec> LaneBlocks<'a, 'b, C> {
-    /// Returns the blocks over these tables.
-    ///
-    /// `guess` is what the codec keeps from one form of more than two bytes to the next, if it has such forms.
+    /// Returns the blocks over these tables, and what the codec keeps from one form of more than two bytes to the next.
     #[inline(always)]
     pub fn new(tables: &'a FlatTables<'b>, guess: &'a Cell<usize>) -> LaneBlocks<'a, 'b, C>
         ensures { result.tables.now ≡ tables.now }
@@ -604,6 +570,7 @@ fn form_at<C: LaneCodec>(
 /// Reads the last bytes of the input, up to an uncommon form. Returns the number of bytes read, which may be 0.
 // Any block is longer, so one loop reads every form.
 #[inline(always)]
+#[tactic(auto, using(crate::proofs::WrittenRuns::writes_none, crate::proofs::WrittenRuns::four_fit))]
 fn read_last<C: LaneCodec, T: Destination>(
     blocks: &LaneBlocks<'_, '_, C>,
     src: &[u8],
@@ -626,19 +593,18 @@ fn read_last<C: LaneCodec, T: Destination>(
     at
 }
 
-/// Reads ASCII by blocks and other forms one by one from the front, up to an uncommon form or to many forms.
-///
-/// Returns the number of bytes read, and whether a block with many bytes past ASCII may follow.
+/// Reads ASCII by blocks and other forms one by one, up to an uncommon form or to many forms. Returns the number of bytes
+/// read, and whether a block with many bytes past ASCII may follow.
 // Most runs of pairs between tags are short, and lanes are no faster in them. Forms are counted since the last long ASCII.
 #[inline(always)]
+#[tactic(auto, using(crate::proofs::WrittenRuns::no_bytes))]
 fn read_few<C: LaneCodec, T: Destination>(
     blocks: &LaneBlocks<'_, '_, C>,
     src: &[u8],
     dst: &mut T,
 ) -> (usize, bool)
     requires { HasAscii (C.grammar blocks.now.tables.now.flat) }
-    ensures ahead { ReadsAhead T.Destination (new_state (C.grammar blocks.now.tables.now.flat)) src.now
-        result.0 dst.old dst.new }
+    ensures ahead { ReadsAhead T.Destination (new_state (C.grammar blocks.now.tables.now.flat)) src.now result.0 dst.old dst.new }
     ensures goes_on { result.1 ≡ true → 0 < result.0 }
 {
     let mut at = 0;
@@ -677,6 +643,7 @@ impl<C: LaneCodec> Blocks for LaneBlocks<'_, '_, C> {
 
     // Malformed sequences often follow one another. No block is begun at an uncommon byte.
     #[inline(always)]
+    #[tactic(auto, using(crate::proofs::WrittenRuns::no_bytes))]
     fn read_block<T: Destination>(&self, src: &[u8], dst: &mut T) -> (usize, bool) {
         if begins_uncommon::<C>(src) {
             return (0, false);
@@ -690,7 +657,7 @@ impl<C: LaneCodec> Blocks for LaneBlocks<'_, '_, C> {
     }
 }
 
-/// Reads the form at the front, and returns the number of bytes read, which is 0 if the form is uncommon.
+/// Reads the form at the front, and returns the number of bytes read.
 #[inline(always)]
 fn read_alone<C: LaneCodec, T: Destination>(
     tables: &FlatTables<'_>,
@@ -705,8 +672,6 @@ fn read_alone<C: LaneCodec, T: Destination>(
 }
 
 /// Reads blocks of a codec from the front, but nothing at an uncommon byte, and one form if an uncommon byte follows it.
-///
-/// Returns the number of bytes read, which may be 0. If it reads any, three code units stay free.
 // Malformed sequences often follow one another, or have a single form between them. Neither costs a call.
 #[inline(always)]
 #[tactic(auto, using(crate::proofs::WrittenRuns::no_bytes))]
@@ -715,8 +680,7 @@ pub fn read_common<C: LaneCodec, T: Destination>(
     src: &[u8],
     dst: &mut T,
 ) -> usize
-    ensures { ReadsAhead T.Destination (new_state (C.grammar blocks.now.tables.now.flat)) src.now
-        result dst.old dst.new }
+    ensures { ReadsAhead T.Destination (new_state (C.grammar blocks.now.tables.now.flat)) src.now result dst.old dst.new }
 {
     if begins_uncommon::<C>(src) {
         return 0;

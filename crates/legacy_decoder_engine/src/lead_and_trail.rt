@@ -1,9 +1,6 @@
 //! The common steps of codecs whose sequences are a lead and a trail.
 ghost use Rattle.std.specs.Prelude.{◌≡◌, ℕ, [], ◌∷◌, Bool, false, option_to_list};
-ghost use Rattle.legacy_decoder_engine.specs.Steps.{trail_step};
-ghost use Rattle.legacy_decoder_engine.specs.LeadMachines.{lead_first};
-ghost use Rattle.legacy_decoder_engine.specs.Feeding.{Took};
-ghost use Rattle.legacy_decoder_engine.specs.LeadCodecs.{IsLeadOf, held_bytes};
+ghost use Rattle.legacy_decoder_engine.specs.{Steps.trail_step, LeadMachines.lead_first, Feeding.Took, LeadCodecs.{IsLeadOf, held_bytes}};
 
 use crate::moves::Fed;
 use crate::unmapped_trail::unmapped;
@@ -20,9 +17,7 @@ pub fn malformed_through(length: u8) -> Fed
     }
 }
 
-/// Reads the first byte of a sequence, given the byte as a lead or `None`.
-///
-/// ASCII is its own scalar, a lead is held back, and any other byte is malformed.
+/// Reads the first byte of a sequence, given it as a lead or `None`: ASCII, a lead to hold back, or malformed.
 #[inline]
 pub fn read_first<L: Copy>(byte: u8, lead: Option<L>) -> (Fed, Option<L>)
     ensures { (is_lead : ℕ → Bool) (byte_of : L → ℕ) → IsLeadOf is_lead byte_of byte lead
@@ -37,14 +32,10 @@ pub fn read_first<L: Copy>(byte: u8, lead: Option<L>) -> (Fed, Option<L>)
     }
 }
 
-/// Reads the trail after a lead, given the scalar of the pair or `None`.
-///
-/// If the pair has no scalar, an ASCII trail is left unread and the lead alone is malformed. If the
-/// trail is not ASCII, both are malformed.
+/// Reads the trail after a lead, given the scalar of the pair or `None`; then an ASCII trail is left unread.
 #[inline]
 pub fn read_trail(scalar: Option<char>, trail: u8) -> Fed
-    ensures { (lead : ℕ) → Took (trail_step 1 (option_to_list scalar) trail)
-        (lead ∷ []) trail result [] }
+    ensures { (lead : ℕ) → Took (trail_step 1 (option_to_list scalar) trail) (lead ∷ []) trail result [] }
 {
     match scalar {
         Some(scalar) => Fed::One(scalar),

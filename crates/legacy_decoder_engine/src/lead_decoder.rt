@@ -2,14 +2,9 @@
 ghost use Rattle.std.specs.Prelude.{◌≡◌, ℕ, List, [], ◌∷◌, Bool, true, length};
 ghost use Rattle.legacy_tables.specs.Indexes.{FlatIndexes};
 ghost use Rattle.legacy_text.specs.EncodingForm.{EncodingForm};
-ghost use Rattle.legacy_base.specs.States.{is_neutral, new_state};
-ghost use Rattle.legacy_base.specs.DecoderActs.{full_room_in, release_room_in};
-ghost use Rattle.legacy_base.specs.Formulas.{Formula, number, ◌⊕◌};
-ghost use Rattle.legacy_base.specs.Lengths.{answer, utf16_formula, utf8_formula, utf8_without_replacement_formula};
-ghost use Rattle.legacy_base.specs.Fronts.{malformed};
-ghost use Rattle.legacy_decoder_engine.specs.Steps.{Step, finish, trail_step};
-ghost use Rattle.legacy_decoder_engine.specs.Moves.{room_units};
-ghost use Rattle.legacy_decoder_engine.specs.Feeding.{Took};
+ghost use Rattle.legacy_base.specs.{States.{is_neutral, new_state}, DecoderActs.{full_room_in, release_room_in}, Formulas.{Formula, number, ◌⊕◌}};
+ghost use Rattle.legacy_base.specs.{Lengths.{answer, utf16_formula, utf8_formula, utf8_without_replacement_formula}, Fronts.malformed};
+ghost use Rattle.legacy_decoder_engine.specs.{Steps.{Step, finish, trail_step}, Moves.room_units, Feeding.Took};
 ghost use Rattle.legacy_decoder_engine.specs.LeadCodecs.{IsLeadCodec, held_bytes, lead_state};
 
 use crate::drive::{count_malformed_bytes, drive_decoder};
@@ -25,10 +20,8 @@ pub trait LeadCodec: LaneCodec {
     /// A byte that begins a form of two bytes and is held back.
     type Lead: Copy;
 
-    /// Which bytes are leads.
     ghost is_lead: { ℕ → Bool };
 
-    /// The byte of a lead.
     ghost byte_of: { Self.Lead → ℕ };
 
     /// The step at the first byte of a form.
@@ -43,20 +36,16 @@ pub trait LeadCodec: LaneCodec {
 
     /// Reads the byte after a lead.
     fn read_pair(tables: &Tables<'_>, lead: Self::Lead, trail: u8) -> Fed
-        ensures { Took (trail_step 1 (scalars tables.now.flat (byte_of lead) trail) trail)
-            (byte_of lead ∷ []) trail result [] };
+        ensures { Took (trail_step 1 (scalars tables.now.flat (byte_of lead) trail) trail) (byte_of lead ∷ []) trail result [] };
 
     /// Returns the room of every act except reading ASCII with nothing held back.
     fn room() -> Room
-        ensures reads { (form : EncodingForm) (flat : FlatIndexes) →
-            room_units form result ≡ full_room_in form (Self.grammar flat) }
-        ensures writes { (form : EncodingForm) (flat : FlatIndexes) →
-            room_units form result ≡ release_room_in form (Self.grammar flat) };
+        ensures reads { (form : EncodingForm) (flat : FlatIndexes) → room_units form result ≡ full_room_in form (Self.grammar flat) }
+        ensures writes { (form : EncodingForm) (flat : FlatIndexes) → room_units form result ≡ release_room_in form (Self.grammar flat) };
 
     /// Returns `max_utf16_buffer_length` if `held` bytes are held back.
     fn utf16_length(byte_length: usize, held: usize) -> Option<usize>
-        ensures { (flat : FlatIndexes) (units : Formula) →
-            result ≡ answer (utf16_formula (Self.grammar flat) (number byte_length)
+        ensures { (flat : FlatIndexes) (units : Formula) → result ≡ answer (utf16_formula (Self.grammar flat) (number byte_length)
             (number byte_length ⊕ number held) units) };
 
     /// Returns `max_utf8_buffer_length_without_replacement` if `held` bytes are held back.
@@ -67,8 +56,7 @@ pub trait LeadCodec: LaneCodec {
 
     /// Returns `max_utf8_buffer_length` if `held` bytes are held back.
     fn utf8_length(byte_length: usize, held: usize) -> Option<usize>
-        ensures { (flat : FlatIndexes) (units : Formula) →
-            result ≡ answer (utf8_formula (Self.grammar flat) (number byte_length)
+        ensures { (flat : FlatIndexes) (units : Formula) → result ≡ answer (utf8_formula (Self.grammar flat) (number byte_length)
             (number byte_length ⊕ number held) units) };
 
     ghost codec: { IsLeadCodec Self.grammar is_lead first scalars };
@@ -101,21 +89,18 @@ pub struct LeadDecoder<'a, C: LeadCodec> {
 impl<'a, C: LeadCodec> LeadDecoder<'a, C> {
     /// Returns a decoder before its first byte, which uses the codec's index of the tables.
     pub fn new(tables: &'a Tables<'a>) -> LeadDecoder<'a, C>
-        ensures { lead_state C.grammar C.byte_of result.tables.now result.held ≡ new_state
-            (C.grammar tables.now.flat) }
+        ensures { lead_state C.grammar C.byte_of result.tables.now result.held ≡ new_state (C.grammar tables.now.flat) }
     {
         LeadDecoder { tables, held: None }
     }
 
     /// Checks whether no lead is held back.
     pub fn in_neutral_state(&self) -> bool
-        ensures { result ≡ is_neutral
-            (lead_state C.grammar C.byte_of self.now.tables.now self.now.held) }
+        ensures { result ≡ is_neutral (lead_state C.grammar C.byte_of self.now.tables.now self.now.held) }
     {
         self.held.is_none()
     }
 
-    /// Returns the number of held-back bytes.
     #[inline]
     fn held_count(&self) -> usize
         ensures { result ≡ length (held_bytes C.byte_of self.now.held) }

@@ -1,13 +1,8 @@
 //! The small moves of each decoder, and the runs that it reads ahead of them.
 ghost use Rattle.std.specs.Prelude.{◌≡◌, ◌≢◌, ◌≤◌, [], length, take, true, false, MatchOption};
 ghost use Rattle.legacy_text.specs.EncodingForm.{EncodingForm};
-ghost use Rattle.legacy_base.specs.Grammar.{events_of};
-ghost use Rattle.legacy_base.specs.States.{DecoderState, may_hold, rests};
-ghost use Rattle.legacy_base.specs.Calls.{IsMalformedByte};
-ghost use Rattle.legacy_base.specs.DecoderActs.{release_room_in};
-ghost use Rattle.legacy_decoder_engine.specs.Moves.{room_units, read_room, IsCovered, Releases, Feeds, Reports};
-ghost use Rattle.legacy_decoder_engine.specs.Moves.{HoldsBytes};
-ghost use Rattle.legacy_decoder_engine.specs.ReadAhead.{ReadsTo};
+ghost use Rattle.legacy_base.specs.{Grammar.events_of, States.{DecoderState, may_hold, rests}, Calls.IsMalformedByte, DecoderActs.release_room_in};
+ghost use Rattle.legacy_decoder_engine.specs.{Moves.{room_units, read_room, IsCovered, Releases, Feeds, Reports, HoldsBytes}, ReadAhead.ReadsTo};
 
 use legacy_base::Destination;
 
@@ -33,44 +28,31 @@ pub enum Fed {
     One(char),
     /// It completed a sequence with these two scalars, in this order.
     Two(char, char),
-    /// A malformed sequence of `length` bytes, with `back` bytes held back after it.
-    ///
-    /// If `unread` is true, the byte was not read.
+    /// A malformed sequence of `length` bytes, with `back` bytes held back after it; if `unread`, the byte was not read.
     MalformedSequence { length: u8, back: u8, unread: bool },
 }
 
-/// The moves of a decoder, of which `drive` makes its calls.
-///
-/// They are the Standard's handler of the decoder (Encoding Standard, section "Encoders and
-/// decoders"), with the room in the output that each move needs.
+/// The moves of a decoder, of which `drive` makes its calls: the Standard's handler, with the room that each move needs.
 pub trait DecoderMoves {
     /// The grammar and the held-back bytes.
     ghost state: { Self → DecoderState };
 
     /// Returns whether no held-back scalar is to be written first. Nothing changes.
-    ///
-    /// In every state, the held-back bytes are those that the codec may hold back.
     fn rests(&self) -> bool
         ensures is { result ≡ rests (state self.now).grammar (state self.now).held }
         ensures allowed { may_hold (state self.now).grammar (state self.now).held ≡ true };
 
     /// Returns the room that reading a byte needs, whatever its result. Nothing changes.
     fn reading_room(&self, byte: u8) -> Room
-        ensures units { (form : EncodingForm) → room_units form result ≡ read_room form
-            (state self.now) byte }
+        ensures units { (form : EncodingForm) → room_units form result ≡ read_room form (state self.now) byte }
         ensures covered { IsCovered (state self.now) };
 
-    /// Returns the room that writing a held-back scalar needs, or a report at the end of the input.
-    ///
-    /// Nothing changes.
+    /// Returns the room that writing a held-back scalar needs, or a report at the end of the input. Nothing changes.
     fn release_room(&self) -> Room
-        ensures units { (form : EncodingForm) → room_units form result
-            ≡ release_room_in form (state self.now).grammar }
+        ensures units { (form : EncodingForm) → room_units form result ≡ release_room_in form (state self.now).grammar }
         ensures covered { IsCovered (state self.now) };
 
-    /// Removes and returns the held-back scalar that is to be written first.
-    ///
-    /// Returns `None` if there is none.
+    /// Removes and returns the held-back scalar that is to be written first, or `None`.
     fn release(&mut self) -> Option<char>
         ensures { MatchOption result (rests (state self.old).grammar (state self.old).held ≡ true)
             (λ c. Releases (state self.old) (state self.new) c) };
@@ -82,23 +64,17 @@ pub trait DecoderMoves {
 
     /// Returns whether there is something to report at the end of the input. Nothing changes.
     fn has_rest(&self) -> bool
-        ensures some { result ≡ true → events_of (state self.now).grammar
-            (state self.now).held ≢ [] }
-        ensures none { result ≡ false → events_of (state self.now).grammar (state self.now).held
-            ≡ [] };
+        ensures some { result ≡ true → events_of (state self.now).grammar (state self.now).held ≢ [] }
+        ensures none { result ≡ false → events_of (state self.now).grammar (state self.now).held ≡ [] };
 
-    /// Reports the malformed sequence at the end of the input.
-    ///
-    /// Returns its length in bytes and the number of bytes after it, which are still held back.
-    /// Returns `None` if there is nothing to report.
+    /// Reports the malformed sequence at the end of the input, if there is one: its length in bytes, and the number of
+    /// bytes after it, which are still held back.
     fn report(&mut self) -> Option<(u8, u8)>
         requires { rests (state self.old).grammar (state self.old).held ≡ true }
         ensures { MatchOption result (events_of (state self.old).grammar (state self.old).held ≡ [])
             (λ report. Reports (state self.old) (state self.new) report.0 report.1) };
 
-    /// Returns true only if the byte is malformed by itself when nothing is held back.
-    ///
-    /// It may return false for such a byte. Nothing changes.
+    /// Returns true only if the byte is malformed by itself when nothing is held back, and maybe false for such a byte.
     #[inline(always)]
     fn is_malformed_byte(&self, byte: u8) -> bool
         ensures { result ≡ true → IsMalformedByte (state self.now) byte }
@@ -107,31 +83,26 @@ pub trait DecoderMoves {
         false
     }
 
-    /// Reads a run of common sequences from the front of the input and writes their scalars.
+    /// Reads a run of common sequences from the front of the input or a part of it, and returns the number of bytes read.
     ///
-    /// Returns the number of bytes read, which may be any part of the run. The decoder changes only with bytes that
-    /// switch its mode. It reads only if at least four code units are free, and leaves three, so that no act of the
-    /// machine would have lacked room. A decoder without common sequences reads nothing.
+    /// It reads only if at least four code units are free, and leaves three, so that no act would have lacked room.
     #[inline(always)]
     #[tactic(auto, using(crate::proofs::WrittenRuns::no_bytes))]
     fn read_runs<T: Destination>(&mut self, src: &[u8], dst: &mut T) -> usize
-        ensures runs { ReadsTo T.Destination (state self.old) (state self.new) src.now result
-            dst.old dst.new }
+        ensures runs { ReadsTo T.Destination (state self.old) (state self.new) src.now result dst.old dst.new }
     {
         let _ = (self.rests(), src.len(), dst.free());
         0
     }
 
-    /// Holds back bytes from the front of the input, and returns their number.
+    /// Holds back any bytes from the front of the input, and returns their number.
     ///
-    /// The result may be any part of them. They are read as by `feed`, one after another; each
-    /// gives nothing and has its room.
+    /// They are read as by `feed`, one after another; each gives nothing and has its room.
     #[inline(always)]
     #[tactic(auto, using(crate::proofs::CallUnderWay::holds_none))]
     fn hold_back<T: Destination>(&mut self, src: &[u8], dst: &T) -> usize
         ensures within { result ≤ length src.now }
-        ensures holds { HoldsBytes T.form (T.room dst.now) (state self.old) (take result src.now)
-            (state self.new) }
+        ensures holds { HoldsBytes T.form (T.room dst.now) (state self.old) (take result src.now) (state self.new) }
     {
         let _ = (self.rests(), src.len(), dst.free());
         0

@@ -17,6 +17,7 @@ const ALL_BUT_LAST: u64 = 0x7FFF_FFFF_FFFF_FFFF;
 // In a run of bytes past ASCII every second one starts a form: one subtraction carries through all runs at once, and
 // gives the parity of each. The bits are checked after it, so the proof needs no facts about carries.
 #[inline(always)]
+#[tactic(auto, using(crate::proofs::FormStarts::asked, crate::proofs::FormStarts::lowest_set))]
 pub fn form_starts(past: u64) -> Option<u64>
     ensures { IfSome result (λ starts. AreStarts past starts) }
 {
@@ -41,9 +42,7 @@ fn row_of(rows: &[[u8; 16]; 256], starts: u8) -> u8x16
     u8x16::from_array(rows[usize::from(starts)])
 }
 
-/// Returns the codes of two bytes, the first one low, at those of the first eight places that are starts.
-///
-/// Codes without meaning fill the rest of the eight.
+/// Returns the codes of two bytes, the first one low, at the starts among the first eight places, and then any codes.
 #[inline(always)]
 fn codes_at(bytes: u8x16, starts: u8) -> u16x8
     ensures long { length result ≡ 8 }
@@ -53,9 +52,8 @@ fn codes_at(bytes: u8x16, starts: u8) -> u16x8
     u16x8::from_le_bytes(bytes.swizzle_dyn(row))
 }
 
-/// Stores the codes at those of eight places of a block that are starts, from place `at` of a list on.
-///
-/// Codes without meaning fill the rest of the eight. Returns the place after the codes at starts.
+/// Stores the codes at the starts among eight places of a block, from place `at` of a list on, and returns the place after
+/// them. Any codes fill the rest of the eight.
 #[inline(always)]
 #[tactic(auto, using(crate::proofs::Picking::codes_stored))]
 fn put_codes(block: &[u8], from: usize, starts: u8, codes: &mut [u16], at: usize) -> usize
@@ -69,9 +67,7 @@ fn put_codes(block: &[u8], from: usize, starts: u8, codes: &mut [u16], at: usize
     at + usize::from(starts).count_ones() as usize
 }
 
-/// Stores the codes at those of the first 64 places of a block that are starts, from place `count` of a list on.
-///
-/// Returns the place after them.
+/// Stores the codes at the starts among 64 places, from place `count` of a list on, and returns the place after them.
 #[inline(always)]
 #[tactic(auto, using(crate::proofs::Picking::no_more))]
 fn pick(block: &[u8], starts: u64, codes: &mut [u16], count: usize) -> usize
@@ -94,6 +90,7 @@ fn pick(block: &[u8], starts: u64, codes: &mut [u16], count: usize) -> usize
 /// Returns the number of bytes of the forms that end in the first `limit` bytes, given the starts of all forms.
 // A form that starts at the last of these bytes may have another byte after them.
 #[inline(always)]
+#[tactic(auto, using(crate::proofs::FormStarts::whole_end))]
 fn whole_forms(past: u64, starts: u64, limit: usize) -> usize
     requires some { 0 < limit }
     requires most { limit ≤ 64 }
@@ -106,8 +103,7 @@ fn whole_forms(past: u64, starts: u64, limit: usize) -> usize
 
 /// Stores the codes of the forms that end in the first `limit` bytes of a block, from place `count` of a list on.
 ///
-/// It is given the bits of the bytes past ASCII and of the starts of forms. Returns the place after the codes, and the
-/// number of bytes of the forms.
+/// Returns the place after the codes, and the number of bytes of the forms.
 #[inline(always)]
 pub fn pick_forms(
     block: &[u8],

@@ -2,15 +2,13 @@
 // The functions that run for each form or block are always inlined, and so are all between them and a decoder's call:
 // a call would pass vectors through memory, and would store the destination's place there for each form.
 ghost use Rattle.std.specs.Prelude.{◌≡◌, ℕ, ◌+◌, ◌*◌, ◌<◌, ◌≤◌, length, take, true};
-ghost use Rattle.legacy_base.specs.Grammar.{Grammar};
-ghost use Rattle.legacy_base.specs.States.{DecoderState, new_state};
+ghost use Rattle.legacy_base.specs.{Grammar.Grammar, States.{DecoderState, new_state}};
 ghost use Rattle.legacy_decoder_engine.specs.ReadAhead.{HasAscii, Writes, ReadsAhead};
 
 use legacy_base::Destination;
 
 /// Forms that follow one another, with nothing held back between two of them.
 pub trait Forms {
-    /// The grammar.
     ghost grammar: { Self → Grammar };
 
     /// What a run requires of the grammar.
@@ -32,28 +30,23 @@ pub trait Forms {
         ensures few { result ≤ units };
 
     /// Reads at most `most` forms, up to an uncommon one, and returns the number of bytes read.
-    ///
-    /// The input has bytes for `most` forms, and the output has room for them and three more code units.
     fn read_forms<T: Destination>(&self, src: &[u8], dst: &mut T, most: usize) -> usize
         requires ready { ready self.now }
         requires source { most_bytes * most ≤ length src.now }
         requires room { most_units * most + 3 ≤ T.room dst.old }
         ensures read { result ≤ most_bytes * most }
-        ensures writes { Writes T.Destination (grammar self.now) (take result src.now)
-            dst.old dst.new }
+        ensures writes { Writes T.Destination (grammar self.now) (take result src.now) dst.old dst.new }
         ensures slack { T.room dst.old ≤ T.room dst.new + most_units * most };
 }
 
-/// Reads a run of forms from the front, up to an uncommon one, and returns the number of bytes read, which may be 0.
-///
-/// If it reads any, three code units stay free.
+/// Reads a run of forms from the front, up to an uncommon one, and returns the number of bytes read.
 // Four at a time: the compiler unrolls a loop of that size, so each place has its own branches, and the processor
 // predicts each of them by its own history.
 #[inline(always)]
+#[tactic(auto, using(crate::proofs::Turns::turning))]
 pub fn read_run<F: Forms, T: Destination>(forms: &F, src: &[u8], dst: &mut T) -> usize
     requires { F.ready forms.now }
-    ensures { ReadsAhead T.Destination (new_state (F.grammar forms.now)) src.now result
-        dst.old dst.new }
+    ensures { ReadsAhead T.Destination (new_state (F.grammar forms.now)) src.now result dst.old dst.new }
 {
     let turns = forms.fitting(src.len(), dst.free().saturating_sub(3));
     if turns == 0 {
@@ -73,14 +66,11 @@ pub fn read_run<F: Forms, T: Destination>(forms: &F, src: &[u8], dst: &mut T) ->
 }
 
 /// Reads the form at the front, and returns the number of bytes read.
-///
-/// Returns 0 if the form is uncommon, if the input may be too short for it, or if three code units may not stay free.
 #[inline(always)]
 #[tactic(auto, using(crate::proofs::WrittenRuns::no_bytes, crate::proofs::JoinedRuns::reads_written, crate::proofs::Turns::one_turn))]
 pub fn read_one<F: Forms, T: Destination>(forms: &F, src: &[u8], dst: &mut T) -> usize
     requires { F.ready forms.now }
-    ensures { ReadsAhead T.Destination (new_state (F.grammar forms.now)) src.now result
-        dst.old dst.new }
+    ensures { ReadsAhead T.Destination (new_state (F.grammar forms.now)) src.now result dst.old dst.new }
 {
     let turns = forms.fitting(src.len(), dst.free().saturating_sub(3));
     if turns == 0 {
@@ -89,27 +79,21 @@ pub fn read_one<F: Forms, T: Destination>(forms: &F, src: &[u8], dst: &mut T) ->
     forms.read_forms(src, dst, 1)
 }
 
-/// Blocks that follow one another, with nothing held back between two of them.
-///
-/// A block is a number of bytes or forms for which room is tested once.
+/// Blocks that follow one another, with nothing held back between two of them. For each, room is tested once.
 pub trait Blocks {
-    /// The grammar.
     ghost grammar: { Self → Grammar };
 
-    /// Reads the block at the front, a part of it, or nothing.
-    ///
-    /// Returns the number of bytes read, and whether another block may follow.
+    /// Reads the block at the front or a part of it, and returns the number of bytes read, and whether another may follow.
     fn read_block<T: Destination>(&self, src: &[u8], dst: &mut T) -> (usize, bool)
-        ensures ahead { ReadsAhead T.Destination (new_state (grammar self.now)) src.now result.0
-            dst.old dst.new }
+        ensures ahead { ReadsAhead T.Destination (new_state (grammar self.now)) src.now result.0 dst.old dst.new }
         ensures goes_on { result.1 ≡ true → 0 < result.0 };
 }
 
 /// Reads blocks from the front while another may follow, and returns the number of bytes read, which may be 0.
 #[inline(always)]
+#[tactic(auto, using(crate::proofs::WrittenRuns::no_bytes))]
 pub fn read_blocks<B: Blocks, T: Destination>(blocks: &B, src: &[u8], dst: &mut T) -> usize
-    ensures { ReadsAhead T.Destination (new_state (B.grammar blocks.now)) src.now result
-        dst.old dst.new }
+    ensures { ReadsAhead T.Destination (new_state (B.grammar blocks.now)) src.now result dst.old dst.new }
 {
     let mut at = 0;
     loop {
@@ -121,14 +105,13 @@ pub fn read_blocks<B: Blocks, T: Destination>(blocks: &B, src: &[u8], dst: &mut 
     }
 }
 
-/// Reads ASCII from the front by blocks of 64 bytes, but no block that ends fewer than 64 bytes before the end.
-///
-/// Returns the number of bytes read, which may be 0, and whether all of them were whole blocks.
+/// Reads ASCII from the front by blocks of 64 bytes, but none that ends fewer than 64 bytes before the end. Returns the
+/// number of bytes read, and whether all of them were whole blocks.
 #[inline(always)]
+#[tactic(auto, using(crate::proofs::WrittenRuns::no_bytes))]
 fn read_wide_blocks<T: Destination>(src: &[u8], dst: &mut T) -> (usize, bool)
     ensures read { result.0 ≤ length src.now }
-    ensures ahead { (grammar : Grammar) → HasAscii grammar
-        → ReadsAhead T.Destination (new_state grammar) src.now result.0 dst.old dst.new }
+    ensures ahead { (grammar : Grammar) → HasAscii grammar → ReadsAhead T.Destination (new_state grammar) src.now result.0 dst.old dst.new }
 {
     let mut at = 0;
     while src.len() - at >= 128 && dst.free() >= 67 {
@@ -146,22 +129,19 @@ fn read_wide_blocks<T: Destination>(src: &[u8], dst: &mut T) -> (usize, bool)
 #[tactic(auto, using(std::proofs::lemmas::Grind::common_steps, crate::proofs::JoinedRuns::reads_front, crate::proofs::WrittenRuns::writes_ascii))]
 fn read_short_blocks<T: Destination>(src: &[u8], dst: &mut T) -> usize
     ensures read { result ≤ length src.now }
-    ensures ahead { (grammar : Grammar) → HasAscii grammar
-        → ReadsAhead T.Destination (new_state grammar) src.now result dst.old dst.new }
+    ensures ahead { (grammar : Grammar) → HasAscii grammar → ReadsAhead T.Destination (new_state grammar) src.now result dst.old dst.new }
 {
     let most = dst.free().saturating_sub(3).min(src.len());
     dst.copy_ascii(&src[..most])
 }
 
-/// Reads ASCII from the front by blocks, and returns the number of bytes read, which may be 0.
-///
-/// If it reads any, three code units stay free.
+/// Reads ASCII from the front by blocks, and returns the number of bytes read.
 // The byte after a malformed sequence is often past ASCII. No block is begun there.
 #[inline(always)]
+#[tactic(auto, using(crate::proofs::WrittenRuns::no_bytes))]
 pub fn read_ascii<T: Destination>(src: &[u8], dst: &mut T) -> usize
     ensures read { result ≤ length src.now }
-    ensures ahead { (grammar : Grammar) → HasAscii grammar
-        → ReadsAhead T.Destination (new_state grammar) src.now result dst.old dst.new }
+    ensures ahead { (grammar : Grammar) → HasAscii grammar → ReadsAhead T.Destination (new_state grammar) src.now result dst.old dst.new }
 {
     if !src.is_empty() && src[0] >= 0x80 {
         return 0;

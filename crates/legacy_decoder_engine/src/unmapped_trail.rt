@@ -1,6 +1,5 @@
 //! The rule for trails that do not map.
-ghost use Rattle.std.specs.Prelude.{◌≡◌, ◌+◌, ◌<◌, true, false, if◌then◌else◌};
-ghost use Rattle.std.specs.Char.{is_ascii};
+ghost use Rattle.std.specs.{Prelude.{◌≡◌, ◌+◌, ◌<◌, true, false, if◌then◌else◌}, Char.is_ascii};
 
 use crate::moves::Fed;
 
@@ -10,8 +9,7 @@ use crate::moves::Fed;
 #[inline]
 pub fn unmapped(before: u8, byte: u8) -> Fed
     requires { before < 4 }
-    ensures { result ≡ (if is_ascii byte then Fed.MalformedSequence before 0 true else Fed.MalformedSequence
-        (before + 1) 0 false) }
+    ensures { result ≡ (if is_ascii byte then Fed.MalformedSequence before 0 true else Fed.MalformedSequence (before + 1) 0 false) }
 {
     if byte < 0x80 {
         return Fed::MalformedSequence {

@@ -1,7 +1,6 @@
 use Rattle.std.proofs.Common.{◌≡◌, ◌-◌, ◌≤◌, length, take}
 use Rattle.legacy_decoder_engine.proofs.block_picks.padded.Given as goal
 
--- the bytes before `at` are copied
 abbrev pub invariant-loop-at : goal.invariant-loop-at
 invariant-loop-at l = (l.at ≤ length l.src) × (length l.padded ≡ 72) × (take l.at l.padded ≡ take l.at l.src)
 

@@ -2,7 +2,6 @@ use Rattle.std.proofs.Common.{◌≡◌, ◌+◌, ◌*◌, ◌≤◌, length, ta
 use Rattle.legacy_decoder_engine.specs.PickedForms.{forms_of}
 use Rattle.legacy_decoder_engine.proofs.block_picks.pick_blocks.Given as goal
 
--- the codes of the bytes so far are stored
 abbrev pub invariant-loop-left : goal.invariant-loop-left
 invariant-loop-left g l = record {
   room : l.count + 64 * l.left ≤ length l.codes;

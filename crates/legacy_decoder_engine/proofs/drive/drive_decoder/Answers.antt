@@ -40,7 +40,8 @@ loop-read-preserved g c =
     let fed = c.feed-fed.result in
     let e = c.put_fed.ensures in (
       i.0 ++ fed_scalars fed,
-      going_feed i.1 i.3 fed (omega (arith, i.1.within, c.if-read-src.false)) c.feed-fed.ensures (grind (arith, c.in_default-fed.not-MalformedSequence)) enough,
+      going_feed i.1 _ i.3 fed (omega (arith, i.1.within, c.if-read-src.false)) c.feed-fed.ensures
+          (grind (arith, c.in_default-fed.not-MalformedSequence)) enough,
       written g.T.Destination _ _ _ i.0 (fed_scalars fed) i.2 e.contents,
       omega (arith, total_unit_count-append g.T.Destination.form i.0 (fed_scalars fed), e.room, i.3),
       e.loan ∙ i.4,
@@ -80,10 +81,5 @@ returns-then-not-has_room-clause-call g c =
 
 pub returns-clause-call : goal.returns-clause-call
 returns-clause-call g c =
-    let T = g.T.Destination in
     let i = front_going c.args.dst.now c.loop-read.invariant c.read_runs-read.ensures.runs c.hold_back-read.ensures.within c.hold_back-read.ensures.holds in
-    let all = c.if-read-src.true in (
-      i.0,
-      rw (← all) (call_end i.1 _ i.3 all c.finish.ensures),
-      i.2,
-    )
+    (i.0, rw (← c.if-read-src.true) (call_end i.1 _ i.3 c.if-read-src.true c.finish.ensures), i.2)

@@ -2,7 +2,6 @@ use Rattle.std.proofs.Common.{◌-◌, length}
 use Rattle.legacy_decoder_engine.proofs.AheadRuns.{IsUnderWay}
 use Rattle.legacy_decoder_engine.proofs.drive.drive_decoder.Given as goal
 
--- the call is in progress, and the destination contains what was written
 abbrev pub invariant-loop-read : goal.invariant-loop-read
 invariant-loop-read g l = IsUnderWay g.T.Destination l.last (g.D.DecoderMoves.state l.fn.decoder) l.src l.fn.dst (g.D.DecoderMoves.state l.decoder) l.read l.dst
 

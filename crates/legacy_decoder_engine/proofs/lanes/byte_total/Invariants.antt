@@ -2,7 +2,6 @@ use Rattle.std.proofs.Common.{◌≡◌, ◌+◌, ◌-◌, ◌*◌, ◌/◌, ◌
 use Rattle.std.specs.List.{count_by}
 use Rattle.legacy_decoder_engine.proofs.lanes.byte_total.Given as goal
 
--- the bytes of the groups of eight so far are counted
 abbrev pub invariant-loop-group : goal.invariant-loop-group
 invariant-loop-group l = record {
   within : l.group ≤ l.count / 8;

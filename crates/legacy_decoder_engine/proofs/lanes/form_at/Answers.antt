@@ -1,14 +1,11 @@
-use Rattle.std.proofs.{Common.{[], ◌∷◌, get_or, sym, subst, arith}, lemmas.List.take_more}
-use Rattle.legacy_decoder_engine.specs.ReadAhead.{Runs}
+use Rattle.std.proofs.{Common.{arith}, lemmas.List.take_more}
 use Rattle.legacy_decoder_engine.proofs.WrittenRuns.{runs_byte}
 use Rattle.legacy_decoder_engine.proofs.lanes.form_at.Goals as goal
 
 pub returns-then-byte-lt128 : goal.returns-then-byte-lt128
-returns-then-byte-lt128 g c =
-    let src = c.args.src.now in
-    let grammar = g.C.LaneCodec.grammar c.args.tables.now.flat in (
-      omega arith,
-      omega (arith, c.requires.some),
-      subst (λ bytes. Runs grammar bytes (c.from.result ∷ [])) (sym (take_more src 0 0 c.requires.some))
-          (runs_byte c.requires.ascii (get_or src 0 0) c.from.result c.if-byte-lt128.true c.from.ensures),
-    )
+returns-then-byte-lt128 g c = (
+  omega arith,
+  omega (arith, c.requires.some),
+  rw (take_more c.args.src.now 0 0 c.requires.some)
+      (runs_byte c.requires.ascii _ _ c.if-byte-lt128.true c.from.ensures),
+)

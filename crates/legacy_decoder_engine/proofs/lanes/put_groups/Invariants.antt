@@ -2,7 +2,6 @@ use Rattle.std.proofs.Common.{ℕ, List, ◌-◌, ◌+◌, ◌*◌, ◌≤◌, l
 use Rattle.legacy_decoder_engine.specs.LaneCodes.{AreLanes, AreWritten}
 use Rattle.legacy_decoder_engine.proofs.lanes.put_groups.Given as goal
 
--- the groups of eight so far are written
 abbrev pub invariant-loop-group : goal.invariant-loop-group
 invariant-loop-group g l = record {
   within : l.group ≤ l.groups;

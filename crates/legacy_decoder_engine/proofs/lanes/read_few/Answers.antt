@@ -1,9 +1,6 @@
 use Rattle.std.proofs.{Common.{ℕ, arith}, lemmas.List.{length-take, length-drop}}
-use Rattle.legacy_decoder_engine.proofs.{JoinedRuns.reads_more, WrittenRuns.reads_none}
+use Rattle.legacy_decoder_engine.proofs.{JoinedRuns.reads_more}
 use Rattle.legacy_decoder_engine.proofs.lanes.read_few.Goals as goal
-
-pub loop-at-init : goal.loop-at-init
-loop-at-init g c = reads_none _ _ _ _
 
 pub returns-then-src-at-lt16-clause-ahead : goal.returns-then-src-at-lt16-clause-ahead
 returns-then-src-at-lt16-clause-ahead g c = reads_more (reads_more c.loop-at.invariant (c.read_ascii-ascii.ensures.ahead _ c.requires)) c.read_last.ensures
@@ -17,14 +14,16 @@ loop-at-preserved-then-begins_longer g c =
     reads_more (reads_more c.loop-at.invariant (c.read_ascii-ascii.ensures.ahead _ c.requires)) c.read_longer-longer.ensures
 
 pub returns-then-few-eq0-clause-ahead : goal.returns-then-few-eq0-clause-ahead
-returns-then-few-eq0-clause-ahead g c = reads_more (reads_more c.loop-at.invariant (c.read_ascii-ascii.ensures.ahead _ c.requires)) c.read_in_turn-few.ensures
+returns-then-few-eq0-clause-ahead g c =
+    reads_more (reads_more c.loop-at.invariant (c.read_ascii-ascii.ensures.ahead _ c.requires)) c.read_in_turn-few.ensures
 
 pub returns-then-saturating_add-delay-clause-ahead : goal.returns-then-saturating_add-delay-clause-ahead
 returns-then-saturating_add-delay-clause-ahead g c =
     reads_more (reads_more c.loop-at.invariant (c.read_ascii-ascii.ensures.ahead _ c.requires)) c.read_in_turn-few.ensures
 
 pub loop-at-preserved : goal.loop-at-preserved
-loop-at-preserved g c = reads_more (reads_more c.loop-at.invariant (c.read_ascii-ascii.ensures.ahead _ c.requires)) c.read_in_turn-few.ensures
+loop-at-preserved g c =
+    reads_more (reads_more c.loop-at.invariant (c.read_ascii-ascii.ensures.ahead _ c.requires)) c.read_in_turn-few.ensures
 
 pub loop-at-smaller : goal.loop-at-smaller
 loop-at-smaller g c = omega (arith, c.if-few-eq0.false, c.read_in_turn-few.ensures.within, length-take {A = ℕ}, length-drop {A = ℕ})

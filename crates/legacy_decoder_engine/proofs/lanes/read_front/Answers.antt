@@ -1,4 +1,4 @@
-use Rattle.std.proofs.{Common.{◌≡◌, ◌<◌, ◌≤◌, ◌∙◌, length, take, ap, arith}, lemmas.List.length-take}
+use Rattle.std.proofs.{Common.{◌≡◌, ◌≤◌, length, take, ap, arith}, lemmas.List.length-take}
 use Rattle.legacy_decoder_engine.specs.{PickedForms.forms_of}
 use Rattle.legacy_decoder_engine.proofs.{JoinedRuns.reads_front, LaneUnits.front_forms}
 use Rattle.legacy_decoder_engine.proofs.lanes.read_front.Goals as goal
@@ -9,22 +9,8 @@ returns-then-done-count-clause-ahead g c =
     let e = c.put_codes-done.ensures in
     let src = c.args.src.now in
     let done = c.put_codes-done.result in
-    let forms = forms_of (take done p.new.codes) in
-    let front = front_forms done p.result.0 p.result.1 p.new.codes src (omega (arith, e.most)) p.ensures.forms in
-    let bytes : c.byte_total.result ≡ length forms = omega (arith, e.writes.counted, c.byte_total.ensures) in
-    let read : take c.byte_total.result src ≡ forms = ap (λ n. take n src) bytes ∙ front in
-    let within : c.byte_total.result ≤ length src = omega (arith, bytes, ap length front, length-take (length forms) src) in
+    let bytes : c.byte_total.result ≡ length (forms_of (take done p.new.codes)) = omega (arith, e.writes.counted, c.byte_total.ensures) in
+    let read = rw (← bytes) at (front_forms done p.result.0 p.result.1 p.new.codes src (omega (arith, e.most)) p.ensures.forms) in
+    let within : c.byte_total.result ≤ length src = omega (arith, bytes, ap length read, length-take c.byte_total.result src) in
     reads_front within (rw read e.writes.writes)
     (λ h. e.slack (omega (arith, h, c.byte_total.ensures))) (λ h. e.had (omega (arith, h, c.byte_total.ensures)))
-
-pub returns-clause-ahead : goal.returns-clause-ahead
-returns-clause-ahead g c =
-    let p = c.pick_blocks-count in
-    let e = c.put_codes-done.ensures in
-    let src = c.args.src.now in
-    let done : c.put_codes-done.result ≡ p.result.0 = omega (arith, e.most, c.if-done-count.false) in
-    let read : forms_of (take c.put_codes-done.result p.new.codes) ≡ take p.result.1 src = ap (λ n. forms_of (take n p.new.codes)) done ∙ p.ensures.forms in
-    let some : 0 < p.result.1 → 0 < c.put_codes-done.result =
-    λ h. omega (arith, h, e.writes.counted, ap length read, length-take p.result.1 src, p.ensures.read) in
-    reads_front p.ensures.read (rw (← read) e.writes.writes)
-    (λ h. e.slack (some h)) (λ h. e.had (some h))

@@ -6,9 +6,7 @@ use Rattle.legacy_decoder_engine.proofs.lanes.read_last.Given as goal
 abbrev pub invariant-loop-at : goal.invariant-loop-at
 invariant-loop-at g l =
     let T = g.T.Destination in
-    (l.at ≤ length l.src)
-    × Writes T (g.C.LaneCodec.grammar l.blocks.tables.now.flat) (take l.at l.src) l.fn.dst l.dst
-    × (0 < l.at → 3 ≤ T.room l.dst)
+    (l.at ≤ length l.src) × Writes T (g.C.LaneCodec.grammar l.blocks.tables.now.flat) (take l.at l.src) l.fn.dst l.dst × (0 < l.at → 3 ≤ T.room l.dst)
     × (0 < l.at → 4 ≤ T.room l.fn.dst)
 
 abbrev pub decreases-loop-at : goal.decreases-loop-at

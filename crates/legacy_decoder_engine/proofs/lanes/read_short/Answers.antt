@@ -1,19 +1,10 @@
 use Rattle.std.proofs.{Common.{ℕ, arith}, lemmas.List.{length-take, length-drop}}
-use Rattle.legacy_decoder_engine.proofs.{JoinedRuns.reads_more, WrittenRuns.reads_none}
+use Rattle.legacy_decoder_engine.proofs.{JoinedRuns.reads_more}
 use Rattle.legacy_decoder_engine.proofs.lanes.read_short.Goals as goal
-
-pub loop-codes-init : goal.loop-codes-init
-loop-codes-init g c = reads_none _ _ _ _
 
 pub loop-codes-smaller : goal.loop-codes-smaller
 loop-codes-smaller g c =
-    omega (
-      arith,
-      c.read_front-read.ensures.goes_on c.if-not-goes_on.false,
-      c.read_front-read.ensures.ahead.within,
-      length-take {A = ℕ},
-      length-drop {A = ℕ},
-    )
+    let read = c.read_front-read.ensures in omega (arith, read.goes_on c.if-not-goes_on.false, read.ahead.within, length-take {A = ℕ}, length-drop {A = ℕ})
 
 pub loop-codes-preserved : goal.loop-codes-preserved
 loop-codes-preserved g c = reads_more c.loop-codes.invariant c.read_front-read.ensures.ahead

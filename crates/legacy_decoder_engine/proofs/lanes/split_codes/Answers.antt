@@ -1,5 +1,5 @@
-use Rattle.std.proofs.Common.{◌≡◌, ◌∙◌, ◌+◌, ◌-◌, ◌*◌, ◌<◌, ℕ, get_or, map, ap, subst, arith, inl, inr}
-use Rattle.std.proofs.lemmas.{Bool.cases_lt, List.map-id, Simd.{get_or-chunk, get_or-put_chunk_above}}
+use Rattle.std.proofs.Common.{◌∙◌, ◌+◌, ◌-◌, ◌*◌, ◌<◌, ◌≤◌, ℕ, get_or, length, map, arith}
+use Rattle.std.proofs.lemmas.{List.map-id, Simd.{get_or-chunk, get_or-put_chunk_above}}
 use Rattle.legacy_decoder_engine.specs.LaneCodes.{kept_of, place_of}
 use Rattle.legacy_decoder_engine.proofs.LaneUnits.{lane_is, next_eight_stored}
 use Rattle.legacy_decoder_engine.proofs.lanes.split_codes.Goals as goal
@@ -7,30 +7,21 @@ use Rattle.legacy_decoder_engine.proofs.lanes.split_codes.Goals as goal
 pub loop-group-preserved : goal.loop-group-preserved
 loop-group-preserved g c =
     let l = c.loop-group in
-    let old = c.args.codes.now in
-    let pointer = g.C.LaneCodec.place in
-    let e = c.kept_and_places.ensures in
     let i = l.invariant in
+    let e = c.kept_and_places.ensures in
+    let room : 8 * (l.group + 1) ≤ length l.codes = omega (arith, c.loop-group-test.true, c.requires.codes, l.auto.codes) in
+    let room' : 8 * (l.group + 1) ≤ length l.places = omega (arith, c.loop-group-test.true, c.requires.places, l.auto.places) in
     record {
       within = omega (arith, c.loop-group-test.true);
-      small = λ k h. elim (cases_lt k (8 * l.group)) [
-        | inl below ↦ i.small k below
-        | inr above ↦
-            let j = k - 8 * l.group in
-            let e : 8 * l.group + j ≡ k = omega arith in
-            let same = get_or-chunk (8 * l.group) 8 l.codes j 0 (omega arith) ∙ ap (λ n. get_or l.codes n 0) e ∙ i.rest k above in
-            subst (λ n. n < 65536) same (c.kept_and_places.ensures.small j (omega arith))
-      ];
+      small = λ k h.
+          let j : ℕ = k - 8 * l.group in
+          let loaded = get_or-chunk (8 * l.group) 8 l.codes j 0 in
+          grind (arith, loaded, i.small k, i.rest k, e.small j);
       rest = λ k h.
-          get_or-put_chunk_above (8 * l.group) l.codes c.kept_and_places.result.0 k 0 (omega (arith, h, c.kept_and_places.type_inv))
-          ∙ i.rest k (omega (arith, h));
-      keeps = next_eight_stored (kept_of pointer c.args.last) l.group old l.codes l.codes c.kept_and_places.result.0 e.kept
-          (omega (arith, c.loop-group-test.true, c.requires.codes, l.auto.codes))
-          (omega (arith, c.loop-group-test.true, c.requires.codes, l.auto.codes)) i.rest i.keeps;
-      finds = next_eight_stored (place_of pointer c.args.last) l.group old l.codes l.places
-          (map (λ (p : ℕ). p) c.kept_and_places.result.1) (map-id c.kept_and_places.result.1 ∙ e.places)
-          (omega (arith, c.loop-group-test.true, c.requires.codes, l.auto.codes))
-          (omega (arith, c.loop-group-test.true, c.requires.places, l.auto.places)) i.rest i.finds;
+          get_or-put_chunk_above (8 * l.group) l.codes _ k 0 (omega (arith, h, c.kept_and_places.type_inv)) ∙ i.rest k (omega (arith, h));
+      keeps = next_eight_stored (kept_of g.C.LaneCodec.place c.args.last) (8 * l.group) (8 * (l.group + 1)) c.args.codes.now l.codes l.codes _ (omega arith) e.kept room room i.rest i.keeps;
+      finds = next_eight_stored (place_of g.C.LaneCodec.place c.args.last) (8 * l.group) (8 * (l.group + 1)) c.args.codes.now l.codes l.places
+          (map (λ (p : ℕ). p) c.kept_and_places.result.1) (omega arith) (map-id c.kept_and_places.result.1 ∙ e.places) room room' i.rest i.finds;
     }
 
 pub returns-clause-lanes : goal.returns-clause-lanes

@@ -5,11 +5,10 @@ use Rattle.legacy_decoder_engine.proofs.picks.pick.Goals as goal
 
 pub loop-group-preserved : goal.loop-group-preserved
 loop-group-preserved c =
-    let i = c.loop-group.invariant in
     let l = c.loop-group in
     record {
       within = omega arith;
-      counted = omega (arith, c.put_codes-at.ensures.most, i.counted);
+      counted = omega (arith, c.put_codes-at.ensures.most, l.invariant.counted);
       picked = next_eight (code_at c.args.block.now) l.group l.left l.at c.put_codes-at.result l.codes c.put_codes-at.new.codes _
-          (omega arith) i.picked c.put_codes-at.ensures.written;
+          (omega arith) l.invariant.picked c.put_codes-at.ensures.written;
     }

@@ -10,9 +10,7 @@ returns-clause-forms c =
     let end = c.whole_forms-end.result in
     let most : end ≤ 64 = omega (arith, c.whole_forms-end.ensures.most, c.requires.most) in
     let before = take c.args.count c.args.codes.now in
-    ap forms_of c.pick.ensures.written
-    ∙ flat_map-append form_of before _
-    ∙ ap (λ ps. forms_of before ++ forms_of (map (code_at block) ps)) (below_end end starts most)
-    ∙ ap (λ (l : List ℕ). forms_of before ++ l)
+    ap forms_of c.pick.ensures.written ∙ flat_map-append form_of before _
+    ∙ ap (λ ps. forms_of before ++ forms_of (map (code_at block) ps)) (below_end end starts most) ∙ ap (λ (l : List ℕ). forms_of before ++ l)
     (picked block c.args.past starts end c.requires.read (λ j. let f = c.type_inv.block j in omega arith) c.requires.past c.requires.starts most
     c.whole_forms-end.ensures.end)

@@ -3,13 +3,12 @@ use Rattle.legacy_decoder_engine.proofs.PairPlaces.{read}
 use Rattle.legacy_decoder_engine.proofs.places.pair_pointer.Goals as goal
 
 pub returns : goal.returns
-returns c = λ lead_place trail_place leads trails.
+returns c lead_place trail_place leads trails =
     rw (
       c.from-2.ensures,
       c.from-4.ensures,
       c.from.ensures,
       c.from-3.ensures,
-      read _ lead_place leads c.args.lead
-          (omega arith),
+      read _ lead_place leads c.args.lead (omega arith),
       read _ trail_place trails c.args.trail (omega arith),
     ) refl

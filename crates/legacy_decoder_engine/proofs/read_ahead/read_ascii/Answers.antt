@@ -1,8 +1,5 @@
-use Rattle.legacy_decoder_engine.proofs.{JoinedRuns.reads_more, WrittenRuns.reads_none}
+use Rattle.legacy_decoder_engine.proofs.{JoinedRuns.reads_more}
 use Rattle.legacy_decoder_engine.proofs.read_ahead.read_ascii.Goals as goal
-
-pub returns-then-src-ge128-clause-ahead : goal.returns-then-src-ge128-clause-ahead
-returns-then-src-ge128-clause-ahead g c grammar law = reads_none _ _ _ _
 
 pub returns-clause-ahead : goal.returns-clause-ahead
 returns-clause-ahead g c grammar law =

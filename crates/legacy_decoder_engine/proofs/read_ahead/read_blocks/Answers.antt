@@ -1,8 +1,5 @@
-use Rattle.legacy_decoder_engine.proofs.{JoinedRuns.reads_more, WrittenRuns.reads_none}
+use Rattle.legacy_decoder_engine.proofs.{JoinedRuns.reads_more}
 use Rattle.legacy_decoder_engine.proofs.read_ahead.read_blocks.Goals as goal
-
-pub loop-at-init : goal.loop-at-init
-loop-at-init g c = reads_none _ _ _ _
 
 pub loop-at-preserved : goal.loop-at-preserved
 loop-at-preserved g c = reads_more c.loop-at.invariant c.read_block-read.ensures.ahead

@@ -3,7 +3,6 @@ use Rattle.legacy_base.specs.States.{new_state}
 use Rattle.legacy_decoder_engine.specs.ReadAhead.{ReadsAhead}
 use Rattle.legacy_decoder_engine.proofs.read_ahead.read_blocks.Given as goal
 
--- the scalars of the bytes read are written
 abbrev pub invariant-loop-at : goal.invariant-loop-at
 invariant-loop-at g l = ReadsAhead g.T.Destination (new_state (g.B.Blocks.grammar l.blocks)) l.src l.at l.fn.dst l.dst
 

@@ -1,9 +1,6 @@
 use Rattle.std.proofs.{Common.{ℕ, arith}, lemmas.List.{length-take, length-drop}}
-use Rattle.legacy_decoder_engine.proofs.{JoinedRuns.{reads_ascii, reads_more}, WrittenRuns.reads_none}
+use Rattle.legacy_decoder_engine.proofs.{JoinedRuns.{reads_ascii, reads_more}}
 use Rattle.legacy_decoder_engine.proofs.read_ahead.read_wide_blocks.Goals as goal
-
-pub loop-at-init : goal.loop-at-init
-loop-at-init g c = (omega arith, λ grammar law. reads_none _ _ _ _)
 
 pub returns-then-count-lt64-clause-ahead : goal.returns-then-count-lt64-clause-ahead
 returns-then-count-lt64-clause-ahead g c grammar law =

@@ -2,4 +2,4 @@ use Rattle.legacy_decoder_engine.proofs.LanePlaces.{leads_are}
 use Rattle.legacy_decoder_engine.proofs.split_rows.lead_places.Goals as goal
 
 pub returns : goal.returns
-returns c = leads_are c.args.lead c.args.leads c.args.width c.requires.leads c.requires.rows c.args.codes c.fits-codes.0 c.fits-codes.1
+returns c = leads_are _ _ _ c.requires.leads c.requires.rows _ c.fits-codes.0 c.fits-codes.1

@@ -2,4 +2,4 @@ use Rattle.legacy_decoder_engine.proofs.LanePlaces.{trails_are}
 use Rattle.legacy_decoder_engine.proofs.split_rows.trail_places.Goals as goal
 
 pub returns : goal.returns
-returns c = trails_are c.args.second c.args.last c.requires.gap c.requires.some c.requires.byte c.args.codes c.fits-codes.0 c.fits-codes.1
+returns c = trails_are _ _ c.requires.gap c.requires.some c.requires.byte _ c.fits-codes.0 c.fits-codes.1

@@ -1,8 +1,5 @@
-use Rattle.legacy_decoder_engine.proofs.{JoinedRuns.reads_more, WrittenRuns.reads_none}
+use Rattle.legacy_decoder_engine.proofs.{JoinedRuns.reads_more}
 use Rattle.legacy_decoder_engine.proofs.lanes.LaneBlocksBlocks.read_block.Goals as goal
-
-pub returns-then-begins_uncommon-clause-ahead : goal.returns-then-begins_uncommon-clause-ahead
-returns-then-begins_uncommon-clause-ahead g c = reads_none _ _ _ _
 
 pub returns-clause-ahead : goal.returns-clause-ahead
 returns-clause-ahead g c = reads_more c.read_lanes-at.ensures c.read_few-few.ensures.ahead
