@@ -10,8 +10,9 @@ use std::simd::prelude::*;
 
 /// Stores the codes of the forms in a block with many bytes past ASCII, from place `count` of a list on.
 ///
-/// Leaves out long ASCII at the end. Returns the place after the codes, and the number of bytes of the forms.
-// It is 0 if few bytes are past ASCII; half as many as at the beginning of a run are enough.
+/// Leaves out long ASCII at the end. Returns the place after the codes, and the number of bytes of the forms, which is at
+/// most `limit`. It is 0 if few of the first `limit` bytes are past ASCII.
+// Half as many as at the beginning of a run are enough.
 #[inline(always)]
 #[tactic(auto, using(crate::proofs::FormStarts::front_chunk))]
 fn pick_block<C: LaneCodec>(
@@ -75,7 +76,8 @@ fn padded(src: &[u8]) -> [u8; 72]
 
 /// Stores the codes of the forms in blocks with many bytes past ASCII at the front, a block for each 64 codes of room.
 ///
-/// The last bytes are copied before zeros. Returns the number of codes, and the number of bytes of their forms.
+/// It copies the last bytes of the input to an array with zeros after them. Returns the number of codes, and the number
+/// of bytes of their forms.
 #[inline(always)]
 pub fn pick_blocks<C: LaneCodec>(src: &[u8], codes: &mut [u16]) -> (usize, usize)
     ensures most { result.0 ≤ length codes.old }

@@ -19,6 +19,7 @@ pub enum CommonForm {
 
 /// The common forms of a codec, with nothing held back between two of them.
 pub trait CommonForms {
+    /// The grammar.
     ghost grammar: { Self → Grammar };
 
     /// What a form requires of the grammar.
@@ -27,7 +28,9 @@ pub trait CommonForms {
     /// The smallest number of bytes of four forms.
     const FOUR_AT_LEAST: usize = 4;
 
-    /// Returns what is at the front of the input, given its first two bytes: `Other` is left to the machine.
+    /// Returns what is at the front of the input, given a byte and the byte after it.
+    ///
+    /// It is a scalar up to U+FFFF, or `Other` for an uncommon form, which the machine reads.
     fn form(&self, first: u8, second: u8) -> CommonForm
         requires { ready self.now }
         ensures { IsCommonForm (grammar self.now) first second result };
@@ -89,7 +92,9 @@ impl<F: CommonForms> Forms for FormsInTurn<'_, F> {
     }
 }
 
-/// Reads common forms from the front of at most `most` bytes, up to an uncommon one. Returns the number of bytes read.
+/// Reads common forms from the front of at most `most` bytes, up to an uncommon one.
+///
+/// Returns the number of bytes read, which may be 0. If it reads any, three code units stay free.
 #[inline(always)]
 pub fn read_forms<F: CommonForms, T: Destination>(
     forms: &F,

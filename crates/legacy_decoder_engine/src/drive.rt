@@ -56,10 +56,13 @@ fn finish<D: DecoderMoves, T: Destination>(decoder: &mut D, dst: &T, last: bool)
     }
 }
 
-/// Runs one call of a decoder, and returns its result and the number of bytes read. With `last`, no input follows `src`.
+/// Runs one call of a decoder.
 ///
-/// The decoder makes its moves until the input is read, the output lacks room, or a malformed sequence is to be reported.
-/// Runs of common sequences are read ahead. A held-back scalar is written only at the beginning of a call.
+/// The decoder makes its moves until the input is read, the output lacks room, or a malformed
+/// sequence is to be reported. The result says which, with the number of bytes read from `src`. The
+/// scalars are in `dst`, after its earlier contents. With `last`, no input follows `src`. A
+/// held-back scalar that is to be written exists only at the beginning of a call. Runs of common
+/// sequences are read ahead of the moves.
 #[inline(always)]
 pub fn drive_decoder<D: DecoderMoves, T: Destination>(
     decoder: &mut D,

@@ -38,7 +38,9 @@ pub trait LaneCodec {
     fn is_uncommon(byte: u8) -> bool
         ensures { (tables : AcceptedIndexes) → HasAscii (grammar tables.flat) };
 
-    /// Returns what is at the front, given a byte past ASCII and the byte after it: `Other` is left to the machine.
+    /// Returns what is at the front of the input, given a byte past ASCII and the byte after it.
+    ///
+    /// It is a scalar up to U+FFFF, or `Other` for an uncommon form, which the machine reads.
     fn front(tables: &FlatTables<'_>, lead: u8, trail: u8) -> CommonForm
         requires { 0x80 ≤ lead }
         ensures { IsCommonForm (grammar tables.now.flat) lead trail result };
@@ -50,8 +52,9 @@ pub trait LaneCodec {
         false
     }
 
-    /// Returns how many of the first `end` bytes of a block are before a form of more than two bytes, given the bits of the
-    /// bytes past ASCII, and those of the leads if all forms past ASCII are pairs.
+    /// Returns how many of the first `end` bytes of a block are before a form of more than two bytes.
+    ///
+    /// It is given the bits of the bytes past ASCII, and those of the leads if all forms past ASCII are pairs.
     // A block is cut there, so that no code after it is picked and looked up for nothing.
     #[inline(always)]
     fn end_of_pairs(block: u8x64, past: u64, leads: u64, end: usize) -> usize
@@ -61,8 +64,9 @@ pub trait LaneCodec {
         end
     }
 
-    /// Reads forms of more than two bytes, and maybe ASCII between them, and returns the number of bytes read. `guess` is
-    /// what the codec keeps from one such form to the next.
+    /// Reads forms of more than two bytes from the front, and returns the number of bytes read, which may be 0.
+    ///
+    /// It may also read ASCII between them. `guess` is what the codec keeps from one such form to the next.
     #[inline(always)]
     #[tactic(auto, using(crate::proofs::WrittenRuns::no_bytes))]
     fn read_longer<T: Destination>(
@@ -80,7 +84,9 @@ pub trait LaneCodec {
         0
     }
 
-    /// Returns the scalar of the form of more than two bytes at the front, and the number of its bytes, or `None`.
+    /// Returns the scalar of the form of more than two bytes at the front, and the number of its bytes.
+    ///
+    /// Returns `None` if there is no such form. `guess` is what the codec keeps from one such form to the next.
     #[inline(always)]
     fn longer_at(tables: &FlatTables<'_>, guess: &Cell<usize>, src: &[u8]) -> Option<(char, usize)>
         ensures { IfSome result (λ form. (0 < form.1) × (form.1 ≤ length src.now)
@@ -98,6 +104,7 @@ pub trait LaneCodec {
         ensures pairs { (tables : AcceptedIndexes) → ArePairs (grammar tables.flat) (entries tables.flat) place }
         ensures wide { is_narrow_index result ≡ false → result ≡ names.Big5 };
 
+    /// Returns the places of eight codes.
     fn places(codes: u16x8) -> u16x8
         ensures { result ≡ map place codes };
 
@@ -132,7 +139,9 @@ fn kept_and_places<C: LaneCodec>(codes: u16x8, last: u16) -> (u16x8, u16x8)
     (known.select(first, u16x8::splat(0)), found.simd_min(end))
 }
 
-/// Stores what is kept of the codes in the first `groups` groups of eight over them, and the places of their entries.
+/// Stores what is kept of each of the codes over it, and the places of their entries.
+///
+/// It splits the codes in the first `groups` groups of eight, in an index whose last place is `last`.
 // This loop runs before the loop of the look-ups: to take a place out of a vector costs more than to load it. A place has
 // 32 bits, as the compiler joins loads of eight places of 16 bits into a vector, and takes each place out of it again.
 #[inline(always)]
@@ -182,7 +191,9 @@ fn known_count(units: u16x8) -> usize
     (zeros.trailing_zeros() as usize).min(8)
 }
 
-/// Returns the units of eight codes, with 0 for an uncommon one, from what is kept of them and the places of their entries.
+/// Returns the units of eight codes, with 0 for an uncommon code.
+///
+/// It is given what is kept of the codes, and the places of their entries.
 #[inline(always)]
 fn units_of<C: LaneCodec>(tables: &FlatTables<'_>, kept: &[u16], places: &[u32]) -> u16x8
     requires ascii { HasAscii (C.grammar tables.now.flat) }
@@ -197,7 +208,9 @@ fn units_of<C: LaneCodec>(tables: &FlatTables<'_>, kept: &[u16], places: &[u32])
     chosen(u16x8::from_slice(kept), entries)
 }
 
-/// Writes the codes in the first `groups` groups of eight, up to one with an uncommon code, and returns their number.
+/// Writes the codes in the first `groups` groups of eight, up to a group with an uncommon code.
+///
+/// It is given what is kept of the codes, and the places of their entries. Returns the number of groups written.
 #[inline(always)]
 #[tactic(auto, using(crate::proofs::WrittenRuns::no_bytes))]
 fn put_groups<C: LaneCodec, T: Destination>(
@@ -295,7 +308,9 @@ fn byte_total(kept: &[u16], count: usize) -> usize
     bytes + byte_count(last) - (8 - rest)
 }
 
-/// Reads forms in blocks with many bytes past ASCII, and returns the number of bytes read, and whether more may follow.
+/// Reads forms in blocks with many bytes past ASCII from the front, up to an uncommon one, or to the end of the room.
+///
+/// Returns the number of bytes read, and whether another block may follow.
 #[inline(always)]
 #[tactic(auto, using(crate::proofs::JoinedRuns::reads_front, crate::proofs::LaneUnits::front_forms))]
 fn read_front<C: LaneCodec, T: Destination>(
@@ -337,6 +352,9 @@ fn read_any_longer<C: LaneCodec, T: Destination>(
 }
 
 /// Returns whether many of the first 64 bytes are past ASCII, or of the first 16 if there are fewer than 64.
+///
+/// Returns false if there are fewer than 16 bytes, if the 64 have forms of one byte past ASCII, or if a form of more than
+/// two bytes is at the front.
 // Four bytes tell most pieces of ASCII apart, before many are counted.
 #[inline(always)]
 fn begins_many<C: LaneCodec>(src: &[u8]) -> bool {
@@ -355,6 +373,8 @@ fn begins_many<C: LaneCodec>(src: &[u8]) -> bool {
 }
 
 /// Reads blocks with many bytes past ASCII from the front, four at a time, and forms of more than two bytes among them.
+///
+/// Returns the number of bytes read, which may be 0.
 // A load of codes that were stored in parts waits for these stores. All of four blocks are stored before it.
 #[inline(always)]
 #[tactic(auto, using(crate::proofs::WrittenRuns::no_bytes))]
@@ -381,7 +401,7 @@ fn read_long<C: LaneCodec, T: Destination>(
     }
 }
 
-/// Reads blocks with many bytes past ASCII from the front, and returns the number of bytes read.
+/// Reads blocks with many bytes past ASCII from the front, and returns the number of bytes read, which may be 0.
 // Most runs of such blocks between tags are short: the larger arrays are made after a few blocks.
 #[inline(always)]
 #[tactic(auto, using(crate::proofs::WrittenRuns::no_bytes))]
@@ -437,6 +457,8 @@ fn begins_uncommon<C: LaneCodec>(src: &[u8]) -> bool
 }
 
 /// Returns whether an uncommon byte follows the form at the front, which is taken to be one ASCII byte or two bytes.
+///
+/// Returns false if there are fewer than three bytes.
 #[inline(always)]
 fn stands_alone<C: LaneCodec>(src: &[u8]) -> bool {
     if src.len() < 3 {
@@ -464,6 +486,7 @@ struct LaneForms<'a, C: LaneCodec> {
 }
 
 impl<'a, C: LaneCodec> LaneForms<'a, C> {
+    /// Returns the common forms over these tables.
     #[inline(always)]
     fn new(tables: &FlatTables<'a>) -> LaneForms<'a, C>
         ensures { result.tables.flat ≡ tables.now.flat }
@@ -517,7 +540,9 @@ pub struct LaneBlocks<'a, 'b, C: LaneCodec> {
 }
 
 impl<'a, 'b, C: LaneCodec> LaneBlocks<'a, 'b, C> {
-    /// Returns the blocks over these tables, and what the codec keeps from one form of more than two bytes to the next.
+    /// Returns the blocks over these tables.
+    ///
+    /// `guess` is what the codec keeps from one form of more than two bytes to the next, if it has such forms.
     #[inline(always)]
     pub fn new(tables: &'a FlatTables<'b>, guess: &'a Cell<usize>) -> LaneBlocks<'a, 'b, C>
         ensures { result.tables.now ≡ tables.now }
@@ -593,8 +618,9 @@ fn read_last<C: LaneCodec, T: Destination>(
     at
 }
 
-/// Reads ASCII by blocks and other forms one by one, up to an uncommon form or to many forms. Returns the number of bytes
-/// read, and whether a block with many bytes past ASCII may follow.
+/// Reads ASCII by blocks and other forms one by one from the front, up to an uncommon form or to many forms.
+///
+/// Returns the number of bytes read, and whether a block with many bytes past ASCII may follow.
 // Most runs of pairs between tags are short, and lanes are no faster in them. Forms are counted since the last long ASCII.
 #[inline(always)]
 #[tactic(auto, using(crate::proofs::WrittenRuns::no_bytes))]
@@ -657,7 +683,7 @@ impl<C: LaneCodec> Blocks for LaneBlocks<'_, '_, C> {
     }
 }
 
-/// Reads the form at the front, and returns the number of bytes read.
+/// Reads the form at the front, and returns the number of bytes read, which is 0 if the form is uncommon.
 #[inline(always)]
 fn read_alone<C: LaneCodec, T: Destination>(
     tables: &FlatTables<'_>,
@@ -672,6 +698,8 @@ fn read_alone<C: LaneCodec, T: Destination>(
 }
 
 /// Reads blocks of a codec from the front, but nothing at an uncommon byte, and one form if an uncommon byte follows it.
+///
+/// Returns the number of bytes read, which may be 0. If it reads any, three code units stay free.
 // Malformed sequences often follow one another, or have a single form between them. Neither costs a call.
 #[inline(always)]
 #[tactic(auto, using(crate::proofs::WrittenRuns::no_bytes))]

@@ -17,7 +17,9 @@ pub fn malformed_through(length: u8) -> Fed
     }
 }
 
-/// Reads the first byte of a sequence, given it as a lead or `None`: ASCII, a lead to hold back, or malformed.
+/// Reads the first byte of a sequence, given the byte as a lead or `None`.
+///
+/// ASCII is its own scalar, a lead is held back, and any other byte is malformed.
 #[inline]
 pub fn read_first<L: Copy>(byte: u8, lead: Option<L>) -> (Fed, Option<L>)
     ensures { (is_lead : ℕ → Bool) (byte_of : L → ℕ) → IsLeadOf is_lead byte_of byte lead
@@ -32,7 +34,10 @@ pub fn read_first<L: Copy>(byte: u8, lead: Option<L>) -> (Fed, Option<L>)
     }
 }
 
-/// Reads the trail after a lead, given the scalar of the pair or `None`; then an ASCII trail is left unread.
+/// Reads the trail after a lead, given the scalar of the pair or `None`.
+///
+/// If the pair has no scalar, an ASCII trail is left unread and the lead alone is malformed. If the
+/// trail is not ASCII, both are malformed.
 #[inline]
 pub fn read_trail(scalar: Option<char>, trail: u8) -> Fed
     ensures { (lead : ℕ) → Took (trail_step 1 (option_to_list scalar) trail) (lead ∷ []) trail result [] }

@@ -20,8 +20,10 @@ pub trait LeadCodec: LaneCodec {
     /// A byte that begins a form of two bytes and is held back.
     type Lead: Copy;
 
+    /// Which bytes are leads.
     ghost is_lead: { ℕ → Bool };
 
+    /// The byte of a lead.
     ghost byte_of: { Self.Lead → ℕ };
 
     /// The step at the first byte of a form.
@@ -101,6 +103,7 @@ impl<'a, C: LeadCodec> LeadDecoder<'a, C> {
         self.held.is_none()
     }
 
+    /// Returns the number of held-back bytes.
     #[inline]
     fn held_count(&self) -> usize
         ensures { result ≡ length (held_bytes C.byte_of self.now.held) }

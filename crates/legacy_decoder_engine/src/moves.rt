@@ -28,16 +28,23 @@ pub enum Fed {
     One(char),
     /// It completed a sequence with these two scalars, in this order.
     Two(char, char),
-    /// A malformed sequence of `length` bytes, with `back` bytes held back after it; if `unread`, the byte was not read.
+    /// A malformed sequence of `length` bytes, with `back` bytes held back after it.
+    ///
+    /// If `unread` is true, the byte was not read.
     MalformedSequence { length: u8, back: u8, unread: bool },
 }
 
-/// The moves of a decoder, of which `drive` makes its calls: the Standard's handler, with the room that each move needs.
+/// The moves of a decoder, of which `drive` makes its calls.
+///
+/// They are the Standard's handler of the decoder (Encoding Standard, section "Encoders and
+/// decoders"), with the room in the output that each move needs.
 pub trait DecoderMoves {
     /// The grammar and the held-back bytes.
     ghost state: { Self → DecoderState };
 
     /// Returns whether no held-back scalar is to be written first. Nothing changes.
+    ///
+    /// In every state, the held-back bytes are those that the codec may hold back.
     fn rests(&self) -> bool
         ensures is { result ≡ rests (state self.now).grammar (state self.now).held }
         ensures allowed { may_hold (state self.now).grammar (state self.now).held ≡ true };
@@ -47,12 +54,16 @@ pub trait DecoderMoves {
         ensures units { (form : EncodingForm) → room_units form result ≡ read_room form (state self.now) byte }
         ensures covered { IsCovered (state self.now) };
 
-    /// Returns the room that writing a held-back scalar needs, or a report at the end of the input. Nothing changes.
+    /// Returns the room that writing a held-back scalar needs, or a report at the end of the input.
+    ///
+    /// Nothing changes.
     fn release_room(&self) -> Room
         ensures units { (form : EncodingForm) → room_units form result ≡ release_room_in form (state self.now).grammar }
         ensures covered { IsCovered (state self.now) };
 
-    /// Removes and returns the held-back scalar that is to be written first, or `None`.
+    /// Removes and returns the held-back scalar that is to be written first.
+    ///
+    /// Returns `None` if there is none.
     fn release(&mut self) -> Option<char>
         ensures { MatchOption result (rests (state self.old).grammar (state self.old).held ≡ true)
             (λ c. Releases (state self.old) (state self.new) c) };
@@ -67,14 +78,18 @@ pub trait DecoderMoves {
         ensures some { result ≡ true → events_of (state self.now).grammar (state self.now).held ≢ [] }
         ensures none { result ≡ false → events_of (state self.now).grammar (state self.now).held ≡ [] };
 
-    /// Reports the malformed sequence at the end of the input, if there is one: its length in bytes, and the number of
-    /// bytes after it, which are still held back.
+    /// Reports the malformed sequence at the end of the input.
+    ///
+    /// Returns its length in bytes and the number of bytes after it, which are still held back.
+    /// Returns `None` if there is nothing to report.
     fn report(&mut self) -> Option<(u8, u8)>
         requires { rests (state self.old).grammar (state self.old).held ≡ true }
         ensures { MatchOption result (events_of (state self.old).grammar (state self.old).held ≡ [])
             (λ report. Reports (state self.old) (state self.new) report.0 report.1) };
 
-    /// Returns true only if the byte is malformed by itself when nothing is held back, and maybe false for such a byte.
+    /// Returns true only if the byte is malformed by itself when nothing is held back.
+    ///
+    /// It may return false for such a byte. Nothing changes.
     #[inline(always)]
     fn is_malformed_byte(&self, byte: u8) -> bool
         ensures { result ≡ true → IsMalformedByte (state self.now) byte }
@@ -83,9 +98,11 @@ pub trait DecoderMoves {
         false
     }
 
-    /// Reads a run of common sequences from the front of the input or a part of it, and returns the number of bytes read.
+    /// Reads a run of common sequences from the front of the input and writes their scalars.
     ///
-    /// It reads only if at least four code units are free, and leaves three, so that no act would have lacked room.
+    /// Returns the number of bytes read, which may be any part of the run. The decoder changes only with bytes that
+    /// switch its mode. It reads only if at least four code units are free, and leaves three, so that no act of the
+    /// machine would have lacked room. A decoder without common sequences reads nothing.
     #[inline(always)]
     #[tactic(auto, using(crate::proofs::WrittenRuns::no_bytes))]
     fn read_runs<T: Destination>(&mut self, src: &[u8], dst: &mut T) -> usize
@@ -95,9 +112,10 @@ pub trait DecoderMoves {
         0
     }
 
-    /// Holds back any bytes from the front of the input, and returns their number.
+    /// Holds back bytes from the front of the input, and returns their number.
     ///
-    /// They are read as by `feed`, one after another; each gives nothing and has its room.
+    /// The result may be any part of them. They are read as by `feed`, one after another; each
+    /// gives nothing and has its room.
     #[inline(always)]
     #[tactic(auto, using(crate::proofs::CallUnderWay::holds_none))]
     fn hold_back<T: Destination>(&mut self, src: &[u8], dst: &T) -> usize

@@ -22,7 +22,9 @@ pub fn past_ascii(block: u8x64) -> u64
     block.simd_ge(u8x64::splat(0x80)).to_bitmask()
 }
 
-/// Returns the number of ASCII bytes from a place of a block on, given the bits of those past ASCII, or 64 if none is set.
+/// Returns the number of ASCII bytes at the front, given the bits of those past ASCII from there on.
+///
+/// They are the bytes of a block from any place on. The number is 64 if no bit is set.
 #[inline(always)]
 #[tactic(auto, using(crate::proofs::FormStarts::ascii_before, crate::proofs::FormStarts::past_at))]
 pub fn ascii_front(past: u64) -> usize

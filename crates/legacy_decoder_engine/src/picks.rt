@@ -42,7 +42,9 @@ fn row_of(rows: &[[u8; 16]; 256], starts: u8) -> u8x16
     u8x16::from_array(rows[usize::from(starts)])
 }
 
-/// Returns the codes of two bytes, the first one low, at the starts among the first eight places, and then any codes.
+/// Returns the codes of two bytes, the first one low, at those of the first eight places that are starts.
+///
+/// Codes without meaning fill the rest of the eight.
 #[inline(always)]
 fn codes_at(bytes: u8x16, starts: u8) -> u16x8
     ensures long { length result ≡ 8 }
@@ -52,8 +54,9 @@ fn codes_at(bytes: u8x16, starts: u8) -> u16x8
     u16x8::from_le_bytes(bytes.swizzle_dyn(row))
 }
 
-/// Stores the codes at the starts among eight places of a block, from place `at` of a list on, and returns the place after
-/// them. Any codes fill the rest of the eight.
+/// Stores the codes at those of eight places of a block that are starts, from place `at` of a list on.
+///
+/// Codes without meaning fill the rest of the eight. Returns the place after the codes at starts.
 #[inline(always)]
 #[tactic(auto, using(crate::proofs::Picking::codes_stored))]
 fn put_codes(block: &[u8], from: usize, starts: u8, codes: &mut [u16], at: usize) -> usize
@@ -67,7 +70,9 @@ fn put_codes(block: &[u8], from: usize, starts: u8, codes: &mut [u16], at: usize
     at + usize::from(starts).count_ones() as usize
 }
 
-/// Stores the codes at the starts among 64 places, from place `count` of a list on, and returns the place after them.
+/// Stores the codes at those of the first 64 places of a block that are starts, from place `count` of a list on.
+///
+/// Returns the place after them.
 #[inline(always)]
 #[tactic(auto, using(crate::proofs::Picking::no_more))]
 fn pick(block: &[u8], starts: u64, codes: &mut [u16], count: usize) -> usize
@@ -103,7 +108,8 @@ fn whole_forms(past: u64, starts: u64, limit: usize) -> usize
 
 /// Stores the codes of the forms that end in the first `limit` bytes of a block, from place `count` of a list on.
 ///
-/// Returns the place after the codes, and the number of bytes of the forms.
+/// It is given the bits of the bytes past ASCII and of the starts of forms. Returns the place after the codes, and the
+/// number of bytes of the forms.
 #[inline(always)]
 pub fn pick_forms(
     block: &[u8],

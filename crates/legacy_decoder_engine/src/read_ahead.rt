@@ -9,6 +9,7 @@ use legacy_base::Destination;
 
 /// Forms that follow one another, with nothing held back between two of them.
 pub trait Forms {
+    /// The grammar.
     ghost grammar: { Self → Grammar };
 
     /// What a run requires of the grammar.
@@ -30,6 +31,8 @@ pub trait Forms {
         ensures few { result ≤ units };
 
     /// Reads at most `most` forms, up to an uncommon one, and returns the number of bytes read.
+    ///
+    /// The input has bytes for `most` forms, and the output has room for them and three more code units.
     fn read_forms<T: Destination>(&self, src: &[u8], dst: &mut T, most: usize) -> usize
         requires ready { ready self.now }
         requires source { most_bytes * most ≤ length src.now }
@@ -39,7 +42,9 @@ pub trait Forms {
         ensures slack { T.room dst.old ≤ T.room dst.new + most_units * most };
 }
 
-/// Reads a run of forms from the front, up to an uncommon one, and returns the number of bytes read.
+/// Reads a run of forms from the front, up to an uncommon one, and returns the number of bytes read, which may be 0.
+///
+/// If it reads any, three code units stay free.
 // Four at a time: the compiler unrolls a loop of that size, so each place has its own branches, and the processor
 // predicts each of them by its own history.
 #[inline(always)]
@@ -66,6 +71,8 @@ pub fn read_run<F: Forms, T: Destination>(forms: &F, src: &[u8], dst: &mut T) ->
 }
 
 /// Reads the form at the front, and returns the number of bytes read.
+///
+/// Returns 0 if the form is uncommon, if the input may be too short for it, or if three code units may not stay free.
 #[inline(always)]
 #[tactic(auto, using(crate::proofs::WrittenRuns::no_bytes, crate::proofs::JoinedRuns::reads_written, crate::proofs::Turns::one_turn))]
 pub fn read_one<F: Forms, T: Destination>(forms: &F, src: &[u8], dst: &mut T) -> usize
@@ -79,11 +86,16 @@ pub fn read_one<F: Forms, T: Destination>(forms: &F, src: &[u8], dst: &mut T) ->
     forms.read_forms(src, dst, 1)
 }
 
-/// Blocks that follow one another, with nothing held back between two of them. For each, room is tested once.
+/// Blocks that follow one another, with nothing held back between two of them.
+///
+/// A block is a number of bytes or forms for which room is tested once.
 pub trait Blocks {
+    /// The grammar.
     ghost grammar: { Self → Grammar };
 
-    /// Reads the block at the front or a part of it, and returns the number of bytes read, and whether another may follow.
+    /// Reads the block at the front, a part of it, or nothing.
+    ///
+    /// Returns the number of bytes read, and whether another block may follow.
     fn read_block<T: Destination>(&self, src: &[u8], dst: &mut T) -> (usize, bool)
         ensures ahead { ReadsAhead T.Destination (new_state (grammar self.now)) src.now result.0 dst.old dst.new }
         ensures goes_on { result.1 ≡ true → 0 < result.0 };
@@ -105,8 +117,9 @@ pub fn read_blocks<B: Blocks, T: Destination>(blocks: &B, src: &[u8], dst: &mut 
     }
 }
 
-/// Reads ASCII from the front by blocks of 64 bytes, but none that ends fewer than 64 bytes before the end. Returns the
-/// number of bytes read, and whether all of them were whole blocks.
+/// Reads ASCII from the front by blocks of 64 bytes, but no block that ends fewer than 64 bytes before the end.
+///
+/// Returns the number of bytes read, which may be 0, and whether all of them were whole blocks.
 #[inline(always)]
 #[tactic(auto, using(crate::proofs::WrittenRuns::no_bytes))]
 fn read_wide_blocks<T: Destination>(src: &[u8], dst: &mut T) -> (usize, bool)
@@ -135,7 +148,9 @@ fn read_short_blocks<T: Destination>(src: &[u8], dst: &mut T) -> usize
     dst.copy_ascii(&src[..most])
 }
 
-/// Reads ASCII from the front by blocks, and returns the number of bytes read.
+/// Reads ASCII from the front by blocks, and returns the number of bytes read, which may be 0.
+///
+/// If it reads any, three code units stay free.
 // The byte after a malformed sequence is often past ASCII. No block is begun there.
 #[inline(always)]
 #[tactic(auto, using(crate::proofs::WrittenRuns::no_bytes))]

@@ -1,4 +1,5 @@
 //! The pointers of eight codes by lanes, in an index with one row for each lead.
+// Always inlined: a call would pass the vectors through memory.
 ghost use Rattle.std.specs.Prelude.{◌≡◌, ◌+◌, ◌*◌, ◌<◌, map};
 ghost use Rattle.legacy_decoder_engine.specs.LaneRows.{row_place};
 

@@ -1,4 +1,5 @@
 //! The places of eight leads and of eight trails by lanes, for trails with a gap. Their saturating sum is the pointer.
+// Always inlined: a call would pass the vectors through memory.
 ghost use Rattle.std.specs.Prelude.{◌≡◌, ◌+◌, ◌-◌, ◌*◌, ◌<◌, ◌≤◌, ℕ, List, map, min};
 ghost use Rattle.legacy_decoder_engine.specs.SplitRows.{lead_place_of, trail_place_of};
 
