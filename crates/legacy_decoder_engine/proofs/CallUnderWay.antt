@@ -1,7 +1,8 @@
 -- The moves of a decoder make a call.
 use Rattle.std.proofs.Common.{◌≡◌, ◌≢◌, ◌∙◌, ℕ, zero, suc, ◌+◌, ◌-◌, ◌≤◌, ◌<◌, List, [], ◌∷◌, ◌++◌, length, map, get_or, take, drop, refl, ap, subst, arith}
 use Rattle.std.proofs.Common.{add-zero, add-one, append-nil, drop-cons, drop_of_length-le, length-append, length-drop, Bool, true, false, IsTrue, Some, None}
-use Rattle.std.proofs.{Common.{Option, ◌⊎◌, inl, inr, All}, lemmas.List.{map-append, drop-drop, nil_from_length}, lemmas.List.Elements.{All-append, All-nil, All-cons}}
+use Rattle.std.proofs.{Common.{Option, ◌⊎◌, inl, inr, All}, lemmas.List.{map-append, drop-drop, nil_from_length}}
+use Rattle.std.proofs.lemmas.List.Elements.{All-append, All-nil, All-cons}
 use Rattle.std.proofs.{Math.Nat.sub-zero, lemmas.Bool.{true≢false}, lemmas.Bool.Decides.nat_tests}
 use Rattle.std.specs.Char.{IsScalar}
 use Rattle.legacy_text.specs.EncodingForm.{EncodingForm, unit_count, total_unit_count}
@@ -73,7 +74,8 @@ module _ {form : EncodingForm} {last : Bool} where
   pub going_release : {before : DecoderState} {source : List ℕ} {free : ℕ} {now : DecoderState} {c : ℕ} → rests before.grammar before.held ≡ false
       → release_room_in form before.grammar ≤ free → Releases before now c → Going form last before source free now 0 (c ∷ [])
   going_release {before} {source} {free} {now} {c} r enough h =
-      grind (arith, behind before [] h.passed now [] (Scalar c ∷ []) source h.progress, HadRooms-released, All-cons, All-nil, room_needed-release, length-append)
+      grind (arith, behind before [] h.passed now [] (Scalar c ∷ []) source h.progress, HadRooms-released, All-cons, All-nil,
+      room_needed-release, length-append)
 
   fed_going : {before : DecoderState} {byte : ℕ} {rest : List ℕ} {free : ℕ} {next : DecoderState} (fed : Fed) → rests before.grammar before.held ≡ true
       → Feeds before byte next fed → (RevealsMalformed fed → ⊥) → read_room form before byte ≤ free

@@ -1,7 +1,8 @@
 -- The runs of the single-byte decoders.
 use Rattle.std.proofs.Common.{rules, IsAscii, ◌≡◌, ◌∙◌, ℕ, List, ◌+◌, ◌-◌, ◌≤◌, ◌<◌, ◌^◌, ◌++◌, zero, suc, length, take, drop, get_or}
 use Rattle.std.proofs.Common.{cond, ltb, Some, refl, ap}
-use Rattle.std.proofs.{Common.{arith, All, set, inl, inr}, lemmas.Bool.{Decides.nat_tests, cases_lt}, lemmas.List.{get_or_past, get_or-set_same, get_or-set_other}}
+use Rattle.std.proofs.{Common.{arith, All, set, inl, inr}, lemmas.Bool.{Decides.nat_tests, cases_lt}}
+use Rattle.std.proofs.lemmas.List.{get_or_past, get_or-set_same, get_or-set_other}
 use Rattle.std.proofs.{lemmas.List.{take_all, take_more, take-take, get_or-take, get_or-drop, length-drop, length-take}, lemmas.List.Elements.All-from_get_or}
 use Rattle.std.specs.Char.{IsScalar}
 use Rattle.legacy_text.specs.{declared.destination.Destination.Ghosts, EncodingForm.{all_code_units, total_unit_count}}
