@@ -47,7 +47,7 @@ module _ (table : AcceptedTable) where
 
   -- ---- ASCII, and single bytes past it
 
-  module _ {D : Type 0} (T : Ghosts D) (source : List ℕ) (at n : ℕ) (old mid new : D) (few : at + n ≤ 64) (long : at + 64 ≤ length source) where
+  module _ {D : Type 0} (T : Ghosts D) (source : List ℕ) (at : ℕ) {n : ℕ} {old mid new : D} (few : at + n ≤ 64) (long : at + 64 ≤ length source) where
     -- the ASCII bytes at a place were written after what was read
     pub ascii_next : Writes T (single_byte table.entries) (take at source) old mid →
         ((k : ℕ) → k < n → at + k < 64 → get_or source (at + k) 0 < 128) →
@@ -109,7 +109,7 @@ pub one_more : (P : ℕ → ℕ → Type 0) (table entries : List ℕ) (n entry 
     ((k : ℕ) → k < n → P (get_or table k 0) (get_or entries k 0)) → P (get_or table n 0) entry →
     (k : ℕ) → k < n + 1 → P (get_or table k 0) (get_or (set entries n entry) k 0)
 one_more P table entries n entry within before one k h = elim (cases_lt k n) [
-    inl less ↦ rw (get_or-set_other entries n k entry 0 (λ same. omega (arith, less, same))) (before k less)
+  | inl less ↦ rw (get_or-set_other entries n k entry 0 (λ same. omega (arith, less, same))) (before k less)
   | inr most ↦ let same : k ≡ n = omega (arith, h, most) in rw (same, get_or-set_same entries n entry 0 within) one
 ]
 

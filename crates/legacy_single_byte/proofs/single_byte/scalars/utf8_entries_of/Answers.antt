@@ -17,6 +17,8 @@ loop-place-preserved c =
     let back : 0x80 + n - 0x80 ≡ n = omega arith in
     let is : c.from_u32_unchecked.result ≡ get_or table n 0 =
     c.from_u32_unchecked.ensures ∙ c.from-entry.ensures ∙ c.entry_of.ensures.1 (omega arith) ∙ ap (λ k. get_or table k 0) back in
-    let one = subst (λ x. IsUtf8Entry x c.utf8_entry.result) is c.utf8_entry.ensures in
-    (omega (arith, c.loop-place-test.true), length-set c.loop-place.entries n c.utf8_entry.result ∙ i.1,
-    one_more IsUtf8Entry table c.loop-place.entries n c.utf8_entry.result (omega (arith, i.1, c.loop-place-test.true)) i.2 one)
+    let one = subst (λ x. IsUtf8Entry x c.utf8_entry.result) is c.utf8_entry.ensures in (
+      omega (arith, c.loop-place-test.true),
+      length-set c.loop-place.entries n c.utf8_entry.result ∙ i.1,
+      one_more IsUtf8Entry table c.loop-place.entries n c.utf8_entry.result (omega (arith, i.1, c.loop-place-test.true)) i.2 one,
+    )

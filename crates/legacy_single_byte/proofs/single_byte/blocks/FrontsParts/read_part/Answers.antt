@@ -18,10 +18,8 @@ returns-then-at-gt0-clause-ahead g c =
     let i = c.loop-at.invariant in
     let n = c.min-count.ensures in
     let e = c.put_block.ensures in
-    let src = c.args.src.now in
-    let front = ascii_next c.args.self.now.scalars.now.table.now g.T.Destination src c.loop-at.at c.min-count.result c.args.dst.now c.loop-at.dst
-    c.put_block.new.self (omega (arith, n, i.within, i.most)) i.long i.writes
-    (λ k h. c.ascii_front.ensures.ascii src c.loop-at.at i.past k (omega (arith, h, n))) e.contents e.room e.loan in
+    let front = ascii_next c.args.self.now.scalars.now.table.now g.T.Destination _ _ (omega (arith, n, i.within, i.most)) i.long i.writes
+    (λ k h. c.ascii_front.ensures.ascii c.args.src.now c.loop-at.at i.past k (omega (arith, h, n))) e.contents e.room e.loan in
     reads_front (omega (arith, n, i.within, i.most, i.long)) front (λ h. omega (arith, n, e.room, i.room, i.within, i.most))
     (λ h. omega (arith, c.requires.room))
 
@@ -30,10 +28,8 @@ returns-in-None-clause-ahead g c =
     let i = c.loop-at.invariant in
     let n = c.min-count.ensures in
     let e = c.put_block.ensures in
-    let src = c.args.src.now in
-    let front = ascii_next c.args.self.now.scalars.now.table.now g.T.Destination src c.loop-at.at c.min-count.result c.args.dst.now c.loop-at.dst
-    c.put_block.new.self (omega (arith, n, i.within, i.most)) i.long i.writes
-    (λ k h. c.ascii_front.ensures.ascii src c.loop-at.at i.past k (omega (arith, h, n))) e.contents e.room e.loan in
+    let front = ascii_next c.args.self.now.scalars.now.table.now g.T.Destination _ _ (omega (arith, n, i.within, i.most)) i.long i.writes
+    (λ k h. c.ascii_front.ensures.ascii c.args.src.now c.loop-at.at i.past k (omega (arith, h, n))) e.contents e.room e.loan in
     reads_front (omega (arith, n, i.within, i.most, i.long)) front (λ h. omega (arith, n, e.room, i.room, i.within, i.most))
     (λ h. omega (arith, c.requires.room))
 
@@ -58,39 +54,31 @@ put_entry-requires g c =
 
 pub returns-then-at-end-2-clause-ahead : goal.returns-then-at-end-2-clause-ahead
 returns-then-at-end-2-clause-ahead g c =
-    let T = g.T.Destination in
     let i = c.loop-at.invariant in
     let n = c.min-count.ensures in
     let e = c.put_block.ensures in
     let p = c.put_entry.ensures in
-    let x = c.in-Some.scalar in
-    let src = c.args.src.now in
-    let at = c.loop-at.at + c.min-count.result in
-    let front = ascii_next c.args.self.now.scalars.now.table.now T src c.loop-at.at c.min-count.result c.args.dst.now c.loop-at.dst
-    c.put_block.new.self (omega (arith, n, i.within, i.most)) i.long i.writes
-    (λ k h. c.ascii_front.ensures.ascii src c.loop-at.at i.past k (omega (arith, h, n))) e.contents e.room e.loan in
+    let front = ascii_next c.args.self.now.scalars.now.table.now g.T.Destination _ _ (omega (arith, n, i.within, i.most)) i.long i.writes
+    (λ k h. c.ascii_front.ensures.ascii c.args.src.now c.loop-at.at i.past k (omega (arith, h, n))) e.contents e.room e.loan in
     reads_front (omega (arith, n, i.within, i.most, c.requires.source))
-    (writes_one T src at x (omega (arith, n, i.within, i.most, c.requires.source)) front c.in-Some.ensures.single.1 p.contents p.room p.loan)
-    (λ h. omega (arith, n, e.room, p.room, short T.form x c.in-Some.ensures.single.0, i.room, i.within, i.most)) (λ h. omega (arith, c.requires.room))
+    (writes_one g.T.Destination _ _ c.in-Some.scalar (omega (arith, n, i.within, i.most, c.requires.source)) front c.in-Some.ensures.single.1
+    p.contents p.room p.loan)
+    (λ h. omega (arith, n, e.room, p.room, short g.T.Destination.form c.in-Some.scalar c.in-Some.ensures.single.0, i.room, i.within, i.most)) (λ h. omega (arith, c.requires.room))
 
 pub loop-at-preserved : goal.loop-at-preserved
 loop-at-preserved g c =
-    let T = g.T.Destination in
     let i = c.loop-at.invariant in
     let n = c.min-count.ensures in
     let e = c.put_block.ensures in
     let p = c.put_entry.ensures in
-    let x = c.in-Some.scalar in
-    let src = c.args.src.now in
-    let at = c.loop-at.at + c.min-count.result in
-    let front = ascii_next c.args.self.now.scalars.now.table.now T src c.loop-at.at c.min-count.result c.args.dst.now c.loop-at.dst
-    c.put_block.new.self (omega (arith, n, i.within, i.most)) i.long i.writes
-    (λ k h. c.ascii_front.ensures.ascii src c.loop-at.at i.past k (omega (arith, h, n))) e.contents e.room e.loan in
+    let front = ascii_next c.args.self.now.scalars.now.table.now g.T.Destination _ _ (omega (arith, n, i.within, i.most)) i.long i.writes
+    (λ k h. c.ascii_front.ensures.ascii c.args.src.now c.loop-at.at i.past k (omega (arith, h, n))) e.contents e.room e.loan in
     record {
       within = omega (arith, n, i.within, c.if-at-end.false);
       most = i.most;
       long = omega (arith, c.if-src-at-lt64.false);
       room = omega (arith, c.free.ensures, c.if-free-lt70.false);
-      writes = writes_one T src at x (omega (arith, n, i.within, i.most, c.requires.source)) front c.in-Some.ensures.single.1 p.contents p.room p.loan;
-      past = c.past_after-past.ensures src c.loop-at.at i.past;
+      writes = writes_one g.T.Destination _ _ c.in-Some.scalar (omega (arith, n, i.within, i.most, c.requires.source)) front
+          c.in-Some.ensures.single.1 p.contents p.room p.loan;
+      past = c.past_after-past.ensures c.args.src.now c.loop-at.at i.past;
     }
