@@ -63,7 +63,8 @@ returns-then-at-end-2-clause-ahead g c =
     reads_front (omega (arith, n, i.within, i.most, c.requires.source))
     (writes_one g.T.Destination _ _ c.in-Some.scalar (omega (arith, n, i.within, i.most, c.requires.source)) front c.in-Some.ensures.single.1
     p.contents p.room p.loan)
-    (λ h. omega (arith, n, e.room, p.room, short g.T.Destination.form c.in-Some.scalar c.in-Some.ensures.single.0, i.room, i.within, i.most)) (λ h. omega (arith, c.requires.room))
+    (λ h. omega (arith, n, e.room, p.room, short g.T.Destination.form c.in-Some.scalar c.in-Some.ensures.single.0, i.room, i.within, i.most))
+    (λ h. omega (arith, c.requires.room))
 
 pub loop-at-preserved : goal.loop-at-preserved
 loop-at-preserved g c =
