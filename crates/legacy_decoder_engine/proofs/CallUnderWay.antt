@@ -74,8 +74,15 @@ module _ {form : EncodingForm} {last : Bool} where
   pub going_release : {before : DecoderState} {source : List ℕ} {free : ℕ} {now : DecoderState} {c : ℕ} → rests before.grammar before.held ≡ false
       → release_room_in form before.grammar ≤ free → Releases before now c → Going form last before source free now 0 (c ∷ [])
   going_release {before} {source} {free} {now} {c} r enough h =
-      grind (arith, behind before [] h.passed now [] (Scalar c ∷ []) source h.progress, HadRooms-released, All-cons, All-nil,
-      room_needed-release, length-append)
+      grind (
+        arith,
+        behind before [] h.passed now [] (Scalar c ∷ []) source h.progress,
+        HadRooms-released,
+        All-cons,
+        All-nil,
+        room_needed-release,
+        length-append,
+      )
 
   fed_going : {before : DecoderState} {byte : ℕ} {rest : List ℕ} {free : ℕ} {next : DecoderState} (fed : Fed) → rests before.grammar before.held ≡ true
       → Feeds before byte next fed → (RevealsMalformed fed → ⊥) → read_room form before byte ≤ free

@@ -79,8 +79,11 @@ module _ {g : Grammar} {m : DecoderMachine} (shown : IsShown g m) (held : List �
       had = λ form free. had_is form free s e;
       scalar = scalar;
       lowers = λ query n.
-          omega (arith, rw e at ((shown.rooms query).step_pays held b n may resting bytes byte),
-          units-total (query_form query) (fed_scalars (fed_of s held b)));
+          omega (
+            arith,
+            rw e at ((shown.rooms query).step_pays held b n may resting bytes byte),
+            units-total (query_form query) (fed_scalars (fed_of s held b)),
+          );
     }
 
     pub feeds : (fed : Fed) (kept : List ℕ) → Took (m.step held b) held b fed kept → Feeds (state_of g held) b (state_of (m.to held b) kept) fed

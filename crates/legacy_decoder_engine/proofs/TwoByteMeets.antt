@@ -64,8 +64,17 @@ module _ (g : Grammar) (front : ℕ → List ℕ → Front) (is_lead_byte : ℕ 
 
   pub two_byte_meets : Meets g (two_byte_machine g first scalars)
   two_byte_meets =
-      grind (arith, may_is, is.profile_is, fits_meets g front ev_is (single_lead_may_hold is_lead_byte) may_is, false≢true, fits_trail,
-      lead_holds, all_ends, all_reports)
+      grind (
+        arith,
+        may_is,
+        is.profile_is,
+        fits_meets g front ev_is (single_lead_may_hold is_lead_byte) may_is,
+        false≢true,
+        fits_trail,
+        lead_holds,
+        all_ends,
+        all_reports,
+      )
 
 pub first_test : (is_lead_byte : ℕ → Bool) (paid b : ℕ) (t : Bool) (s₁ s₂ : Step) →
     (t ≡ true → IsFirst is_lead_byte paid b s₁) → (t ≡ false → IsFirst is_lead_byte paid b s₂) → IsFirst is_lead_byte paid b (cond t s₁ s₂)

@@ -24,8 +24,17 @@ module _ (g : Grammar) (front : ℕ → List ℕ → Front) (is_lead_byte : ℕ 
   costs has_rooms = record {
     to_is = λ held b. refl;
     cost = λ len narrow wide w held b h r bytes byte.
-        grind (arith, false≢true, narrow_read, first_cost, trail_cost, may_is, firsts b, has_rooms.pair_units len narrow wide w,
-        has_rooms.is_paid len narrow wide w);
+        grind (
+          arith,
+          false≢true,
+          narrow_read,
+          first_cost,
+          trail_cost,
+          may_is,
+          firsts b,
+          has_rooms.pair_units len narrow wide w,
+          has_rooms.is_paid len narrow wide w,
+        );
   }
 
   pub two_byte_shown : HasTwoByteRooms g scalars paid → IsShown g (two_byte_machine g first scalars)

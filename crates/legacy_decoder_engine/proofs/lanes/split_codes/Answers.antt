@@ -20,7 +20,7 @@ loop-group-preserved g c =
       rest = λ k h.
           get_or-put_chunk_above (8 * l.group) l.codes _ k 0 (omega (arith, h, c.kept_and_places.type_inv)) ∙ i.rest k (omega (arith, h));
       keeps = next_eight_stored (kept_of g.C.LaneCodec.place c.args.last) (8 * l.group) (8 * (l.group + 1)) c.args.codes.now l.codes l.codes _
-      (omega arith) e.kept room room i.rest i.keeps;
+          (omega arith) e.kept room room i.rest i.keeps;
       finds = next_eight_stored (place_of g.C.LaneCodec.place c.args.last) (8 * l.group) (8 * (l.group + 1)) c.args.codes.now l.codes l.places
           (map (λ (p : ℕ). p) c.kept_and_places.result.1) (omega arith) (map-id c.kept_and_places.result.1 ∙ e.places) room room' i.rest i.finds;
     }
