@@ -66,7 +66,7 @@ fn padded(src: &[u8]) -> [u8; 72]
 {
     let mut padded = [0u8; 72];
     let mut at = 0;
-    while src.len() - at >= 16 {
+    while src.len() - at > 16 {
         copy_sixteen(src, at, &mut padded);
         at += 16;
     }

@@ -667,7 +667,8 @@ fn read_few<C: LaneCodec, T: Destination>(
 impl<C: LaneCodec> Blocks for LaneBlocks<'_, '_, C> {
     ghost grammar = { λ blocks. C.grammar blocks.tables.now.flat };
 
-    // Malformed sequences often follow one another. No block is begun at an uncommon byte.
+    // Malformed sequences often follow one another. No block is begun at an uncommon byte. After lanes a piece of text has
+    // at most a lead left, which the machine holds back.
     #[inline(always)]
     #[tactic(auto, using(crate::proofs::WrittenRuns::no_bytes))]
     fn read_block<T: Destination>(&self, src: &[u8], dst: &mut T) -> (usize, bool) {
@@ -677,6 +678,9 @@ impl<C: LaneCodec> Blocks for LaneBlocks<'_, '_, C> {
         let at = read_lanes::<C, T>(self.tables, self.guess, src, dst);
         if at >= 64 {
             self.delay.set(SHORT_DELAY);
+        }
+        if at > 0 && src.len() - at < 2 {
+            return (at, false);
         }
         let (few, goes_on) = read_few(self, &src[at..], dst);
         (at + few, goes_on)

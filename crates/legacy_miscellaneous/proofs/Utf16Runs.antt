@@ -6,6 +6,7 @@ use Rattle.{legacy_text.specs.EncodingForm.total_unit_count, legacy_tables.specs
 use Rattle.{legacy_base.specs.States.new_state, legacy_decoder_engine.{specs.ReadAhead.{Runs, IsPair, Writes, ReadsAhead}, proofs.RunForms.pair_runs}}
 use Rattle.legacy_decoder_engine.proofs.{JoinedRuns.reads_written, WrittenRuns.{runs_none, runs_more, take_two, writes_two, rest_of, writes_run}}
 use Rattle.{legacy_decoder_engine.proofs.WrittenRuns.{all_code_units_ascii, all_short}, legacy_miscellaneous.specs.Utf16Decoder.{HasAsciiUnits, AreUnitsBelow}}
+use Rattle.legacy_text.proofs.Ascii.{ascii_front}
 use Rattle.legacy_miscellaneous.{specs.Utf16Decoder.unit_at, proofs.{Utf16Held.{unit_below, utf16_shown}, UserDefinedRuns.rest_bytes}}
 
 -- a unit that is not a surrogate is a run of its own
@@ -52,8 +53,14 @@ reads_block T be source block old new r bytes within narrow count ascii contents
     let are = λ (k : ℕ) (h : k < r). rw (get_or-take r block k 0 h) at (ascii k) in
     reads_written (omega arith)
     (writes_units T be source (take r block) r bytes (omega arith) (length-take-le r block count)
-    (λ k h. rw (get_or-take r block k 0 h) (sym (narrow k (omega arith) (are k h)), below_scalar (get_or block k 0) (omega (arith, are k h))))
+    (λ k h. rw (get_or-take r block k 0 h) (sym ((narrow k (omega arith)).0 (are k h)), below_scalar (get_or block k 0) (omega (arith, are k h))))
     (rw same contents) (rw (same, length-take-le r block count) room) loan) (omega arith) (omega arith)
+
+-- units below 0x80 are ASCII in their block
+pub ascii_block : (be : Bool) (source block : List ℕ) (n : ℕ) → HasAsciiUnits be source block (length block) → AreUnitsBelow be source n 0x80 →
+    n ≤ length block → IsAscii (take n block)
+ascii_block be source block n narrow below long =
+    ascii_front block n (λ k h. rw ((narrow k (omega arith)).1 (below k h)) at (below k h))
 
 -- ---- eight more units
 

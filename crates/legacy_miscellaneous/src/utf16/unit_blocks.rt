@@ -7,7 +7,7 @@ ghost use Rattle.legacy_text.specs.EncodingForm.{code_units, unit_count};
 ghost use Rattle.legacy_base.specs.Grammar.{utf16};
 ghost use Rattle.legacy_base.specs.States.{new_state};
 ghost use Rattle.legacy_decoder_engine.specs.ReadAhead.{ReadsAhead};
-ghost use Rattle.legacy_miscellaneous.specs.Utf16Decoder.{HasAsciiUnits, AreUnitsBelow};
+ghost use Rattle.legacy_miscellaneous.specs.Utf16Decoder.{HasAsciiUnits, IsNarrow, AreUnitsBelow};
 
 use super::unit_steps::unit;
 use super::vectors::{eight_units, greater_units, sixteen_units};
@@ -102,8 +102,7 @@ fn put_narrow(units: &[u16], block: &mut [u8], at: usize)
     requires units { 16 ≤ length units.now }
     requires room { at + 16 ≤ length block.old }
     ensures before { (k : ℕ) → k < at → slice_index block.new k ≡ slice_index block.old k }
-    ensures narrow { (k : ℕ) → k < 16 → slice_index block.new (at + k) < 0x80 →
-        slice_index units.now k ≡ slice_index block.new (at + k) }
+    ensures narrow { (k : ℕ) → k < 16 → IsNarrow (slice_index units.now k) (slice_index block.new (at + k)) }
 {
     let mut unit = 0;
     while unit < 16 {
@@ -121,14 +120,18 @@ struct AsciiUnits<'a> {
 impl Blocks for AsciiUnits<'_> {
     ghost grammar = { λ blocks. utf16 blocks.units.now.big_endian };
 
-    /// Decodes the ASCII at the start of 64 units, or of sixteen.
+    /// Decodes 64 units if all are ASCII. If fewer are left, it decodes the ASCII at the start of sixteen.
+    // In text with tags the first letter past ASCII comes at any place, so its block is read whole by `read_groups`.
     #[inline(always)]
     fn read_block<T: Destination>(&self, src: &[u8], dst: &mut T) -> (usize, bool) {
         if src.len() >= 128 && dst.free() >= 67 {
+            if !self.units.are_below(src, 8, 0x80) {
+                return (0, false);
+            }
             let mut block = [0; 64];
             self.units.narrow(src, &mut block);
-            let count = dst.put_front(&block, 64);
-            return (2 * count, count >= 64);
+            dst.put_block(&block, 64);
+            return (128, true);
         }
         if src.len() < 32 || dst.free() < 19 {
             return (0, false);
