@@ -668,7 +668,7 @@ impl<C: LaneCodec> Blocks for LaneBlocks<'_, '_, C> {
     ghost grammar = { λ blocks. C.grammar blocks.tables.now.flat };
 
     // Malformed sequences often follow one another. No block is begun at an uncommon byte. After lanes a piece of text has
-    // at most a lead left, which the machine holds back.
+    // at most one byte left, mostly a lead. The machine reads it.
     #[inline(always)]
     #[tactic(auto, using(crate::proofs::WrittenRuns::no_bytes))]
     fn read_block<T: Destination>(&self, src: &[u8], dst: &mut T) -> (usize, bool) {

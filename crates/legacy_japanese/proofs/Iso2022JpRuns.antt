@@ -1,9 +1,12 @@
 -- The runs of ISO-2022-JP, and the escapes between them.
-use Rattle.std.proofs.Common.{◌≡◌, ◌∙◌, ℕ, suc, ◌+◌, ◌-◌, ◌*◌, ◌<◌, ◌≤◌, Option, Some, List, [], ◌∷◌, ◌++◌, length, take, refl, sym, ap, arith, ◌≢◌, drop}
-use Rattle.std.proofs.{Common.{get_or, append-nil, length-drop}, lemmas.{Bool.{cases_lt, ne_eqb, Decides.nat_tests}, List.{length-take, length-take-le}}}
-use Rattle.std.proofs.lemmas.{List.{get_or-take, Elements.{All-nil, All-cons, All-from_get_or}, drop-drop}, Str.Ascii.IsAscii-from_all, Grind.common_steps}
-use Rattle.std.{proofs.Math.Seq.{drop-cons, take-add}, specs.{Prelude.{All, IfSome}, Char.IsScalar}}
-use Rattle.legacy_text.specs.declared.destination.Destination.{Ghosts}
+use Rattle.std.proofs.Common.{◌≡◌, ◌≢◌, ◌∙◌, ℕ, suc, ◌+◌, ◌-◌, ◌*◌, ◌%◌, ◌^◌, ◌<◌, ◌≤◌, Bool, false, cond, ltb, Option, Some, List, [], ◌∷◌, ◌++◌, length, map}
+use Rattle.std.proofs.Common.{take, drop, get_or, replicate, w8, w64, IsAscii, refl, sym, ap, arith, append-nil, length-drop}
+use Rattle.std.proofs.lemmas.{Bool.{cases_lt, ne_eqb, Decides.nat_tests}, Nat.Bits.{bit_at-trailing_zeros, bit_at-zero}, Grind.common_steps}
+use Rattle.std.proofs.lemmas.{List.{length-take, length-take-le, length-map, get_or-map, get_or-take, drop-drop, Elements.{All-nil, All-cons, All-from_get_or}}}
+use Rattle.std.proofs.{lemmas.{Simd.{bit_mask_l, bitmask_splat, mask_l-lt, zip2_splat}, Str.Ascii.IsAscii-from_all}, Math.Seq.{drop-cons, take-add}}
+use Rattle.std.specs.{Prelude.{All, IfSome}, Char.IsScalar, Int.trailing_zeros}
+use lib.Lanes.{mask_l, zip2, top}
+use Rattle.legacy_text.{specs.{declared.destination.Destination.{Ghosts}, EncodingForm.{code_units, unit_count}}, proofs.CodeUnits.{code_units_ascii}}
 use Rattle.legacy_base.specs.{Iso2022Jp.{ascii, two_byte, iso_2022_jp_front, esc}, Grammar.{iso_2022_jp, events_of}, States.DecoderState}
 use Rattle.legacy_base.proofs.{Iso2022JpFronts.{step_one, step_two}, Iso2022JpParts.no_escape, Shifts.{shift-append, shift-shift, shift-scalars}}
 use Rattle.legacy_tables.{specs.{AcceptedTables.AcceptedIndexes, Indexes.idx}, proofs.Accepted.length-jis0208}
@@ -57,20 +60,64 @@ pub plain_front : (source : List ℕ) (n count : ℕ) → count ≤ length (take
     (count ≤ length source) × (count ≤ n) × ArePlain source count
 plain_front source n count within plain = grind (arith, length-take, get_or-take)
 
+plain_all : (source : List ℕ) (count : ℕ) → count ≤ length source → ArePlain source count → All IsPlain (take count source)
+plain_all source count within plain =
+    let l = length-take-le count source within in
+    All-from_get_or IsPlain (take count source) 0 (λ k h. rw (get_or-take count source k 0 (omega (arith, h, l))) (plain k (omega (arith, h, l))))
+
+pub plain_ascii : (source : List ℕ) (count : ℕ) → count ≤ length source → ArePlain source count → IsAscii (take count source)
+plain_ascii source count within plain = IsAscii-from_all _ (λ i d l. (plain_all source count within plain i d l).0)
+
 pub reads_plain : {D : Type 0} (T : Ghosts D) (jis0208 source : List ℕ) (old new : D) (count : ℕ) → count ≤ length source → ArePlain source count
     → T.contents new ≡ T.contents old ++ take count source → T.room new + count ≡ T.room old → T.loan new ≡ T.loan old → (0 < count → count + 3 ≤ T.room old)
     → ReadsAhead T (run_state jis0208 Ascii) source count old new
 reads_plain T jis0208 source old new count within plain contents room loan enough =
     let l : length (take count source) ≡ count = length-take-le count source within in
-    let all = All-from_get_or IsPlain (take count source) 0 (λ k h. rw (get_or-take count source k 0 (omega arith)) (plain k (omega arith))) in
-    let same = all_code_units_ascii T.form (take count source) (IsAscii-from_all _ (λ i d l. (all i d l).0)) in
+    let same = all_code_units_ascii T.form (take count source) (plain_ascii source count within plain) in
     reads_front within (record {
       scalars = take count source;
-      runs = plain_bytes jis0208 (take count source) all;
+      runs = plain_bytes jis0208 (take count source) (plain_all source count within plain);
       written = contents ∙ ap (λ units. T.contents old ++ units) (sym same);
       room = omega (arith, ap length same, l, room);
       loan = loan;
     }) (λ h. omega (arith, enough h)) (λ h. omega (arith, enough h))
+
+-- a plain byte
+pub reads_plain_byte : {D : Type 0} (T : Ghosts D) (jis0208 source : List ℕ) {mid new : D} (at : ℕ) → at < length source → IsPlain (get_or source at 0)
+    → 4 ≤ T.room mid → T.contents new ≡ T.contents mid ++ code_units T.form (get_or source at 0)
+    → T.room new + unit_count T.form (get_or source at 0) ≡ T.room mid → T.loan new ≡ T.loan mid
+    → ReadsAhead T (run_state jis0208 Ascii) (take (length source - at) (drop at source)) 1 mid new
+reads_plain_byte T jis0208 source {mid} {new} at within plain enough contents room loan =
+    let b : ℕ = get_or source at 0 in
+    let rest : take (length source - at) (drop at source) ≡ b ∷ drop (suc at) source = rest_of source at ∙ drop-cons source at 0 within in
+    let unit : code_units T.form b ≡ b ∷ [] = code_units_ascii T.form b plain.0 in
+    let front : ArePlain (b ∷ drop (suc at) source) 1 = λ k h. (let first : k ≡ 0 = omega (arith, h) in rw first plain) in
+    rw rest (reads_plain T jis0208 (b ∷ drop (suc at) source) mid new 1 (omega arith) front (rw unit at contents)
+    (omega (arith, room, ap length unit)) loan (λ h. enough))
+
+-- ---- a block of plain bytes
+
+-- before the lowest bit of a mask no lane passes the test
+none_before : (p : ℕ → Bool) (xs : List ℕ) (k : ℕ) → length xs ≡ 64 → k < 64 → k < trailing_zeros w64 (mask_l (map p xs)) → p (get_or xs k 0) ≡ false
+none_before p xs k long within h =
+    let small : mask_l (map p xs) < 2 ^ 64 = rw (length-map xs p, long) at (mask_l-lt (map p xs)) in
+    grind (arith, nat_tests, bit_at-zero k, bit_at-trailing_zeros w64 (mask_l (map p xs)), bit_mask_l (map p xs) k, get_or-map)
+
+-- the distances from 0E, which wrap
+abbrev distances : List ℕ → List ℕ
+distances block = zip2 (λ a b. (a + (2 ^ 8 - b)) % 2 ^ 8) block (replicate 64 14)
+
+-- the bits of the bytes 0E to 1F
+abbrev controls : List ℕ → ℕ
+controls block = mask_l (map (top 7) (zip2 (λ a b. cond (ltb a b) (2 ^ 8 - 1) 0) (distances block) (replicate 64 18))) % 2 ^ 64
+
+pub plain_before : (block : List ℕ) (k : ℕ) → length block ≡ 64 → k < 64 → get_or block k 0 < 128 → k < trailing_zeros w64 (controls block)
+    → IsPlain (get_or block k 0)
+plain_before block k long within low h =
+    let moved : distances block ≡ map (λ b. (b + 242) % 256) block = zip2_splat (λ a b. (a + (2 ^ 8 - b)) % 2 ^ 8) block 64 14 long in
+    let mask = bitmask_splat w8 ltb (distances block) 64 18 (ap length moved ∙ length-map block (λ b. (b + 242) % 256) ∙ long) (omega arith) in
+    let none = none_before (λ b. ltb b 18) (distances block) k (ap length moved ∙ length-map block (λ b. (b + 242) % 256) ∙ long) within (rw mask at h) in
+    grind (arith, nat_tests, rw moved at none, get_or-map)
 
 -- ---- before and after an escape
 

@@ -10,8 +10,10 @@ use super::places::{LEADS, TRAILS};
 use super::steps::{DOLLAR, ESCAPE, Escape, Mode, PAREN, Start, completed, entry};
 use legacy_base::{Destination, Tables};
 use legacy_decoder_engine::common_forms::{CommonForm, CommonForms, read_forms};
+use legacy_decoder_engine::past_ascii::{ascii_front, past_ascii};
 use legacy_decoder_engine::places::pair_pointer;
 use legacy_tables::{DecoderTables, FlatTables};
+use std::simd::prelude::*;
 
 /// The pairs of two-byte mode.
 #[derive(Drop)]
@@ -41,64 +43,77 @@ fn is_plain(byte: u8) -> bool
     byte < 0x80 && byte != 0x0E && byte != 0x0F && byte != 0x1B
 }
 
-/// Checks whether the first sixteen bytes are all plain.
-// No byte ends the loop early, so the compiler tests them at once.
+/// Returns a number of plain bytes at the front of a block, up to the first byte past ASCII or control from 0E to 1F.
+// The bytes that are not plain are among these. The others among them are rare.
 #[inline(always)]
-fn are_plain(src: &[u8]) -> bool
-    requires { 16 ≤ length src.now }
-    ensures { result ≡ true → ArePlain src.now 16 }
+fn plain_count(block: u8x64) -> usize
+    ensures most { result ≤ 64 }
+    ensures plain { ArePlain block result }
 {
-    let mut hold = true;
-    let mut at = 0;
-    while at < 16 {
-        hold = hold && is_plain(src[at]);
-        at += 1;
-    }
-    hold
+    let offsets = block - u8x64::splat(0x0E);
+    let controls = offsets.simd_lt(u8x64::splat(0x12)).to_bitmask();
+    ascii_front(past_ascii(block)).min(controls.trailing_zeros() as usize)
 }
 
-/// Returns the number of bytes at the front that are in blocks of sixteen plain bytes.
-#[inline]
-fn plain_blocks(src: &[u8]) -> usize
-    ensures within { result ≤ length src.now }
-    ensures plain { ArePlain src.now result }
+/// Reads plain bytes from the front of a block of 64 in ASCII mode, and returns their number.
+#[inline(always)]
+fn read_plain_block<T: Destination>(src: &[u8], dst: &mut T) -> usize
+    requires block { 64 ≤ length src.now }
+    requires room { 67 ≤ T.room dst.old }
+    ensures most { result ≤ 64 }
+    ensures ahead { (jis0208 : List ℕ)
+        → ReadsAhead T.Destination (run_state jis0208 Mode.Ascii) src.now result dst.old dst.new }
 {
-    let mut at = 0;
-    while src.len() - at >= 16 && are_plain(&src[at..]) {
-        at += 16;
-    }
-    at
+    let count = plain_count(u8x64::from_slice(src));
+    dst.put_block(src, count);
+    count
 }
 
-/// Returns the number of plain bytes at the front.
-#[inline]
-fn plain_count(src: &[u8]) -> usize
-    ensures within { result ≤ length src.now }
-    ensures plain { ArePlain src.now result }
-{
-    let mut at = plain_blocks(src);
-    while at < src.len() && is_plain(src[at]) {
-        at += 1;
-    }
-    at
-}
-
-/// Reads plain bytes from the front in ASCII mode, and leaves three code units free.
+/// Reads plain bytes from the front in ASCII mode by blocks of 64, up to a block with other bytes.
 ///
-/// Returns the number of bytes read, which may be 0.
+/// Returns the number of bytes read, which may be 0. If it reads any, three code units stay free.
+#[inline(always)]
+fn read_plain_blocks<T: Destination>(src: &[u8], dst: &mut T) -> usize
+    ensures read { result ≤ length src.now }
+    ensures ahead { (jis0208 : List ℕ)
+        → ReadsAhead T.Destination (run_state jis0208 Mode.Ascii) src.now result dst.old dst.new }
+{
+    let mut at = 0;
+    while src.len() - at >= 64 && dst.free() >= 67 {
+        let count = read_plain_block(&src[at..], dst);
+        at += count;
+        if count < 64 {
+            return at;
+        }
+    }
+    at
+}
+
+/// Reads plain bytes one by one from the front in ASCII mode.
+///
+/// Returns the number of bytes read, which may be 0. If it reads any, three code units stay free.
+#[inline(always)]
+fn read_plain_bytes<T: Destination>(src: &[u8], dst: &mut T) -> usize
+    ensures read { result ≤ length src.now }
+    ensures ahead { (jis0208 : List ℕ)
+        → ReadsAhead T.Destination (run_state jis0208 Mode.Ascii) src.now result dst.old dst.new }
+{
+    let mut at = 0;
+    while at < src.len() && is_plain(src[at]) && dst.free() >= 4 {
+        dst.put(char::from(src[at]));
+        at += 1;
+    }
+    at
+}
+
+/// Reads plain bytes from the front in ASCII mode. Returns the number of bytes read, which may be 0.
 #[inline(always)]
 fn read_plain<T: Destination>(src: &[u8], dst: &mut T) -> usize
     ensures { (jis0208 : List ℕ)
         → ReadsAhead T.Destination (run_state jis0208 Mode.Ascii) src.now result dst.old dst.new }
 {
-    let most = dst.free().saturating_sub(3).min(src.len());
-    let count = plain_count(&src[..most]);
-    let mut at = dst.copy_ascii(&src[..count]);
-    while at < count {
-        dst.put(char::from(src[at]));
-        at += 1;
-    }
-    count
+    let blocks = read_plain_blocks(src, dst);
+    blocks + read_plain_bytes(&src[blocks..], dst)
 }
 
 /// Reads a run of the mode from the front. Returns the number of bytes read, which may be 0.
