@@ -1,5 +1,6 @@
 -- How the moves of each machine follow from its grammar, and calls from the moves.
 pub mod CallUnderWay
+pub mod EightPairs
 pub mod AheadRuns
 pub mod Feeding
 pub mod FrontMoves

@@ -42,7 +42,7 @@ codes : (xs : List ℕ) (small : (j : ℕ) → get_or xs j 0 < 256) (ps : List �
 codes xs small [] = refl
 codes xs small (p ∷ ps) = grind (arith, small p, small (p + 1), codes xs small ps)
 
-below_256 : (v : List ℕ) → Each1 (Fits w8) v → (i : ℕ) → get_or v i 0 < 256
+pub below_256 : (v : List ℕ) → Each1 (Fits w8) v → (i : ℕ) → get_or v i 0 < 256
 below_256 v fits i = grind (arith, cases_lt, Each1-get_or, below_from_Fits, w8, get_or_past)
 
 all_codes : (xs : List ℕ) → Each1 (Fits w8) xs → (x : ℕ) → x < 256

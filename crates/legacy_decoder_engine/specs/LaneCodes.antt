@@ -49,6 +49,11 @@ abbrev pub AreForms : Grammar → (ℕ → ℕ) → List ℕ → List ℕ → Li
 AreForms grammar pointer kept places units = (codes : List ℕ) → AreLanes pointer 8 codes kept places → (k : ℕ) → k < 8 → get_or units k 0 ≢ 0 →
     IsForm grammar (get_or codes k 0) (get_or kept k 0) (get_or units k 0)
 
+-- A unit that is not 0 is the scalar of the pair of bytes at its place, if the first one is past ASCII.
+abbrev pub AreUnits : Grammar → List ℕ → List ℕ → Type 0
+AreUnits grammar bytes units = (k : ℕ) → k < 8 → get_or units k 0 ≢ 0 → 128 ≤ get_or bytes (2 * k) 0 →
+    IsScalar (get_or units k 0) × Runs grammar (get_or bytes (2 * k) 0 ∷ get_or bytes (2 * k + 1) 0 ∷ []) (get_or units k 0 ∷ [])
+
 -- The forms of the first n codes are written. What is kept of the codes gives the forms' length.
 pub record AreWritten {D : Type 0} (T : Ghosts D) (grammar : Grammar) (codes kept : List ℕ) (n : ℕ) (x y : D) : Type 0 where
   pub writes : Writes T grammar (forms_of (take n codes)) x y

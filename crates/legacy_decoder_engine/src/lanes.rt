@@ -12,6 +12,7 @@ ghost use Rattle.legacy_tables.specs.declared.tables.IndexName.TheVariants as na
 
 use crate::block_picks::pick_blocks;
 use crate::common_forms::{CommonForm, CommonForms, FormsInTurn, read_forms};
+use crate::eights::read_eights;
 use crate::lane_entries::{entries_at, entry_count};
 use crate::past_ascii::past_ascii;
 use crate::read_ahead::{Blocks, read_ascii, read_blocks, read_one};
@@ -117,6 +118,13 @@ pub trait LaneCodec {
         16 * past as usize > 9 * bytes
     }
 
+    /// Returns whether pairs between tags are mostly in runs of eight or more, with few trails in ASCII.
+    // In UTF-8 such runs are read eight pairs at a time.
+    #[inline(always)]
+    fn has_long_runs() -> bool {
+        false
+    }
+
     /// Returns whether a quick test shows forms of one byte past ASCII in a block. Such a block is read form by form.
     #[inline(always)]
     fn has_singles(block: u8x64) -> bool {
@@ -127,7 +135,7 @@ pub trait LaneCodec {
 
 /// Returns what is kept of eight codes, and their places in an index whose last place is `last`.
 #[inline(always)]
-fn kept_and_places<C: LaneCodec>(codes: u16x8, last: u16) -> (u16x8, u16x8)
+pub(crate) fn kept_and_places<C: LaneCodec>(codes: u16x8, last: u16) -> (u16x8, u16x8)
     ensures small { (k : ℕ) → k < 8 → get_or codes k 0 < 0x1_0000 }
     ensures kept { result.0 ≡ map (kept_of C.place last) codes }
     ensures places { result.1 ≡ map (place_of C.place last) codes }
@@ -163,7 +171,7 @@ fn split_codes<C: LaneCodec>(codes: &mut [u16], places: &mut [u32], groups: usiz
 
 /// Returns what is kept if it is ASCII, and otherwise the entry, for each of eight codes.
 #[inline(always)]
-fn chosen(kept: u16x8, entries: u16x8) -> u16x8
+pub(crate) fn chosen(kept: u16x8, entries: u16x8) -> u16x8
     ensures lanes { (k : ℕ) → k < 8 → get_or result k 0 ≡ unit_at (get_or kept k 0) (get_or entries k 0) }
     ensures small { (k : ℕ) → k < 8 → get_or result k 0 < 0x1_0000 }
 {
@@ -172,7 +180,7 @@ fn chosen(kept: u16x8, entries: u16x8) -> u16x8
 
 /// Returns whether none of eight units is 0.
 #[inline(always)]
-fn are_known(units: u16x8) -> bool
+pub(crate) fn are_known(units: u16x8) -> bool
     ensures { result ≡ true → (k : ℕ) → k < 8 → get_or units k 0 ≢ 0 }
 {
     units.simd_eq(u16x8::splat(0)).to_bitmask() == 0
@@ -180,7 +188,7 @@ fn are_known(units: u16x8) -> bool
 
 /// Returns the number of units before the first that is 0.
 #[inline(always)]
-fn known_count(units: u16x8) -> usize
+pub(crate) fn known_count(units: u16x8) -> usize
     ensures most { result ≤ 8 }
     ensures known { (k : ℕ) → k < result → get_or units k 0 ≢ 0 }
 {
@@ -528,6 +536,23 @@ fn read_in_turn<C: LaneCodec, T: Destination>(
     read_forms(&forms, src, most, dst)
 }
 
+/// Does the same, but reads a run of pairs at the front eight pairs at a time.
+#[inline(always)]
+#[tactic(auto, using(crate::proofs::WrittenRuns::no_bytes))]
+fn read_at_most<C: LaneCodec, T: Destination>(
+    tables: &FlatTables<'_>,
+    src: &[u8],
+    most: usize,
+    dst: &mut T,
+) -> usize
+    requires { HasAscii (C.grammar tables.now.flat) }
+    ensures { ReadsAhead T.Destination (new_state (C.grammar tables.now.flat)) src.now result dst.old dst.new }
+{
+    let eights = read_eights::<C, T>(tables, src, most, dst);
+    let left = most.saturating_sub(eights);
+    eights + read_in_turn::<C, T>(tables, &src[eights..], left, dst)
+}
+
 /// The blocks of a codec over flat tables, if nothing is held back.
 #[derive(Drop)]
 pub struct LaneBlocks<'a, 'b, C: LaneCodec> {
@@ -650,7 +675,7 @@ fn read_few<C: LaneCodec, T: Destination>(
             }
             continue;
         }
-        let few = read_in_turn::<C, T>(blocks.tables, &src[at..], delay, dst);
+        let few = read_at_most::<C, T>(blocks.tables, &src[at..], delay, dst);
         at += few;
         if few == 0 {
             return (at, false);

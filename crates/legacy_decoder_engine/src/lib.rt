@@ -6,6 +6,7 @@
 mod block_picks;
 pub mod common_forms;
 pub mod drive;
+mod eights;
 pub mod held_lead;
 mod lane_entries;
 pub mod lanes;

@@ -174,6 +174,11 @@ impl LaneCodec for Gb18030 {
     }
 
     #[inline(always)]
+    fn has_long_runs() -> bool {
+        true
+    }
+
+    #[inline(always)]
     fn index() -> IndexName {
         IndexName::Gb18030
     }

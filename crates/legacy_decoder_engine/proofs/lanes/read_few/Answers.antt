@@ -15,15 +15,15 @@ loop-at-preserved-then-begins_longer g c =
 
 pub returns-then-few-eq0-clause-ahead : goal.returns-then-few-eq0-clause-ahead
 returns-then-few-eq0-clause-ahead g c =
-    reads_more (reads_more c.loop-at.invariant (c.read_ascii-ascii.ensures.ahead _ c.requires)) c.read_in_turn-few.ensures
+    reads_more (reads_more c.loop-at.invariant (c.read_ascii-ascii.ensures.ahead _ c.requires)) c.read_at_most-few.ensures
 
 pub returns-then-saturating_add-delay-clause-ahead : goal.returns-then-saturating_add-delay-clause-ahead
 returns-then-saturating_add-delay-clause-ahead g c =
-    reads_more (reads_more c.loop-at.invariant (c.read_ascii-ascii.ensures.ahead _ c.requires)) c.read_in_turn-few.ensures
+    reads_more (reads_more c.loop-at.invariant (c.read_ascii-ascii.ensures.ahead _ c.requires)) c.read_at_most-few.ensures
 
 pub loop-at-preserved : goal.loop-at-preserved
 loop-at-preserved g c =
-    reads_more (reads_more c.loop-at.invariant (c.read_ascii-ascii.ensures.ahead _ c.requires)) c.read_in_turn-few.ensures
+    reads_more (reads_more c.loop-at.invariant (c.read_ascii-ascii.ensures.ahead _ c.requires)) c.read_at_most-few.ensures
 
 pub loop-at-smaller : goal.loop-at-smaller
-loop-at-smaller g c = omega (arith, c.if-few-eq0.false, c.read_in_turn-few.ensures.within, length-take {A = ℕ}, length-drop {A = ℕ})
+loop-at-smaller g c = omega (arith, c.if-few-eq0.false, c.read_at_most-few.ensures.within, length-take {A = ℕ}, length-drop {A = ℕ})

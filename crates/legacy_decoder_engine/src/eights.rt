@@ -1,0 +1,109 @@
+//! Pairs whose bytes are all past ASCII, eight at a time and without codes in memory: short runs between tags.
+// The functions are always inlined, because a call would pass vectors through memory.
+ghost use Rattle.std.specs.Prelude.{◌≡◌, ℕ, ◌*◌, ◌<◌, ◌≤◌, All, length, get_or};
+ghost use Rattle.std.specs.Char.{IsScalar};
+ghost use Rattle.legacy_base.specs.States.{new_state};
+ghost use Rattle.legacy_decoder_engine.specs.ReadAhead.{HasAscii, ReadsAhead};
+ghost use Rattle.legacy_decoder_engine.specs.LaneCodes.{ArePairs, AreUnits};
+
+use crate::lane_entries::{entries_at, entry_count};
+use crate::lanes::{LaneCodec, are_known, chosen, kept_and_places, known_count};
+use legacy_base::Destination;
+use legacy_tables::FlatTables;
+use std::simd::prelude::*;
+
+/// Returns the number of pairs at the front of sixteen bytes that are all past ASCII.
+#[inline(always)]
+fn pair_count(bytes: u8x16) -> usize
+    ensures most { result ≤ 8 }
+    ensures past { (k : ℕ) → k < 2 * result → 0x80 ≤ get_or bytes k 0 }
+{
+    let ascii = bytes.simd_lt(u8x16::splat(0x80)).to_bitmask();
+    if ascii == 0 {
+        return 8;
+    }
+    (ascii.trailing_zeros() as usize / 2).min(8)
+}
+
+/// Returns the units of the codes in sixteen bytes, with 0 for an uncommon code.
+///
+/// `last` is the last place of the index.
+#[inline(always)]
+fn units_in<C: LaneCodec>(tables: &FlatTables<'_>, bytes: u8x16, last: u16) -> u16x8
+    requires ascii { HasAscii (C.grammar tables.now.flat) }
+    requires pairs { ArePairs (C.grammar tables.now.flat) (C.entries tables.now.flat) C.place }
+    requires within { last < length (C.entries tables.now.flat) }
+    ensures small { (k : ℕ) → k < 8 → get_or result k 0 < 0x1_0000 }
+    ensures scalars { All IsScalar result }
+    ensures pairs { AreUnits (C.grammar tables.now.flat) bytes result }
+{
+    let (kept, found) = kept_and_places::<C>(u16x8::from_le_bytes(bytes), last);
+    let places = found.cast::<u32>().to_array();
+    chosen(kept, entries_at::<C>(tables, &places[..]))
+}
+
+/// Reads up to eight pairs from the front whose bytes are all past ASCII, up to one that is uncommon.
+///
+/// Returns the number of bytes read, which is 0 if there are fewer than three such pairs. `last` is the last place of the
+/// index.
+// The number after eight pairs is a constant. A number that is counted from the units would be waited for.
+#[inline(always)]
+#[tactic(auto, using(crate::proofs::WrittenRuns::no_bytes))]
+fn read_eight<C: LaneCodec, T: Destination>(
+    tables: &FlatTables<'_>,
+    src: &[u8],
+    last: u16,
+    dst: &mut T,
+) -> usize
+    requires ascii { HasAscii (C.grammar tables.now.flat) }
+    requires pairs { ArePairs (C.grammar tables.now.flat) (C.entries tables.now.flat) C.place }
+    requires within { last < length (C.entries tables.now.flat) }
+    requires block { 16 ≤ length src.now }
+    requires room { 35 ≤ T.room dst.old }
+    ensures most { result ≤ 16 }
+    ensures ahead { ReadsAhead T.Destination (new_state (C.grammar tables.now.flat)) src.now result dst.old dst.new }
+{
+    let bytes = u8x16::from_slice(src);
+    let pairs = pair_count(bytes);
+    if pairs < 3 {
+        return 0;
+    }
+    let units = units_in::<C>(tables, bytes, last);
+    if pairs < 8 || !are_known(units) {
+        let few = known_count(units).min(pairs);
+        dst.put_first(units, few);
+        return 2 * few;
+    }
+    dst.put_eight(units);
+    16
+}
+
+/// Reads pairs from the front of at most `most` bytes, eight at a time, up to one that is uncommon or has an ASCII byte.
+///
+/// Returns the number of bytes read, which may be 0. It reads none to UTF-16, where eights are no faster.
+#[inline(always)]
+#[tactic(auto, using(crate::proofs::WrittenRuns::no_bytes))]
+pub(crate) fn read_eights<C: LaneCodec, T: Destination>(
+    tables: &FlatTables<'_>,
+    src: &[u8],
+    most: usize,
+    dst: &mut T,
+) -> usize
+    requires { HasAscii (C.grammar tables.now.flat) }
+    ensures { ReadsAhead T.Destination (new_state (C.grammar tables.now.flat)) src.now result dst.old dst.new }
+{
+    let entries = entry_count::<C>(tables);
+    if !C::has_long_runs() || T::narrow() == 1 || entries == 0 {
+        return 0;
+    }
+    let last = (entries - 1).min(0xFFFF) as u16;
+    let mut at = 0;
+    while src.len() - at >= 16 && at < most && dst.free() >= 35 {
+        let read = read_eight::<C, T>(tables, &src[at..], last, dst);
+        if read < 16 {
+            return at + read;
+        }
+        at += 16;
+    }
+    at
+}
