@@ -1,5 +1,5 @@
 -- Runs that are read one after another.
-use Rattle.std.proofs.Common.{◌≡◌, ℕ, ◌+◌, ◌-◌, ◌<◌, ◌≤◌, List, ◌++◌, length, take, drop, sym, subst, arith, IsAscii}
+use Rattle.std.proofs.Common.{◌≡◌, ℕ, ◌+◌, ◌-◌, ◌<◌, ◌≤◌, List, ◌++◌, length, take, take_all, drop, sym, subst, arith, IsAscii}
 use Rattle.std.proofs.{lemmas.List.{length-take, length-take-le, length-drop}, Math.Seq.take-add}
 use Rattle.legacy_text.specs.{declared.destination.Destination.Ghosts}
 use Rattle.legacy_base.specs.{Grammar.Grammar, States.{DecoderState, new_state}}
@@ -18,6 +18,14 @@ module _ {D : Type 0} {T : Ghosts D} {source : List ℕ} {old mid new : D} {r s 
   pub reads_more : {state : DecoderState} → ReadsAhead T state source r old mid → ReadsAhead T state (take (length source - r) (drop r source)) s mid new
       → ReadsAhead T state source (r + s) old new
   reads_more a b = reads_then a b
+
+-- what is read where nothing was read before
+pub reads_first : {D : Type 0} {T : Ghosts D} {state : DecoderState} {source : List ℕ} {old mid new : D} {r s : ℕ} → r ≡ 0
+    → ReadsAhead T state source r old mid → ReadsAhead T state source s mid new → ReadsAhead T state source s old new
+reads_first {T = T} {state} {source} {old} {mid} {new} {s = s} none a b =
+    let all = take_all (length source - 0) source (omega arith) in
+    let sum : 0 + s ≡ s = omega arith in
+    subst (λ n. ReadsAhead T state source n old new) sum (reads_more (rw none at a) (subst (λ bytes. ReadsAhead T state bytes s mid new) (sym all) b))
 
 module _ {D : Type 0} {T : Ghosts D} {source : List ℕ} {old new : D} {r : ℕ} where
   -- a decoder that holds nothing back reads as a new one

@@ -44,8 +44,7 @@ fn units_in<C: LaneCodec>(tables: &FlatTables<'_>, bytes: u8x16, last: u16) -> u
 
 /// Reads up to eight pairs from the front whose bytes are all past ASCII, up to one that is uncommon.
 ///
-/// Returns the number of bytes read, which is 0 if there are fewer than three such pairs. `last` is the last place of the
-/// index.
+/// Returns the number of bytes read, which may be 0. `last` is the last place of the index.
 // The number after eight pairs is a constant. A number that is counted from the units would be waited for.
 #[inline(always)]
 #[tactic(auto, using(crate::proofs::WrittenRuns::no_bytes))]
@@ -65,9 +64,6 @@ fn read_eight<C: LaneCodec, T: Destination>(
 {
     let bytes = u8x16::from_slice(src);
     let pairs = pair_count(bytes);
-    if pairs < 3 {
-        return 0;
-    }
     let units = units_in::<C>(tables, bytes, last);
     if pairs < 8 || !are_known(units) {
         let few = known_count(units).min(pairs);

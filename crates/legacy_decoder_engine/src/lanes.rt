@@ -428,7 +428,7 @@ fn read_short<C: LaneCodec, T: Destination>(
     loop {
         let (read, goes_on) = read_front::<C, T>(tables, &src[at..], &mut codes, &mut places, dst);
         at += read;
-        if !goes_on || src.len() - at < 16 {
+        if !goes_on || src.len() - at < 16 || C::begins_longer(src[at], src[at + 1]) {
             return at;
         }
         if at >= 256 && src.len() - at >= 512 && begins_many::<C>(&src[at..]) {
@@ -536,7 +536,10 @@ fn read_in_turn<C: LaneCodec, T: Destination>(
     read_forms(&forms, src, most, dst)
 }
 
-/// Does the same, but reads a run of pairs at the front eight pairs at a time.
+/// Reads common forms from the front of at most `most` bytes, up to an uncommon one, and returns the number of bytes read.
+///
+/// A run of pairs at the front is read eight pairs at a time, if the codec has long runs, and then nothing after it.
+// What follows a run is mostly ASCII, or begins a form of more than two bytes. Both have ways of their own.
 #[inline(always)]
 #[tactic(auto, using(crate::proofs::WrittenRuns::no_bytes))]
 fn read_at_most<C: LaneCodec, T: Destination>(
@@ -549,8 +552,10 @@ fn read_at_most<C: LaneCodec, T: Destination>(
     ensures { ReadsAhead T.Destination (new_state (C.grammar tables.now.flat)) src.now result dst.old dst.new }
 {
     let eights = read_eights::<C, T>(tables, src, most, dst);
-    let left = most.saturating_sub(eights);
-    eights + read_in_turn::<C, T>(tables, &src[eights..], left, dst)
+    if eights > 0 {
+        return eights;
+    }
+    read_in_turn::<C, T>(tables, src, most, dst)
 }
 
 /// The blocks of a codec over flat tables, if nothing is held back.

@@ -152,7 +152,7 @@ pub trait Destination {
         ensures room { room self.new + result ≡ room self.old }
         ensures loan { loan self.new ≡ loan self.old }
     {
-        let count = wide_ascii_count(u8x64::from_slice(bytes)).min(most);
+        let count = wide_ascii_count(bytes).min(most);
         self.put_block(bytes, count);
         count
     }

@@ -1,5 +1,9 @@
-use Rattle.legacy_decoder_engine.proofs.JoinedRuns.{reads_more}
+use Rattle.std.proofs.Common.{arith}
+use Rattle.legacy_decoder_engine.proofs.JoinedRuns.{reads_first}
 use Rattle.legacy_decoder_engine.proofs.lanes.read_at_most.Goals as goal
 
+pub returns-then-eights-gt0 : goal.returns-then-eights-gt0
+returns-then-eights-gt0 g c = c.read_eights-eights.ensures
+
 pub returns : goal.returns
-returns g c = reads_more c.read_eights-eights.ensures c.read_in_turn.ensures
+returns g c = reads_first (omega (arith, c.if-eights-gt0.false)) c.read_eights-eights.ensures c.read_in_turn.ensures
