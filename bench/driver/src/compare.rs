@@ -10,6 +10,7 @@ use crate::measure::{best_times, ratio_cell, speed, speed_cell, without, Call};
 use crate::medians::median;
 use crate::ours::{Export, Header, Ours};
 use crate::pieces::Unit;
+use crate::replacing::{all_malformed, with_malformed};
 use crate::rounds::measured;
 use std::ffi::c_void;
 
@@ -93,14 +94,41 @@ pub fn heading() -> String {
     format!("| corpus | encoding | tables | direction | {} |\n|{}", columns.join(" | "), "---|".repeat(13))
 }
 
+/// The functions of raw calls to UTF-8 and UTF-16.
+const RAW: [&str; 2] = ["legacy_decode_to_utf8", "legacy_decode_to_utf16"];
+
+/// The functions of calls with replacement.
+const REPLACING: [&str; 2] = ["legacy_decode_replacing_to_utf8", "legacy_decode_replacing_to_utf16"];
+
+/// Prints the lines of two functions of a decoder, to UTF-8 and to UTF-16.
+fn both_lines(builds: &Builds, name: &str, functions: [&str; 2], ours: &Ours, sources: [&[u8]; 2], times: usize) -> Result<Vec<Ratios>, String> {
+    let name = |direction: &str| format!("{name} | {direction}");
+    let mut narrow = decoding::room::<ToUtf8>(sources[0]);
+    let to_utf8 = line(&name("to UTF-8"), builds.find(functions[0]), ours, sources, &mut narrow, times)?;
+    let mut wide = decoding::room::<ToUtf16>(sources[0]);
+    let to_utf16 = line(&name("to UTF-16"), builds.find(functions[1]), ours, sources, &mut wide, times)?;
+    Ok([to_utf8, to_utf16].into_iter().flatten().collect())
+}
+
 /// Prints the lines of a decoder over tables of one kind.
 pub fn decoder_lines(builds: &Builds, name: &str, ours: &Ours, long: &[u8], short: &[u8], times: usize) -> Result<Vec<Ratios>, String> {
-    let name = |direction: &str| format!("{name} | {direction}");
-    let mut narrow = decoding::room::<ToUtf8>(long);
-    let to_utf8 = line(&name("to UTF-8"), builds.find("legacy_decode_to_utf8"), ours, [long, short], &mut narrow, times)?;
-    let mut wide = decoding::room::<ToUtf16>(long);
-    let to_utf16 = line(&name("to UTF-16"), builds.find("legacy_decode_to_utf16"), ours, [long, short], &mut wide, times)?;
-    Ok([to_utf8, to_utf16].into_iter().flatten().collect())
+    both_lines(builds, name, RAW, ours, [long, short], times)
+}
+
+/// Prints the lines of a decoder over text in which one of two, four or sixteen characters is malformed, and over bytes FF.
+pub fn malformed_lines(builds: &Builds, name: &str, codec: &Codec, long: &[u8], short: &[u8], times: usize) -> Result<(), String> {
+    let (encoding, ours) = (codec.encoding, &codec.flat);
+    let texts = [decoded(encoding, long), decoded(encoding, short)];
+    let mut sources: Vec<(String, [Vec<u8>; 2])> = vec![("bytes FF".to_string(), all_malformed())];
+    for each in [2, 4, 16] {
+        let malformed = texts.each_ref().map(|text| with_malformed(encoding, text, each));
+        sources.push((format!("one of {each} malformed"), malformed));
+    }
+    for (what, [long, short]) in &sources {
+        both_lines(builds, &format!("{name}, {what}"), RAW, ours, [long, short], times)?;
+        both_lines(builds, &format!("{name}, {what}, with replacement"), REPLACING, ours, [long, short], times)?;
+    }
+    Ok(())
 }
 
 /// Prints the lines of an encoder, which encodes the output of the decoder.

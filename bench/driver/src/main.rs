@@ -221,6 +221,9 @@ fn compared(builds: &Builds, words: Vec<String>, times: usize) -> Result<(), Str
             if kept != Kept::Ahead && wanted.has_table(Table::Decode) {
                 so_far.extend(compare::decoder_lines(builds, &name, ours, long, short, times)?);
             }
+            if kept == Kept::Flat && wanted.tables.contains(&Table::Replace) {
+                compare::malformed_lines(builds, &name, codec, long, short, times)?;
+            }
             if encodes {
                 so_far.extend(compare::encoder_lines(builds, &name, codec, ours, long, short, times)?);
             }

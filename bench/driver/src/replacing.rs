@@ -16,6 +16,11 @@ const LACKING: char = '\u{1F4A9}';
 /// The length of the bytes that are all malformed.
 const LENGTH: usize = 3_000_000;
 
+/// Returns the long and the short source whose bytes are all malformed.
+pub fn all_malformed() -> [Vec<u8>; 2] {
+    [vec![0xFF; LENGTH], vec![0xFF; LENGTH / 20]]
+}
+
 pub fn heading() -> String {
     let columns: Vec<String> = ["3 MB", "short", "pieces of 64"]
         .iter()
@@ -83,10 +88,10 @@ pub fn lines(corpus: &str, codec: &Codec, long: &[u8], short: &[u8], times: usiz
     encode_line::<FromUtf16>(corpus, packed, encoding, &long, &short, times)
 }
 
-/// Encodes every other character, with a malformed byte in place of the others.
-fn half_malformed(encoding: &'static Encoding, text: &str) -> Vec<u8> {
+/// Encodes the text, with a malformed byte in place of each character whose place divided by `each` leaves 1.
+pub fn with_malformed(encoding: &'static Encoding, text: &str, each: usize) -> Vec<u8> {
     let encoded = |c: char| encoding.encode(c.encode_utf8(&mut [0; 4])).0.into_owned();
-    text.chars().enumerate().flat_map(|(at, c)| if at % 2 == 0 { encoded(c) } else { vec![0xFF] }).collect()
+    text.chars().enumerate().flat_map(|(at, c)| if at % each == 1 { vec![0xFF] } else { encoded(c) }).collect()
 }
 
 /// Returns the text with every other character replaced by one that the encoding lacks.
@@ -98,7 +103,7 @@ fn half_lacking(text: &str) -> String {
 pub fn faulty_lines(corpus: &str, codec: &Codec, long: &[u8], short: &[u8], times: usize) -> Result<(), String> {
     let (encoding, corpus) = (codec.encoding, format!("{corpus}, half of it faults"));
     let (long, short) = (encoding::decoded(encoding, long), encoding::decoded(encoding, short));
-    let (bad_long, bad_short) = (half_malformed(encoding, &long), half_malformed(encoding, &short));
+    let (bad_long, bad_short) = (with_malformed(encoding, &long, 2), with_malformed(encoding, &short, 2));
     decode_line::<ToUtf8>(&corpus, &codec.flat, encoding, &bad_long, &bad_short, times)?;
     decode_line::<ToUtf16>(&corpus, &codec.flat, encoding, &bad_long, &bad_short, times)?;
     let packed = codec.packed.as_ref().unwrap_or(&codec.flat);
@@ -109,7 +114,7 @@ pub fn faulty_lines(corpus: &str, codec: &Codec, long: &[u8], short: &[u8], time
 
 /// Prints the lines of Big5 over bytes FF, each of which is malformed.
 pub fn ff_lines(codec: &Ours, times: usize) -> Result<(), String> {
-    let (long, short) = (vec![0xFF; LENGTH], vec![0xFF; LENGTH / 20]);
+    let [long, short] = all_malformed();
     decode_line::<ToUtf8>("bytes FF", codec, BIG5, &long, &short, times)?;
     decode_line::<ToUtf16>("bytes FF", codec, BIG5, &long, &short, times)
 }

@@ -2,7 +2,7 @@
 ghost use Rattle.std.specs.Prelude.{◌≡◌, ℕ, ◌+◌, ◌<◌, ◌≤◌, ◌++◌, length, slice_index, true, false};
 ghost use Rattle.legacy_text.specs.EncodingForm.{all_code_units, total_unit_count};
 ghost use Rattle.legacy_base.specs.{States.rests, Calls.{IsDecoderCall, IsMalformedByte}};
-ghost use Rattle.legacy_decoder_engine.specs.Moves.{room_units, fed_scalars, Finishes};
+ghost use Rattle.legacy_decoder_engine.specs.{Moves.{room_units, fed_scalars, Finishes}, ReadAhead.ReadsTo};
 
 use crate::moves::{DecoderMoves, Fed, Room};
 use legacy_base::{DecoderResult, Destination};
@@ -36,6 +36,21 @@ fn put_fed<T: Destination>(dst: &mut T, fed: Fed)
         }
         Fed::Nothing | Fed::MalformedSequence { .. } => {}
     }
+}
+
+/// Reads a run from the front, but nothing if the byte there is known to be malformed.
+///
+/// Returns the number of bytes read.
+// Malformed bytes often follow one another. None of them costs a test for a block.
+#[inline(always)]
+#[tactic(auto, using(crate::proofs::WrittenRuns::no_bytes))]
+fn read_ahead<D: DecoderMoves, T: Destination>(decoder: &mut D, src: &[u8], dst: &mut T) -> usize
+    ensures { ReadsTo T.Destination (D.state decoder.old) (D.state decoder.new) src.now result dst.old dst.new }
+{
+    if !src.is_empty() && decoder.is_malformed_byte(src[0]) {
+        return 0;
+    }
+    decoder.read_runs(src, dst)
 }
 
 /// Ends a call after its input: on the last call, reports the held-back bytes.
@@ -86,7 +101,7 @@ pub fn drive_decoder<D: DecoderMoves, T: Destination>(
     }
     let mut read = 0;
     loop {
-        read += decoder.read_runs(&src[read..], dst);
+        read += read_ahead(decoder, &src[read..], dst);
         read += decoder.hold_back(&src[read..], dst);
         if read == src.len() {
             break;
@@ -102,6 +117,7 @@ pub fn drive_decoder<D: DecoderMoves, T: Destination>(
             unread,
         } = fed
         {
+            decoder.after_malformed();
             if unread {
                 return (DecoderResult::Malformed(length, back), read);
             }

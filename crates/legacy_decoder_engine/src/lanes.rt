@@ -11,11 +11,11 @@ ghost use Rattle.legacy_decoder_engine.specs.PickedForms.{forms_of};
 ghost use Rattle.legacy_tables.specs.declared.tables.IndexName.TheVariants as names;
 
 use crate::block_picks::pick_blocks;
-use crate::common_forms::{CommonForm, CommonForms, FormsInTurn, read_forms};
+use crate::common_forms::{CommonForm, CommonForms, read_forms};
 use crate::eights::read_eights;
 use crate::lane_entries::{entries_at, entry_count};
 use crate::past_ascii::past_ascii;
-use crate::read_ahead::{Blocks, read_ascii, read_blocks, read_one};
+use crate::read_ahead::{Blocks, read_ascii};
 use legacy_base::Destination;
 use legacy_tables::{FlatTables, IndexName};
 use legacy_text::first_units;
@@ -458,21 +458,10 @@ fn read_lanes<C: LaneCodec, T: Destination>(
 
 /// Returns whether a quick test shows that the byte at the front begins no common form, if there is one.
 #[inline(always)]
-fn begins_uncommon<C: LaneCodec>(src: &[u8]) -> bool
+pub(crate) fn begins_uncommon<C: LaneCodec>(src: &[u8]) -> bool
     ensures { (tables : AcceptedIndexes) → HasAscii (C.grammar tables.flat) }
 {
     C::is_uncommon(if src.is_empty() { 0 } else { src[0] })
-}
-
-/// Returns whether an uncommon byte follows the form at the front, which is taken to be one ASCII byte or two bytes.
-///
-/// Returns false if there are fewer than three bytes.
-#[inline(always)]
-fn stands_alone<C: LaneCodec>(src: &[u8]) -> bool {
-    if src.len() < 3 {
-        return false;
-    }
-    C::is_uncommon(if src[0] < 0x80 { src[1] } else { src[2] })
 }
 
 /// The least number of bytes of ASCII between tags.
@@ -488,7 +477,7 @@ const SHORT_DELAY: usize = 12;
 // It has a copy of the tables. A loop keeps the parts of a copy in registers, and loads those of borrowed tables for each
 // pair.
 #[derive(Drop)]
-struct LaneForms<'a, C: LaneCodec> {
+pub(crate) struct LaneForms<'a, C: LaneCodec> {
     tables: FlatTables<'a>,
     codec: PhantomData<C>,
 }
@@ -496,7 +485,7 @@ struct LaneForms<'a, C: LaneCodec> {
 impl<'a, C: LaneCodec> LaneForms<'a, C> {
     /// Returns the common forms over these tables.
     #[inline(always)]
-    fn new(tables: &FlatTables<'a>) -> LaneForms<'a, C>
+    pub(crate) fn new(tables: &FlatTables<'a>) -> LaneForms<'a, C>
         ensures { result.tables.flat ≡ tables.now.flat }
     {
         LaneForms {
@@ -523,7 +512,7 @@ impl<C: LaneCodec> CommonForms for LaneForms<'_, C> {
 
 /// Reads common forms from the front of at most `most` bytes, up to an uncommon one, and returns the number of bytes read.
 #[inline(always)]
-fn read_in_turn<C: LaneCodec, T: Destination>(
+pub(crate) fn read_in_turn<C: LaneCodec, T: Destination>(
     tables: &FlatTables<'_>,
     src: &[u8],
     most: usize,
@@ -561,7 +550,7 @@ fn read_at_most<C: LaneCodec, T: Destination>(
 /// The blocks of a codec over flat tables, if nothing is held back.
 #[derive(Drop)]
 pub struct LaneBlocks<'a, 'b, C: LaneCodec> {
-    tables: &'a FlatTables<'b>,
+    pub(crate) tables: &'a FlatTables<'b>,
     /// What the codec keeps from one form of more than two bytes to the next.
     guess: &'a Cell<usize>,
     /// The number of bytes that are read form by form before lanes.
@@ -715,40 +704,4 @@ impl<C: LaneCodec> Blocks for LaneBlocks<'_, '_, C> {
         let (few, goes_on) = read_few(self, &src[at..], dst);
         (at + few, goes_on)
     }
-}
-
-/// Reads the form at the front, and returns the number of bytes read, which is 0 if the form is uncommon.
-#[inline(always)]
-fn read_alone<C: LaneCodec, T: Destination>(
-    tables: &FlatTables<'_>,
-    src: &[u8],
-    dst: &mut T,
-) -> usize
-    requires { HasAscii (C.grammar tables.now.flat) }
-    ensures { ReadsAhead T.Destination (new_state (C.grammar tables.now.flat)) src.now result dst.old dst.new }
-{
-    let forms = LaneForms::<C>::new(tables);
-    read_one(&FormsInTurn { forms: &forms }, src, dst)
-}
-
-/// Reads blocks of a codec from the front, but nothing at an uncommon byte, and one form if an uncommon byte follows it.
-///
-/// Returns the number of bytes read, which may be 0. If it reads any, three code units stay free.
-// Malformed sequences often follow one another, or have a single form between them. Neither costs a call.
-#[inline(always)]
-#[tactic(auto, using(crate::proofs::WrittenRuns::no_bytes))]
-pub fn read_common<C: LaneCodec, T: Destination>(
-    blocks: &LaneBlocks<'_, '_, C>,
-    src: &[u8],
-    dst: &mut T,
-) -> usize
-    ensures { ReadsAhead T.Destination (new_state (C.grammar blocks.now.tables.now.flat)) src.now result dst.old dst.new }
-{
-    if begins_uncommon::<C>(src) {
-        return 0;
-    }
-    if stands_alone::<C>(src) {
-        return read_alone::<C, T>(blocks.tables, src, dst);
-    }
-    read_blocks(blocks, src, dst)
 }

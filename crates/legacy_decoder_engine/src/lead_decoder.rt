@@ -4,12 +4,13 @@ ghost use Rattle.legacy_tables.specs.Indexes.{FlatIndexes};
 ghost use Rattle.legacy_text.specs.EncodingForm.{EncodingForm};
 ghost use Rattle.legacy_base.specs.{States.{is_neutral, new_state}, DecoderActs.{full_room_in, release_room_in}, Formulas.{Formula, number, ◌⊕◌}};
 ghost use Rattle.legacy_base.specs.{Lengths.{answer, utf16_formula, utf8_formula, utf8_without_replacement_formula}, Fronts.malformed};
-ghost use Rattle.legacy_decoder_engine.specs.{Steps.{Step, finish, trail_step}, Moves.room_units, Feeding.Took};
+ghost use Rattle.legacy_decoder_engine.specs.{Steps.{Step, finish, trail_step}, LeadMachines.two_byte_step, Moves.room_units, Feeding.Took};
 ghost use Rattle.legacy_decoder_engine.specs.LeadCodecs.{IsLeadCodec, held_bytes, lead_state};
 
 use crate::drive::{count_malformed_bytes, drive_decoder};
-use crate::lanes::{LaneBlocks, LaneCodec, read_common};
+use crate::lanes::{LaneBlocks, LaneCodec};
 use crate::moves::{DecoderMoves, Fed, Room};
+use crate::near_malformed::{AFTER_MALFORMED, read_common};
 use crate::read_ahead::read_ascii;
 use legacy_base::{DecoderStep, Destination, RawDecoder, Tables};
 use legacy_tables::DecoderTables;
@@ -66,6 +67,22 @@ pub trait LeadCodec: LaneCodec {
     ghost leads: { (lead : Self.Lead) → is_lead (byte_of lead) ≡ true };
 }
 
+/// Returns what a byte leads to, and the lead that is held back after it.
+#[inline(always)]
+fn read<C: LeadCodec>(
+    tables: &Tables<'_>,
+    held: Option<C::Lead>,
+    byte: u8,
+) -> (Fed, Option<C::Lead>)
+    ensures { Took (two_byte_step C.first (C.scalars tables.now.flat) (held_bytes C.byte_of held) byte)
+        (held_bytes C.byte_of held) byte result.0 (held_bytes C.byte_of result.1) }
+{
+    match held {
+        Some(lead) => (C::read_pair(tables, lead, byte), None),
+        None => C::read_first(byte),
+    }
+}
+
 /// Returns true only if the byte is malformed by itself at the beginning of a form.
 #[inline(always)]
 fn is_malformed<C: LeadCodec>(byte: u8) -> bool
@@ -86,6 +103,8 @@ fn is_malformed<C: LeadCodec>(byte: u8) -> bool
 pub struct LeadDecoder<'a, C: LeadCodec> {
     tables: &'a Tables<'a>,
     held: Option<C::Lead>,
+    /// The number of bytes that are to be read without lanes, because a malformed sequence came before them.
+    without_lanes: usize,
 }
 
 impl<'a, C: LeadCodec> LeadDecoder<'a, C> {
@@ -93,7 +112,11 @@ impl<'a, C: LeadCodec> LeadDecoder<'a, C> {
     pub fn new(tables: &'a Tables<'a>) -> LeadDecoder<'a, C>
         ensures { lead_state C.grammar C.byte_of result.tables.now result.held ≡ new_state (C.grammar tables.now.flat) }
     {
-        LeadDecoder { tables, held: None }
+        LeadDecoder {
+            tables,
+            held: None,
+            without_lanes: 0,
+        }
     }
 
     /// Checks whether no lead is held back.
@@ -143,17 +166,14 @@ impl<'a, C: LeadCodec> DecoderMoves for LeadDecoder<'a, C> {
     #[inline(always)]
     #[tactic(auto, using(crate::proofs::LeadHeld::feeds))]
     fn feed(&mut self, byte: u8) -> Fed {
-        match self.held {
-            Some(lead) => {
-                self.held = None;
-                C::read_pair(self.tables, lead, byte)
-            }
-            None => {
-                let (fed, held) = C::read_first(byte);
-                self.held = held;
-                fed
-            }
-        }
+        let (fed, held) = read::<C>(self.tables, self.held, byte);
+        self.held = held;
+        fed
+    }
+
+    #[inline(always)]
+    fn after_malformed(&mut self) {
+        self.without_lanes = AFTER_MALFORMED;
     }
 
     #[inline]
@@ -192,7 +212,8 @@ impl<'a, C: LeadCodec> DecoderMoves for LeadDecoder<'a, C> {
         match self.tables.flat() {
             Some(tables) => {
                 let guess = Cell::new(0);
-                read_common(&LaneBlocks::<C>::new(tables, &guess), src, dst)
+                let blocks = LaneBlocks::<C>::new(tables, &guess);
+                read_common(&blocks, &mut self.without_lanes, src, dst)
             }
             None => read_ascii(src, dst),
         }

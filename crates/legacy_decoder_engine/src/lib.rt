@@ -13,6 +13,7 @@ pub mod lanes;
 pub mod lead_and_trail;
 pub mod lead_decoder;
 pub mod moves;
+pub mod near_malformed;
 pub mod past_ascii;
 mod picks;
 pub mod places;

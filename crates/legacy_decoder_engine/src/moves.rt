@@ -73,6 +73,12 @@ pub trait DecoderMoves {
         requires { rests (state self.old).grammar (state self.old).held ≡ true }
         ensures { Feeds (state self.old) byte (state self.new) result };
 
+    /// Is told that a malformed sequence is reported. It may change how the next bytes are read, but not the state.
+    #[inline(always)]
+    fn after_malformed(&mut self)
+        ensures { state self.new ≡ state self.old }
+    {}
+
     /// Returns whether there is something to report at the end of the input. Nothing changes.
     fn has_rest(&self) -> bool
         ensures some { result ≡ true → events_of (state self.now).grammar (state self.now).held ≢ [] }

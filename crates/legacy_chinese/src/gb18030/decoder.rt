@@ -17,9 +17,10 @@ use super::pair_places::TRAILS;
 use legacy_base::{DecoderStep, Destination, IndexName, RawDecoder, Tables};
 use legacy_decoder_engine::drive::{count_malformed_bytes, drive_decoder};
 use legacy_decoder_engine::held_lead::Lead;
-use legacy_decoder_engine::lanes::{LaneBlocks, read_common};
+use legacy_decoder_engine::lanes::LaneBlocks;
 use legacy_decoder_engine::lead_and_trail::malformed_through;
 use legacy_decoder_engine::moves::{DecoderMoves, Fed, Room};
+use legacy_decoder_engine::near_malformed::{AFTER_MALFORMED, read_common};
 use legacy_decoder_engine::places::{ROWS_OF_190, pair_pointer};
 use legacy_decoder_engine::read_ahead::read_ascii;
 use legacy_decoder_engine::unmapped_trail::unmapped;
@@ -60,6 +61,8 @@ pub struct Gb18030Decoder<'a> {
     held: Held,
     /// The place of the last range that was used. The next sequence of four bytes tries it first.
     guess: Cell<usize>,
+    /// The number of bytes that are to be read without lanes, because a malformed sequence came before them.
+    without_lanes: usize,
 }
 
 /// Returns the scalar of a lead and a trail, or `None` if they have no entry.
@@ -74,7 +77,7 @@ fn pair_scalar(tables: &Tables, lead: Lead, trail: u8) -> Option<char>
 }
 
 /// Returns what a byte leads to if nothing is held back.
-#[inline]
+#[inline(always)]
 fn read_first(byte: u8) -> (Fed, Held)
     ensures { Took (gb18030_step [] [] [] byte) [] byte result.0 (held_bytes result.1) }
 {
@@ -91,7 +94,7 @@ fn read_first(byte: u8) -> (Fed, Held)
 }
 
 /// Returns what a byte leads to after a lead.
-#[inline]
+#[inline(never)]
 fn read_second(tables: &Tables, first: Lead, byte: u8) -> (Fed, Held)
     ensures { Took (gb18030_step tables.now.flat.gb18030 [] (first.byte ∷ []) byte)
         (first.byte ∷ []) byte result.0 (held_bytes result.1) }
@@ -107,7 +110,7 @@ fn read_second(tables: &Tables, first: Lead, byte: u8) -> (Fed, Held)
 }
 
 /// Returns what a byte leads to after a lead and a digit.
-#[inline]
+#[inline(never)]
 fn read_third(first: Lead, second: Digit, byte: u8) -> (Fed, Held)
     ensures { Took (gb18030_step [] [] (first.byte ∷ second.byte ∷ []) byte)
         (first.byte ∷ second.byte ∷ []) byte result.0 (held_bytes result.1) }
@@ -126,7 +129,7 @@ fn read_third(first: Lead, second: Digit, byte: u8) -> (Fed, Held)
 }
 
 /// Returns what a byte leads to after a lead, a digit and a lead.
-#[inline]
+#[inline(never)]
 fn read_fourth(
     tables: &Tables,
     guess: &Cell<usize>,
@@ -161,7 +164,8 @@ fn read_fourth(
 }
 
 /// Returns what a byte leads to, and what is held back after it.
-#[inline]
+// Only the first byte is read without a call: few bytes come here, but for malformed ones.
+#[inline(always)]
 fn read(tables: &Tables, guess: &Cell<usize>, held: Held, byte: u8) -> (Fed, Held)
     requires { is_resting held ≡ true }
     ensures { Took (gb18030_step tables.now.flat.gb18030 tables.now.flat.ranges
@@ -233,6 +237,7 @@ impl<'a> Gb18030Decoder<'a> {
             tables,
             held: Held::Nothing,
             guess: Cell::new(0),
+            without_lanes: 0,
         }
     }
 
@@ -303,6 +308,11 @@ impl DecoderMoves for Gb18030Decoder<'_> {
         fed
     }
 
+    #[inline(always)]
+    fn after_malformed(&mut self) {
+        self.without_lanes = AFTER_MALFORMED;
+    }
+
     #[inline]
     #[tactic(auto, using(crate::proofs::Gb18030Held::ends_none, crate::proofs::Gb18030Held::ends_some))]
     fn has_rest(&self) -> bool {
@@ -352,7 +362,8 @@ impl DecoderMoves for Gb18030Decoder<'_> {
         }
         match self.tables.flat() {
             Some(tables) => {
-                read_common(&LaneBlocks::<Gb18030>::new(tables, &self.guess), src, dst)
+                let blocks = LaneBlocks::<Gb18030>::new(tables, &self.guess);
+                read_common(&blocks, &mut self.without_lanes, src, dst)
             }
             None => read_ascii(src, dst),
         }

@@ -10,9 +10,10 @@ use super::held_lead::EucJpLead;
 use legacy_base::{DecoderStep, Destination, IndexName, RawDecoder, Tables};
 use legacy_decoder_engine::common_forms::CommonForm;
 use legacy_decoder_engine::drive::{count_malformed_bytes, drive_decoder};
-use legacy_decoder_engine::lanes::{LaneBlocks, LaneCodec, read_common};
+use legacy_decoder_engine::lanes::{LaneBlocks, LaneCodec};
 use legacy_decoder_engine::lead_and_trail::malformed_through;
 use legacy_decoder_engine::moves::{DecoderMoves, Fed, Room};
+use legacy_decoder_engine::near_malformed::{AFTER_MALFORMED, read_common};
 use legacy_decoder_engine::read_ahead::read_ascii;
 use legacy_decoder_engine::rows::row_pointers;
 use legacy_decoder_engine::unmapped_trail::unmapped;
@@ -52,6 +53,8 @@ pub(crate) enum Held {
 pub struct EucJpDecoder<'a> {
     tables: &'a Tables<'a>,
     held: Held,
+    /// The number of bytes that are to be read without lanes, because a malformed sequence came before them.
+    without_lanes: usize,
 }
 
 /// Returns the scalar of a lead and a trail in the index, or `None`.
@@ -74,7 +77,7 @@ fn pair_scalar<V: DecoderTables>(
 }
 
 /// Returns what a byte leads to if nothing is held back.
-#[inline]
+#[inline(always)]
 fn read_first(byte: u8) -> (Fed, Held)
     ensures { Took (euc_jp_step [] [] [] byte) [] byte result.0 (held_bytes result.1) }
 {
@@ -102,7 +105,7 @@ fn is_malformed(byte: u8) -> bool
 }
 
 /// Returns what a byte leads to after 8E.
-#[inline]
+#[inline(never)]
 fn read_katakana(byte: u8) -> Fed
     ensures { Took (euc_jp_step [] [] (0x8E ∷ []) byte) (0x8E ∷ []) byte result [] }
 {
@@ -116,7 +119,7 @@ fn read_katakana(byte: u8) -> Fed
 }
 
 /// Returns what a byte leads to after 8F.
-#[inline]
+#[inline(never)]
 fn read_jis0212_lead(byte: u8) -> (Fed, Held)
     ensures { Took (euc_jp_step [] [] (0x8F ∷ []) byte) (0x8F ∷ []) byte
         result.0 (held_bytes result.1) }
@@ -128,7 +131,7 @@ fn read_jis0212_lead(byte: u8) -> (Fed, Held)
 }
 
 /// Returns what a byte leads to after a lead.
-#[inline]
+#[inline(never)]
 fn read_jis0208_trail(tables: &Tables, lead: EucJpLead, byte: u8) -> Fed
     ensures { Took (euc_jp_step tables.now.flat.jis0208 [] (lead.byte ∷ []) byte)
         (lead.byte ∷ []) byte result [] }
@@ -140,7 +143,7 @@ fn read_jis0208_trail(tables: &Tables, lead: EucJpLead, byte: u8) -> Fed
 }
 
 /// Returns what a byte leads to after 8F and a lead.
-#[inline]
+#[inline(never)]
 #[tactic(auto, using(std::proofs::lemmas::Grind::common_steps))]
 fn read_jis0212_trail(tables: &Tables, lead: EucJpLead, byte: u8) -> Fed
     ensures { Took (euc_jp_step [] tables.now.flat.jis0212 (0x8F ∷ lead.byte ∷ []) byte)
@@ -153,7 +156,8 @@ fn read_jis0212_trail(tables: &Tables, lead: EucJpLead, byte: u8) -> Fed
 }
 
 /// Returns what a byte leads to, and what is held back after it.
-#[inline]
+// Only the first byte is read without a call: few bytes come here, but for malformed ones.
+#[inline(always)]
 fn read(tables: &Tables, held: Held, byte: u8) -> (Fed, Held)
     ensures { Took
         (euc_jp_step tables.now.flat.jis0208 tables.now.flat.jis0212 (held_bytes held) byte)
@@ -204,6 +208,7 @@ impl<'a> EucJpDecoder<'a> {
         EucJpDecoder {
             tables,
             held: Held::Nothing,
+            without_lanes: 0,
         }
     }
 
@@ -258,6 +263,11 @@ impl DecoderMoves for EucJpDecoder<'_> {
         fed
     }
 
+    #[inline(always)]
+    fn after_malformed(&mut self) {
+        self.without_lanes = AFTER_MALFORMED;
+    }
+
     #[inline]
     #[tactic(auto, using(crate::proofs::EucJpShown::ends_none, crate::proofs::EucJpShown::ends_some))]
     fn has_rest(&self) -> bool {
@@ -289,7 +299,8 @@ impl DecoderMoves for EucJpDecoder<'_> {
             Held::Nothing => match self.tables.flat() {
                 Some(tables) => {
                     let guess = Cell::new(0);
-                    read_common(&LaneBlocks::<EucJp>::new(tables, &guess), src, dst)
+                    let blocks = LaneBlocks::<EucJp>::new(tables, &guess);
+                    read_common(&blocks, &mut self.without_lanes, src, dst)
                 }
                 None => read_ascii(src, dst),
             },

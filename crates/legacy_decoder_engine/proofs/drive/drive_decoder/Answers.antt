@@ -8,34 +8,36 @@ use Rattle.legacy_decoder_engine.proofs.drive.drive_decoder.Goals as goal
 
 pub feed-fed-requires : goal.feed-fed-requires
 feed-fed-requires g c =
-    (front_going c.args.dst.now c.loop-read.invariant c.read_runs-read.ensures.runs c.hold_back-read.ensures.within c.hold_back-read.ensures.holds).1.resting
+    (front_going c.args.dst.now c.loop-read.invariant c.read_ahead-read.ensures c.hold_back-read.ensures.within c.hold_back-read.ensures.holds).1.resting
 
 pub finish-requires : goal.finish-requires
 finish-requires g c =
-    (front_going c.args.dst.now c.loop-read.invariant c.read_runs-read.ensures.runs c.hold_back-read.ensures.within c.hold_back-read.ensures.holds).1.resting
+    (front_going c.args.dst.now c.loop-read.invariant c.read_ahead-read.ensures c.hold_back-read.ensures.within c.hold_back-read.ensures.holds).1.resting
 
 pub returns-then-not-has_room-2-clause-call : goal.returns-then-not-has_room-2-clause-call
 returns-then-not-has_room-2-clause-call g c =
-    let i = front_going c.args.dst.now c.loop-read.invariant c.read_runs-read.ensures.runs c.hold_back-read.ensures.within c.hold_back-read.ensures.holds in
+    let i = front_going c.args.dst.now c.loop-read.invariant c.read_ahead-read.ensures c.hold_back-read.ensures.within c.hold_back-read.ensures.holds in
     let needs = c.reading_room.ensures in
     let lacks = rw (needs.units g.T.Destination.form) at (c.has_room-in-loop-read.ensures.none c.if-not-has_room-2.true) in
     (i.0, call_lacks i.1 _ i.3 (omega (arith, i.1.within, c.if-read-src.false)) needs.covered lacks, i.2)
 
 pub returns-then-unread-clause-call : goal.returns-then-unread-clause-call
 returns-then-unread-clause-call g c =
-    let i = front_going c.args.dst.now c.loop-read.invariant c.read_runs-read.ensures.runs c.hold_back-read.ensures.within c.hold_back-read.ensures.holds in
+    let i = front_going c.args.dst.now c.loop-read.invariant c.read_ahead-read.ensures c.hold_back-read.ensures.within c.hold_back-read.ensures.holds in
     let enough = rw (c.reading_room.ensures.units g.T.Destination.form) at (c.has_room-in-loop-read.ensures.some c.if-not-has_room-2.false) in
+    rw c.after_malformed.ensures
     (i.0, call_unread i.1 _ i.3 (omega (arith, i.1.within, c.if-read-src.false)) enough (rw c.if-unread.true at c.in-MalformedSequence.ensures), i.2)
 
 pub returns-in-MalformedSequence-clause-call : goal.returns-in-MalformedSequence-clause-call
 returns-in-MalformedSequence-clause-call g c =
-    let i = front_going c.args.dst.now c.loop-read.invariant c.read_runs-read.ensures.runs c.hold_back-read.ensures.within c.hold_back-read.ensures.holds in
+    let i = front_going c.args.dst.now c.loop-read.invariant c.read_ahead-read.ensures c.hold_back-read.ensures.within c.hold_back-read.ensures.holds in
     let enough = rw (c.reading_room.ensures.units g.T.Destination.form) at (c.has_room-in-loop-read.ensures.some c.if-not-has_room-2.false) in
+    rw c.after_malformed.ensures
     (i.0, call_read i.1 _ i.3 (omega (arith, i.1.within, c.if-read-src.false)) enough (rw c.if-unread.false at c.in-MalformedSequence.ensures), i.2)
 
 pub loop-read-preserved : goal.loop-read-preserved
 loop-read-preserved g c =
-    let i = front_going c.args.dst.now c.loop-read.invariant c.read_runs-read.ensures.runs c.hold_back-read.ensures.within c.hold_back-read.ensures.holds in
+    let i = front_going c.args.dst.now c.loop-read.invariant c.read_ahead-read.ensures c.hold_back-read.ensures.within c.hold_back-read.ensures.holds in
     let enough = rw (c.reading_room.ensures.units g.T.Destination.form) at (c.has_room-in-loop-read.ensures.some c.if-not-has_room-2.false) in
     let fed = c.feed-fed.result in
     let e = c.put_fed.ensures in (
@@ -81,5 +83,5 @@ returns-then-not-has_room-clause-call g c =
 
 pub returns-clause-call : goal.returns-clause-call
 returns-clause-call g c =
-    let i = front_going c.args.dst.now c.loop-read.invariant c.read_runs-read.ensures.runs c.hold_back-read.ensures.within c.hold_back-read.ensures.holds in
+    let i = front_going c.args.dst.now c.loop-read.invariant c.read_ahead-read.ensures c.hold_back-read.ensures.within c.hold_back-read.ensures.holds in
     (i.0, rw (← c.if-read-src.true) (call_end i.1 _ i.3 c.if-read-src.true c.finish.ensures), i.2)
