@@ -200,8 +200,8 @@ const KEPT: [(Kept, &str); 3] = [(Kept::Flat, "flat"), (Kept::Packed, "packed"),
 
 /// Prints the table of two builds beside each other.
 ///
-/// It has decoding over flat tables and, without the word `flat`, over packed ones. It has encoding over packed ones if the codec can have them,
-/// and with cached pairs.
+/// It has decoding over flat tables and, without the word `flat`, over packed ones; with `replace`, decoding of malformed text.
+/// It has encoding over packed ones if the codec can have them, and with cached pairs.
 fn compared(builds: &Builds, words: Vec<String>, times: usize) -> Result<(), String> {
     let (wanted, mut codecs) = (Wanted::new(words), Codecs::default());
     let mut ratios: [Vec<Ratios>; 3] = Default::default();
