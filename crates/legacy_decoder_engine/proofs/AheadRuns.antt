@@ -1,15 +1,18 @@
 -- A run of common sequences within a call in progress.
 use Rattle.std.proofs.Common.{◌≡◌, ◌∙◌, ℕ, ◌+◌, ◌-◌, ◌≤◌, ◌<◌, List, [], ◌∷◌, ◌++◌, length, map, take, drop, sym, ap, subst, arith, add-zero}
-use Rattle.std.proofs.{Common.{append_assoc, append-nil, true, length-append, length-drop, Bool, Some, None, Option, inl, inr}, lemmas.List.length-map}
-use Rattle.std.proofs.{lemmas.List.{take-append-drop, length-take-le, nil_from_length}, lemmas.Bool.{cases_lt, true≢false}}
+use Rattle.std.proofs.{Common.{append_assoc, append-nil, true, false, get_or, length-append, length-drop, Bool, Some, None, Option, inl, inr}}
+use Rattle.std.specs.Prelude.{if◌then◌else◌}
+use Rattle.std.proofs.{lemmas.List.{length-map, take-append-drop, length-take-le, nil_from_length}, lemmas.Bool.{cases_lt, true≢false}}
 use Rattle.legacy_text.specs.EncodingForm.{EncodingForm, code_units, unit_count, all_code_units, total_unit_count, wide_room}
 use Rattle.legacy_text.specs.declared.destination.Destination.{Ghosts}
 use Rattle.legacy_text.proofs.CodeUnits.{all_code_units-append, total_unit_count-append}
 use Rattle.legacy_base.specs.{States.{DecoderState, new_state, rests, may_hold}, Grammar.{Grammar, events_of}}
-use Rattle.legacy_base.specs.{declared.results.DecodeEvent.TheVariants.Scalar, DecoderActs.HadRoom}
+use Rattle.legacy_base.specs.{declared.results.DecodeEvent.TheVariants.Scalar, DecoderActs.HadRoom, Calls.{DecoderCall, IsDecoderCall}}
+use Rattle.legacy_base.specs.declared.results.{DecoderResult.DecoderResult, DecoderResult.TheVariants.{InputEmpty, OutputFull, Malformed}}
 use Rattle.legacy_base.proofs.{Shifts.shift-zero, GrammarLaws.{rests-none, may_none}, Rooms.{lacks_small, full_most}, SameUnits.some_unit}
-use Rattle.legacy_decoder_engine.specs.{ReadAhead.{RunsTo, Runs, ReadsTo}, Moves.HoldsBytes}
-use Rattle.legacy_decoder_engine.proofs.{CallUnderWay.{Going, going_then, held_going}, WrittenRuns.rest_of}
+use Rattle.legacy_decoder_engine.specs.{ReadAhead.{RunsTo, Runs, ReadsTo}, Moves.{HoldsBytes, GoesOn, EndsAt, Feeds, fed_scalars, read_room}}
+use Rattle.legacy_decoder_engine.specs.declared.moves.Fed.TheVariants.{MalformedSequence}
+use Rattle.legacy_decoder_engine.proofs.{CallUnderWay.{Going, going_then, going_feed, held_going, call_lacks, call_read, call_unread}, WrittenRuns.rest_of}
 
 wide_most : (form : EncodingForm) → wide_room form ≤ 4
 wide_most form = grind arith
@@ -101,11 +104,42 @@ module _ {D : Type 0} {T : Ghosts D} where
       reads.writes.loan ∙ i.4,
     )
 
+    pub read_going : {now next : DecoderState} {read r : ℕ} {old new : D} → IsUnderWay T last before source first now read old
+        → ReadsTo T now next (take (length source - read) (drop read source)) r old new → IsUnderWay T last before source first next (read + r) new
+    read_going {now} {next} {read} {r} {old} {new} i reads = ahead_going i (subst (λ l. ReadsTo T now next l r old new) (rest_of source read) reads)
+
     -- a call in progress, after sequences were read ahead and the bytes after them were held back
     pub front_going : {now mid next : DecoderState} {read r h : ℕ} {old new : D} → IsUnderWay T last before source first now read old
         → ReadsTo T now mid (take (length source - read) (drop read source)) r old new → h ≤ length (take (length source - (read + r)) (drop (read + r) source))
         → HoldsBytes T.form (T.room new) mid (take h (take (length source - (read + r)) (drop (read + r) source))) next
         → IsUnderWay T last before source first next (read + r + h) new
     front_going {now} {mid} {next} {read} {r} {h} {old} {new} i reads within holds =
-        let j = ahead_going i (subst (λ l. ReadsTo T now mid l r old new) (rest_of source read) reads) in
+        let j = read_going i reads in
         (j.0, held_going j.1 _ j.3 h (rw (rest_of source (read + r)) at within) (rw (rest_of source (read + r)) at holds), j.2, j.3, j.4)
+
+pub some_left : (source : List ℕ) (read : ℕ) → read ≤ length source → 0 < length (take (length source - read) (drop read source)) → read < length source
+some_left source read within some = omega (arith, within, rw (rest_of source read, length-drop read source) at some)
+
+-- a call in progress goes on with a byte, or ends at it
+module _ {D : Type 0} (T : Ghosts D) {last : Bool} {before : DecoderState} {source : List ℕ} (first : D) {now next : DecoderState} {read : ℕ} {old : D}
+    (i : IsUnderWay T last before source first now read old) (some : read < length source) where
+  pub byte_going : {new : D} → GoesOn T now (get_or source read 0) next old new → IsUnderWay T last before source first next (read + 1) new
+  byte_going {new} goes = (
+    i.0 ++ fed_scalars goes.fed,
+    going_feed i.1 _ i.3 goes.fed some goes.feeds goes.sound goes.enough,
+    written T first old new i.0 (fed_scalars goes.fed) i.2 goes.written,
+    omega (arith, total_unit_count-append T.form i.0 (fed_scalars goes.fed), goes.room, i.3),
+    goes.loan ∙ i.4,
+  )
+
+  malformed_ends : (sequence back n : ℕ) (unread : Bool) → Feeds now (get_or source read 0) next (MalformedSequence sequence back unread)
+      → n ≡ (if unread then 0 else 1) → read_room T.form now (get_or source read 0) ≤ T.room old
+      → DecoderCall T.form before source last (T.room first) next (Malformed sequence back) (read + n) i.0
+  malformed_ends sequence back n true feeds same enough = rw (same, add-zero read) (call_unread i.1 _ i.3 some enough feeds)
+  malformed_ends sequence back n false feeds same enough = rw same (call_read i.1 _ i.3 some enough feeds)
+
+  pub byte_ends : {new : D} (answer : DecoderResult) (n : ℕ) → new ≡ old → EndsAt T.form (T.room old) now (get_or source read 0) next answer n
+      → IsDecoderCall T.form before source last (T.room first) next answer (read + n) (T.contents first) (T.contents new)
+  byte_ends InputEmpty n same ends = absurd ends
+  byte_ends OutputFull n same ends = rw (same, ends.0, ends.1, add-zero read) (i.0, call_lacks i.1 _ i.3 some ends.3 ends.2, i.2)
+  byte_ends (Malformed sequence back) n same ends = rw same (i.0, malformed_ends sequence back n ends.0 ends.1 ends.2 ends.3, i.2)

@@ -9,7 +9,8 @@ use Rattle.legacy_base.specs.Lengths.{LengthQuery, query_form, replacement_units
 use Rattle.legacy_base.specs.{declared.results.DecodeEvent.DecodeEvent, declared.results.DecodeEvent.TheVariants.Scalar}
 use Rattle.legacy_base.specs.{declared.results.DecodeEvent.TheVariants.Bad, declared.results.DecoderResult.DecoderResult, Grammar.Grammar, Grammar.events_of}
 use Rattle.legacy_base.specs.{Calls.Progress, Calls.IsMalformedSequence}
-use Rattle.legacy_text.specs.EncodingForm.{EncodingForm, unit_count, total_unit_count, bmp_room, wide_room}
+use Rattle.legacy_text.specs.EncodingForm.{EncodingForm, unit_count, all_code_units, total_unit_count, bmp_room, wide_room}
+use Rattle.legacy_text.specs.declared.destination.Destination.{Ghosts}
 use Rattle.legacy_decoder_engine.specs.declared.moves.Fed.TheVariants.{Nothing, One, Two, MalformedSequence}
 use Rattle.legacy_decoder_engine.specs.{declared.moves.Room.Room, declared.moves.Fed.Fed}
 use Rattle.legacy_base.specs.DecoderActs as acts
@@ -97,6 +98,26 @@ unfoldable pub HoldsBytes : EncodingForm → ℕ → DecoderState → List ℕ �
 HoldsBytes form free before [] after = after ≡ before
 HoldsBytes form free before (byte ∷ bytes) after =
     (mid : DecoderState) × Feeds before byte mid Nothing × (read_room form before byte ≤ free) × HoldsBytes form free mid bytes after
+
+-- a byte that was read within a call, with what it gave written
+pub record GoesOn {D : Type 0} (T : Ghosts D) (before : DecoderState) (byte : ℕ) (after : DecoderState) (old new : D) : Type 0 where
+  pub fed : Fed
+  pub feeds : Feeds before byte after fed
+  pub sound : RevealsMalformed fed → ⊥
+  pub enough : read_room T.form before byte ≤ T.room old
+  pub written : T.contents new ≡ T.contents old ++ all_code_units T.form (fed_scalars fed)
+  pub room : T.room new + total_unit_count T.form (fed_scalars fed) ≡ T.room old
+  pub loan : T.loan new ≡ T.loan old
+
+-- A byte at which a call ends, with `free` free code units. Either reading it lacks its room, and nothing changes, or it
+-- reveals a malformed sequence. `read` says whether the byte was read.
+abbrev pub EndsAt : EncodingForm → ℕ → DecoderState → ℕ → DecoderState → DecoderResult → ℕ → Type 0
+EndsAt form free before byte after InputEmpty read = ⊥
+EndsAt form free before byte after OutputFull read =
+    (after ≡ before) × (read ≡ 0) × (free < read_room form before byte) × IsCovered before
+EndsAt form free before byte after (Malformed sequence back) read =
+    (unread : Bool) × Feeds before byte after (MalformedSequence sequence back unread) × (read ≡ (if unread then 0 else 1))
+    × (read_room form before byte ≤ free)
 
 -- ---- writing a held-back scalar
 

@@ -1,8 +1,8 @@
 //! The loop of all decoders, over the small moves that each decoder makes.
-ghost use Rattle.std.specs.Prelude.{◌≡◌, ℕ, ◌+◌, ◌<◌, ◌≤◌, ◌++◌, length, slice_index, true, false};
+ghost use Rattle.std.specs.Prelude.{◌≡◌, ℕ, ◌+◌, ◌<◌, ◌≤◌, ◌++◌, length, slice_index, true, false, MatchOption};
 ghost use Rattle.legacy_text.specs.EncodingForm.{all_code_units, total_unit_count};
 ghost use Rattle.legacy_base.specs.{States.rests, Calls.{IsDecoderCall, IsMalformedByte}};
-ghost use Rattle.legacy_decoder_engine.specs.{Moves.{room_units, fed_scalars, Finishes}, ReadAhead.ReadsTo};
+ghost use Rattle.legacy_decoder_engine.specs.{Moves.{room_units, fed_scalars, GoesOn, EndsAt, Finishes}, ReadAhead.ReadsTo};
 
 use crate::moves::{DecoderMoves, Fed, Room};
 use legacy_base::{DecoderResult, Destination};
@@ -38,6 +38,45 @@ fn put_fed<T: Destination>(dst: &mut T, fed: Fed)
     }
 }
 
+/// Reads a byte, which is not held back yet, and writes what it gives.
+///
+/// Returns `None` if the call goes on, and otherwise its result with the number of bytes read, which is 0 or 1.
+#[inline(always)]
+fn read_byte<D: DecoderMoves, T: Destination>(
+    decoder: &mut D,
+    byte: u8,
+    dst: &mut T,
+) -> Option<(DecoderResult, usize)>
+    requires { rests (D.state decoder.old).grammar (D.state decoder.old).held ≡ true }
+    ensures { MatchOption result
+        (GoesOn T.Destination (D.state decoder.old) byte (D.state decoder.new) dst.old dst.new)
+        (λ ended. EndsAt T.form (T.room dst.old) (D.state decoder.old) byte (D.state decoder.new) ended.0 ended.1 × (dst.new ≡ dst.old)) }
+{
+    if !has_room(dst, decoder.reading_room(byte)) {
+        return Some((DecoderResult::OutputFull, 0));
+    }
+    let fed = decoder.feed(byte);
+    if let Fed::MalformedSequence {
+        length,
+        back,
+        unread,
+    } = fed
+    {
+        decoder.after_malformed();
+        return Some((DecoderResult::Malformed(length, back), usize::from(!unread)));
+    }
+    put_fed(dst, fed);
+    None
+}
+
+/// Returns whether the first byte is known to be malformed by itself.
+#[inline(always)]
+fn begins_malformed<D: DecoderMoves>(decoder: &D, src: &[u8]) -> bool
+    ensures { result ≡ true → 0 < length src.now }
+{
+    !src.is_empty() && decoder.is_malformed_byte(src[0])
+}
+
 /// Reads a run from the front, but nothing if the byte there is known to be malformed.
 ///
 /// Returns the number of bytes read.
@@ -47,7 +86,7 @@ fn put_fed<T: Destination>(dst: &mut T, fed: Fed)
 fn read_ahead<D: DecoderMoves, T: Destination>(decoder: &mut D, src: &[u8], dst: &mut T) -> usize
     ensures { ReadsTo T.Destination (D.state decoder.old) (D.state decoder.new) src.now result dst.old dst.new }
 {
-    if !src.is_empty() && decoder.is_malformed_byte(src[0]) {
+    if begins_malformed(decoder, src) {
         return 0;
     }
     decoder.read_runs(src, dst)
@@ -102,28 +141,21 @@ pub fn drive_decoder<D: DecoderMoves, T: Destination>(
     let mut read = 0;
     loop {
         read += read_ahead(decoder, &src[read..], dst);
+        // The same turn as below, which the compiler makes shorter for such a byte.
+        if begins_malformed(decoder, &src[read..]) {
+            if let Some((result, count)) = read_byte(decoder, src[read], dst) {
+                return (result, read + count);
+            }
+            read += 1;
+            continue;
+        }
         read += decoder.hold_back(&src[read..], dst);
         if read == src.len() {
             break;
         }
-        let byte = src[read];
-        if !has_room(dst, decoder.reading_room(byte)) {
-            return (DecoderResult::OutputFull, read);
+        if let Some((result, count)) = read_byte(decoder, src[read], dst) {
+            return (result, read + count);
         }
-        let fed = decoder.feed(byte);
-        if let Fed::MalformedSequence {
-            length,
-            back,
-            unread,
-        } = fed
-        {
-            decoder.after_malformed();
-            if unread {
-                return (DecoderResult::Malformed(length, back), read);
-            }
-            return (DecoderResult::Malformed(length, back), read + 1);
-        }
-        put_fed(dst, fed);
         read += 1;
     }
     (finish(decoder, dst, last), src.len())
