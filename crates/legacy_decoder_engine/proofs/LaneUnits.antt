@@ -164,3 +164,6 @@ module _ (g : Grammar) (pointer : ℕ → ℕ) (at most : ℕ) (codes kept place
             (writes_then T before.writes (record { scalars = take few us; runs = next.0; written = contents; room = room_is; loan = loan }));
         counted = simp (take-add, flat_map-append, sum_by-append, length-append) (omega (arith, before.counted, next.1));
       }
+
+pub shorter_front : (n m : ℕ) (xs ys : List ℕ) → n ≤ m → take m xs ≡ take m ys → take n xs ≡ take n ys
+shorter_front n m xs ys le e = sym (take-take n m xs le) ∙ ap (take n) e ∙ take-take n m ys le

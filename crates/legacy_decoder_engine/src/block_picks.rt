@@ -56,22 +56,19 @@ fn copy_sixteen(src: &[u8], at: usize, padded: &mut [u8])
     u8x16::from_slice(&src[at..]).copy_to_slice(&mut padded[at..]);
 }
 
-/// Returns 16 to 64 bytes with zeros after them.
-// The last sixteen overlap those before them. A copy of any number of bytes would be a call.
+/// Copies 16 to 64 bytes to the front of an array.
+// Copies of sixteen bytes overlap. A copy of any number of bytes would be a call, and the compiler makes a loop one.
 #[inline(always)]
-fn padded(src: &[u8]) -> [u8; 72]
+fn copy_front(src: &[u8], padded: &mut [u8; 72])
     requires some { 16 ≤ length src.now }
     requires most { length src.now ≤ 64 }
-    ensures { take (length src.now) result ≡ src.now }
+    ensures { take (length src.now) padded.new ≡ src.now }
 {
-    let mut padded = [0u8; 72];
-    let mut at = 0;
-    while src.len() - at > 16 {
-        copy_sixteen(src, at, &mut padded);
-        at += 16;
-    }
-    copy_sixteen(src, src.len() - 16, &mut padded);
-    padded
+    let last = src.len() - 16;
+    copy_sixteen(src, 0, padded);
+    copy_sixteen(src, last.min(16), padded);
+    copy_sixteen(src, last.min(32), padded);
+    copy_sixteen(src, last, padded);
 }
 
 /// Stores the codes of the forms in blocks with many bytes past ASCII at the front, a block for each 64 codes of room.
@@ -93,7 +90,9 @@ pub fn pick_blocks<C: LaneCodec>(src: &[u8], codes: &mut [u16]) -> (usize, usize
             pick_block::<C>(rest, 64, codes, count)
         } else {
             let most = rest.len().min(64);
-            pick_block::<C>(&padded(&rest[..most]), most, codes, count)
+            let mut padded = [0u8; 72];
+            copy_front(&rest[..most], &mut padded);
+            pick_block::<C>(&padded, most, codes, count)
         };
         count = next;
         at += bytes;

@@ -410,7 +410,8 @@ fn read_long<C: LaneCodec, T: Destination>(
 }
 
 /// Reads blocks with many bytes past ASCII from the front, and returns the number of bytes read, which may be 0.
-// Most runs of such blocks between tags are short: the larger arrays are made after a few blocks.
+// Most runs of such blocks between tags are short: the larger arrays are made after a few blocks, and a copy of the tables,
+// whose parts a loop keeps in registers.
 #[inline(always)]
 #[tactic(auto, using(crate::proofs::WrittenRuns::no_bytes))]
 fn read_short<C: LaneCodec, T: Destination>(
@@ -432,7 +433,8 @@ fn read_short<C: LaneCodec, T: Destination>(
             return at;
         }
         if at >= 256 && src.len() - at >= 512 && begins_many::<C>(&src[at..]) {
-            return at + read_long::<C, T>(tables, guess, &src[at..], dst);
+            let copied = tables.copied();
+            return at + read_long::<C, T>(&copied, guess, &src[at..], dst);
         }
     }
 }

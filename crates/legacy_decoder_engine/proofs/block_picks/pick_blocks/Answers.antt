@@ -24,11 +24,12 @@ loop-left-preserved g c =
           let most = w.min-most.result in
           let bytes = w.pick_block-else-rest-ge72.result.1 in
           let part : length (take most rest) ≡ most = length-take-le most rest (omega (arith, w.min-most.ensures, ap length is)) in
-          let front : take most w.padded.result ≡ take most rest = ap (λ k. take k w.padded.result) (sym part) ∙ rw is at w.padded.ensures in
+          let padded = w.copy_front.new.padded in
+          let front : take most padded ≡ take most rest = ap (λ k. take k padded) (sym part) ∙ rw is at w.copy_front.ensures in
           rw (w.codes-is, w.next-is) (record {
             room = omega (arith, i.room, e.most, w.pick_block-else-rest-ge72.auto.codes, c.loop-left-test.true);
             read = omega (arith, i.read, e.limit, w.min-most.ensures, long, ap length is);
             forms = picked_more l.count w.pick_block-else-rest-ge72.result.0 l.at bytes l.codes w.pick_block-else-rest-ge72.new.codes src _ i.forms e.forms
-                (sym (take-take bytes most w.padded.result e.limit) ∙ ap (take bytes) front ∙ take-take bytes most rest e.limit);
+                (sym (take-take bytes most padded e.limit) ∙ ap (take bytes) front ∙ take-take bytes most rest e.limit);
           })
     ]
