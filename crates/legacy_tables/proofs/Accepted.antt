@@ -9,7 +9,7 @@ use Rattle.legacy_tables.specs.{declared.tables.IndexName.IndexName, declared.ta
 use Rattle.legacy_tables.specs.declared.tables.TableError.TheVariants.{BadEntry, RangeOrder, RangeValue}
 use Rattle.legacy_tables.specs.{declared.tables.packed.PackedPart.PackedPart, Indexes.{FlatIndexes, entry_scalar, idx, range, last_range_scalar}}
 use Rattle.legacy_tables.specs.{Walks.order_index, Unicode.AreScalars, Tables.{index_list, is_narrow_index}, TableChecks.{is_entry, must_be_empty, entry_fault}}
-use Rattle.legacy_tables.specs.TableChecks.{entries_fault, index_fault, katakana_fault, range_order_fault, AreAccepted, next_pointer, has_range_scalars}
+use Rattle.legacy_tables.specs.TableChecks.{entries_fault, index_fault, range_order_fault, AreAccepted, next_pointer, has_range_scalars}
 use Rattle.legacy_tables.specs.TableChecks.{follows_range, range_value_fault, rows_fault, table_fault}
 use Rattle.legacy_tables.proofs.FirstPlaces.{taken, each-fine}
 use Rattle.legacy_tables.specs.declared.tables.IndexName.TheVariants as names
@@ -35,7 +35,6 @@ pub record Parts (flat : FlatIndexes) : Type 0 where
   pub jis0208 : (length flat.jis0208 ≤ 11280) × (entries_fault names.Jis0208 0 flat.jis0208 ≡ None)
   pub jis0212 : (length flat.jis0212 ≤ 8836) × (entries_fault names.Jis0212 0 flat.jis0212 ≡ None)
   pub gb18030 : (length flat.gb18030 ≤ 23940) × (entries_fault names.Gb18030 0 flat.gb18030 ≡ None)
-  pub katakana_whole : katakana_fault flat.katakana ≡ None
   pub katakana : entries_fault names.Katakana 0 flat.katakana ≡ None
   pub ordered : range_order_fault 0 None flat.ranges ≡ None
   pub valued : range_value_fault 0 flat.ranges ≡ None

@@ -1,4 +1,4 @@
-use Rattle.std.proofs.Common.{◌-◌, arith}
+use Rattle.std.proofs.Common.{arith}
 use Rattle.legacy_tables.proofs.tables.ranges.Ranges.scalar_in.Goals as goal
 
 pub from_u32_unchecked-requires : goal.from_u32_unchecked-requires
