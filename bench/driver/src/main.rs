@@ -251,14 +251,17 @@ fn main() -> Result<(), String> {
     }
     let (numbers, mut words): (Vec<String>, Vec<String>) = arguments.into_iter().partition(|word| word.parse::<usize>().is_ok());
     let times = numbers.first().map_or(Ok(20), |number| number.parse()).map_err(|_| "not a number".to_string())?;
+    let program = words.is_empty() || words.iter().any(|word| word == "recode");
+    let all = words.iter().all(|word| word == "soon");
+    if words.iter().any(|word| word == "soon") {
+        rest::skip();
+    }
+    words.retain(|word| word != "soon" && word != "recode");
     rest::allow(times);
     if words.first().is_some_and(|word| word == "compare") {
         let [_, older, newer, words @ ..] = words.as_slice() else { return Err("compare: two libraries".to_string()) };
         return compared(&Builds::open(older, newer)?, words.to_vec(), times);
     }
-    let all = words.is_empty();
-    let program = all || words.iter().any(|word| word == "recode");
-    words.retain(|word| word != "recode");
     if all || !words.is_empty() {
         tables(words, times)?;
     }

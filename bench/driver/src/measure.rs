@@ -59,6 +59,9 @@ impl Times {
     }
 
     fn is_done(&self, times: usize) -> bool {
+        if rest::is_skipped() {
+            return self.count >= times;
+        }
         let is_enough = self.rested >= RESTED && self.count >= times && self.all >= LEAST_TIME * times as u32;
         is_enough || self.count >= MOST_CALLS * times || (self.count >= 2 && self.all >= MOST_TIME)
     }

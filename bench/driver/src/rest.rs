@@ -43,6 +43,7 @@ struct Core {
     least: Duration,
     waited: Duration,
     allowed: Duration,
+    is_skipped: bool,
 }
 
 impl Core {
@@ -54,7 +55,7 @@ impl Core {
             least = least.min(additions());
             sleep(Duration::from_millis(1));
         }
-        Core { least, waited: Duration::ZERO, allowed: Duration::ZERO }
+        Core { least, waited: Duration::ZERO, allowed: Duration::ZERO, is_skipped: false }
     }
 
     fn is_at_rest(&mut self) -> bool {
@@ -86,12 +87,22 @@ pub fn allow(times: usize) {
     CORE.with_borrow_mut(|core| core.allowed = PATIENCE_OF_TIME * times as u32);
 }
 
+/// Lets no call wait, as if the core were always at rest.
+pub fn skip() {
+    CORE.with_borrow_mut(|core| core.is_skipped = true);
+}
+
+/// Checks whether no call waits.
+pub fn is_skipped() -> bool {
+    CORE.with_borrow(|core| core.is_skipped)
+}
+
 /// Checks whether the core is at rest.
 pub fn is_at_rest() -> bool {
-    CORE.with_borrow_mut(Core::is_at_rest)
+    is_skipped() || CORE.with_borrow_mut(Core::is_at_rest)
 }
 
 /// Waits until the core is at rest or the allowed time is over, and returns whether it is at rest.
 pub fn wait() -> bool {
-    CORE.with_borrow_mut(Core::wait)
+    is_skipped() || CORE.with_borrow_mut(Core::wait)
 }
