@@ -2,7 +2,7 @@
 -- sum.
 use Rattle.std.specs.Prelude.{ℕ, ◌+◌, ◌-◌, ◌*◌, ◌/◌, ◌%◌, min, if◌then◌else◌}
 use Rattle.legacy_base.specs.States.{is_lead}
-use Rattle.legacy_decoder_engine.specs.SplitRows.{trail_place}
+use Rattle.legacy_decoder_engine.specs.LanePlaces.{trail_place}
 
 -- the place of a lead; a number past the end of the index if the byte is not a lead
 unfoldable pub big5_lead_place : ℕ → ℕ

@@ -117,6 +117,7 @@ module _ {D : Type 0} {T : Ghosts D} where
         let j = read_going i reads in
         (j.0, held_going j.1 _ j.3 h (rw (rest_of source (read + r)) at within) (rw (rest_of source (read + r)) at holds), j.2, j.3, j.4)
 
+-- if the rest of a source has a byte, so has the source at that place
 pub some_left : (source : List ℕ) (read : ℕ) → read ≤ length source → 0 < length (take (length source - read) (drop read source)) → read < length source
 some_left source read within some = omega (arith, within, rw (rest_of source read, length-drop read source) at some)
 

@@ -1,10 +1,12 @@
 -- The places of eight codes lane by lane, and the entries at them.
-use Rattle.std.proofs.Common.{◌≡◌, ◌≢◌, ℕ, ◌+◌, ◌-◌, ◌*◌, ◌/◌, ◌%◌, ◌^◌, ◌<◌, ◌≤◌, ◌++◌, min, Bool, cond, leb, ltb, List, [], ◌∷◌, length, map, refl, replicate}
-use Rattle.std.proofs.{Common.{bit_and, subst, arith, w16, Fits, option_to_list}, Math.Nat.mul-le-mul_right, lemmas.Bool.Decides.nat_tests, lemmas.Nat.and_mask}
+use Rattle.std.proofs.Common.{◌≡◌, ◌≢◌, ◌∙◌, ℕ, zero, suc, ◌+◌, ◌-◌, ◌*◌, ◌/◌, ◌%◌, ◌^◌, ◌<◌, ◌≤◌, ◌++◌, min, Bool, cond, leb, ltb, List, [], ◌∷◌}
+use Rattle.std.proofs.Common.{ap, arith, bit_and, drop, get_or, length, map, option_to_list, refl, replicate, w16, Fits}
+use Rattle.std.proofs.{Math.Nat.{mul_comm, mul-le-mul_left, mul-le-mul_right, mul-sub}, lemmas.{Bool.Decides.nat_tests, Nat.and_mask, Simd.map-map}}
+use Rattle.std.specs.Int.{is_in_range}
 use lib.Lanes.{Each1, zip2, sel_l, top}
 use Rattle.legacy_tables.specs.Indexes.{entry_scalar}
 use Rattle.legacy_text.proofs.UnitLanes.{of_eight}
-use Rattle.legacy_decoder_engine.specs.{LaneRows.row_place, SplitRows.{lead_place_of, trail_place_of}}
+use Rattle.legacy_decoder_engine.specs.{LaneCodes.ArePlaces, LanePlaces.{lead_place_of, late_place_of, trail_place_of}}
 
 -- the lists of eight lanes that a computation gives, from what it gives for one
 pub lane_by_lane : (F : List ℕ → List ℕ) (f : ℕ → ℕ) → ((c : ℕ) → c < 65536 → F (c ∷ []) ≡ f c ∷ [])
@@ -31,68 +33,93 @@ seconds v = zip2 (λ a b. a / 2 ^ b) v (replicate 8 8)
 abbrev columns : List ℕ → ℕ → List ℕ
 columns v first = zip2 less v (replicate 8 first)
 
-abbrev at_most : List ℕ → ℕ → List ℕ
-at_most v most = zip2 (λ a b. mask_if (leb a b)) v (replicate 8 most)
-
 abbrev times : List ℕ → ℕ → List ℕ
 times v width = zip2 (λ a b. a * b % 2 ^ 16) v (replicate 8 width)
 
-module _ (lead leads trail trails width : ℕ) (lead_room : lead + leads < 256) (trail_room : trail + trails < 256) (rows : leads * width + trails < 65535) where
-  abbrev row_places : List ℕ → List ℕ
-  row_places v =
-      let row = columns (firsts v) lead in
-      let column = columns (seconds v) trail in
-      sel_l (map (top 15) (zip2 bit_and (at_most row leads) (at_most column trails))) (zip2 (λ a b. (a + b) % 2 ^ 16) (times row width) column)
-      (replicate 8 65535)
+abbrev lead_places : List ℕ → ℕ → ℕ → List ℕ
+lead_places v lead width = times (columns (firsts v) lead) width
 
-  row_is : (c : ℕ) → c < 65536 → row_places (c ∷ []) ≡ row_place lead leads trail trails width c ∷ []
-  row_is c small =
-      let most : c % 256 - lead ≤ leads → (c % 256 - lead) * width ≤ leads * width = mul-le-mul_right width in
-      rw (and_mask c 8) (grind (arith, nat_tests))
+-- a difference that wraps, times a width
+wrapped : (d width : ℕ) → 0 < width * d → width * d < 65536 → (65536 - d) * width % 65536 ≡ 65536 - width * d
+wrapped d zero some small = absurd (omega arith)
+wrapped d (suc w) some small =
+    let turned : (65536 - d) * suc w ≡ suc w * (65536 - d) = mul_comm (65536 - d) (suc w) in
+    let p = suc w * d in
+    rw (turned, mul-sub (suc w) 65536 d) (let e : (suc w * 65536 - p) % 65536 ≡ 65536 - p = omega (arith, some, small) in e)
 
-  pub lanes_are : (v : List ℕ) → length v ≡ 8 → Each1 (Fits w16) v → row_places v ≡ map (row_place lead leads trail trails width) v
-  lanes_are = lane_by_lane row_places (row_place lead leads trail trails width) row_is (λ a b c d e g h i. refl)
+module _ (lead leads width : ℕ) (room : lead + leads < 256) (narrow : width < 256) (some : 0 < width) (rows : (lead + leads + 1) * width ≤ 65536) where
+  -- up to the end of the rows, the product is the place of the lead
+  lead_limited : (b : ℕ) → b < 256 → min (less b lead * width % 65536) ((leads + 1) * width)
+      ≡ min (cond (is_in_range lead (lead + leads) b) ((b - lead) * width) 65535) ((leads + 1) * width)
+  lead_limited b byte =
+      let row : 1 * width ≤ (leads + 1) * width = mul-le-mul_right width (omega arith) in
+      let all : (lead + leads + 1) * width ≡ width * lead + (leads + 1) * width = omega arith in
+      let low : b < lead → less b lead * width % 65536 ≡ 65536 - width * (lead - b) =
+      λ h. (let e : less b lead ≡ 65536 - (lead - b) = omega (arith, h, byte, room) in
+      let one : width * 1 ≤ width * (lead - b) = mul-le-mul_left width (omega (arith, h)) in
+      let back : width * (lead - b) ≤ width * lead = mul-le-mul_left width (omega arith) in
+      rw e (wrapped (lead - b) width (omega (arith, one, some)) (omega (arith, back, all, row, rows, some)))) in
+      let back : width * (lead - b) ≤ width * lead = mul-le-mul_left width (omega arith) in
+      let within : b - lead ≤ leads → (b - lead) * width ≤ leads * width = mul-le-mul_right width in
+      let past : leads + 1 ≤ b - lead → (leads + 1) * width ≤ (b - lead) * width = mul-le-mul_right width in
+      let most : (b - lead) * width ≤ 255 * width = mul-le-mul_right width (omega (arith, byte)) in
+      grind (arith, nat_tests)
 
-module _ (lead leads width : ℕ) (room : lead + leads < 256) (rows : leads * width < 65535) where
-  abbrev lead_places : List ℕ → List ℕ
-  lead_places v = let row = columns (firsts v) lead in sel_l (map (top 15) (at_most row leads)) (times row width) (replicate 8 65535)
+  lead_is : (c : ℕ) → c < 65536
+      → map (λ p. min p ((leads + 1) * width)) (lead_places (c ∷ []) lead width) ≡ min (lead_place_of lead leads width c) ((leads + 1) * width) ∷ []
+  lead_is c small = rw (and_mask c 8) (ap (λ p. p ∷ []) (lead_limited (c % 256) (omega arith)))
 
-  lead_is : (c : ℕ) → c < 65536 → lead_places (c ∷ []) ≡ lead_place_of lead leads width c ∷ []
-  lead_is c small =
-      let most : c % 256 - lead ≤ leads → (c % 256 - lead) * width ≤ leads * width = mul-le-mul_right width in
-      rw (and_mask c 8) (grind (arith, nat_tests))
+  pub leads_are : (v : List ℕ) → length v ≡ 8 → Each1 (Fits w16) v
+      → ArePlaces ((leads + 1) * width) (lead_place_of lead leads width) v (lead_places v lead width)
+  leads_are = lane_by_lane (λ v. map (λ p. min p ((leads + 1) * width)) (lead_places v lead width))
+      (λ c. min (lead_place_of lead leads width c) ((leads + 1) * width)) lead_is (λ a b c d e g h i. refl)
 
-  pub leads_are : (v : List ℕ) → length v ≡ 8 → Each1 (Fits w16) v → lead_places v ≡ map (lead_place_of lead leads width) v
-  leads_are = lane_by_lane lead_places (lead_place_of lead leads width) lead_is (λ a b c d e g h i. refl)
+module _ (first limit : ℕ) (byte : first < 256) (most : limit ≤ 65280) where
+  abbrev late_places : List ℕ → List ℕ
+  late_places v =
+      sel_l (map (top 15) (zip2 (λ a b. mask_if (leb a b)) (replicate 8 65280) v)) (replicate 8 65535) (columns (seconds v) first)
+
+  late_is : (c : ℕ) → c < 65536 → map (λ p. min p limit) (late_places (c ∷ [])) ≡ min (late_place_of first c) limit ∷ []
+  late_is c small = grind (arith, nat_tests)
+
+  pub lates_are : (v : List ℕ) → length v ≡ 8 → Each1 (Fits w16) v → ArePlaces limit (late_place_of first) v (late_places v)
+  lates_are = lane_by_lane (λ v. map (λ p. min p limit) (late_places v)) (λ c. min (late_place_of first c) limit) late_is (λ a b c d e g h i. refl)
 
 module _ (second last : ℕ) (gap : 128 ≤ second) (some : second ≤ last) (byte : last < 256) where
   abbrev trail_places : List ℕ → List ℕ
   trail_places v =
       let picked : ℕ → ℕ → List ℕ =
-      λ a b. sel_l (map (top 15) (zip2 (λ a b. mask_if (leb a b)) (replicate 8 second) (seconds v))) (replicate 8 a) (replicate 8 b) in
-      let column = zip2 less (seconds v) (picked (second - 63) 64) in
-      sel_l (map (top 15) (zip2 (λ a b. mask_if (leb a b)) column (picked (last - (second - 63)) 62))) column (replicate 8 65535)
+      λ a b. sel_l (map (top 15) (zip2 (λ a b. mask_if (ltb a b)) (seconds v) (replicate 8 second))) (replicate 8 a) (replicate 8 b) in
+      let column = zip2 (λ a b. (a + b) % 2 ^ 16) (columns (seconds v) (second - 63)) (picked (second - 63 - 64) 0) in
+      sel_l (map (top 15) (zip2 (λ a b. mask_if (leb a b)) (picked 63 (last - (second - 63) + 1)) column)) (replicate 8 65535) column
 
   trail_is : (c : ℕ) → c < 65536 → trail_places (c ∷ []) ≡ trail_place_of second last c ∷ []
   trail_is c small = grind (arith, nat_tests)
 
-  pub trails_are : (v : List ℕ) → length v ≡ 8 → Each1 (Fits w16) v → trail_places v ≡ map (trail_place_of second last) v
-  trails_are = lane_by_lane trail_places (trail_place_of second last) trail_is (λ a b c d e g h i. refl)
+  pub trails_are : (limit : ℕ) (v : List ℕ) → length v ≡ 8 → Each1 (Fits w16) v → ArePlaces limit (trail_place_of second last) v (trail_places v)
+  trails_are limit v eight fits =
+      ap (map (λ p. min p limit)) (lane_by_lane trail_places (trail_place_of second last) trail_is (λ a b c d e g h i. refl) v eight fits)
+      ∙ map-map (λ p. min p limit) (trail_place_of second last) v
 
 abbrev place_sums : List ℕ → List ℕ → List ℕ
 place_sums leads trails =
     let rest = map (λ a. 65535 - a) leads in
     zip2 (λ a b. (a + b) % 2 ^ 16) leads (sel_l (map (top 15) (zip2 (λ a b. mask_if (ltb a b)) trails rest)) trails rest)
 
-module _ (lead trail : ℕ → ℕ) where
-  sums : (codes : List ℕ) → Each1 (Fits w16) (map lead codes) → Each1 (Fits w16) (map trail codes)
-      → place_sums (map lead codes) (map trail codes) ≡ map (λ code. min (lead code + trail code) 65535) codes
-  sums [] s t = refl
-  sums (c ∷ cs) s t = grind (arith, nat_tests, s.0.fits, t.0.fits, sums cs s.1 t.1)
-
-  pub sums_are : (codes leads trails : List ℕ) → Each1 (Fits w16) leads → Each1 (Fits w16) trails → leads ≡ map lead codes → trails ≡ map trail codes
-      → place_sums leads trails ≡ map (λ code. min (lead code + trail code) 65535) codes
-  sums_are codes leads trails s t e f = rw (e, f) (sums codes (subst (λ l. Each1 (Fits w16) l) e s) (subst (λ l. Each1 (Fits w16) l) f t))
+module _ (limit : ℕ) (small : limit < 65536) (lead trail : ℕ → ℕ) where
+  -- if either place is not below the limit, nor is the sum
+  pub sums_are : (codes leads trails : List ℕ) → Each1 (Fits w16) leads → Each1 (Fits w16) trails
+      → ArePlaces limit lead codes leads → ArePlaces limit trail codes trails
+      → ArePlaces limit (λ code. min (lead code + trail code) 65535) codes (place_sums leads trails)
+  sums_are [] [] ts s t e f = refl
+  sums_are (c ∷ cs) (l ∷ ls) (t ∷ ts) s u e f =
+      let first = ap (λ l. get_or l 0 0) e in
+      let second = ap (λ l. get_or l 0 0) f in
+      let rest = sums_are cs ls ts s.1 u.1 (ap (drop 1) e) (ap (drop 1) f) in
+      grind (arith, nat_tests, s.0.fits, u.0.fits, first, second, rest)
+  sums_are [] (l ∷ ls) ts s t e f = absurd (omega (arith, ap length e))
+  sums_are (c ∷ cs) [] ts s t e f = absurd (omega (arith, ap length e))
+  sums_are (c ∷ cs) (l ∷ ls) [] s t e f = absurd (omega (arith, ap length f))
 
 pub entry_is : (e : ℕ) → e ≢ 0 → option_to_list (entry_scalar e) ≡ e ∷ []
 entry_is e some = grind (arith, nat_tests)

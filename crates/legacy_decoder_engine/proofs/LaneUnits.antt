@@ -1,18 +1,20 @@
 -- The units of eight codes, lane by lane, are the scalars of their forms.
 use Rattle.std.proofs.Common.{◌≡◌, ◌≢◌, ◌∙◌, ℕ, zero, suc, ◌+◌, ◌-◌, ◌*◌, ◌%◌, ◌^◌, ◌<◌, ◌≤◌, cond, ltb, leb, eqb, All, List, [], ◌∷◌, ◌++◌, length, get_or}
-use Rattle.std.proofs.{Common.{map, take, drop, replicate, bit_and, bit_or, refl, sym, ap, arith, w16, Fits, length-append, inl, inr}, lemmas.Bool.cases_lt}
-use Rattle.std.proofs.{lemmas.Bool.Decides.nat_tests, lemmas.Nat.and_mask, lemmas.List.{take-take, take-append-drop, take-append-le, length-take}}
+use Rattle.std.proofs.Common.{map, min, take, drop, replicate, bit_and, bit_or, refl, sym, ap, arith, w16, Fits, length-append, inl, inr}
+use Rattle.std.proofs.{Math.Path.fun_ext, lemmas.Bool.{Decides.nat_tests, cases_lt}, lemmas.Nat.and_mask}
+use Rattle.std.proofs.{lemmas.List.{take-take, take-append-drop, take-append-le, length-take}}
 use Rattle.std.proofs.{lemmas.List.{length-take-le, length-drop, length-map, get_or-take, get_or-drop, get_or-map}, lemmas.List.Sums.sum_by-cons}
 use Rattle.std.proofs.{lemmas.List.Sums.{sum_by-append, count_by-le-length}, lemmas.List.Folds.sum_by-replicate, lemmas.Grind.flat_map-append}
-use Rattle.std.proofs.{Math.Seq.{take-append_seam, take-add}, lemmas.Simd.{tops_compared, zip2_splat, get_or-sel_l, bitmask_splat, bit_mask_l, ones-mask_l}}
+use Rattle.std.proofs.{Math.Seq.{take-append_seam, take-add}, lemmas.Simd.{map-map, tops_compared, zip2_splat, get_or-sel_l, bitmask_splat}}
+use Rattle.std.proofs.lemmas.Simd.{bit_mask_l, ones-mask_l}
 use Rattle.std.proofs.{lemmas.Simd.{length-chunk, chunk-drop, get_or-chunk, get_or-put_chunk_below, get_or-put_chunk_at}, lemmas.List.Elements.All-from_get_or}
 use Rattle.std.specs.{Char.IsScalar, List.count_by, Int.bit_at, Int.RustNames.count_ones}
 use lib.Lanes.{Each1, zip2, sel_l, top, mask_l, chunk, put_chunk}
 use Rattle.legacy_text.specs.{declared.destination.Destination.Ghosts, EncodingForm.{EncodingForm, all_code_units, total_unit_count}}
 use Rattle.legacy_base.specs.Grammar.{Grammar}
 use Rattle.legacy_decoder_engine.proofs.{LanePlaces.{mask_if, lane_by_lane}, WrittenRuns.{rest_of, runs_none, runs_more, writes_then, all_short}}
-use Rattle.legacy_decoder_engine.specs.{ReadAhead.{HasAscii, Runs}, LaneCodes.{kept_of, place_of, unit_at, ArePairs, AreLanes, IsLane, IsForm, AreForms}}
-use Rattle.legacy_decoder_engine.specs.{LaneCodes.AreWritten, PickedForms.{form_of, forms_of}}
+use Rattle.legacy_decoder_engine.specs.LaneCodes.{kept_of, place_of, unit_at, ArePairs, ArePlaces, AreLanes, IsLane, IsForm, AreForms, AreWritten}
+use Rattle.legacy_decoder_engine.specs.{ReadAhead.{HasAscii, Runs}, PickedForms.{form_of, forms_of}}
 
 module _ (pointer : ℕ → ℕ) (last : ℕ) where
   abbrev pub vector_kept : List ℕ → List ℕ → List ℕ
@@ -25,17 +27,39 @@ module _ (pointer : ℕ → ℕ) (last : ℕ) where
   kept_is : (c : ℕ) → c < 65536 → vector_kept (c ∷ []) (pointer c ∷ []) ≡ kept_of pointer last c ∷ []
   kept_is c small = let low = and_mask c 8 in rw low (grind (arith, nat_tests))
 
-  pub kept_are : (v ps : List ℕ) → length v ≡ 8 → Each1 (Fits w16) v → ps ≡ map pointer v → vector_kept v ps ≡ map (kept_of pointer last) v
-  kept_are v ps n s e = rw e (lane_by_lane (λ v. vector_kept v (map pointer v)) (kept_of pointer last) kept_is (λ a b c d e g h i. refl) v n s)
+  kept_are : (v : List ℕ) → length v ≡ 8 → Each1 (Fits w16) v → vector_kept v (map pointer v) ≡ map (kept_of pointer last) v
+  kept_are = lane_by_lane (λ v. vector_kept v (map pointer v)) (kept_of pointer last) kept_is (λ a b c d e g h i. refl)
 
   abbrev pub vector_place : List ℕ → List ℕ
   vector_place ps = sel_l (map (top 15) (zip2 (λ a b. mask_if (ltb a b)) ps (replicate 8 last))) ps (replicate 8 last)
 
-  place_is : (c : ℕ) → c < 65536 → vector_place (pointer c ∷ []) ≡ place_of pointer last c ∷ []
-  place_is c small = grind (arith, nat_tests)
+  -- a vector's minimum is that of its lanes
+  least : (n : ℕ) (ps : List ℕ) → length ps ≡ n
+      → sel_l (map (top 15) (zip2 (λ a b. mask_if (ltb a b)) ps (replicate n last))) ps (replicate n last) ≡ map (λ p. min p last) ps
+  least zero [] e = refl
+  least zero (p ∷ ps) e = absurd (omega (arith, e))
+  least (suc n) [] e = absurd (omega (arith, e))
+  least (suc n) (p ∷ ps) e = let rest = least n ps (omega (arith, e)) in grind (arith, nat_tests, rest)
 
-  pub places_are : (v ps : List ℕ) → length v ≡ 8 → Each1 (Fits w16) v → ps ≡ map pointer v → vector_place ps ≡ map (place_of pointer last) v
-  places_are v ps n s e = rw e (lane_by_lane (λ v. vector_place (map pointer v)) (place_of pointer last) place_is (λ a b c d e g h i. refl) v n s)
+  -- places are compared with `last`, so those from the limit on are not told apart
+  module _ (limit : ℕ) (below : last < limit) (v ps : List ℕ) (long : length v ≡ 8) (fits : Each1 (Fits w16) v) (long' : length ps ≡ 8)
+      (are : ArePlaces limit pointer v ps) where
+    compared : {A : Type 0} (f : ℕ → A) → ((p : ℕ) → f (min p limit) ≡ f p) → map f ps ≡ map (λ code. f (pointer code)) v
+    compared f same =
+        ap (λ h. map h ps) (sym (fun_ext same)) ∙ sym (map-map f (λ p. min p limit) ps) ∙ ap (map f) are
+        ∙ map-map f (λ code. min (pointer code) limit) v ∙ ap (λ h. map h v) (fun_ext (λ code. same (pointer code)))
+
+    pub limited_kept : vector_kept v ps ≡ map (kept_of pointer last) v
+    limited_kept =
+        let test : ℕ → ℕ = λ p. mask_if (leb p last) in
+        let splat = zip2_splat (λ a b. mask_if (leb a b)) in
+        let found : zip2 (λ a b. mask_if (leb a b)) ps (replicate 8 last) ≡ zip2 (λ a b. mask_if (leb a b)) (map pointer v) (replicate 8 last) =
+        splat ps 8 last long' ∙ compared test (λ p. grind (arith, nat_tests)) ∙ sym (map-map test pointer v)
+        ∙ sym (splat (map pointer v) 8 last (length-map v pointer ∙ long)) in
+        rw found (kept_are v long fits)
+
+    pub limited_places : vector_place ps ≡ map (place_of pointer last) v
+    limited_places = least 8 ps long' ∙ compared (λ p. min p last) (λ p. omega (arith, below))
 
 pub chosen_at : (ks es : List ℕ) → length ks ≡ 8 → length es ≡ 8 → (k : ℕ) → k < 8
     → get_or (sel_l (map (top 15) (zip2 (λ a b. mask_if (ltb a b)) ks (replicate 8 128))) ks es) k 0 ≡ unit_at (get_or ks k 0) (get_or es k 0)
@@ -165,5 +189,6 @@ module _ (g : Grammar) (pointer : ℕ → ℕ) (at most : ℕ) (codes kept place
         counted = simp (take-add, flat_map-append, sum_by-append, length-append) (omega (arith, before.counted, next.1));
       }
 
+-- equal fronts have equal shorter fronts
 pub shorter_front : (n m : ℕ) (xs ys : List ℕ) → n ≤ m → take m xs ≡ take m ys → take n xs ≡ take n ys
 shorter_front n m xs ys le e = sym (take-take n m xs le) ∙ ap (take n) e ∙ take-take n m ys le

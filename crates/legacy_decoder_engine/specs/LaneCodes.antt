@@ -1,9 +1,13 @@
 -- Eight codes looked up at once: what is kept of each, the place where its entry is looked up, and its unit.
-use Rattle.std.specs.Prelude.{◌≡◌, ◌≢◌, ℕ, List, [], ◌∷◌, ◌+◌, ◌*◌, ◌<◌, ◌≤◌, ◌/◌, ◌%◌, ◌||◌, cond, ltb, leb, min, length, get_or, take, count_by}
+use Rattle.std.specs.Prelude.{◌≡◌, ◌≢◌, ℕ, List, [], ◌∷◌, ◌+◌, ◌*◌, ◌<◌, ◌≤◌, ◌/◌, ◌%◌, ◌||◌, cond, ltb, leb, map, min, length, get_or, take, count_by}
 use Rattle.std.specs.Char.{IsScalar}
 use Rattle.legacy_base.specs.Grammar.{Grammar}
 use Rattle.legacy_text.specs.{declared.destination.Destination.Ghosts}
 use Rattle.legacy_decoder_engine.specs.{ReadAhead.IsPair, ReadAhead.Runs, ReadAhead.Writes, PickedForms.{form_of, forms_of}}
+
+-- the places of the codes, up to a limit: no two places from it on are told apart
+abbrev pub ArePlaces : ℕ → (ℕ → ℕ) → List ℕ → List ℕ → Type 0
+ArePlaces limit place codes found = map (λ p. min p limit) found ≡ map (λ code. min (place code) limit) codes
 
 -- the first byte of a code if it is ASCII or the pointer is at most `last`, and otherwise 0
 abbrev pub kept_of : (ℕ → ℕ) → ℕ → ℕ → ℕ

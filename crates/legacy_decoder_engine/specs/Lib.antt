@@ -1,7 +1,7 @@
 -- The internal definitions of the decoders. The promises of the decoders are in legacy_base and do not depend on these.
 pub mod Moves
 pub mod ReadAhead
-pub mod SplitRows
+pub mod LanePlaces
 pub mod Steps
 pub mod StepUnits
 pub mod Feeding
@@ -12,4 +12,3 @@ pub mod StatesAfterSteps
 pub mod Shown
 pub mod PickedForms
 pub mod LaneCodes
-pub mod LaneRows

@@ -57,7 +57,8 @@ fn copy_sixteen(src: &[u8], at: usize, padded: &mut [u8])
 }
 
 /// Copies 16 to 64 bytes to the front of an array.
-// Copies of sixteen bytes overlap. A copy of any number of bytes would be a call, and the compiler makes a loop one.
+// Copies of sixteen bytes may overlap. One copy of any number of bytes would be a call, and the compiler turns a loop into
+// such a call.
 #[inline(always)]
 fn copy_front(src: &[u8], padded: &mut [u8; 72])
     requires some { 16 ≤ length src.now }

@@ -141,7 +141,7 @@ pub fn drive_decoder<D: DecoderMoves, T: Destination>(
     let mut read = 0;
     loop {
         read += read_ahead(decoder, &src[read..], dst);
-        // The same turn as below, which the compiler makes shorter for such a byte.
+        // What the turn below does, for a byte of which the compiler knows that it is malformed: that code is shorter.
         if begins_malformed(decoder, &src[read..]) {
             if let Some((result, count)) = read_byte(decoder, src[read], dst) {
                 return (result, read + count);

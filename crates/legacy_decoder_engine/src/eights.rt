@@ -33,6 +33,7 @@ fn units_in<C: LaneCodec>(tables: &FlatTables<'_>, bytes: u8x16, last: u16) -> u
     requires ascii { HasAscii (C.grammar tables.now.flat) }
     requires pairs { ArePairs (C.grammar tables.now.flat) (C.entries tables.now.flat) C.place }
     requires within { last < length (C.entries tables.now.flat) }
+    requires pointers { last < C.pointers }
     ensures small { (k : ℕ) → k < 8 → get_or result k 0 < 0x1_0000 }
     ensures scalars { All IsScalar result }
     ensures pairs { AreUnits (C.grammar tables.now.flat) bytes result }
@@ -57,6 +58,7 @@ fn read_eight<C: LaneCodec, T: Destination>(
     requires ascii { HasAscii (C.grammar tables.now.flat) }
     requires pairs { ArePairs (C.grammar tables.now.flat) (C.entries tables.now.flat) C.place }
     requires within { last < length (C.entries tables.now.flat) }
+    requires pointers { last < C.pointers }
     requires block { 16 ≤ length src.now }
     requires room { 35 ≤ T.room dst.old }
     ensures most { result ≤ 16 }
@@ -92,7 +94,7 @@ pub(crate) fn read_eights<C: LaneCodec, T: Destination>(
     if !C::has_long_runs() || T::narrow() == 1 || entries == 0 {
         return 0;
     }
-    let last = (entries - 1).min(0xFFFF) as u16;
+    let last = (entries - 1) as u16;
     let mut at = 0;
     while src.len() - at >= 16 && at < most && dst.free() >= 35 {
         let read = read_eight::<C, T>(tables, &src[at..], last, dst);

@@ -6,16 +6,19 @@ use crate::lanes::LaneCodec;
 use legacy_tables::{FlatTables, IndexName};
 use std::simd::prelude::*;
 
-/// Returns the number of entries of the codec's index.
+/// Returns the number of entries of the codec's index that have a lead and a trail.
 #[inline(always)]
 pub fn entry_count<C: LaneCodec>(tables: &FlatTables<'_>) -> usize
-    ensures count { result ≡ length (C.entries tables.now.flat) }
+    ensures count { result ≤ length (C.entries tables.now.flat) }
+    ensures pointers { result ≤ C.pointers }
+    ensures small { C.pointers < 0x1_0000 }
     ensures pairs { ArePairs (C.grammar tables.now.flat) (C.entries tables.now.flat) C.place }
 {
-    match C::index() {
+    let entries = match C::index() {
         IndexName::Big5 => tables.wide().len(),
         name => tables.narrow(name).len(),
-    }
+    };
+    entries.min(C::pointer_count())
 }
 
 /// Returns the entries of the codec's index at eight places, with 0 for an entry past U+FFFF.

@@ -6,7 +6,7 @@ ghost use Rattle.std.specs.Char.{IsScalar};
 ghost use Rattle.legacy_tables.specs.{AcceptedTables.AcceptedIndexes, Indexes.FlatIndexes, Tables.{index_list, is_narrow_index}};
 ghost use Rattle.legacy_base.specs.{Grammar.Grammar, States.new_state};
 ghost use Rattle.legacy_decoder_engine.specs.ReadAhead.{HasAscii, IsCommonForm, ReadsAhead, Runs, Writes};
-ghost use Rattle.legacy_decoder_engine.specs.LaneCodes.{kept_of, place_of, unit_at, ArePairs, AreLanes, AreKept, AreForms, AreWritten};
+ghost use Rattle.legacy_decoder_engine.specs.LaneCodes.{kept_of, place_of, unit_at, ArePairs, ArePlaces, AreLanes, AreKept, AreForms, AreWritten};
 ghost use Rattle.legacy_decoder_engine.specs.PickedForms.{forms_of};
 ghost use Rattle.legacy_tables.specs.declared.tables.IndexName.TheVariants as names;
 
@@ -33,6 +33,9 @@ pub trait LaneCodec {
 
     /// The place in the index of a code of two bytes, the first one low, or a number past the end of the index.
     ghost place: { ℕ → ℕ };
+
+    /// The number of pointers of a lead and a trail. They are below it.
+    ghost pointers: { ℕ };
 
     /// Returns whether a quick test shows that the byte begins no common form. An ASCII byte is its own scalar.
     // No block is begun at such a byte.
@@ -105,9 +108,15 @@ pub trait LaneCodec {
         ensures pairs { (tables : AcceptedIndexes) → ArePairs (grammar tables.flat) (entries tables.flat) place }
         ensures wide { is_narrow_index result ≡ false → result ≡ names.Big5 };
 
-    /// Returns the places of eight codes.
+    /// Returns the number of pointers of a lead and a trail.
+    // A place from it on is as good as none, so lanes need not test the lead.
+    fn pointer_count() -> usize
+        ensures count { result ≡ pointers }
+        ensures small { pointers < 0x1_0000 };
+
+    /// Returns the places of eight codes, which are exact below the number of pointers.
     fn places(codes: u16x8) -> u16x8
-        ensures { result ≡ map place codes };
+        ensures { ArePlaces pointers place codes result };
 
     /// Returns whether `past` bytes past ASCII among these bytes are enough to read them eight codes at a time.
     // Fewer are enough for a codec with many trails in ASCII.
@@ -136,6 +145,7 @@ pub trait LaneCodec {
 /// Returns what is kept of eight codes, and their places in an index whose last place is `last`.
 #[inline(always)]
 pub(crate) fn kept_and_places<C: LaneCodec>(codes: u16x8, last: u16) -> (u16x8, u16x8)
+    requires { last < C.pointers }
     ensures small { (k : ℕ) → k < 8 → get_or codes k 0 < 0x1_0000 }
     ensures kept { result.0 ≡ map (kept_of C.place last) codes }
     ensures places { result.1 ≡ map (place_of C.place last) codes }
@@ -156,6 +166,7 @@ pub(crate) fn kept_and_places<C: LaneCodec>(codes: u16x8, last: u16) -> (u16x8, 
 fn split_codes<C: LaneCodec>(codes: &mut [u16], places: &mut [u32], groups: usize, last: u16)
     requires codes { 8 * groups ≤ length codes.old }
     requires places { 8 * groups ≤ length places.old }
+    requires pointers { last < C.pointers }
     ensures lanes { AreLanes C.place (8 * groups) codes.old codes.new places.new }
     ensures within { (k : ℕ) → k < 8 * groups → get_or places.new k 0 ≤ last }
 {
@@ -277,7 +288,7 @@ fn put_codes<C: LaneCodec, T: Destination>(
     if entries == 0 {
         return 0;
     }
-    let last = (entries - 1).min(0xFFFF) as u16;
+    let last = (entries - 1) as u16;
     split_codes::<C>(codes, places, (most + 7) / 8, last);
     let groups = (most / 8).min(dst.free() / 32);
     let at = 8 * put_groups::<C, T>(tables, codes, places, groups, dst);

@@ -7,8 +7,8 @@ use Rattle.legacy_base.specs.{Fronts.{cut, malformed}, Grammar.{Grammar, euc_jp,
 use Rattle.legacy_base.{specs.{States.is_euc_jp_lead, Calls.IsMalformedByte}, proofs.{Cuts.cut-nil, FrontLaws.euc_jp_front-of}}
 use Rattle.legacy_decoder_engine.specs.{Steps.{DecoderMachine, end_events, Meets, finish}, StepUnits.{units, IsWidth, IsNarrowIndex, Cost}}
 use Rattle.legacy_decoder_engine.specs.{StatesAfterSteps.{IsOneOrMarked, Settles}, Shown.IsShown, Moves.{IsCovered, Feeds, Reports}, Feeding.Took}
-use Rattle.legacy_decoder_engine.{specs.{ReadAhead.{HasAscii, IsPair}, LaneCodes.ArePairs, LaneRows.row_place, declared.moves.Fed.Fed}, proofs.FrontMoves.Fits}
-use Rattle.legacy_decoder_engine.proofs.{FrontMoves.{fits_test, fits_trail, fits_meets, end_meets, report_meets}, SettledSteps.{one_test, one_option}}
+use Rattle.legacy_decoder_engine.specs.{ReadAhead.{HasAscii, IsPair}, LaneCodes.ArePairs, LanePlaces.row_place, declared.moves.Fed.Fed}
+use Rattle.legacy_decoder_engine.proofs.{FrontMoves.{Fits, fits_test, fits_trail, fits_meets, end_meets, report_meets}, SettledSteps.{one_test, one_option}}
 use Rattle.legacy_decoder_engine.proofs.{SettledSteps.{settles_test, trail_settles}, RoomMoves.{first_room, held_room_is, HasCosts, sloped_rooms}}
 use Rattle.legacy_decoder_engine.proofs.{CallUnderWay.same_rooms, Widths.{narrow_idx_units, idx_below}, TwoByteCosts.{cost_test, units_test, katakana_below}}
 use Rattle.legacy_decoder_engine.proofs.{RunForms.{pair_runs, has_ascii, ascii_is}, LanePlaces.entry_is}
@@ -152,12 +152,14 @@ module _ (tables : AcceptedIndexes) where
       grind (arith, nat_tests, idx_below, runs)
 
   -- the same of a code of two bytes, by the entry at its place
-  pub lane_pair : ArePairs grammar tables.flat.jis0208 (row_place 0xA1 0x5D 0xA1 0x5D 94)
+  pub lane_pair : ArePairs grammar tables.flat.jis0208 (row_place 0xA1 0x5D 94 0xA1)
   lane_pair code small past within high some =
       let index : List ℕ = tables.flat.jis0208 in
       let short = length-jis0208 tables.flat tables.accepted in
       let both : (is_in_range 0xA1 0xFE (code % 256) ≡ true) × (is_in_range 0xA1 0xFE (code / 256) ≡ true) = grind (arith, short) in
-      let c = get_or index ((code % 256 - 0xA1) * 94 + (code / 256 - 0xA1)) 0 in
-      let scalar : IsScalar c = jis0208-scalars tables.flat tables.accepted _ 0 (rw (both.0, both.1) at within) in
-      let found = entry_is c (rw (both.0, both.1) at some) in
-      rw (both.0, both.1) (scalar, pair (code % 256) (code / 256) c (omega arith) (omega arith) scalar both.0 (rw both.1 found))
+      let p : ℕ = (code % 256 - 0xA1) * 94 + (code / 256 - 0xA1) in
+      let exact : row_place 0xA1 0x5D 94 0xA1 code ≡ p = rw (both.0, both.1) (omega arith) in
+      let c = get_or index p 0 in
+      let scalar : IsScalar c = jis0208-scalars tables.flat tables.accepted _ 0 (rw exact at within) in
+      let found = entry_is c (rw exact at some) in
+      rw exact (scalar, pair (code % 256) (code / 256) c (omega arith) (omega arith) scalar both.0 (rw both.1 found))

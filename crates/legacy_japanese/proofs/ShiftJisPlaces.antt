@@ -1,11 +1,11 @@
 -- The places of leads and trails of Shift_JIS, byte by byte and in lanes, and the byte sequences that give one scalar.
 use Rattle.std.proofs.Common.{◌≡◌, ℕ, ◌+◌, [], ◌∷◌, false, cond, Some, refl, ap, arith, ◌≤◌, ◌<◌, ◌^◌, ◌==◌, List, Option, true, ◌∙◌, ◌-◌, ◌*◌, ◌/◌, ◌%◌}
-use Rattle.std.proofs.{Common.{length, get_or, map, replicate, sym, w16, Fits}, lemmas.Bool.{Decides.nat_tests, cond_both, agree_below_at, eqb-true}}
+use Rattle.std.proofs.{Common.{length, get_or, map, min, replicate, sym, w16, Fits}, lemmas.Bool.{Decides.nat_tests, cond_both, agree_below_at, eqb-true}}
 use Rattle.std.{proofs.lemmas.Nat.xor_mod, specs.{Int.{is_in_range, Bits.bit_xor}, Prelude.option_to_list, Char.IsScalar, Option.option_map_or}}
 use Rattle.legacy_tables.{specs.{AcceptedTables.AcceptedIndexes, Indexes.idx, Unicode.katakana_of}, proofs.Accepted.entry-used}
 use Rattle.legacy_tables.proofs.Accepted.{length-jis0208, jis0208-below, jis0208-scalars}
 use Rattle.legacy_base.specs.{ShiftJis.{is_shift_jis_lead, shift_jis_scalars, shift_jis_pointer}, Grammar.shift_jis}
-use Rattle.legacy_decoder_engine.specs.{Places.IsTableOf, ReadAhead.{Runs, HasAscii}, StepUnits.IsNarrowIndex, LaneCodes.ArePairs, SplitRows.lead_place_of}
+use Rattle.legacy_decoder_engine.specs.{Places.IsTableOf, ReadAhead.{Runs, HasAscii}, StepUnits.IsNarrowIndex, LaneCodes.ArePairs, LanePlaces.lead_place_of}
 use Rattle.legacy_decoder_engine.proofs.{PairPlaces.{none_past, pair_entry, found}, LeadHeld.pair, RunForms.single_runs, Widths.idx_below, LanePlaces.entry_is}
 use Rattle.legacy_japanese.specs.{ShiftJisPlaces.{shift_jis_lead_place, shift_jis_trail_place}, ShiftJisMachine.shift_jis_pair_scalars}
 use Rattle.legacy_japanese.specs.{declared.shift_jis.places.TheConstants.{LEADS, TRAILS}, ShiftJisShown.shift_jis_codec, ShiftJisLanes.shift_jis_place}
@@ -83,10 +83,12 @@ placed code below = grind (arith, nat_tests, lead_of)
 
 -- ---- eight codes
 
+-- the places of the changed codes up to the limit, each from the code that was changed
 pub changed_leads : (codes : List ℕ) → length codes ≡ 8 → Each1 (Fits w16) codes →
-    map (lead_place_of 0x21 0x2E 188) (zip2 bit_xor codes (replicate 8 0xA0)) ≡ map (λ code. lead_place_of 0x21 0x2E 188 (bit_xor code 0xA0)) codes
-changed_leads = of_eight (λ v. map (lead_place_of 0x21 0x2E 188) (zip2 bit_xor v (replicate 8 0xA0))
-    ≡ map (λ code. lead_place_of 0x21 0x2E 188 (bit_xor code 0xA0)) v)
+    map (λ code. min (lead_place_of 0x21 0x2E 188 code) 8836) (zip2 bit_xor codes (replicate 8 0xA0))
+    ≡ map (λ code. min (lead_place_of 0x21 0x2E 188 (bit_xor code 0xA0)) 8836) codes
+changed_leads = of_eight (λ v. map (λ code. min (lead_place_of 0x21 0x2E 188 code) 8836) (zip2 bit_xor v (replicate 8 0xA0))
+    ≡ map (λ code. min (lead_place_of 0x21 0x2E 188 (bit_xor code 0xA0)) 8836) v)
     (λ a b c d e f g h sa sb sc sd se sf sg sh. refl)
 
 -- ---- pairs

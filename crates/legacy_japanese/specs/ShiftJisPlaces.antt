@@ -2,7 +2,7 @@
 -- lead or not a trail has a place past the end of every index.
 use Rattle.std.specs.Prelude.{◌*◌, if◌then◌else◌, ℕ}
 use Rattle.legacy_base.specs.ShiftJis.{is_shift_jis_lead, shift_jis_lead_part}
-use Rattle.legacy_decoder_engine.specs.SplitRows.{trail_place}
+use Rattle.legacy_decoder_engine.specs.LanePlaces.{trail_place}
 
 -- the place of a lead of Shift_JIS; a row has 188 entries
 unfoldable pub shift_jis_lead_place : ℕ → ℕ

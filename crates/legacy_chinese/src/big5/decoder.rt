@@ -15,12 +15,12 @@ use super::places::{ROWS_OF_157, TRAILS};
 use legacy_base::{IndexName, Tables};
 use legacy_decoder_engine::common_forms::CommonForm;
 use legacy_decoder_engine::held_lead::Lead;
+use legacy_decoder_engine::lane_places::{lead_places, place_sums, trail_places};
 use legacy_decoder_engine::lanes::LaneCodec;
 use legacy_decoder_engine::lead_and_trail::{read_first, read_trail};
 use legacy_decoder_engine::lead_decoder::{LeadCodec, LeadDecoder};
 use legacy_decoder_engine::moves::{Fed, Room};
 use legacy_decoder_engine::places::pair_pointer;
-use legacy_decoder_engine::split_rows::{lead_places, place_sums, trail_places};
 use legacy_tables::{DecoderTables, FlatTables};
 use std::simd::prelude::*;
 
@@ -65,6 +65,8 @@ impl LaneCodec for Big5 {
 
     ghost place = { big5_place };
 
+    ghost pointers = { 19782 };
+
     #[inline(always)]
     fn is_uncommon(byte: u8) -> bool {
         byte >= 0x80 && Lead::new(byte).is_none()
@@ -91,9 +93,14 @@ impl LaneCodec for Big5 {
     }
 
     #[inline(always)]
+    fn pointer_count() -> usize {
+        126 * 157
+    }
+
+    #[inline(always)]
     fn places(codes: u16x8) -> u16x8 {
         place_sums(
-            lead_places(codes, 0x81, 0x7D, 157),
+            lead_places(codes, 0x81, 157),
             trail_places(codes, 0xA1, 0xFE),
         )
     }

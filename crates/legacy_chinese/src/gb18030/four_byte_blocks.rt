@@ -12,9 +12,9 @@ use super::pair_places::TRAILS;
 use legacy_base::{Destination, IndexName};
 use legacy_decoder_engine::common_forms::CommonForm;
 use legacy_decoder_engine::held_lead::Lead;
+use legacy_decoder_engine::lane_places::{lead_places, place_sums, trail_places};
 use legacy_decoder_engine::lanes::LaneCodec;
 use legacy_decoder_engine::places::{ROWS_OF_190, pair_pointer};
-use legacy_decoder_engine::split_rows::{lead_places, place_sums, trail_places};
 use legacy_tables::{DecoderTables, FlatTables, RangePart, Ranges};
 use std::cell::Cell;
 use std::simd::prelude::*;
@@ -89,6 +89,8 @@ impl LaneCodec for Gb18030 {
     ghost entries = { λ flat. flat.gb18030 };
 
     ghost place = { gb18030_place };
+
+    ghost pointers = { 23940 };
 
     #[inline(always)]
     fn is_uncommon(byte: u8) -> bool {
@@ -184,9 +186,14 @@ impl LaneCodec for Gb18030 {
     }
 
     #[inline(always)]
+    fn pointer_count() -> usize {
+        126 * 190
+    }
+
+    #[inline(always)]
     fn places(codes: u16x8) -> u16x8 {
         place_sums(
-            lead_places(codes, 0x81, 0x7D, 190),
+            lead_places(codes, 0x81, 190),
             trail_places(codes, 0x80, 0xFE),
         )
     }

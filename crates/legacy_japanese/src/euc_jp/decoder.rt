@@ -3,19 +3,19 @@ ghost use Rattle.std.specs.{Prelude.{◌≡◌, ℕ, List, ◌∷◌, [], true, 
 ghost use Rattle.legacy_text.specs.EncodingForm.{EncodingForm};
 ghost use Rattle.legacy_base.specs.{EucJp.euc_jp_scalars, Grammar.euc_jp, States.{is_neutral, new_state, state_of}, Fronts.malformed};
 ghost use Rattle.legacy_tables.specs.Tables.{index_list};
-ghost use Rattle.legacy_decoder_engine.specs.{Steps.finish, Moves.{read_room, room_units}, Feeding.Took, LaneRows.row_place};
+ghost use Rattle.legacy_decoder_engine.specs.{Steps.finish, Moves.{read_room, room_units}, Feeding.Took, LanePlaces.row_place};
 ghost use Rattle.legacy_japanese.specs.{EucJpMachine.euc_jp_step, EucJpHeld.held_bytes, EucJpDecoder.euc_jp_state};
 
 use super::held_lead::EucJpLead;
 use legacy_base::{DecoderStep, Destination, IndexName, RawDecoder, Tables};
 use legacy_decoder_engine::common_forms::CommonForm;
 use legacy_decoder_engine::drive::{count_malformed_bytes, drive_decoder};
+use legacy_decoder_engine::lane_places::{late_places, lead_places, place_sums};
 use legacy_decoder_engine::lanes::{LaneBlocks, LaneCodec};
 use legacy_decoder_engine::lead_and_trail::malformed_through;
 use legacy_decoder_engine::moves::{DecoderMoves, Fed, Room};
 use legacy_decoder_engine::near_malformed::{AFTER_MALFORMED, read_common};
 use legacy_decoder_engine::read_ahead::read_ascii;
-use legacy_decoder_engine::rows::row_pointers;
 use legacy_decoder_engine::unmapped_trail::unmapped;
 use legacy_tables::{DecoderTables, FlatTables};
 use std::cell::Cell;
@@ -317,7 +317,9 @@ impl LaneCodec for EucJp {
 
     ghost entries = { λ flat. flat.jis0208 };
 
-    ghost place = { row_place 0xA1 0x5D 0xA1 0x5D 94 };
+    ghost place = { row_place 0xA1 0x5D 94 0xA1 };
+
+    ghost pointers = { 8836 };
 
     #[inline(always)]
     fn is_uncommon(byte: u8) -> bool {
@@ -342,8 +344,13 @@ impl LaneCodec for EucJp {
     }
 
     #[inline(always)]
+    fn pointer_count() -> usize {
+        94 * 94
+    }
+
+    #[inline(always)]
     fn places(codes: u16x8) -> u16x8 {
-        row_pointers(codes, 0xA1, 0x5D, 0xA1, 0x5D, 94)
+        place_sums(lead_places(codes, 0xA1, 94), late_places(codes, 0xA1))
     }
 }
 

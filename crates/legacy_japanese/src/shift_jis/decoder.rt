@@ -10,12 +10,12 @@ use super::held_lead::ShiftJisLead;
 use super::places::{LEADS, TRAILS};
 use legacy_base::{IndexName, Tables};
 use legacy_decoder_engine::common_forms::CommonForm;
+use legacy_decoder_engine::lane_places::{lead_places, place_sums, trail_places};
 use legacy_decoder_engine::lanes::LaneCodec;
 use legacy_decoder_engine::lead_and_trail::{malformed_through, read_trail};
 use legacy_decoder_engine::lead_decoder::{LeadCodec, LeadDecoder};
 use legacy_decoder_engine::moves::{Fed, Room};
 use legacy_decoder_engine::places::pair_pointer;
-use legacy_decoder_engine::split_rows::{lead_places, place_sums, trail_places};
 use legacy_tables::{DecoderTables, FlatTables};
 use std::simd::prelude::*;
 
@@ -114,6 +114,8 @@ impl LaneCodec for ShiftJis {
 
     ghost place = { shift_jis_place };
 
+    ghost pointers = { 8836 };
+
     #[inline(always)]
     fn is_uncommon(byte: u8) -> bool {
         byte == 0xA0 || byte >= 0xFD
@@ -139,11 +141,16 @@ impl LaneCodec for ShiftJis {
         IndexName::Jis0208
     }
 
+    #[inline(always)]
+    fn pointer_count() -> usize {
+        47 * 188
+    }
+
     // The leads 81 to 9F and E0 to EF are 21 to 4F with two bits changed.
     #[inline(always)]
     fn places(codes: u16x8) -> u16x8 {
         place_sums(
-            lead_places(codes ^ u16x8::splat(0xA0), 0x21, 0x2E, 188),
+            lead_places(codes ^ u16x8::splat(0xA0), 0x21, 188),
             trail_places(codes, 0x80, 0xFC),
         )
     }

@@ -4,7 +4,7 @@ ghost use Rattle.std.specs.Char.{IsScalar};
 ghost use Rattle.legacy_base.specs.Profile.{is_lead};
 ghost use Rattle.legacy_base.specs.LeadForms.{pair_scalars};
 ghost use Rattle.legacy_base.specs.EucKr.{euc_kr, euc_kr_pointer};
-ghost use Rattle.legacy_decoder_engine.specs.LaneRows.{row_place};
+ghost use Rattle.legacy_decoder_engine.specs.LanePlaces.{row_place};
 ghost use Rattle.legacy_decoder_engine.specs.LeadMachines.{lead_first};
 ghost use Rattle.legacy_decoder_engine.proofs.TwoByteMeets.{is_lead-in};
 ghost use Rattle.legacy_korean.specs.EucKrShown.{euc_kr_codec};
@@ -13,12 +13,12 @@ use super::places::TRAILS;
 use legacy_base::{IndexName, Tables};
 use legacy_decoder_engine::common_forms::CommonForm;
 use legacy_decoder_engine::held_lead::Lead;
+use legacy_decoder_engine::lane_places::{late_places, lead_places, place_sums};
 use legacy_decoder_engine::lanes::LaneCodec;
 use legacy_decoder_engine::lead_and_trail::{read_first, read_trail};
 use legacy_decoder_engine::lead_decoder::{LeadCodec, LeadDecoder};
 use legacy_decoder_engine::moves::{Fed, Room};
 use legacy_decoder_engine::places::{ROWS_OF_190, pair_pointer};
-use legacy_decoder_engine::rows::row_pointers;
 use legacy_tables::{DecoderTables, FlatTables};
 use std::simd::prelude::*;
 
@@ -57,7 +57,9 @@ impl LaneCodec for EucKr {
 
     ghost entries = { λ flat. flat.euc_kr };
 
-    ghost place = { row_place 0x81 0x7D 0x41 0xBD 190 };
+    ghost place = { row_place 0x81 0x7D 190 0x41 };
+
+    ghost pointers = { 23940 };
 
     #[inline(always)]
     fn is_uncommon(byte: u8) -> bool {
@@ -79,8 +81,13 @@ impl LaneCodec for EucKr {
     }
 
     #[inline(always)]
+    fn pointer_count() -> usize {
+        126 * 190
+    }
+
+    #[inline(always)]
     fn places(codes: u16x8) -> u16x8 {
-        row_pointers(codes, 0x81, 0x7D, 0x41, 0xBD, 190)
+        place_sums(lead_places(codes, 0x81, 190), late_places(codes, 0x41))
     }
 }
 
