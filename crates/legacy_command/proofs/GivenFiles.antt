@@ -1,5 +1,5 @@
 -- Laws of the index files that the program is given.
-use Rattle.std.proofs.Common.{◌≡◌, ◌⊎◌, inl, inr, ℕ, drop, ◌≤◌, ◌<◌, List, [], ◌∷◌, length, arith, Option, Some, None, refl, sym, subst, if◌then◌else◌}
+use Rattle.std.proofs.Common.{◌≡◌, ◌∙◌, ◌⊎◌, ap, inl, inr, ℕ, drop, ◌≤◌, ◌<◌, List, [], ◌∷◌, length, arith, Option, Some, None, refl, sym, subst, if◌then◌else◌}
 use Rattle.std.specs.{Borrow.Bor, Prelude.slice_index_or}
 use Rattle.legacy_index_files.specs.{declared.index_file.FileIndex.FileIndex, declared.owned_indexes.OwnedIndexes.OwnedIndexes, IndexLine.lines}
 use Rattle.legacy_index_files.specs.{IndexTable.first_malformed, IndexTexts.{is_index, no_text, with_text}, OwnedIndexes.HoldsTexts}
@@ -35,11 +35,11 @@ pub record IsOneMore (words : List (Bor (List ℕ))) (name : FileIndex) (text : 
   pub line_fault : (d : Bor (List ℕ)) (n : ℕ) → first_malformed name 1 (lines text.now) ≡ Some n
       → IsFirstFault (texts_of words) (contents_of files) (Line (slice_index_or words 1 d) n)
 
-pub one_more : (words : List (Bor (List ℕ))) (name : FileIndex) (text : Bor (List ℕ)) (later files : List (Option (Bor (List ℕ)))) →
+more_by : (words : List (Bor (List ℕ))) (name : FileIndex) (text : Bor (List ℕ)) (later files : List (Option (Bor (List ℕ)))) →
     2 ≤ length words → first_index_named (texts_of words) ≡ Some name → files ≡ Some text ∷ later → IsOneMore words name text later files
-one_more [] name text later files h n f = absurd (omega arith)
-one_more (w ∷ []) name text later files h n f = absurd (omega arith)
-one_more (v ∷ w ∷ words) name text later files h n f = record {
+more_by [] name text later files h n f = absurd (omega arith)
+more_by (w ∷ []) name text later files h n f = absurd (omega arith)
+more_by (v ∷ w ∷ words) name text later files h n f = record {
   texts = λ tables k.
       let later_texts = text_given (texts_of words) (contents_of later) in
       let P : Option FileIndex → Type 0 = λ o. HoldsTexts (λ other. if is_index o other then text.now else later_texts other) tables in
@@ -51,3 +51,10 @@ one_more (v ∷ w ∷ words) name text later files h n f = record {
   ];
   line_fault = λ d line e. rw (f, n) (inl (refl, e));
 }
+
+-- the same by what was found: the first index, and the first file with its text
+pub one_more : {words : List (Bor (List ℕ))} {name : FileIndex} {text : Bor (List ℕ)} {first : Option (Bor (List ℕ))}
+    {later files : List (Option (Bor (List ℕ)))} {found : Option FileIndex}
+    → 2 ≤ length words → found ≡ first_index_named (texts_of words) → found ≡ Some name → files ≡ first ∷ later → first ≡ Some text
+    → IsOneMore words name text later files
+one_more {later = later} h is some f text = more_by _ _ _ later _ h (sym is ∙ some) (f ∙ ap (λ file. file ∷ later) text)

@@ -1,5 +1,5 @@
 -- The turns of a loop that takes four at a time.
-use Rattle.std.proofs.{Common.{◌≡◌, ℕ, ◌+◌, ◌-◌, ◌*◌, ◌/◌, ◌%◌, ◌<◌, ◌≤◌, refl, arith}, lemmas.Bool.Decides.nat_tests, Math.Nat.le-mul_of_pos_right}
+use Rattle.std.proofs.{Common.{◌≡◌, ℕ, ◌+◌, ◌-◌, ◌*◌, ◌/◌, ◌%◌, ◌<◌, ◌≤◌, refl, arith}, lemmas.Bool.Decides.nat_tests}
 use Rattle.legacy_decoder_engine.proofs.{JoinedRuns.reads_written, WrittenRuns.{reads_none, writes_none, writes_run}}
 
 pub all_turns : (size turns : ℕ) → size * (4 * (turns / 4) + turns % 4) ≡ size * turns
@@ -10,7 +10,5 @@ four_turns size left rest h = let e : 4 * left + rest ≡ 4 + (4 * (left - 1) + 
 
 pub last_turns : (size left rest : ℕ) → left ≤ 0 → size * (4 * left + rest) ≡ size * rest
 last_turns size left rest h = let e : 4 * left + rest ≡ rest = omega arith in rw e refl
-
-pub ruleset one_turn = (le-mul_of_pos_right)
 
 pub ruleset turning = (reads_written, reads_none, writes_none, writes_run, all_turns, four_turns, last_turns)

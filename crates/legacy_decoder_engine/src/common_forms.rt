@@ -38,8 +38,8 @@ pub trait CommonForms {
 
 /// Common forms that are read one after another.
 #[derive(Drop)]
-pub(crate) struct FormsInTurn<'a, F: CommonForms> {
-    pub(crate) forms: &'a F,
+struct FormsInTurn<'a, F: CommonForms> {
+    forms: &'a F,
 }
 
 impl<F: CommonForms> Forms for FormsInTurn<'_, F> {

@@ -1,5 +1,5 @@
 //! The index that a codec's pairs are looked up in, eight places at a time.
-ghost use Rattle.std.specs.Prelude.{◌≡◌, ◌≢◌, ℕ, ◌<◌, ◌≤◌, length, get_or};
+ghost use Rattle.std.specs.Prelude.{◌≡◌, ◌≢◌, ℕ, ◌<◌, ◌≤◌, length, get_or, min};
 ghost use Rattle.legacy_decoder_engine.specs.LaneCodes.{ArePairs};
 
 use crate::lanes::LaneCodec;
@@ -9,8 +9,7 @@ use std::simd::prelude::*;
 /// Returns the number of entries of the codec's index that have a lead and a trail.
 #[inline(always)]
 pub fn entry_count<C: LaneCodec>(tables: &FlatTables<'_>) -> usize
-    ensures count { result ≤ length (C.entries tables.now.flat) }
-    ensures pointers { result ≤ C.pointers }
+    ensures count { result ≡ min (length (C.entries tables.now.flat)) C.pointers }
     ensures small { C.pointers < 0x1_0000 }
     ensures pairs { ArePairs (C.grammar tables.now.flat) (C.entries tables.now.flat) C.place }
 {

@@ -1,6 +1,6 @@
 //! The places of eight leads and of eight trails by lanes. Their saturating sums are the pointers.
 //!
-//! A byte that is no lead or trail has a place from a limit on, which is the same as no place.
+//! A place is exact below a limit. From the limit on it says only that there is no pair.
 // Always inlined: a call would pass the vectors through memory.
 ghost use Rattle.std.specs.Prelude.{◌+◌, ◌*◌, ◌<◌, ◌≤◌, ℕ, List, min};
 ghost use Rattle.legacy_decoder_engine.specs.LaneCodes.{ArePlaces};

@@ -356,7 +356,7 @@ fn read_front<C: LaneCodec, T: Destination>(
 /// Reads forms of more than two bytes from the front, if one is there, and returns the number of bytes read.
 #[inline(always)]
 #[tactic(auto, using(crate::proofs::WrittenRuns::no_bytes))]
-fn read_any_longer<C: LaneCodec, T: Destination>(
+pub(crate) fn read_any_longer<C: LaneCodec, T: Destination>(
     tables: &FlatTables<'_>,
     guess: &Cell<usize>,
     src: &[u8],
@@ -373,7 +373,7 @@ fn read_any_longer<C: LaneCodec, T: Destination>(
 /// Returns whether many of the first 64 bytes are past ASCII, or of the first 16 if there are fewer than 64.
 ///
 /// Returns false if there are fewer than 16 bytes, if the 64 have forms of one byte past ASCII, or if a form of more than
-/// two bytes is at the front.
+/// two bytes is at the front. Among fewer than 64 bytes it may also come after one ASCII byte.
 // Four bytes tell most pieces of ASCII apart, before many are counted.
 #[inline(always)]
 fn begins_many<C: LaneCodec>(src: &[u8]) -> bool {
@@ -386,6 +386,9 @@ fn begins_many<C: LaneCodec>(src: &[u8]) -> bool {
     if src.len() >= 64 {
         let block = u8x64::from_slice(src);
         return C::are_many(past_ascii(block).count_ones(), 64) && !C::has_singles(block);
+    }
+    if src[0] < 0x80 && C::begins_longer(src[1], src[2]) {
+        return false;
     }
     let past = u8x16::from_slice(src).simd_ge(u8x16::splat(0x80));
     past.to_bitmask().count_ones() > 6
@@ -490,7 +493,7 @@ const SHORT_DELAY: usize = 12;
 // It has a copy of the tables. A loop keeps the parts of a copy in registers, and loads those of borrowed tables for each
 // pair.
 #[derive(Drop)]
-pub(crate) struct LaneForms<'a, C: LaneCodec> {
+struct LaneForms<'a, C: LaneCodec> {
     tables: FlatTables<'a>,
     codec: PhantomData<C>,
 }
@@ -498,7 +501,7 @@ pub(crate) struct LaneForms<'a, C: LaneCodec> {
 impl<'a, C: LaneCodec> LaneForms<'a, C> {
     /// Returns the common forms over these tables.
     #[inline(always)]
-    pub(crate) fn new(tables: &FlatTables<'a>) -> LaneForms<'a, C>
+    fn new(tables: &FlatTables<'a>) -> LaneForms<'a, C>
         ensures { result.tables.flat ≡ tables.now.flat }
     {
         LaneForms {
@@ -565,7 +568,7 @@ fn read_at_most<C: LaneCodec, T: Destination>(
 pub struct LaneBlocks<'a, 'b, C: LaneCodec> {
     pub(crate) tables: &'a FlatTables<'b>,
     /// What the codec keeps from one form of more than two bytes to the next.
-    guess: &'a Cell<usize>,
+    pub(crate) guess: &'a Cell<usize>,
     /// The number of bytes that are read form by form before lanes.
     delay: Cell<usize>,
     codec: PhantomData<C>,
@@ -617,10 +620,13 @@ fn form_at<C: LaneCodec>(
     if src.len() < 2 {
         return None;
     }
+    if C::begins_longer(byte, src[1]) {
+        return C::longer_at(tables, guess, src);
+    }
     match C::front(tables, byte, src[1]) {
         CommonForm::Pair(c) => Some((c, 2)),
         CommonForm::Single(c) => Some((c, 1)),
-        CommonForm::Other => C::longer_at(tables, guess, src),
+        CommonForm::Other => None,
     }
 }
 

@@ -1,61 +1,49 @@
 //! Common forms near malformed sequences, where no block is begun for nothing.
 // The functions are always inlined, because they run in each call.
-ghost use Rattle.std.specs.Prelude.{◌≡◌};
+ghost use Rattle.std.specs.Prelude.{◌≡◌, true};
+ghost use Rattle.legacy_tables.specs.AcceptedTables.{AcceptedIndexes};
 ghost use Rattle.legacy_base.specs.States.{new_state};
 ghost use Rattle.legacy_decoder_engine.specs.ReadAhead.{HasAscii, ReadsAhead};
 
-use crate::common_forms::FormsInTurn;
-use crate::lanes::{LaneBlocks, LaneCodec, LaneForms, begins_uncommon, read_in_turn};
-use crate::read_ahead::{read_ascii, read_blocks, read_one};
+use crate::lanes::{LaneBlocks, LaneCodec, begins_uncommon, read_any_longer, read_in_turn};
+use crate::read_ahead::{read_ascii, read_blocks};
 use legacy_base::Destination;
-use legacy_tables::FlatTables;
 
 /// Returns whether an uncommon byte follows the form at the front, which is taken to be one ASCII byte or two bytes.
 ///
 /// Returns false if there are fewer than three bytes.
 #[inline(always)]
-fn stands_alone<C: LaneCodec>(src: &[u8]) -> bool {
+fn stands_alone<C: LaneCodec>(src: &[u8]) -> bool
+    ensures { result ≡ true → (tables : AcceptedIndexes) → HasAscii (C.grammar tables.flat) }
+{
     if src.len() < 3 {
         return false;
     }
     C::is_uncommon(if src[0] < 0x80 { src[1] } else { src[2] })
 }
 
-/// Reads the form at the front, and returns the number of bytes read, which is 0 if the form is uncommon.
-#[inline(always)]
-fn read_alone<C: LaneCodec, T: Destination>(
-    tables: &FlatTables<'_>,
-    src: &[u8],
-    dst: &mut T,
-) -> usize
-    requires { HasAscii (C.grammar tables.now.flat) }
-    ensures { ReadsAhead T.Destination (new_state (C.grammar tables.now.flat)) src.now result dst.old dst.new }
-{
-    let forms = LaneForms::<C>::new(tables);
-    read_one(&FormsInTurn { forms: &forms }, src, dst)
-}
-
 /// The number of bytes that are read without lanes after a malformed sequence.
 // Malformed sequences are often near one another. Lanes would pick out and look up forms after the next one for nothing.
 pub const AFTER_MALFORMED: usize = 64;
 
-/// Reads ASCII by blocks and other common forms one by one from the front, up to an uncommon form or past `most` bytes.
+/// Reads ASCII by blocks and other forms one by one from the front, up to an uncommon form or past `most` bytes.
 ///
 /// Returns the number of bytes read, which may be 0.
 #[inline(always)]
 #[tactic(auto, using(crate::proofs::WrittenRuns::no_bytes))]
 fn read_without_lanes<C: LaneCodec, T: Destination>(
-    tables: &FlatTables<'_>,
+    blocks: &LaneBlocks<'_, '_, C>,
     src: &[u8],
     most: usize,
     dst: &mut T,
 ) -> usize
-    requires { HasAscii (C.grammar tables.now.flat) }
-    ensures { ReadsAhead T.Destination (new_state (C.grammar tables.now.flat)) src.now result dst.old dst.new }
+    requires { HasAscii (C.grammar blocks.now.tables.now.flat) }
+    ensures { ReadsAhead T.Destination (new_state (C.grammar blocks.now.tables.now.flat)) src.now result dst.old dst.new }
 {
     let mut at = 0;
     while at < most {
-        at += read_in_turn::<C, T>(tables, &src[at..], most, dst);
+        at += read_any_longer::<C, T>(blocks.tables, blocks.guess, &src[at..], dst);
+        at += read_in_turn::<C, T>(blocks.tables, &src[at..], most, dst);
         let ascii = read_ascii(&src[at..], dst);
         at += ascii;
         if ascii == 0 {
@@ -80,14 +68,14 @@ pub fn read_common<C: LaneCodec, T: Destination>(
 ) -> usize
     ensures { ReadsAhead T.Destination (new_state (C.grammar blocks.now.tables.now.flat)) src.now result dst.old dst.new }
 {
+    if stands_alone::<C>(src) {
+        return read_in_turn::<C, T>(blocks.tables, src, 2, dst);
+    }
     if begins_uncommon::<C>(src) {
         return 0;
     }
-    if stands_alone::<C>(src) {
-        return read_alone::<C, T>(blocks.tables, src, dst);
-    }
     if *without_lanes > 0 {
-        let read = read_without_lanes::<C, T>(blocks.tables, src, *without_lanes, dst);
+        let read = read_without_lanes::<C, T>(blocks, src, *without_lanes, dst);
         *without_lanes = if read == 0 {
             0
         } else {

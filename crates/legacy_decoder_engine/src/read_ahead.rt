@@ -70,22 +70,6 @@ pub fn read_run<F: Forms, T: Destination>(forms: &F, src: &[u8], dst: &mut T) ->
     at + forms.read_forms(&src[at..], dst, turns % 4)
 }
 
-/// Reads the form at the front, and returns the number of bytes read.
-///
-/// Returns 0 if the form is uncommon, if the input may be too short for it, or if three code units may not stay free.
-#[inline(always)]
-#[tactic(auto, using(crate::proofs::WrittenRuns::no_bytes, crate::proofs::JoinedRuns::reads_written, crate::proofs::Turns::one_turn))]
-pub fn read_one<F: Forms, T: Destination>(forms: &F, src: &[u8], dst: &mut T) -> usize
-    requires { F.ready forms.now }
-    ensures { ReadsAhead T.Destination (new_state (F.grammar forms.now)) src.now result dst.old dst.new }
-{
-    let turns = forms.fitting(src.len(), dst.free().saturating_sub(3));
-    if turns == 0 {
-        return 0;
-    }
-    forms.read_forms(src, dst, 1)
-}
-
 /// Blocks that follow one another, with nothing held back between two of them.
 ///
 /// A block is a number of bytes or forms for which room is tested once.

@@ -1,7 +1,10 @@
 -- The runs of the ISO-2022-JP decoder.
 use Rattle.std.specs.Prelude.{◌≡◌, ◌≢◌, ℕ, ◌<◌, List, [], ◌∷◌, length, take, get_or, slice_index}
 use Rattle.legacy_base.specs.{Grammar.Grammar, Grammar.iso_2022_jp, Iso2022Jp.esc, Iso2022Jp.two_byte, States.DecoderState}
-use Rattle.legacy_japanese.specs.declared.iso_2022_jp.{steps.Escape.Escape, steps.Mode.Mode, steps.Start.TheVariants.Nothing, steps.Held.TheVariants.Begun}
+use Rattle.legacy_text.specs.declared.destination.Destination.{Ghosts}
+use Rattle.legacy_decoder_engine.specs.ReadAhead.{ReadsTo}
+use Rattle.legacy_japanese.specs.declared.iso_2022_jp.steps.{Escape.Escape, Mode.{Mode, TheVariants.Ascii}}
+use Rattle.legacy_japanese.specs.declared.iso_2022_jp.steps.{Start.TheVariants.Nothing, Held.TheVariants.Begun}
 use Rattle.legacy_japanese.specs.{Iso2022JpMachine.second_of, Iso2022JpMachine.third_of, Iso2022JpMoves.state_in}
 
 -- an ASCII byte that is itself in ASCII mode, and not the escape byte
@@ -15,6 +18,14 @@ ArePlain bytes n = (k : ℕ) → k < n → IsPlain (slice_index bytes k)
 -- a mode, with nothing held back
 abbrev pub run_state : List ℕ → Mode → DecoderState
 run_state jis0208 mode = state_in jis0208 mode (Begun Nothing)
+
+-- bytes at the front of the source are read from the first mode to the last one, and their scalars are written
+abbrev pub ReadsModes : {D : Type 0} → Ghosts D → List ℕ → Mode → Mode → List ℕ → ℕ → D → D → Type 0
+ReadsModes T jis0208 first last source read old new = ReadsTo T (run_state jis0208 first) (run_state jis0208 last) source read old new
+
+-- plain bytes at the front of the source are read in ASCII mode, and their scalars are written
+abbrev pub ReadsPlain : {D : Type 0} → Ghosts D → List ℕ → ℕ → D → D → Type 0
+ReadsPlain T source read old new = (jis0208 : List ℕ) → ReadsModes T jis0208 Ascii Ascii source read old new
 
 -- the bytes begin with the escape, and the byte after it is not the escape byte
 pub record HasEscape (escape : Escape) (bytes : List ℕ) : Type 0 where

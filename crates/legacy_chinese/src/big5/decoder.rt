@@ -1,5 +1,5 @@
 //! The decoder of Big5.
-ghost use Rattle.std.specs.Prelude.{◌≡◌, ◌≢◌, ℕ, ◌<◌, ◌≤◌, [], ◌∷◌, length, get_or};
+ghost use Rattle.std.specs.Prelude.{◌*◌, ◌≡◌, ◌≢◌, ℕ, ◌<◌, ◌≤◌, [], ◌∷◌, length, get_or};
 ghost use Rattle.legacy_base.specs.Big5.{big5_scalars};
 ghost use Rattle.legacy_base.specs.Grammar.{big5};
 ghost use Rattle.legacy_base.specs.States.{is_lead};
@@ -65,7 +65,7 @@ impl LaneCodec for Big5 {
 
     ghost place = { big5_place };
 
-    ghost pointers = { 19782 };
+    ghost pointers = { 126 * 157 };
 
     #[inline(always)]
     fn is_uncommon(byte: u8) -> bool {

@@ -1,7 +1,7 @@
 //! What GB18030 reads ahead: pairs by lanes, and sequences of four bytes with ASCII bytes between them.
 // Functions that run for each sequence or block are always inlined. A call would pass vectors through memory, and keep
 // the destination's place there.
-ghost use Rattle.std.specs.Prelude.{◌≡◌, ◌<◌, Some, IfSome};
+ghost use Rattle.std.specs.Prelude.{◌*◌, ◌≡◌, ◌<◌, Some, IfSome};
 ghost use Rattle.legacy_tables.specs.Indexes.{range};
 ghost use Rattle.legacy_tables.specs.RangeParts.{IsRangePart};
 ghost use Rattle.legacy_base.specs.Grammar.{gb18030};
@@ -90,7 +90,7 @@ impl LaneCodec for Gb18030 {
 
     ghost place = { gb18030_place };
 
-    ghost pointers = { 23940 };
+    ghost pointers = { 126 * 190 };
 
     #[inline(always)]
     fn is_uncommon(byte: u8) -> bool {

@@ -1,5 +1,5 @@
 //! The decoder of EUC-JP.
-ghost use Rattle.std.specs.{Prelude.{◌≡◌, ℕ, List, ◌∷◌, [], true, length, option_to_list, IfSome}, Char.IsScalar};
+ghost use Rattle.std.specs.{Prelude.{◌*◌, ◌≡◌, ℕ, List, ◌∷◌, [], true, length, option_to_list, IfSome}, Char.IsScalar};
 ghost use Rattle.legacy_text.specs.EncodingForm.{EncodingForm};
 ghost use Rattle.legacy_base.specs.{EucJp.euc_jp_scalars, Grammar.euc_jp, States.{is_neutral, new_state, state_of}, Fronts.malformed};
 ghost use Rattle.legacy_tables.specs.Tables.{index_list};
@@ -319,7 +319,7 @@ impl LaneCodec for EucJp {
 
     ghost place = { row_place 0xA1 0x5D 94 0xA1 };
 
-    ghost pointers = { 8836 };
+    ghost pointers = { 94 * 94 };
 
     #[inline(always)]
     fn is_uncommon(byte: u8) -> bool {

@@ -3,8 +3,8 @@
 // Functions that run for each sequence or block are always inlined, and so are their callers. A call would pass vectors
 // through memory, and keep the destination's place there.
 ghost use Rattle.std.specs.Prelude.{◌≡◌, ℕ, ◌≤◌, List, IfSome, length, true};
-ghost use Rattle.legacy_japanese.specs.Iso2022JpRuns.{ArePlain, HasEscape, IsPlain, pairs_grammar, run_state};
-ghost use Rattle.legacy_decoder_engine.specs.ReadAhead.{ReadsTo, ReadsAhead};
+ghost use Rattle.legacy_japanese.specs.Iso2022JpRuns.{ArePlain, HasEscape, IsPlain, ReadsModes, ReadsPlain, pairs_grammar, run_state};
+ghost use Rattle.legacy_decoder_engine.specs.ReadAhead.{ReadsAhead};
 
 use super::places::{LEADS, TRAILS};
 use super::steps::{DOLLAR, ESCAPE, Escape, Mode, PAREN, Start, completed, entry};
@@ -61,8 +61,7 @@ fn read_plain_block<T: Destination>(src: &[u8], dst: &mut T) -> usize
     requires block { 64 ≤ length src.now }
     requires room { 67 ≤ T.room dst.old }
     ensures most { result ≤ 64 }
-    ensures ahead { (jis0208 : List ℕ)
-        → ReadsAhead T.Destination (run_state jis0208 Mode.Ascii) src.now result dst.old dst.new }
+    ensures ahead { ReadsPlain T.Destination src.now result dst.old dst.new }
 {
     let count = plain_count(u8x64::from_slice(src));
     dst.put_block(src, count);
@@ -75,8 +74,7 @@ fn read_plain_block<T: Destination>(src: &[u8], dst: &mut T) -> usize
 #[inline(always)]
 fn read_plain_blocks<T: Destination>(src: &[u8], dst: &mut T) -> usize
     ensures read { result ≤ length src.now }
-    ensures ahead { (jis0208 : List ℕ)
-        → ReadsAhead T.Destination (run_state jis0208 Mode.Ascii) src.now result dst.old dst.new }
+    ensures ahead { ReadsPlain T.Destination src.now result dst.old dst.new }
 {
     let mut at = 0;
     while src.len() - at >= 64 && dst.free() >= 67 {
@@ -95,8 +93,7 @@ fn read_plain_blocks<T: Destination>(src: &[u8], dst: &mut T) -> usize
 #[inline(always)]
 fn read_plain_bytes<T: Destination>(src: &[u8], dst: &mut T) -> usize
     ensures read { result ≤ length src.now }
-    ensures ahead { (jis0208 : List ℕ)
-        → ReadsAhead T.Destination (run_state jis0208 Mode.Ascii) src.now result dst.old dst.new }
+    ensures ahead { ReadsPlain T.Destination src.now result dst.old dst.new }
 {
     let mut at = 0;
     while at < src.len() && is_plain(src[at]) && dst.free() >= 4 {
@@ -109,8 +106,7 @@ fn read_plain_bytes<T: Destination>(src: &[u8], dst: &mut T) -> usize
 /// Reads plain bytes from the front in ASCII mode. Returns the number of bytes read, which may be 0.
 #[inline(always)]
 fn read_plain<T: Destination>(src: &[u8], dst: &mut T) -> usize
-    ensures { (jis0208 : List ℕ)
-        → ReadsAhead T.Destination (run_state jis0208 Mode.Ascii) src.now result dst.old dst.new }
+    ensures { ReadsPlain T.Destination src.now result dst.old dst.new }
 {
     let blocks = read_plain_blocks(src, dst);
     blocks + read_plain_bytes(&src[blocks..], dst)
@@ -119,8 +115,7 @@ fn read_plain<T: Destination>(src: &[u8], dst: &mut T) -> usize
 /// Reads a run of the mode from the front. Returns the number of bytes read, which may be 0.
 #[inline(always)]
 fn read_mode<T: Destination>(tables: &FlatTables<'_>, mode: Mode, src: &[u8], dst: &mut T) -> usize
-    ensures { ReadsAhead T.Destination (run_state tables.now.flat.jis0208 mode) src.now result
-        dst.old dst.new }
+    ensures { ReadsModes T.Destination tables.now.flat.jis0208 mode mode src.now result dst.old dst.new }
 {
     match mode {
         Mode::Ascii => read_plain(src, dst),
@@ -153,8 +148,7 @@ fn may_begin(mode: Mode, src: &[u8]) -> bool {
 /// Reads a run of the mode from the front, if one may begin there. Returns the number of bytes read, which may be 0.
 #[inline(always)]
 fn read_begun<T: Destination>(tables: &FlatTables<'_>, mode: Mode, src: &[u8], dst: &mut T) -> usize
-    ensures { ReadsAhead T.Destination (run_state tables.now.flat.jis0208 mode) src.now result
-        dst.old dst.new }
+    ensures { ReadsModes T.Destination tables.now.flat.jis0208 mode mode src.now result dst.old dst.new }
 {
     if !may_begin(mode, src) {
         return 0;
@@ -201,8 +195,7 @@ fn read_flat<T: Destination>(
     src: &[u8],
     dst: &mut T,
 ) -> (Mode, usize)
-    ensures { ReadsTo T.Destination (run_state tables.now.flat.jis0208 first)
-        (run_state tables.now.flat.jis0208 result.0) src.now result.1 dst.old dst.new }
+    ensures { ReadsModes T.Destination tables.now.flat.jis0208 first result.0 src.now result.1 dst.old dst.new }
 {
     let mut mode = first;
     let mut at = read_begun(tables, mode, src, dst);
@@ -228,8 +221,7 @@ pub fn read_modes<T: Destination>(
     src: &[u8],
     dst: &mut T,
 ) -> (Mode, usize)
-    ensures { ReadsTo T.Destination (run_state tables.now.flat.jis0208 first)
-        (run_state tables.now.flat.jis0208 result.0) src.now result.1 dst.old dst.new }
+    ensures { ReadsModes T.Destination tables.now.flat.jis0208 first result.0 src.now result.1 dst.old dst.new }
 {
     match tables.flat() {
         Some(tables) => read_flat(tables, first, src, dst),

@@ -1,5 +1,5 @@
 //! The decoder of Shift_JIS.
-ghost use Rattle.std.specs.{Prelude.{◌≡◌, ◌+◌, ◌-◌, ◌≤◌, [], option_to_list, IfSome, if◌then◌else◌}, Char.IsScalar};
+ghost use Rattle.std.specs.{Prelude.{◌*◌, ◌≡◌, ◌+◌, ◌-◌, ◌≤◌, [], option_to_list, IfSome, if◌then◌else◌}, Char.IsScalar};
 ghost use Rattle.legacy_tables.specs.Unicode.{katakana_of};
 ghost use Rattle.legacy_base.specs.{ShiftJis.{is_shift_jis_lead, shift_jis_scalars}, Grammar.shift_jis};
 ghost use Rattle.legacy_japanese.specs.{ShiftJisMachine.{shift_jis_first, shift_jis_pair_scalars}, ShiftJisShown.shift_jis_codec};
@@ -114,7 +114,7 @@ impl LaneCodec for ShiftJis {
 
     ghost place = { shift_jis_place };
 
-    ghost pointers = { 8836 };
+    ghost pointers = { 47 * 188 };
 
     #[inline(always)]
     fn is_uncommon(byte: u8) -> bool {

@@ -1,5 +1,5 @@
 //! The decoder of EUC-KR.
-ghost use Rattle.std.specs.Prelude.{◌≡◌, [], option_to_list, IfSome, if◌then◌else◌};
+ghost use Rattle.std.specs.Prelude.{◌*◌, ◌≡◌, [], option_to_list, IfSome, if◌then◌else◌};
 ghost use Rattle.std.specs.Char.{IsScalar};
 ghost use Rattle.legacy_base.specs.Profile.{is_lead};
 ghost use Rattle.legacy_base.specs.LeadForms.{pair_scalars};
@@ -59,7 +59,7 @@ impl LaneCodec for EucKr {
 
     ghost place = { row_place 0x81 0x7D 190 0x41 };
 
-    ghost pointers = { 23940 };
+    ghost pointers = { 126 * 190 };
 
     #[inline(always)]
     fn is_uncommon(byte: u8) -> bool {

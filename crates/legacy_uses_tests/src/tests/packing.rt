@@ -18,6 +18,14 @@ pub(crate) fn no_entries<'a>() -> Indexes<'a> {
     }
 }
 
+/// Returns indexes with these entries of index jis0208 alone.
+fn only_jis0208<'a>(jis0208: &'a [u16]) -> Indexes<'a> {
+    Indexes {
+        jis0208,
+        ..no_entries()
+    }
+}
+
 // The next three functions have no clauses: the prover would search the clauses of their calls at each later statement.
 
 /// Returns the first fault of indexes with these packed parts.
@@ -150,10 +158,7 @@ fn two_orders_of_jis0208(rt: HostRuntime) {
     for (places, shift_jis, euc_jp) in JIS {
         let mut entries = [0u16; 11280];
         fill(&mut entries, *places);
-        let indexes = Indexes {
-            jis0208: &entries,
-            ..no_entries()
-        };
+        let indexes = only_jis0208(&entries);
         let made = packed_of(&rt, &indexes);
         has_no_own_fault(&rt, &indexes, &made.packed());
         let count = made.jis0208.len();

@@ -1,4 +1,4 @@
-use Rattle.std.proofs.{Common.{rules, Err, inr, sym, ap, ◌∙◌, ◌∷◌}, lemmas.Result.err_from_is_err_and}
+use Rattle.std.proofs.{Common.{rules, Err, inr, ap}, lemmas.Result.err_from_is_err_and}
 use Rattle.legacy_command.proofs.{CommandLine.{later_words, later_indexes}, GivenFiles.{few_words, few_well_formed, one_more}}
 use Rattle.legacy_index_files.specs.declared.index_file.EncoderIndex.TheVariants.{Of}
 use Rattle.legacy_index_files.proofs.WellFormed.{well_formed_ok}
@@ -15,8 +15,7 @@ pub returns-clause-texts : goal.returns-clause-texts
 returns-clause-texts t c =
     let read = c.in-Some-Some-default in
     let later = rw (later_words _ c.in-len2-up.len_at_least) at c.in_ok-indexes.ensures.texts in
-    let more = one_more _ _ _ _ _ c.in-len2-up.len_at_least (sym c.first_index.ensures ∙ c.in-Some.is)
-    (read.ensures.cases.0 ∙ ap (λ f. f ∷ read.later_files.now) read.field-0-0-is) in
+    let more = one_more c.in-len2-up.len_at_least c.first_index.ensures c.in-Some.is read.ensures.cases.0 read.field-0-0-is in
     more.texts _ (c.set.ensures.texts _ read.text.now later c.in-Ok.ensures.table)
 
 pub returns-in_default-clause-well_formed : goal.returns-in_default-clause-well_formed
@@ -26,8 +25,7 @@ pub returns-clause-well_formed : goal.returns-clause-well_formed
 returns-clause-well_formed t c =
     let read = c.in-Some-Some-default in
     let later = rw (later_words _ c.in-len2-up.len_at_least) at c.in_ok-indexes.ensures.well_formed in
-    let more = one_more _ _ _ _ _ c.in-len2-up.len_at_least (sym c.first_index.ensures ∙ c.in-Some.is)
-    (read.ensures.cases.0 ∙ ap (λ f. f ∷ read.later_files.now) read.field-0-0-is) in
+    let more = one_more c.in-len2-up.len_at_least c.first_index.ensures c.in-Some.is read.ensures.cases.0 read.field-0-0-is in
     more.well_formed (well_formed_ok (Of c.in-Some.name) read.text.now c.read_index.result c.read_index.ensures.line c.in-Ok.table c.in-Ok.is) later
 
 -- a later FILE is the first that gives a fault
@@ -36,8 +34,7 @@ returns-in_err-indexes-clause-fault t c =
     let read = c.in-Some-Some-default in
     let later = rw (later_words _ c.in-len2-up.len_at_least) at c.in_err-indexes.ensures.fault in
     let p = err_from_is_err_and c.from_residual.result c.from_residual.ensures.1 in
-    let more = one_more _ _ _ _ _ c.in-len2-up.len_at_least (sym c.first_index.ensures ∙ c.in-Some.is)
-    (read.ensures.cases.0 ∙ ap (λ f. f ∷ read.later_files.now) read.field-0-0-is) in
+    let more = one_more c.in-len2-up.len_at_least c.first_index.ensures c.in-Some.is read.ensures.cases.0 read.field-0-0-is in
     let formed = well_formed_ok (Of c.in-Some.name) read.text.now c.read_index.result c.read_index.ensures.line c.in-Ok.table c.in-Ok.is in
     rw (p.1, p.2) (more.later_fault _ formed later)
 
@@ -45,6 +42,5 @@ pub returns-in-Err-Line-clause-fault : goal.returns-in-Err-Line-clause-fault
 returns-in-Err-Line-clause-fault t c =
     let read = c.in-Some-Some-default in
     let found = (c.in-Err-Line.ensures.line _).0 (ap (λ e. Err e) c.in-Err-Line.field-0-is) in
-    let more = one_more _ _ _ _ _ c.in-len2-up.len_at_least (sym c.first_index.ensures ∙ c.in-Some.is)
-    (read.ensures.cases.0 ∙ ap (λ f. f ∷ read.later_files.now) read.field-0-0-is) in
+    let more = one_more c.in-len2-up.len_at_least c.first_index.ensures c.in-Some.is read.ensures.cases.0 read.field-0-0-is in
     rw c.in-Err-Line.field-0-is (inr (more.line_fault _ _ found))

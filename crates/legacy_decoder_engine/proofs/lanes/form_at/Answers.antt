@@ -9,3 +9,6 @@ returns-then-byte-lt128 g c = (
   rw (take_more c.args.src.now 0 0 c.requires.some)
       (runs_byte c.requires.ascii _ _ c.if-byte-lt128.true c.from.ensures),
 )
+
+pub returns-then-begins_longer : goal.returns-then-begins_longer
+returns-then-begins_longer g c = c.longer_at.ensures

@@ -3,8 +3,10 @@ use Rattle.legacy_decoder_engine.proofs.near_malformed.read_without_lanes.Goals 
 
 pub returns-then-ascii-eq0 : goal.returns-then-ascii-eq0
 returns-then-ascii-eq0 g c =
-    reads_more (reads_more c.loop-at.invariant c.read_in_turn-at.ensures) (c.read_ascii-ascii.ensures.ahead _ c.requires)
+    let longer = reads_more c.loop-at.invariant c.read_any_longer-at.ensures in
+    reads_more (reads_more longer c.read_in_turn-at.ensures) (c.read_ascii-ascii.ensures.ahead _ c.requires)
 
 pub loop-at-preserved : goal.loop-at-preserved
 loop-at-preserved g c =
-    reads_more (reads_more c.loop-at.invariant c.read_in_turn-at.ensures) (c.read_ascii-ascii.ensures.ahead _ c.requires)
+    let longer = reads_more c.loop-at.invariant c.read_any_longer-at.ensures in
+    reads_more (reads_more longer c.read_in_turn-at.ensures) (c.read_ascii-ascii.ensures.ahead _ c.requires)

@@ -1,12 +1,10 @@
 use Rattle.std.proofs.Common.{◌-◌, length}
-use Rattle.legacy_japanese.specs.Iso2022JpRuns.{run_state}
-use Rattle.legacy_decoder_engine.specs.ReadAhead.{ReadsTo}
+use Rattle.legacy_japanese.specs.Iso2022JpRuns.{ReadsModes}
 use Rattle.legacy_japanese.proofs.iso_2022_jp.read_ahead.read_flat.Given as goal
 
 -- what was read was written, and the mode is that of the last run
 abbrev pub invariant-loop-escape : goal.invariant-loop-escape
-invariant-loop-escape g l =
-    ReadsTo g.T.Destination (run_state l.tables.flat.jis0208 l.fn.first) (run_state l.tables.flat.jis0208 l.mode) l.src l.at l.fn.dst l.dst
+invariant-loop-escape g l = ReadsModes g.T.Destination l.tables.flat.jis0208 l.fn.first l.mode l.src l.at l.fn.dst l.dst
 
 abbrev pub decreases-loop-escape : goal.decreases-loop-escape
 decreases-loop-escape g l = length l.src - l.at
