@@ -2,6 +2,9 @@
 pub mod AsciiBehind
 pub mod Gb18030Shown
 pub mod Gb18030Held
+pub mod FourStarts
+pub mod FourLanes
+pub mod FourWrites
 pub mod FourPlaces
 pub mod EntryScalars
 pub mod Big5Places

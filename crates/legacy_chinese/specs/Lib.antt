@@ -2,6 +2,7 @@
 pub mod Big5Codes
 pub mod Big5Machine
 pub mod Big5Places
+pub mod FourForms
 pub mod FourPlaces
 pub mod Gb18030Codec
 pub mod Gb18030Codes

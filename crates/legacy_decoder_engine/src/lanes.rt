@@ -88,6 +88,26 @@ pub trait LaneCodec {
         0
     }
 
+    /// Reads forms of more than two bytes and ASCII in blocks from the front, and returns the number of bytes read.
+    ///
+    /// It reads nothing if few such forms follow. It is given what the codec keeps from the last one.
+    #[inline(always)]
+    #[tactic(auto, using(crate::proofs::WrittenRuns::no_bytes))]
+    fn read_longer_blocks<T: Destination>(
+        tables: &FlatTables<'_>,
+        guess: usize,
+        src: &[u8],
+        dst: &mut T,
+    ) -> usize
+        ensures { ReadsAhead T.Destination (new_state (grammar tables.now.flat)) src.now result dst.old dst.new }
+    {
+        let _ = tables;
+        let _ = guess;
+        let _ = src;
+        let _ = dst;
+        0
+    }
+
     /// Returns the scalar of the form of more than two bytes at the front, and the number of its bytes.
     ///
     /// Returns `None` if there is no such form. `guess` is what the codec keeps from one such form to the next.
@@ -182,7 +202,7 @@ fn split_codes<C: LaneCodec>(codes: &mut [u16], places: &mut [u32], groups: usiz
 
 /// Returns what is kept if it is ASCII, and otherwise the entry, for each of eight codes.
 #[inline(always)]
-pub(crate) fn chosen(kept: u16x8, entries: u16x8) -> u16x8
+pub fn chosen(kept: u16x8, entries: u16x8) -> u16x8
     ensures lanes { (k : ℕ) → k < 8 → get_or result k 0 ≡ unit_at (get_or kept k 0) (get_or entries k 0) }
     ensures small { (k : ℕ) → k < 8 → get_or result k 0 < 0x1_0000 }
 {
@@ -199,7 +219,7 @@ pub(crate) fn are_known(units: u16x8) -> bool
 
 /// Returns the number of units before the first that is 0.
 #[inline(always)]
-pub(crate) fn known_count(units: u16x8) -> usize
+pub fn known_count(units: u16x8) -> usize
     ensures most { result ≤ 8 }
     ensures known { (k : ℕ) → k < result → get_or units k 0 ≢ 0 }
 {
@@ -656,6 +676,31 @@ fn read_last<C: LaneCodec, T: Destination>(
     at
 }
 
+/// Reads common forms from the front of at most `most` bytes, or forms of more than two bytes.
+///
+/// Returns the number of bytes read, and the number after which blocks of such forms are tried.
+// Blocks of longer forms pay sooner: one by one, they take longer than pairs.
+#[inline(always)]
+fn read_one_kind<C: LaneCodec, T: Destination>(
+    blocks: &LaneBlocks<'_, '_, C>,
+    src: &[u8],
+    most: usize,
+    dst: &mut T,
+) -> (usize, usize)
+    requires some { 2 ≤ length src.now }
+    requires ascii { HasAscii (C.grammar blocks.now.tables.now.flat) }
+    ensures { ReadsAhead T.Destination (new_state (C.grammar blocks.now.tables.now.flat)) src.now result.0 dst.old dst.new }
+{
+    if C::begins_longer(src[0], src[1]) {
+        (
+            C::read_longer(blocks.tables, blocks.guess, src, dst),
+            most / 4,
+        )
+    } else {
+        (read_at_most::<C, T>(blocks.tables, src, most, dst), most)
+    }
+}
+
 /// Reads ASCII by blocks and other forms one by one from the front, up to an uncommon form or to many forms.
 ///
 /// Returns the number of bytes read, and whether a block with many bytes past ASCII may follow.
@@ -680,22 +725,14 @@ fn read_few<C: LaneCodec, T: Destination>(
             return (at + read_last(blocks, &src[at..], dst), false);
         }
         let delay = blocks.delay_after(ascii);
-        if C::begins_longer(src[at], src[at + 1]) {
-            let longer = C::read_longer(blocks.tables, blocks.guess, &src[at..], dst);
-            at += longer;
-            if longer == 0 || delay == SHORT_DELAY {
-                return (at, longer > 0);
-            }
-            continue;
-        }
-        let few = read_at_most::<C, T>(blocks.tables, &src[at..], delay, dst);
+        let (few, enough) = read_one_kind(blocks, &src[at..], delay, dst);
         at += few;
         if few == 0 {
             return (at, false);
         }
         let before = if ascii >= LONG_ASCII { 0 } else { many };
         many = before.saturating_add(few);
-        if many.saturating_add(2) >= delay {
+        if many.saturating_add(2) >= enough {
             return (at, true);
         }
     }
@@ -712,6 +749,11 @@ impl<C: LaneCodec> Blocks for LaneBlocks<'_, '_, C> {
     fn read_block<T: Destination>(&self, src: &[u8], dst: &mut T) -> (usize, bool) {
         if begins_uncommon::<C>(src) {
             return (0, false);
+        }
+        let longer = C::read_longer_blocks(self.tables, self.guess.get(), src, dst);
+        if longer > 0 {
+            self.delay.set(SHORT_DELAY);
+            return (longer, true);
         }
         let at = read_lanes::<C, T>(self.tables, self.guess, src, dst);
         if at >= 64 {

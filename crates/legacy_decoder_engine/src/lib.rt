@@ -16,7 +16,7 @@ pub mod lead_decoder;
 pub mod moves;
 pub mod near_malformed;
 pub mod past_ascii;
-mod picks;
+pub mod picks;
 pub mod places;
 pub mod read_ahead;
 pub mod unmapped_trail;

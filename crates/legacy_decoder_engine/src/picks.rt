@@ -75,7 +75,7 @@ fn put_codes(block: &[u8], from: usize, starts: u8, codes: &mut [u16], at: usize
 /// Returns the place after them.
 #[inline(always)]
 #[tactic(auto, using(crate::proofs::Picking::no_more))]
-fn pick(block: &[u8], starts: u64, codes: &mut [u16], count: usize) -> usize
+pub fn pick(block: &[u8], starts: u64, codes: &mut [u16], count: usize) -> usize
     requires read { 72 ≤ length block.now }
     requires room { count + 64 ≤ length codes.old }
     ensures most { result ≤ count + 64 }

@@ -7,6 +7,7 @@ ghost use Rattle.legacy_tables.specs.RangeParts.{IsRangePart};
 ghost use Rattle.legacy_base.specs.Grammar.{gb18030};
 ghost use Rattle.legacy_chinese.specs.Gb18030Places.{gb18030_place};
 
+use super::four_lanes::read_fours;
 use super::four_places::four_pointer;
 use super::pair_places::TRAILS;
 use legacy_base::{Destination, IndexName};
@@ -14,6 +15,7 @@ use legacy_decoder_engine::common_forms::CommonForm;
 use legacy_decoder_engine::held_lead::Lead;
 use legacy_decoder_engine::lane_places::{lead_places, place_sums, trail_places};
 use legacy_decoder_engine::lanes::LaneCodec;
+use legacy_decoder_engine::past_ascii::{ascii_front, past_ascii};
 use legacy_decoder_engine::places::{ROWS_OF_190, pair_pointer};
 use legacy_tables::{DecoderTables, FlatTables, RangePart, Ranges};
 use std::cell::Cell;
@@ -76,6 +78,20 @@ fn scalar_and_part(
     }
     let scalar = far_scalar(ranges, guess, pointer)?;
     Some((scalar, ranges.part_at(guess.get())))
+}
+
+/// Returns whether the first byte past ASCII begins a sequence of four bytes, and blocks may follow. Any result is right.
+#[inline(always)]
+fn begins_fours(src: &[u8]) -> bool {
+    if src.len() < 128 {
+        return false;
+    }
+    let first = if src[0] >= 0x80 {
+        0
+    } else {
+        ascii_front(past_ascii(u8x64::from_slice(src)))
+    };
+    Gb18030::begins_longer(src[first], src[first + 1])
 }
 
 /// The codec of GB18030 and GBK as its blocks are read.
@@ -157,6 +173,19 @@ impl LaneCodec for Gb18030 {
             }
         }
         at
+    }
+
+    #[inline(always)]
+    fn read_longer_blocks<T: Destination>(
+        tables: &FlatTables<'_>,
+        guess: usize,
+        src: &[u8],
+        dst: &mut T,
+    ) -> usize {
+        if !begins_fours(src) {
+            return 0;
+        }
+        read_fours(tables, guess, src, dst)
     }
 
     #[inline(always)]

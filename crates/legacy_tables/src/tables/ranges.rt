@@ -15,9 +15,12 @@ use super::pointers::{range_pointer, ranges_up_to};
 /// Pointer 7457 is an exception: its scalar value is U+E7C7.
 #[derive(Clone, Copy)]
 pub struct RangePart {
-    first: u32,
-    count: u32,
-    scalar: u32,
+    /// The first pointer.
+    pub first: u32,
+    /// The number of pointers.
+    pub count: u32,
+    /// The scalar value of the first pointer.
+    pub scalar: u32,
 }
 
 impl RangePart {

@@ -5,25 +5,17 @@ use Rattle.legacy_decoder_engine.proofs.lanes.read_few.Goals as goal
 pub returns-then-src-at-lt16-clause-ahead : goal.returns-then-src-at-lt16-clause-ahead
 returns-then-src-at-lt16-clause-ahead g c = reads_more (reads_more c.loop-at.invariant (c.read_ascii-ascii.ensures.ahead _ c.requires)) c.read_last.ensures
 
-pub returns-then-longer-eq0-clause-ahead : goal.returns-then-longer-eq0-clause-ahead
-returns-then-longer-eq0-clause-ahead g c =
-    reads_more (reads_more c.loop-at.invariant (c.read_ascii-ascii.ensures.ahead _ c.requires)) c.read_longer-longer.ensures
-
-pub loop-at-preserved-then-begins_longer : goal.loop-at-preserved-then-begins_longer
-loop-at-preserved-then-begins_longer g c =
-    reads_more (reads_more c.loop-at.invariant (c.read_ascii-ascii.ensures.ahead _ c.requires)) c.read_longer-longer.ensures
-
 pub returns-then-few-eq0-clause-ahead : goal.returns-then-few-eq0-clause-ahead
 returns-then-few-eq0-clause-ahead g c =
-    reads_more (reads_more c.loop-at.invariant (c.read_ascii-ascii.ensures.ahead _ c.requires)) c.read_at_most-few.ensures
+    reads_more (reads_more c.loop-at.invariant (c.read_ascii-ascii.ensures.ahead _ c.requires)) c.read_one_kind-few.ensures
 
-pub returns-then-saturating_add-delay-clause-ahead : goal.returns-then-saturating_add-delay-clause-ahead
-returns-then-saturating_add-delay-clause-ahead g c =
-    reads_more (reads_more c.loop-at.invariant (c.read_ascii-ascii.ensures.ahead _ c.requires)) c.read_at_most-few.ensures
+pub returns-then-saturating_add-enough-clause-ahead : goal.returns-then-saturating_add-enough-clause-ahead
+returns-then-saturating_add-enough-clause-ahead g c =
+    reads_more (reads_more c.loop-at.invariant (c.read_ascii-ascii.ensures.ahead _ c.requires)) c.read_one_kind-few.ensures
 
 pub loop-at-preserved : goal.loop-at-preserved
 loop-at-preserved g c =
-    reads_more (reads_more c.loop-at.invariant (c.read_ascii-ascii.ensures.ahead _ c.requires)) c.read_at_most-few.ensures
+    reads_more (reads_more c.loop-at.invariant (c.read_ascii-ascii.ensures.ahead _ c.requires)) c.read_one_kind-few.ensures
 
 pub loop-at-smaller : goal.loop-at-smaller
-loop-at-smaller g c = omega (arith, c.if-few-eq0.false, c.read_at_most-few.ensures.within, length-take {A = ℕ}, length-drop {A = ℕ})
+loop-at-smaller g c = omega (arith, c.if-few-eq0.false, c.read_one_kind-few.ensures.within, length-take {A = ℕ}, length-drop {A = ℕ})

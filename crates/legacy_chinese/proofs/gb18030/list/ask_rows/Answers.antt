@@ -1,5 +1,5 @@
 use Rattle.std.proofs.lemmas.{Grind.common_steps, Bool.{both_ways, cases_lt, or_cases, or_parts, eqb-false, ne_eqb}, List.Folds.list_any_more}
-use Rattle.{std.proofs.Common.{take_all, false, arith}, legacy_encoder_engine.proofs.CachedPairs.asked}
+use Rattle.{std.proofs.Common.{take_all, arith}, legacy_encoder_engine.proofs.CachedPairs.asked}
 use Rattle.legacy_chinese.proofs.gb18030.list.ask_rows.Goals as goal
 
 pub loop-row-preserved : goal.loop-row-preserved
