@@ -138,16 +138,14 @@ impl<'a> DecoderMoves for Iso2022JpDecoder<'a> {
         if !self.held.is_nothing() {
             return 0;
         }
+        let Some(escape) = escape_at(src) else {
+            return 0;
+        };
         if dst.free() < T::narrow() {
             return 0;
         }
-        match escape_at(src) {
-            Some(escape) => {
-                self.held = Held::Whole(escape, Start::Nothing);
-                3
-            }
-            None => 0,
-        }
+        self.held = Held::Whole(escape, Start::Nothing);
+        3
     }
 }
 

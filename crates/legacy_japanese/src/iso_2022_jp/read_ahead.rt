@@ -2,9 +2,8 @@
 //! escapes between them.
 // Functions that run for each sequence or block are always inlined, and so are their callers. A call would pass vectors
 // through memory, and keep the destination's place there.
-ghost use Rattle.std.specs.Prelude.{◌≡◌, ℕ, ◌≤◌, List, IfSome, length, true};
-ghost use Rattle.legacy_japanese.specs.Iso2022JpRuns.{ArePlain, HasEscape, IsPlain, ReadsModes, ReadsPlain, pairs_grammar, run_state};
-ghost use Rattle.legacy_decoder_engine.specs.ReadAhead.{ReadsAhead};
+ghost use Rattle.std.specs.Prelude.{◌≡◌, ◌≤◌, IfSome, length, true};
+ghost use Rattle.legacy_japanese.specs.Iso2022JpRuns.{ArePlain, HasEscape, IsPlain, ReadsModes, ReadsPlain, pairs_grammar};
 
 use super::places::{LEADS, TRAILS};
 use super::steps::{DOLLAR, ESCAPE, Escape, Mode, PAREN, Start, completed, entry};
@@ -112,14 +111,25 @@ fn read_plain<T: Destination>(src: &[u8], dst: &mut T) -> usize
     blocks + read_plain_bytes(&src[blocks..], dst)
 }
 
+/// Reads pairs from the front, or over packed tables nothing. Returns the number of bytes read, which may be 0.
+#[inline(always)]
+fn read_pairs<T: Destination>(tables: &Tables, src: &[u8], dst: &mut T) -> usize
+    ensures { ReadsModes T.Destination tables.now.flat.jis0208 Mode.TwoByte Mode.TwoByte src.now result dst.old dst.new }
+{
+    match tables.flat() {
+        Some(tables) => read_forms(&Jis0208Pairs { tables }, src, src.len(), dst),
+        None => 0,
+    }
+}
+
 /// Reads a run of the mode from the front. Returns the number of bytes read, which may be 0.
 #[inline(always)]
-fn read_mode<T: Destination>(tables: &FlatTables<'_>, mode: Mode, src: &[u8], dst: &mut T) -> usize
+fn read_mode<T: Destination>(tables: &Tables, mode: Mode, src: &[u8], dst: &mut T) -> usize
     ensures { ReadsModes T.Destination tables.now.flat.jis0208 mode mode src.now result dst.old dst.new }
 {
     match mode {
         Mode::Ascii => read_plain(src, dst),
-        Mode::TwoByte => read_forms(&Jis0208Pairs { tables }, src, src.len(), dst),
+        Mode::TwoByte => read_pairs(tables, src, dst),
         Mode::Roman | Mode::Katakana => 0,
     }
 }
@@ -147,25 +157,13 @@ fn may_begin(mode: Mode, src: &[u8]) -> bool {
 
 /// Reads a run of the mode from the front, if one may begin there. Returns the number of bytes read, which may be 0.
 #[inline(always)]
-fn read_begun<T: Destination>(tables: &FlatTables<'_>, mode: Mode, src: &[u8], dst: &mut T) -> usize
+fn read_begun<T: Destination>(tables: &Tables, mode: Mode, src: &[u8], dst: &mut T) -> usize
     ensures { ReadsModes T.Destination tables.now.flat.jis0208 mode mode src.now result dst.old dst.new }
 {
     if !may_begin(mode, src) {
         return 0;
     }
     read_mode(tables, mode, src, dst)
-}
-
-/// Reads a run from the front if the mode is ASCII. Returns the number of bytes read, which may be 0.
-#[inline(always)]
-fn read_ascii_mode<T: Destination>(mode: Mode, src: &[u8], dst: &mut T) -> usize
-    ensures { (jis0208 : List ℕ)
-        → ReadsAhead T.Destination (run_state jis0208 mode) src.now result dst.old dst.new }
-{
-    match mode {
-        Mode::Ascii => read_plain(src, dst),
-        _ => 0,
-    }
 }
 
 /// Returns the valid escape at the front, if a byte follows that is not the escape byte.
@@ -189,8 +187,8 @@ pub fn escape_at(src: &[u8]) -> Option<Escape>
 ///
 /// Returns the mode at the end, and the number of bytes read.
 #[inline(always)]
-fn read_flat<T: Destination>(
-    tables: &FlatTables<'_>,
+pub fn read_modes<T: Destination>(
+    tables: &Tables,
     first: Mode,
     src: &[u8],
     dst: &mut T,
@@ -209,22 +207,4 @@ fn read_flat<T: Destination>(
         at += 3 + read;
     }
     (mode, at)
-}
-
-/// Reads runs and escapes as `read_flat` does, or over packed tables a run of ASCII.
-///
-/// Returns the mode at the end, and the number of bytes read.
-#[inline(always)]
-pub fn read_modes<T: Destination>(
-    tables: &Tables,
-    first: Mode,
-    src: &[u8],
-    dst: &mut T,
-) -> (Mode, usize)
-    ensures { ReadsModes T.Destination tables.now.flat.jis0208 first result.0 src.now result.1 dst.old dst.new }
-{
-    match tables.flat() {
-        Some(tables) => read_flat(tables, first, src, dst),
-        None => (first, read_ascii_mode(first, src, dst)),
-    }
 }

@@ -1,6 +1,6 @@
 use Rattle.std.proofs.Common.{◌-◌, length}
 use Rattle.legacy_japanese.specs.Iso2022JpRuns.{ReadsModes}
-use Rattle.legacy_japanese.proofs.iso_2022_jp.read_ahead.read_flat.Given as goal
+use Rattle.legacy_japanese.proofs.iso_2022_jp.read_ahead.read_modes.Given as goal
 
 -- what was read was written, and the mode is that of the last run
 abbrev pub invariant-loop-escape : goal.invariant-loop-escape
