@@ -1,9 +1,8 @@
 -- The moves of a decoder make a call.
 use Rattle.std.proofs.Common.{◌≡◌, ◌≢◌, ◌∙◌, ℕ, zero, suc, ◌+◌, ◌-◌, ◌≤◌, ◌<◌, List, [], ◌∷◌, ◌++◌, length, map, get_or, take, drop, refl, ap, subst, arith}
 use Rattle.std.proofs.Common.{add-zero, add-one, append-nil, drop-cons, drop_of_length-le, length-append, length-drop, Bool, true, false, IsTrue, Some, None}
-use Rattle.std.proofs.{Common.{Option, ◌⊎◌, inl, inr, All}, lemmas.List.{map-append, drop-drop, nil_from_length}}
-use Rattle.std.proofs.lemmas.List.Elements.{All-append, All-nil, All-cons}
-use Rattle.std.proofs.{Math.Nat.sub-zero, lemmas.Bool.{true≢false}, lemmas.Bool.Decides.nat_tests}
+use Rattle.std.proofs.{Common.{Option, ◌⊎◌, inl, inr, All}, lemmas.List.{map-append, drop-drop, nil_from_length}, lemmas.List.Elements.{All-append, All-nil}}
+use Rattle.std.proofs.{lemmas.List.Elements.All-cons, Math.Nat.sub-zero, lemmas.Bool.true≢false, lemmas.Bool.Decides.nat_tests}
 use Rattle.std.specs.Char.{IsScalar}
 use Rattle.legacy_text.specs.EncodingForm.{EncodingForm, unit_count, total_unit_count}
 use Rattle.legacy_text.proofs.CodeUnits.{total_unit_count-append}
@@ -30,7 +29,7 @@ holds_none form free state = refl
 pub holds_more : (form : EncodingForm) (free : ℕ) (a b c : DecoderState) (bytes : List ℕ) (byte : ℕ) → HoldsBytes form free a bytes b → Feeds b byte c Nothing
     → read_room form b byte ≤ free → HoldsBytes form free a (bytes ++ byte ∷ []) c
 unfolding HoldsBytes
-holds_more form free a b c [] byte e feeds room = subst (λ s. HoldsBytes form free s (byte ∷ []) c) e (c, feeds, room, refl)
+holds_more form free a b c [] byte e feeds room = grind (arith, nat_tests)
 holds_more form free a b c (x ∷ bytes) byte held feeds room = (held.0, held.1, held.2, holds_more form free held.0 b c bytes byte held.3 feeds room)
 
 next_byte : (source : List ℕ) (read : ℕ) → read < length source → drop read source ≡ get_or source read 0 ∷ drop (read + 1) source
@@ -68,21 +67,13 @@ pub record Going (form : EncodingForm) (last : Bool) (before : DecoderState) (so
 module _ {form : EncodingForm} {last : Bool} where
   pub going_start : {before : DecoderState} {source : List ℕ} {free : ℕ} → rests before.grammar before.held ≡ true → may_hold before.grammar before.held ≡ true
       → Going form last before source free before 0 []
-  going_start {before} {source} {free} r m =
-      let none = stay false before source in grind (arith, HadRooms-none, All-nil, true≢false, same_rooms)
+  going_start {before} {source} {free} r m = grind (arith, stay false before source, HadRooms-none, All-nil, true≢false, same_rooms)
 
   pub going_release : {before : DecoderState} {source : List ℕ} {free : ℕ} {now : DecoderState} {c : ℕ} → rests before.grammar before.held ≡ false
       → release_room_in form before.grammar ≤ free → Releases before now c → Going form last before source free now 0 (c ∷ [])
   going_release {before} {source} {free} {now} {c} r enough h =
-      grind (
-        arith,
-        behind before [] h.passed now [] (Scalar c ∷ []) source h.progress,
-        HadRooms-released,
-        All-cons,
-        All-nil,
-        room_needed-release,
-        length-append,
-      )
+      let progress = behind before [] h.passed now [] (Scalar c ∷ []) source h.progress in
+      grind (arith, progress, HadRooms-released, All-cons, All-nil, room_needed-release, length-append)
 
   fed_going : {before : DecoderState} {byte : ℕ} {rest : List ℕ} {free : ℕ} {next : DecoderState} (fed : Fed) → rests before.grammar before.held ≡ true
       → Feeds before byte next fed → (RevealsMalformed fed → ⊥) → read_room form before byte ≤ free
@@ -164,7 +155,7 @@ module _ {form : EncodingForm} {last : Bool} where
 
     pub call_full_release : {source : List ℕ} → IsCovered s → may_hold s.grammar s.held ≡ true → rests s.grammar s.held ≡ false
         → free < release_room_in form s.grammar → DecoderCall form s source last free s OutputFull 0 []
-    call_full_release {source} c m r lacks = call_full m c (omega (arith, lacks, room_needed-release form s source last r))
+    call_full_release {source} c m r lacks = grind (arith, nat_tests, call_full, room_needed-release)
 
   -- ---- what follows on a call in progress
 
@@ -240,13 +231,11 @@ module _ {form : EncodingForm} {last : Bool} where
 
     pub going_feed : {next : DecoderState} (fed : Fed) → read < length source → Feeds now (get_or source read 0) next fed → (RevealsMalformed fed → ⊥)
         → read_room form now (get_or source read 0) ≤ left → Going form last before source free next (read + 1) (scalars ++ fed_scalars fed)
-    going_feed fed h f sound enough = going_then (rw (next_byte source read h) (fed_going fed a.resting f sound enough)) (omega arith)
+    going_feed fed h f sound enough = grind (arith, nat_tests, going_then, next_byte, fed_going)
 
     pub call_lacks : read < length source → IsCovered now → left < read_room form now (get_or source read 0)
         → DecoderCall form before source last free now OutputFull read scalars
-    call_lacks h c lacks =
-        call_here (call_full a.allowed c (rw (next_byte source read h)
-        (omega (arith, lacks, room_needed-read form now (get_or source read 0) (drop (read + 1) source) last a.resting)))) (inr refl)
+    call_lacks h c lacks = grind (arith, nat_tests, call_here, call_full, next_byte, room_needed-read)
 
     -- the next byte reveals a malformed sequence, and is read or not
     module _ {next : DecoderState} {x y : ℕ} (h : read < length source) (enough : read_room form now (get_or source read 0) ≤ left) where
@@ -260,10 +249,7 @@ module _ {form : EncodingForm} {last : Bool} where
 
     pub call_end : {next : DecoderState} {answer : DecoderResult} → read ≡ length source → Finishes form now last left next answer
         → DecoderCall form before source last free next answer read scalars
-    call_end {next} {answer} all f =
-        let nothing_left : drop read source ≡ [] = drop_of_length-le source (omega arith) in
-        let end = call_finish answer a.resting a.allowed f in
-        call_here (rw nothing_left end.0) end.1
+    call_end {next} {answer} all f = grind (arith, nat_tests, drop_of_length-le, call_finish, call_here)
 
   pub held_going : {before : DecoderState} {source : List ℕ} {free : ℕ} {now : DecoderState} {read : ℕ} {scalars : List ℕ} {next : DecoderState}
       → Going form last before source free now read scalars → (left : ℕ) → left + total_unit_count form scalars ≡ free → (n : ℕ) → n ≤ length (drop read source)

@@ -42,10 +42,7 @@ lead_places v lead width = times (columns (firsts v) lead) width
 -- a difference that wraps, times a width
 wrapped : (d width : ℕ) → 0 < width * d → width * d < 65536 → (65536 - d) * width % 65536 ≡ 65536 - width * d
 wrapped d zero some small = absurd (omega arith)
-wrapped d (suc w) some small =
-    let turned : (65536 - d) * suc w ≡ suc w * (65536 - d) = mul_comm (65536 - d) (suc w) in
-    let p = suc w * d in
-    rw (turned, mul-sub (suc w) 65536 d) (let e : (suc w * 65536 - p) % 65536 ≡ 65536 - p = omega (arith, some, small) in e)
+wrapped d (suc w) some small = grind (arith, nat_tests, mul_comm, mul-sub)
 
 module _ (lead leads width : ℕ) (room : lead + leads < 256) (narrow : width < 256) (some : 0 < width) (rows : (lead + leads + 1) * width ≤ 65536) where
   -- up to the end of the rows, the product is the place of the lead
@@ -113,10 +110,7 @@ module _ (limit : ℕ) (small : limit < 65536) (lead trail : ℕ → ℕ) where
       → ArePlaces limit (λ code. min (lead code + trail code) 65535) codes (place_sums leads trails)
   sums_are [] [] ts s t e f = refl
   sums_are (c ∷ cs) (l ∷ ls) (t ∷ ts) s u e f =
-      let first = ap (λ l. get_or l 0 0) e in
-      let second = ap (λ l. get_or l 0 0) f in
-      let rest = sums_are cs ls ts s.1 u.1 (ap (drop 1) e) (ap (drop 1) f) in
-      grind (arith, nat_tests, s.0.fits, u.0.fits, first, second, rest)
+      grind (arith, nat_tests, ap (λ l. get_or l 0 0) e, ap (λ l. get_or l 0 0) f, sums_are cs ls ts s.1 u.1 (ap (drop 1) e) (ap (drop 1) f))
   sums_are [] (l ∷ ls) ts s t e f = absurd (omega (arith, ap length e))
   sums_are (c ∷ cs) [] ts s t e f = absurd (omega (arith, ap length e))
   sums_are (c ∷ cs) (l ∷ ls) [] s t e f = absurd (omega (arith, ap length f))

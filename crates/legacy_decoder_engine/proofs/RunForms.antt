@@ -1,5 +1,5 @@
 -- The sequences of a machine as runs, which a loop may read ahead.
-use Rattle.std.proofs.Common.{rules, ◌≡◌, ◌∙◌, ℕ, suc, ◌+◌, ◌≤◌, ◌<◌, List, [], ◌∷◌, ◌++◌, length, append_assoc, length-append, ap, refl, arith, true}
+use Rattle.std.proofs.Common.{rules, ◌≡◌, ℕ, suc, ◌+◌, ◌≤◌, ◌<◌, List, [], ◌∷◌, ◌++◌, length, append_assoc, length-append, refl, arith, true}
 use Rattle.std.proofs.{Common.{false, add-zero}, lemmas.List.Elements.{All-nil, All-cons, All-append}, lemmas.Bool.Decides.nat_tests}
 use Rattle.std.specs.Char.{IsScalar, is_ascii}
 use Rattle.legacy_tables.specs.Unicode.{IsByte, AreBytes}
@@ -48,14 +48,7 @@ module _ {g : Grammar} {m : DecoderMachine} (shown : IsShown g m) where
       )
 
   runs : (b : ℕ) (rest : List ℕ) (c : ℕ) → IsScalar c → Leads g m [] b rest c → Runs g (b ∷ rest) (c ∷ [])
-  runs b rest c scalar l =
-      let all = leads [] b rest c (may_none g) (rests-none g) (All-nil IsByte) l in
-      let n : length {A = ℕ} [] + length (b ∷ rest) ≡ length (b ∷ rest) = omega arith in
-      record {
-        events = λ more. all.0 more ∙ ap (λ n. Scalar c ∷ shift n (events_of g more)) n;
-        scalar = All-cons IsScalar c [] scalar (All-nil IsScalar);
-        lowers = all.1;
-      }
+  runs b rest c scalar l = grind (arith, nat_tests, leads, may_none, rests-none, All-nil, All-cons)
 
   pub single_runs : (b c : ℕ) → IsByte b → IsScalar c → m.to [] b ≡ g → m.step [] b ≡ finish (reads 1 (c ∷ [])) → Runs g (b ∷ []) (c ∷ [])
   single_runs b c byte scalar to_is is = runs b [] c scalar (byte, to_is, is)

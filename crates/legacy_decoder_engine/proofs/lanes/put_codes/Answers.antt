@@ -29,8 +29,4 @@ returns-clause-writes g c =
     (λ k h. c.split_codes.ensures.lanes k (omega (arith, h, c.min-groups.ensures)))) e.contents e.room e.loan
 
 pub returns-clause-slack : goal.returns-clause-slack
-returns-clause-slack g c h =
-    let n =
-    few_units g.T.Destination.form c.min-few.result c.units_of-units.result (omega (arith, c.units_of-units.type_inv))
-    c.units_of-units.ensures.small (omega (arith, c.min-few.ensures, c.known_count.ensures.most)) in
-    omega (arith, n, c.put_first.ensures.room, c.free-else-at-most.ensures, c.if-free-lt32.false)
+returns-clause-slack g c h = grind (arith, few_units, c.units_of-units.type_inv, c.units_of-units.ensures.small, c.known_count.ensures.most)

@@ -1,4 +1,4 @@
-use Rattle.std.proofs.Common.{◌∙◌, ◌+◌, ◌-◌, ◌*◌, ◌<◌, ◌≤◌, ℕ, get_or, length, map, arith}
+use Rattle.std.proofs.Common.{◌∙◌, ◌+◌, ◌-◌, ◌*◌, ◌≤◌, ℕ, length, map, arith}
 use Rattle.std.proofs.lemmas.{List.map-id, Simd.{get_or-chunk, get_or-put_chunk_above}}
 use Rattle.legacy_decoder_engine.specs.LaneCodes.{kept_of, place_of}
 use Rattle.legacy_decoder_engine.proofs.LaneUnits.{lane_is, next_eight_stored}
@@ -26,7 +26,4 @@ loop-group-preserved g c =
     }
 
 pub returns-clause-lanes : goal.returns-clause-lanes
-returns-clause-lanes g c k h =
-    let i = c.loop-group.invariant in
-    let below : k < 8 * c.loop-group.group = omega (arith, h, c.loop-group-test.false) in
-    rw (i.keeps k below, i.finds k below) (lane_is g.C.LaneCodec.place c.args.last (get_or c.args.codes.now k 0) (i.small k below))
+returns-clause-lanes g c k h = grind (arith, lane_is, c.loop-group.invariant)
