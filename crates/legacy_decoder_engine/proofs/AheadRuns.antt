@@ -69,9 +69,9 @@ module _ {D : Type 0} {T : Ghosts D} where
         allowed = ap (may_hold next.grammar) none' ∙ may_none next.grammar;
         rooms = reads.rooms;
         held = λ a ne. absurd (ne none');
-        had = rw resting (ample T.form s.grammar None (T.room old) ds (omega (arith, reads.slack some, reads.writes.room)));
+        had = rw resting (ample T.form s.grammar None (T.room old) ds (omega arith));
         released = λ e. absurd (true≢false (sym resting ∙ e));
-        fits = omega (arith, reads.writes.room);
+        fits = omega arith;
         scalar = runs.scalar;
         once = λ l. absurd (omega (arith, reads.had some, lacks_small T.form s source last (T.room old) l, wide_most T.form));
         lowers = λ query q more.

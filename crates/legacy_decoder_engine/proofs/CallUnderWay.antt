@@ -91,9 +91,9 @@ module _ {form : EncodingForm} {last : Bool} where
         held = λ a ne. grind (arith, f.full form (inr ne));
         had = rw r (f.had form free enough);
         released = grind arith;
-        fits = omega (arith, f.fits form, enough);
+        fits = omega arith;
         scalar = f.scalar;
-        once = λ l. absurd (omega (arith, enough, needs));
+        once = λ l. absurd (omega arith);
         lowers = λ query q more. grind (arith, f.lowers query (length rest + more));
       }
 
@@ -139,15 +139,14 @@ module _ {form : EncodingForm} {last : Bool} where
         let needs = room_needed-read form s byte rest last r in
         let seen = at_last (may_report_end last (Malformed a b) (drop n (byte ∷ rest))) s (byte ∷ rest) f.passed next (drop n (byte ∷ rest)) _
         (rw left_is (behind s (byte ∷ []) f.passed next (unread_byte byte (MalformedSequence a b unread)) _ rest f.progress)) in
-        let room = malformed_room_at form s.grammar n free (λ z. omega (arith, f.report form)) (λ p. omega arith) in
+        let room = malformed_room_at form s.grammar n free (λ z. omega arith) (λ p. omega arith) in
         call_malformed n f.passed within f.allowed f.holds seen (grind arith) room (λ p. omega arith)
         (λ query q more z. grind (arith, f.lowers query (length rest + more), ap length left_is, length-append))
 
     -- the held-back bytes are reported at the end of input
     call_report : {next : DecoderState} {a b : ℕ} → last ≡ true → rests s.grammar s.held ≡ true → events_of s.grammar s.held ≢ []
         → release_room_in form s.grammar ≤ free → Reports s next a b → DecoderCall form s [] last free next (Malformed a b) 0 []
-    call_report {next} {a} {b} end r some enough f =
-        grind (arith, call_malformed {source = []} {next = next} {a = a} {b = b} 0 f.passed, room_needed-report)
+    call_report {next} {a} {b} end r some enough f = grind (arith, call_malformed {source = []} {next = next} {a = a} {b = b} 0 f.passed, room_needed-report)
 
     call_finish : {next : DecoderState} (answer : DecoderResult) → rests s.grammar s.held ≡ true → may_hold s.grammar s.held ≡ true
         → Finishes form s last free next answer → DecoderCall form s [] last free next answer 0 [] × (IsMalformed answer ⊎ (next ≡ s))
@@ -185,7 +184,7 @@ module _ {form : EncodingForm} {last : Bool} where
               (HadRoom-same form before.grammar now.grammar None (free - total_unit_count form scalars) ds a.rooms
               (subst (λ n. HadRoom form now.grammar None n ds) left_is (rw a.resting at b.had)));
           released = λ e z. a.released e (nil_from_length scalars (omega (arith, ap length z, length-append scalars ds)));
-          fits = omega (arith, b.fits, units);
+          fits = omega arith;
           scalar = All-append IsScalar scalars ds a.scalar b.scalar;
           once = λ l. absurd (omega (arith, some, (b.once (still l)).0));
           lowers = λ query q more. rw (← drop-drop n read source) (omega (arith, a.lowers query q more, b.lowers query q more, units));
@@ -204,7 +203,7 @@ module _ {form : EncodingForm} {last : Bool} where
         let suffices : (query : LengthQuery) → query_form query ≡ form → room query before (length source) ≤ free → answer ≢ OutputFull =
         λ query q enough. let k = a.lowers query q 0 in grind (arith, c.suffices query q) in
         record {
-          within = omega (arith, a.within, c.within);
+          within = omega arith;
           fits = a.fits;
           scalar = a.scalar;
           passed = a.passed + c.passed;

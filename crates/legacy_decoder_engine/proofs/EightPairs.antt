@@ -12,8 +12,7 @@ use lib.Lanes.{Each1, zip2, top, mask_l, chunk, digits_l, number_l}
 -- the bits of the ASCII bytes among sixteen
 pub byte_past : (bs : List ℕ) → length bs ≡ 16 → (k : ℕ) → k < 16
     → bit_at (mask_l (map (top 7) (zip2 (λ a b. cond (ltb a b) (2 ^ 8 - 1) 0) bs (replicate 16 128))) % 2 ^ 64) k ≡ 0 → 128 ≤ get_or bs k 0
-byte_past bs long k h unset =
-    grind (arith, nat_tests, bit_mask_l, get_or-map, rw (bitmask_splat w8 ltb bs 16 128 long (omega arith)) at unset)
+byte_past bs long k h unset = grind (arith, nat_tests, bit_mask_l, get_or-map, rw (bitmask_splat w8 ltb bs 16 128 long (omega arith)) at unset)
 
 -- a code is that of two bytes
 pub code_is : (bs : List ℕ) → Each1 (λ x. x < 256) bs → length bs ≡ 16 → (k : ℕ) → k < 8
@@ -27,7 +26,7 @@ module _ (pointer : ℕ → ℕ) (last : ℕ) (codes kept places : List ℕ) (lo
   place_at k h = grind (arith, nat_tests, get_or-map)
 
   pub place_within : (entries : List ℕ) → last < length entries → (k : ℕ) → k < 8 → get_or places k 0 < length entries
-  place_within entries within k h = rw (place_at k h) (omega (arith, within))
+  place_within entries within k h = rw (place_at k h) (omega arith)
 
   lane_at : (k : ℕ) → k < 8 → IsLane pointer (get_or codes k 0) (get_or kept k 0) (get_or places k 0)
   lane_at k h = grind (arith, nat_tests, get_or-map, place_at, lane_is)
@@ -64,5 +63,4 @@ reads_pairs T g src us n room long most small are past known contents room_is lo
     λ k h. grind (arith, get_or-chunk 0 16 src (2 * k) 0, get_or-chunk 0 16 src (2 * k + 1) 0, are k, known k h, past (2 * k)) in
     let few = few_units T.form n us long small most in
     let runs = pairs_run g n src us (omega arith) (omega arith) each in
-    reads_written (omega arith) (record { scalars = take n us; runs = runs; written = contents; room = room_is; loan = loan }) (omega (arith, few, room_is))
-    (omega (arith, enough))
+    reads_written (omega arith) (record { scalars = take n us; runs = runs; written = contents; room = room_is; loan = loan }) (omega arith) (omega arith)

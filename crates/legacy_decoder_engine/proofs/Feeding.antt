@@ -3,7 +3,7 @@ use Rattle.std.proofs.Common.{◌≡◌, ◌≢◌, ◌∙◌, ℕ, suc, ◌≤�
 use Rattle.std.proofs.{Common.{length-drop, drop_of_length-le, true, false, ◌&&◌, ◌⊎◌, Some, None, All}, lemmas.List.drop-append-le}
 use Rattle.std.proofs.{lemmas.List.nil_from_length, lemmas.List.Elements.{All-nil, All-cons}, lemmas.Bool.Decides.nat_tests, Math.Seq.drop-length}
 use Rattle.std.specs.Char.{IsScalar, is_ascii}
-use Rattle.legacy_text.specs.EncodingForm.{EncodingForm, Utf8, Utf16, unit_count, total_unit_count, bmp_room, wide_room}
+use Rattle.legacy_text.specs.EncodingForm.{EncodingForm, Utf8, Utf16, unit_count, total_unit_count, bmp_room}
 use Rattle.legacy_tables.specs.Unicode.{IsByte, AreBytes}
 use Rattle.legacy_base.specs.{States.{rests, may_hold, state_of}, DecoderActs.{act_room, takes, full_room, has_short_ascii, has_reported, has_marks}}
 use Rattle.legacy_base.specs.{DecoderActs.{full_room_in, HadRoom}, Lengths.{LengthQuery, to_utf16, to_utf8, query_form, room}, Fronts.{reads, malformed}}
@@ -37,9 +37,9 @@ module _ {g : Grammar} {m : DecoderMachine} (shown : IsShown g m) (held : List �
   -- no next act needs more than the room of a query
   pub covered : IsCovered (state_of g held)
   covered = record {
-    covers = λ query unread last.
-        all_needs (bmp_room (query_form query)) (wide_room (query_form query)) (room query (state_of g held)) g m shown.meets (rests-none g) held may
-        (λ b n p. (shown.rooms query).reads_covered held b n may p) (λ n p. (shown.rooms query).holds_covered held n may p) unread last;
+    covers = λ query. let rooms = shown.rooms query in
+        all_needs _ _ (room query (state_of g held)) g m shown.meets (rests-none g) held may (λ b n. rooms.reads_covered held b n may)
+        (λ n. rooms.holds_covered held n may);
   }
 
   module _ (b : ℕ) (byte : IsByte b) (resting : rests g held ≡ true) where

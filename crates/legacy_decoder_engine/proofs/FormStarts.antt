@@ -15,7 +15,7 @@ pub asked : (past starts : ℕ) → bit_at starts 0 ≡ 1 → bit_and (bit_xor (
 asked past starts first all = grind (arith, bit_at_and, bit_at_xor, bit_at-suc, bit_at_ones 63, bit_at-lt, λ (i : ℕ). ap (λ n. bit_at n i) all)
 
 pub lowest_set : (n : ℕ) → bit_at (bit_or n 1) 0 ≡ 1
-lowest_set n = rw bit_at_or (omega (arith, bit_at-lt n 0))
+lowest_set n = rw bit_at_or (omega arith)
 
 pub past_bits : (block : List ℕ) → length block ≡ 64
     → ArePast (mask_l (map (top 7) (zip2 (λ a b. cond (leb a b) (2 ^ 8 - 1) 0) (replicate 64 128) block)) % 2 ^ 64) block
@@ -57,8 +57,8 @@ module _ (block : List ℕ) (past starts end : ℕ) (long : 72 ≤ length block)
   -- the form that starts at byte i has two bytes if that byte is past ASCII
   taken : (i : ℕ) (rest : List ℕ) → i < 64 → take (i + 0) block ++ (form_of (code_at block i) ++ rest) ≡ take (i + 1 + bit_at past i) block ++ rest
   taken i rest h =
-      let first : code_at block i % 256 ≡ get_or block i 0 = omega (arith, small i, small (i + 1)) in
-      let second : code_at block i / 256 ≡ get_or block (i + 1) 0 = omega (arith, small i, small (i + 1)) in
+      let first : code_at block i % 256 ≡ get_or block i 0 = omega arith in
+      let second : code_at block i / 256 ≡ get_or block (i + 1) 0 = omega arith in
       let none : i + 0 ≡ i = omega arith in
       rw (first, second, none, are_past i h) (go (ltb (get_or block i 0) 128))
     where
@@ -84,8 +84,7 @@ module _ (block : List ℕ) (past starts end : ℕ) (long : 72 ≤ length block)
   fronts zero i k e room few here = append-nil (take (i + k) block) ∙ ap (λ n. take n block) (omega arith)
   fronts (suc m) i zero e room few here =
       let is = here (omega arith) in
-      rw (started m i is, taken i (forms m (i + 1)) (omega arith))
-      (fronts m (i + 1) (bit_at past i) (omega arith) (room_left m i e is) (omega (arith, bit_at-lt past i))
+      rw (started m i is, taken i (forms m (i + 1)) (omega arith)) (fronts m (i + 1) (bit_at past i) (omega arith) (room_left m i e is) (omega arith)
       (λ h. omega (arith, next_starts i (omega arith), is, bit_at-lt past i)))
   fronts (suc m) i (suc k) e room few here =
       let none : bit_at starts i ≡ 0 = omega (arith, here (omega arith)) in

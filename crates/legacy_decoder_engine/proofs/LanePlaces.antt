@@ -49,18 +49,13 @@ module _ (lead leads width : ℕ) (room : lead + leads < 256) (narrow : width < 
   lead_limited : (b : ℕ) → b < 256 → min (less b lead * width % 65536) ((leads + 1) * width)
       ≡ min (cond (is_in_range lead (lead + leads) b) ((b - lead) * width) 65535) ((leads + 1) * width)
   lead_limited b byte =
-      let row : 1 * width ≤ (leads + 1) * width = mul-le-mul_right width (omega arith) in
-      let all : (lead + leads + 1) * width ≡ width * lead + (leads + 1) * width = omega arith in
-      let low : b < lead → less b lead * width % 65536 ≡ 65536 - width * (lead - b) =
-      λ h. (let e : less b lead ≡ 65536 - (lead - b) = omega (arith, h, byte, room) in
-      let one : width * 1 ≤ width * (lead - b) = mul-le-mul_left width (omega (arith, h)) in
       let back : width * (lead - b) ≤ width * lead = mul-le-mul_left width (omega arith) in
-      rw e (wrapped (lead - b) width (omega (arith, one, some)) (omega (arith, back, all, row, rows, some)))) in
-      let back : width * (lead - b) ≤ width * lead = mul-le-mul_left width (omega arith) in
+      let one : 1 ≤ lead - b → width * 1 ≤ width * (lead - b) = mul-le-mul_left width in
       let within : b - lead ≤ leads → (b - lead) * width ≤ leads * width = mul-le-mul_right width in
       let past : leads + 1 ≤ b - lead → (leads + 1) * width ≤ (b - lead) * width = mul-le-mul_right width in
-      let most : (b - lead) * width ≤ 255 * width = mul-le-mul_right width (omega (arith, byte)) in
-      grind (arith, nat_tests)
+      let most : (b - lead) * width ≤ 255 * width = mul-le-mul_right width (omega arith) in
+      let all : (lead + leads + 1) * width ≡ width * lead + (leads + 1) * width = omega arith in
+      grind (arith, nat_tests, wrapped (lead - b) width)
 
   lead_is : (c : ℕ) → c < 65536
       → map (λ p. min p ((leads + 1) * width)) (lead_places (c ∷ []) lead width) ≡ min (lead_place_of lead leads width c) ((leads + 1) * width) ∷ []
@@ -73,8 +68,7 @@ module _ (lead leads width : ℕ) (room : lead + leads < 256) (narrow : width < 
 
 module _ (first limit : ℕ) (byte : first < 256) (most : limit ≤ 65280) where
   abbrev late_places : List ℕ → List ℕ
-  late_places v =
-      sel_l (map (top 15) (zip2 (λ a b. mask_if (leb a b)) (replicate 8 65280) v)) (replicate 8 65535) (columns (seconds v) first)
+  late_places v = sel_l (map (top 15) (zip2 (λ a b. mask_if (leb a b)) (replicate 8 65280) v)) (replicate 8 65535) (columns (seconds v) first)
 
   late_is : (c : ℕ) → c < 65536 → map (λ p. min p limit) (late_places (c ∷ [])) ≡ min (late_place_of first c) limit ∷ []
   late_is c small = grind (arith, nat_tests)

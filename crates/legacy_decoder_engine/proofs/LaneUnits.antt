@@ -18,8 +18,7 @@ module _ (pointer : ℕ → ℕ) (last : ℕ) where
   abbrev pub vector_kept : ℕ → List ℕ → List ℕ → List ℕ
   vector_kept n v ps =
       let firsts = zip2 bit_and v (replicate n 255) in
-      sel_l (map (top 15)
-      (zip2 bit_or (zip2 (λ a b. mask_if (ltb a b)) firsts (replicate n 128)) (zip2 (λ a b. mask_if (leb a b)) ps (replicate n last))))
+      sel_l (map (top 15) (zip2 bit_or (zip2 (λ a b. mask_if (ltb a b)) firsts (replicate n 128)) (zip2 (λ a b. mask_if (leb a b)) ps (replicate n last))))
       firsts (replicate n 0)
 
   -- a vector's minimum is that of its lanes
@@ -31,14 +30,13 @@ module _ (pointer : ℕ → ℕ) (last : ℕ) where
       → (vector_kept n v ps ≡ map (kept_of pointer last) v) × (vector_place n ps ≡ map (place_of pointer last) v)
   limited limit below zero [] [] e f fits are = (refl, refl)
   limited limit below (suc n) (c ∷ v) (p ∷ ps) e f fits are =
-      let rest = limited limit below n v ps (omega (arith, e)) (omega (arith, f)) fits.1 (ap (drop 1) are) in
+      let rest = limited limit below n v ps (omega arith) (omega arith) fits.1 (ap (drop 1) are) in
       grind (arith, nat_tests, and_mask c 8, ap (λ l. get_or l 0 0) are, fits.0.fits, rest)
-  limited limit below n v ps e f fits are = absurd (omega (arith, e, f))
+  limited limit below n v ps e f fits are = absurd (omega arith)
 
 pub chosen_at : (ks es : List ℕ) → length ks ≡ 8 → length es ≡ 8 → (k : ℕ) → k < 8
     → get_or (sel_l (map (top 15) (zip2 (λ a b. mask_if (ltb a b)) ks (replicate 8 128))) ks es) k 0 ≡ unit_at (get_or ks k 0) (get_or es k 0)
-chosen_at ks es m n k h =
-    grind (arith, nat_tests, tops_compared w16 ltb ks (replicate 8 128) ∙ zip2_splat ltb ks 8 128 m, get_or-sel_l, get_or-map, length-map)
+chosen_at ks es m n k h = grind (arith, nat_tests, tops_compared w16 ltb ks (replicate 8 128) ∙ zip2_splat ltb ks 8 128 m, get_or-sel_l, get_or-map, length-map)
 
 -- a unit has at most 16 bits if both values that it is chosen from have
 pub unit_small : (kept entry : ℕ) → kept < 65536 → entry < 65536 → unit_at kept entry < 65536
@@ -50,8 +48,7 @@ lane_is pointer last code small = grind (arith, nat_tests)
 module _ (g : Grammar) (ascii : HasAscii g) (entries : List ℕ) (pointer : ℕ → ℕ) (pairs : ArePairs g entries pointer) where
   pub is_form : (code kept place entry unit : ℕ) → unit < 65536 → IsLane pointer code kept place → place < length entries
       → (entry ≢ 0 → entry ≡ get_or entries place 0) → unit ≡ unit_at kept entry → unit ≢ 0 → IsForm g code kept unit
-  is_form code kept place entry unit narrow lane within looked_up is some =
-      grind (arith, nat_tests, ascii (code % 256), pairs code lane.small)
+  is_form code kept place entry unit narrow lane within looked_up is some = grind (arith, nat_tests, ascii (code % 256), pairs code lane.small)
 
 module _ (g : Grammar) where
   first_forms : (n : ℕ) (cs ks us : List ℕ) → n ≤ length cs → n ≤ length ks → n ≤ length us
@@ -108,8 +105,7 @@ ascii_more at n next ks e room most =
 
 pub unit_known : (us : List ℕ) → length us ≡ 8 → (k : ℕ) → k < 8
     → bit_at (mask_l (map (top 15) (zip2 (λ a b. mask_if (eqb a b)) us (replicate 8 0))) % 2 ^ 64) k ≡ 0 → get_or us k 0 ≢ 0
-unit_known us long k h unset none =
-    grind (arith, bit_mask_l, get_or-map, rw (bitmask_splat w16 eqb us 8 0 long (omega arith)) at unset)
+unit_known us long k h unset none = grind (arith, bit_mask_l, get_or-map, rw (bitmask_splat w16 eqb us 8 0 long (omega arith)) at unset)
 
 -- eight more entries, each a function of the code at its place, if the codes from there on are as they were
 pub next_eight_stored : (f : ℕ → ℕ) (at next : ℕ) (codes now old found : List ℕ) → next ≡ at + 8 → found ≡ map f (chunk at 8 now) → next ≤ length now

@@ -33,8 +33,7 @@ module _ (g : Grammar) (front : ℕ → List ℕ → Front) (found : ℕ → Opt
   ev_is bytes = ap (λ p. p.events bytes) is.profile_is
 
   meets : Meets g machine
-  meets =
-      grind (arith, fits_meets g front ev_is is_empty may_is, cond_both, may_is, ev_is, cut-nil, false≢true, no_report, few_held)
+  meets = grind (arith, fits_meets g front ev_is is_empty may_is, cond_both, may_is, ev_is, cut-nil, false≢true, no_report, few_held)
 
   costs : HasCosts g machine weightless 6
   costs = grind (arith, may_is, false≢true, cond_both, ltb-true)

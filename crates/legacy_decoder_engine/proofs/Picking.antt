@@ -77,8 +77,7 @@ codes_stored block from x all found at small long room e =
 pub low_places : (b k x : ℕ) → places b k (x % 2 ^ k) ≡ places b k x
 unfolding places
 low_places b zero x = refl
-low_places b (suc k) x =
-    grind (arith, nat_tests, mod-mod-pow x k 1, field x k 1, low_places (b + 1) k (x / 2))
+low_places b (suc k) x = grind (arith, nat_tests, mod-mod-pow x k 1, field x k 1, low_places (b + 1) k (x / 2))
 
 pub split_places : (b k m x : ℕ) → places b (k + m) x ≡ places b k x ++ places (b + k) m (x / 2 ^ k)
 unfolding places

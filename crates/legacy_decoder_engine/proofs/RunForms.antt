@@ -44,7 +44,7 @@ module _ {g : Grammar} {m : DecoderMachine} (shown : IsShown g m) where
             let k = n + length (next ∷ rest) in
             let pays = rw (l.1, l.2, add-zero k) at ((shown.rooms query).step_pays held b k may resting bytes l.0) in
             let e : n + length (b ∷ next ∷ rest) ≡ k + 1 = omega arith in
-            rw e (omega (arith, pays, later.1 query n)),
+            rw e (omega arith),
       )
 
   runs : (b : ℕ) (rest : List ℕ) (c : ℕ) → IsScalar c → Leads g m [] b rest c → Runs g (b ∷ rest) (c ∷ [])
@@ -69,6 +69,4 @@ module _ {g : Grammar} {m : DecoderMachine} (shown : IsShown g m) where
       runs a (b ∷ c ∷ d ∷ []) x scalar (byte_a, to_same [] a, first, may_a, rest_a, (byte_b, to_same (a ∷ []) b, second, may_b, rest_b, last))
 
   pub has_ascii : ((b : ℕ) → m.to [] b ≡ g) → ((b : ℕ) → b < 0x80 → m.step [] b ≡ finish (reads 1 (b ∷ []))) → HasAscii g
-  has_ascii to_is first b h = single_runs b b (omega arith) (small b h) (to_is b) (first b h) where
-    small : (x : ℕ) → x < 128 → IsScalar x
-    small x l = search rules
+  has_ascii to_is first b h = single_runs b b (omega arith) (search (rules, h)) (to_is b) (first b h)

@@ -1,5 +1,5 @@
 -- Laws of runs of bytes and of the scalars written for them.
-use Rattle.std.proofs.Common.{add-zero, ◌≡◌, ◌∙◌, ℕ, zero, suc, ◌+◌, ◌-◌, ◌*◌, ◌≤◌, ◌<◌, List, [], ◌∷◌, ◌++◌, length, take, drop, get_or, refl, sym, subst}
+use Rattle.std.proofs.Common.{add-zero, ◌≡◌, ℕ, zero, suc, ◌+◌, ◌-◌, ◌*◌, ◌≤◌, ◌<◌, List, [], ◌∷◌, ◌++◌, length, take, drop, get_or, refl, sym, subst}
 use Rattle.std.proofs.{Common.{arith, append_assoc, append-nil, length-append, IsAscii}, lemmas.List.{map-append, take_more, take_all, length-drop}}
 use Rattle.std.proofs.{lemmas.List.Elements.{All-append, All-nil}, Math.Seq.take-add}
 use Rattle.std.specs.Char.{IsScalar}
@@ -69,13 +69,9 @@ module _ {D : Type 0} (T : Ghosts D) where
   reads_none state source old = grind (arith, same_rooms, writes_none)
 
   pub writes_then : {g h k : Grammar} {xs ys : List ℕ} {x y z : D} → WritesTo T g h xs x y → WritesTo T h k ys y z → WritesTo T g k (xs ++ ys) x z
-  writes_then {g} {h} {k} {xs} {ys} a b = record {
-    scalars = a.scalars ++ b.scalars;
-    runs = runs_then g h k xs ys a.scalars b.scalars a.runs b.runs;
-    written = simp (b.written, a.written, append_assoc, all_code_units-append);
-    room = omega (arith, total_unit_count-append T.form a.scalars b.scalars, a.room, b.room);
-    loan = b.loan ∙ a.loan;
-  }
+  writes_then {g} {h} {k} {xs} {ys} a b =
+      let runs = runs_then g h k xs ys a.scalars b.scalars a.runs b.runs in
+      grind (arith, runs, append_assoc, all_code_units-append, total_unit_count-append)
 
   module _ {g : Grammar} {y z : D} where
     pub writes_put : (bytes : List ℕ) (c : ℕ) → Runs g bytes (c ∷ []) → T.contents z ≡ T.contents y ++ code_units T.form c
@@ -106,8 +102,7 @@ module _ {D : Type 0} (T : Ghosts D) where
 
   pub writes_ascii : (g : Grammar) (old new : D) (bytes : List ℕ) → HasAscii g → IsAscii bytes → T.contents new ≡ T.contents old ++ bytes
       → T.room new + length bytes ≡ T.room old → T.loan new ≡ T.loan old → Writes T g bytes old new
-  writes_ascii g old new bytes law ascii contents room loan =
-      grind (arith, all_code_units_ascii, runs_ascii g law bytes ascii)
+  writes_ascii g old new bytes law ascii contents room loan = grind (arith, all_code_units_ascii, runs_ascii g law bytes ascii)
 
 pub ruleset no_bytes = (same_rooms, writes_none)
 

@@ -1,7 +1,5 @@
 //! Common forms near malformed sequences, where no block is begun for nothing.
 // The functions are always inlined, because they run in each call.
-#![tactic(auto, using(crate::proofs::WrittenRuns::no_bytes))]
-
 ghost use Rattle.std.specs.Prelude.{◌≡◌, true};
 ghost use Rattle.legacy_tables.specs.AcceptedTables.{AcceptedIndexes};
 ghost use Rattle.legacy_base.specs.States.{new_state};
@@ -32,6 +30,7 @@ pub const AFTER_MALFORMED: usize = 64;
 ///
 /// Returns the number of bytes read, which may be 0.
 #[inline(always)]
+#[tactic(auto, using(crate::proofs::WrittenRuns::no_bytes))]
 fn read_without_lanes<C: LaneCodec, T: Destination>(
     blocks: &LaneBlocks<'_, '_, C>,
     src: &[u8],
@@ -60,6 +59,7 @@ fn read_without_lanes<C: LaneCodec, T: Destination>(
 /// number of bytes that are to be read without lanes. It falls by what is read so, and to 0 if nothing can be.
 // Malformed sequences often follow one another, or have a single form between them. Neither costs a call.
 #[inline(always)]
+#[tactic(auto, using(crate::proofs::WrittenRuns::no_bytes))]
 pub fn read_common<C: LaneCodec, T: Destination>(
     blocks: &LaneBlocks<'_, '_, C>,
     without_lanes: &mut usize,

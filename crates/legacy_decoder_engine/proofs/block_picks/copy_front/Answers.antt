@@ -3,4 +3,4 @@ use Rattle.legacy_decoder_engine.proofs.{LaneUnits.shorter_front}
 use Rattle.legacy_decoder_engine.proofs.block_picks.copy_front.Goals as goal
 
 pub copy_sixteen-requires-2-clause-before : goal.copy_sixteen-requires-2-clause-before
-copy_sixteen-requires-2-clause-before c = shorter_front c.min.result 16 _ _ (omega (arith, c.min.ensures)) c.copy_sixteen.ensures
+copy_sixteen-requires-2-clause-before c = shorter_front c.min.result 16 _ _ (omega arith) c.copy_sixteen.ensures

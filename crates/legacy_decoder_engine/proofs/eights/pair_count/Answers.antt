@@ -7,5 +7,4 @@ returns-then-ascii-eq0-clause-past c k h = grind (arith, byte_past, bit_at-zero,
 
 pub returns-clause-past : goal.returns-clause-past
 returns-clause-past c k h =
-    byte_past c.args.bytes c.fits-bytes.0 k (omega (arith, h, c.min.ensures))
-    ((bit_at-trailing_zeros w64 _ (omega (arith, c.if-ascii-eq0.false)) (omega arith)).2 k (omega (arith, h, c.min.ensures)))
+    byte_past c.args.bytes c.fits-bytes.0 k (omega arith) ((bit_at-trailing_zeros w64 _ (omega arith) (omega arith)).2 k (omega arith))

@@ -11,7 +11,7 @@ returns c =
     let i = c.loop-group.invariant in
     let ks = c.args.kept.now in
     let at = 8 * c.loop-group.group in
-    let room : at + 8 ≤ length ks = omega (arith, c.requires, i.within) in
-    let more = ascii_more at (c.args.count % 8) c.args.count ks (omega (arith, i.within, c.loop-group-test.false)) room (omega arith) in
+    let room : at + 8 ≤ length ks = omega arith in
+    let more = ascii_more at (c.args.count % 8) c.args.count ks (omega arith) room (omega arith) in
     let first = ascii_first (c.args.count % 8) (chunk at 8 ks) (omega (arith, length-chunk at 8 ks room)) in
     grind (arith, c.byte_count.ensures, c.first_units-last.ensures)

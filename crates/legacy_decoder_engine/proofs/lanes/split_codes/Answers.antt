@@ -9,16 +9,15 @@ loop-group-preserved g c =
     let l = c.loop-group in
     let i = l.invariant in
     let e = c.kept_and_places.ensures in
-    let room : 8 * (l.group + 1) ≤ length l.codes = omega (arith, c.loop-group-test.true, c.requires.codes, l.auto.codes) in
-    let room' : 8 * (l.group + 1) ≤ length l.places = omega (arith, c.loop-group-test.true, c.requires.places, l.auto.places) in
+    let room : 8 * (l.group + 1) ≤ length l.codes = omega arith in
+    let room' : 8 * (l.group + 1) ≤ length l.places = omega arith in
     record {
-      within = omega (arith, c.loop-group-test.true);
+      within = omega arith;
       small = λ k h.
           let j : ℕ = k - 8 * l.group in
           let loaded = get_or-chunk (8 * l.group) 8 l.codes j 0 in
           grind (arith, loaded, i.small k, i.rest k, e.small j);
-      rest = λ k h.
-          get_or-put_chunk_above (8 * l.group) l.codes _ k 0 (omega (arith, h, c.kept_and_places.type_inv)) ∙ i.rest k (omega (arith, h));
+      rest = λ k h. get_or-put_chunk_above (8 * l.group) l.codes _ k 0 (omega arith) ∙ i.rest k (omega arith);
       keeps = next_eight_stored (kept_of g.C.LaneCodec.place c.args.last) (8 * l.group) (8 * (l.group + 1)) c.args.codes.now l.codes l.codes _
           (omega arith) e.kept room room i.rest i.keeps;
       finds = next_eight_stored (place_of g.C.LaneCodec.place c.args.last) (8 * l.group) (8 * (l.group + 1)) c.args.codes.now l.codes l.places
