@@ -88,8 +88,6 @@ module _ {g : Grammar} {m : DecoderMachine} (shown : IsShown g m) (held : List �
 
   pub releases : (n c : ℕ) → rests g held ≡ false → m.pending held ≡ Some (n, c) → IsScalar c → Releases (state_of g held) (state_of g (drop n held)) c
   releases n c r e scalar =
-      let w = (rw e at (shown.meets.writes held may)).1 in
-      let s = rw e at (shown.write_settles held may) in
       let progress : Progress false (state_of g held) [] n (state_of g (drop n held)) [] (Scalar c ∷ []) = grind (arith, append-nil) in
       let pays = λ (query : LengthQuery). rw e at ((shown.rooms query).write_pays held may r bytes) in
       grind (arith, same_rooms, pays to_utf8, pays to_utf16, pays)
@@ -100,7 +98,6 @@ module _ {g : Grammar} {m : DecoderMachine} (shown : IsShown g m) (held : List �
     by_held [] m r' n = absurd (n refl)
     by_held (x ∷ xs) m r' n =
         let ends = shown.meets.ends (x ∷ xs) m r' in
-        let none = shown.meets.ends [] (may_none g) (rests-none g) in
         record {
           passed = length (x ∷ xs);
           holding = λ z. cc;

@@ -8,7 +8,6 @@ loop-left-preserved g c =
     let l = c.loop-left in
     let rest = drop l.at src in
     let is = rest_of src l.at in
-    let long = length-drop l.at src in
     let all = ap length is in
     elim c.if-rest-ge72.branch [
       | then-rest-ge72 w ↦

@@ -17,7 +17,6 @@ returns-then-pairs-lt8-clause-ahead g c =
     let u = c.units_in-units.ensures in
     let e = c.put_first.ensures in
     let long : length c.units_in-units.result ≡ 8 = omega arith in
-    let few = c.min-few.ensures in
     reads_pairs g.T.Destination _ c.args.src.now c.units_in-units.result c.min-few.result c.requires.block long
     (omega arith) u.small u.pairs (λ k h. c.pair_count-pairs.ensures.past k (omega arith))
     (λ k h. c.known_count.ensures.known k (omega arith)) e.contents e.room e.loan c.requires.room

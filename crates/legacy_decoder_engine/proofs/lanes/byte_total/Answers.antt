@@ -8,7 +8,6 @@ loop-group-preserved c = grind (arith, ascii_more, take_all, length-chunk, c.byt
 
 pub returns : goal.returns
 returns c =
-    let i = c.loop-group.invariant in
     let ks = c.args.kept.now in
     let at = 8 * c.loop-group.group in
     let room : at + 8 ≤ length ks = omega arith in
