@@ -230,11 +230,13 @@ module _ {form : EncodingForm} {last : Bool} where
 
     pub going_feed : {next : DecoderState} (fed : Fed) → read < length source → Feeds now (get_or source read 0) next fed → (RevealsMalformed fed → ⊥)
         → read_room form now (get_or source read 0) ≤ left → Going form last before source free next (read + 1) (scalars ++ fed_scalars fed)
-    going_feed fed h f sound enough = grind (arith, nat_tests, going_then, next_byte, fed_going)
+    going_feed fed h f sound enough = going_then (rw (next_byte source read h) (fed_going fed a.resting f sound enough)) (omega arith)
 
     pub call_lacks : read < length source → IsCovered now → left < read_room form now (get_or source read 0)
         → DecoderCall form before source last free now OutputFull read scalars
-    call_lacks h c lacks = grind (arith, nat_tests, call_here, call_full, next_byte, room_needed-read)
+    call_lacks h c lacks =
+        call_here (call_full a.allowed c (rw (next_byte source read h)
+        (omega (arith, lacks, room_needed-read form now (get_or source read 0) (drop (read + 1) source) last a.resting)))) (inr refl)
 
     -- the next byte reveals a malformed sequence, and is read or not
     module _ {next : DecoderState} {x y : ℕ} (h : read < length source) (enough : read_room form now (get_or source read 0) ≤ left) where
@@ -248,7 +250,10 @@ module _ {form : EncodingForm} {last : Bool} where
 
     pub call_end : {next : DecoderState} {answer : DecoderResult} → read ≡ length source → Finishes form now last left next answer
         → DecoderCall form before source last free next answer read scalars
-    call_end {next} {answer} all f = grind (arith, nat_tests, drop_of_length-le, call_finish, call_here)
+    call_end {next} {answer} all f =
+        let nothing_left : drop read source ≡ [] = drop_of_length-le source (omega arith) in
+        let end = call_finish answer a.resting a.allowed f in
+        call_here (rw nothing_left end.0) end.1
 
   pub held_going : {before : DecoderState} {source : List ℕ} {free : ℕ} {now : DecoderState} {read : ℕ} {scalars : List ℕ} {next : DecoderState}
       → Going form last before source free now read scalars → (left : ℕ) → left + total_unit_count form scalars ≡ free → (n : ℕ) → n ≤ length (drop read source)

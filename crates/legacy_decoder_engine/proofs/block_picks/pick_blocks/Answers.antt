@@ -1,4 +1,4 @@
-use Rattle.std.proofs.{Common.{◌≡◌, ◌∙◌, length, take, drop, ap, sym, arith}, lemmas.List.{length-take-le, length-drop}}
+use Rattle.std.proofs.{Common.{◌≡◌, ◌∙◌, length, take, drop, ap, sym, arith}, lemmas.List.length-take-le}
 use Rattle.legacy_decoder_engine.proofs.{LaneUnits.{picked_more, shorter_front}, WrittenRuns.rest_of, block_picks.pick_blocks.Goals.{then-rest-ge72, else-rest-ge72}}
 use Rattle.legacy_decoder_engine.proofs.block_picks.pick_blocks.Goals as goal
 
