@@ -1,14 +1,12 @@
 -- A run of common sequences within a call in progress.
-use Rattle.std.proofs.Common.{◌≡◌, ◌∙◌, ℕ, ◌+◌, ◌-◌, ◌≤◌, ◌<◌, List, [], ◌∷◌, ◌++◌, length, map, take, drop, sym, ap, subst, arith, add-zero}
-use Rattle.std.proofs.{Common.{append_assoc, append-nil, true, false, get_or, length-append, length-drop, Bool, Some, None, Option, inl, inr}}
+use Rattle.std.proofs.Common.{◌≡◌, ◌∙◌, ℕ, ◌+◌, ◌-◌, ◌≤◌, ◌<◌, List, [], ◌∷◌, ◌++◌, length, take, drop, sym, ap, subst, arith, add-zero, append_assoc}
+use Rattle.std.proofs.{Common.{append-nil, true, false, get_or, length-append, length-drop, Bool, Some, None, Option}, lemmas.List.length-map}
+use Rattle.std.proofs.{lemmas.List.{take-append-drop, length-take-le, nil_from_length}, lemmas.Bool.{cases_lt, true≢false}}
 use Rattle.std.specs.Prelude.{if◌then◌else◌}
-use Rattle.std.proofs.{lemmas.List.{length-map, take-append-drop, length-take-le, nil_from_length}, lemmas.Bool.{cases_lt, true≢false}}
-use Rattle.legacy_text.specs.EncodingForm.{EncodingForm, code_units, unit_count, all_code_units, total_unit_count, wide_room}
-use Rattle.legacy_text.specs.declared.destination.Destination.{Ghosts}
+use Rattle.legacy_text.specs.{EncodingForm.{EncodingForm, unit_count, all_code_units, total_unit_count, wide_room}, declared.destination.Destination.Ghosts}
 use Rattle.legacy_text.proofs.CodeUnits.{all_code_units-append, total_unit_count-append}
-use Rattle.legacy_base.specs.{States.{DecoderState, new_state, rests, may_hold}, Grammar.{Grammar, events_of}}
-use Rattle.legacy_base.specs.{declared.results.DecodeEvent.TheVariants.Scalar, DecoderActs.HadRoom, Calls.{DecoderCall, IsDecoderCall}}
-use Rattle.legacy_base.specs.declared.results.{DecoderResult.DecoderResult, DecoderResult.TheVariants.{InputEmpty, OutputFull, Malformed}}
+use Rattle.legacy_base.specs.{States.{DecoderState, new_state, rests, may_hold}, Grammar.Grammar, DecoderActs.HadRoom, Calls.{DecoderCall, IsDecoderCall}}
+use Rattle.legacy_base.specs.{declared.results.DecoderResult.DecoderResult, declared.results.DecoderResult.TheVariants.{InputEmpty, OutputFull, Malformed}}
 use Rattle.legacy_base.proofs.{Shifts.shift-zero, GrammarLaws.{rests-none, may_none}, Rooms.{lacks_small, full_most}, SameUnits.some_unit}
 use Rattle.legacy_decoder_engine.specs.{ReadAhead.{RunsTo, Runs, ReadsTo}, Moves.{HoldsBytes, GoesOn, EndsAt, Feeds, fed_scalars, read_room}}
 use Rattle.legacy_decoder_engine.specs.declared.moves.Fed.TheVariants.{MalformedSequence}
@@ -22,18 +20,13 @@ ample : (form : EncodingForm) (g : Grammar) (previous : Option ℕ) (free : ℕ)
     → HadRoom form g previous free cs
 unfolding HadRoom
 ample form g previous free [] h = tt
-ample form g previous free (c ∷ cs) h =
-    let l = length-append (code_units form c) (all_code_units form cs) in
-    let s = some_unit form c in
-    (λ w. omega (arith, full_most form g, wide_most form), ample form g (Some c) (free - unit_count form c) cs (omega arith))
+ample form g previous free (c ∷ cs) h = grind (arith, length-append, some_unit, full_most, wide_most, ample form g (Some c) (free - unit_count form c) cs)
 
 pub with_empty : (s : DecoderState) → s.held ≡ [] → s ≡ new_state s.grammar
 with_empty s e = ap (λ h. record { grammar = s.grammar; held = h }) e
 
 runs_nothing : (g : Grammar) (cs : List ℕ) → Runs g [] cs → cs ≡ []
-runs_nothing g cs h =
-    let e : length (events_of g []) ≡ length (map Scalar cs ++ events_of g []) = ap length (rw shift-zero at (h.events [])) in
-    nil_from_length cs (omega (arith, e, length-append (map Scalar cs) (events_of g []), length-map cs Scalar))
+runs_nothing g cs h = grind (arith, ap length (rw shift-zero at (h.events [])), nil_from_length, length-append, length-map)
 
 -- a call is in progress, and the destination contains what was written
 abbrev pub IsUnderWay : {D : Type 0} → Ghosts D → Bool → DecoderState → List ℕ → D → DecoderState → ℕ → D → Type 0
@@ -76,9 +69,9 @@ module _ {D : Type 0} {T : Ghosts D} where
         allowed = ap (may_hold next.grammar) none' ∙ may_none next.grammar;
         rooms = reads.rooms;
         held = λ a ne. absurd (ne none');
-        had = rw resting (ample T.form s.grammar None (T.room old) ds (omega (arith, reads.slack some, reads.writes.room)));
+        had = rw resting (ample T.form s.grammar None (T.room old) ds (omega arith));
         released = λ e. absurd (true≢false (sym resting ∙ e));
-        fits = omega (arith, reads.writes.room);
+        fits = omega arith;
         scalar = runs.scalar;
         once = λ l. absurd (omega (arith, reads.had some, lacks_small T.form s source last (T.room old) l, wide_most T.form));
         lowers = λ query q more.
@@ -93,12 +86,7 @@ module _ {D : Type 0} {T : Ghosts D} where
         → ReadsTo T now next (drop read source) r old new → IsUnderWay T last before source first next (read + r) new
     ahead_going {now} {next} {read} {r} {old} {new} i reads = (
       i.0 ++ reads.writes.scalars,
-      elim (cases_lt 0 r) [
-        | inl some ↦ going_then i.1 _ i.3 (run_going reads some) some
-        | inr z ↦
-            let none : r ≡ 0 = omega arith in
-            rw (reads.stays none, none, add-zero read, reads_nothing reads none, append-nil i.0) i.1
-      ],
+      grind (arith, cases_lt 0 r, run_going {last = last} reads, going_then i.1 _ i.3, reads.stays, reads_nothing reads, append-nil i.0),
       written T first old new i.0 reads.writes.scalars i.2 reads.writes.written,
       omega (arith, total_unit_count-append T.form i.0 reads.writes.scalars, reads.writes.room, i.3),
       reads.writes.loan ∙ i.4,

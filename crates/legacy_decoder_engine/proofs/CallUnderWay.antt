@@ -1,9 +1,8 @@
 -- The moves of a decoder make a call.
 use Rattle.std.proofs.Common.{◌≡◌, ◌≢◌, ◌∙◌, ℕ, zero, suc, ◌+◌, ◌-◌, ◌≤◌, ◌<◌, List, [], ◌∷◌, ◌++◌, length, map, get_or, take, drop, refl, ap, subst, arith}
 use Rattle.std.proofs.Common.{add-zero, add-one, append-nil, drop-cons, drop_of_length-le, length-append, length-drop, Bool, true, false, IsTrue, Some, None}
-use Rattle.std.proofs.{Common.{Option, ◌⊎◌, inl, inr, All}, lemmas.List.{map-append, drop-drop, nil_from_length}}
-use Rattle.std.proofs.lemmas.List.Elements.{All-append, All-nil, All-cons}
-use Rattle.std.proofs.{Math.Nat.sub-zero, lemmas.Bool.{true≢false}, lemmas.Bool.Decides.nat_tests}
+use Rattle.std.proofs.{Common.{Option, ◌⊎◌, inl, inr, All}, lemmas.List.{map-append, drop-drop, nil_from_length}, lemmas.List.Elements.{All-append, All-nil}}
+use Rattle.std.proofs.{lemmas.List.Elements.All-cons, Math.Nat.sub-zero, lemmas.Bool.true≢false, lemmas.Bool.Decides.nat_tests}
 use Rattle.std.specs.Char.{IsScalar}
 use Rattle.legacy_text.specs.EncodingForm.{EncodingForm, unit_count, total_unit_count}
 use Rattle.legacy_text.proofs.CodeUnits.{total_unit_count-append}
@@ -30,7 +29,7 @@ holds_none form free state = refl
 pub holds_more : (form : EncodingForm) (free : ℕ) (a b c : DecoderState) (bytes : List ℕ) (byte : ℕ) → HoldsBytes form free a bytes b → Feeds b byte c Nothing
     → read_room form b byte ≤ free → HoldsBytes form free a (bytes ++ byte ∷ []) c
 unfolding HoldsBytes
-holds_more form free a b c [] byte e feeds room = subst (λ s. HoldsBytes form free s (byte ∷ []) c) e (c, feeds, room, refl)
+holds_more form free a b c [] byte e feeds room = grind (arith, nat_tests)
 holds_more form free a b c (x ∷ bytes) byte held feeds room = (held.0, held.1, held.2, holds_more form free held.0 b c bytes byte held.3 feeds room)
 
 next_byte : (source : List ℕ) (read : ℕ) → read < length source → drop read source ≡ get_or source read 0 ∷ drop (read + 1) source
@@ -68,21 +67,13 @@ pub record Going (form : EncodingForm) (last : Bool) (before : DecoderState) (so
 module _ {form : EncodingForm} {last : Bool} where
   pub going_start : {before : DecoderState} {source : List ℕ} {free : ℕ} → rests before.grammar before.held ≡ true → may_hold before.grammar before.held ≡ true
       → Going form last before source free before 0 []
-  going_start {before} {source} {free} r m =
-      let none = stay false before source in grind (arith, HadRooms-none, All-nil, true≢false, same_rooms)
+  going_start {before} {source} {free} r m = grind (arith, stay false before source, HadRooms-none, All-nil, true≢false, same_rooms)
 
   pub going_release : {before : DecoderState} {source : List ℕ} {free : ℕ} {now : DecoderState} {c : ℕ} → rests before.grammar before.held ≡ false
       → release_room_in form before.grammar ≤ free → Releases before now c → Going form last before source free now 0 (c ∷ [])
   going_release {before} {source} {free} {now} {c} r enough h =
-      grind (
-        arith,
-        behind before [] h.passed now [] (Scalar c ∷ []) source h.progress,
-        HadRooms-released,
-        All-cons,
-        All-nil,
-        room_needed-release,
-        length-append,
-      )
+      let progress = behind before [] h.passed now [] (Scalar c ∷ []) source h.progress in
+      grind (arith, progress, HadRooms-released, All-cons, All-nil, room_needed-release, length-append)
 
   fed_going : {before : DecoderState} {byte : ℕ} {rest : List ℕ} {free : ℕ} {next : DecoderState} (fed : Fed) → rests before.grammar before.held ≡ true
       → Feeds before byte next fed → (RevealsMalformed fed → ⊥) → read_room form before byte ≤ free
@@ -100,9 +91,9 @@ module _ {form : EncodingForm} {last : Bool} where
         held = λ a ne. grind (arith, f.full form (inr ne));
         had = rw r (f.had form free enough);
         released = grind arith;
-        fits = omega (arith, f.fits form, enough);
+        fits = omega arith;
         scalar = f.scalar;
-        once = λ l. absurd (omega (arith, enough, needs));
+        once = λ l. absurd (omega arith);
         lowers = λ query q more. grind (arith, f.lowers query (length rest + more));
       }
 
@@ -148,15 +139,14 @@ module _ {form : EncodingForm} {last : Bool} where
         let needs = room_needed-read form s byte rest last r in
         let seen = at_last (may_report_end last (Malformed a b) (drop n (byte ∷ rest))) s (byte ∷ rest) f.passed next (drop n (byte ∷ rest)) _
         (rw left_is (behind s (byte ∷ []) f.passed next (unread_byte byte (MalformedSequence a b unread)) _ rest f.progress)) in
-        let room = malformed_room_at form s.grammar n free (λ z. omega (arith, f.report form)) (λ p. omega arith) in
+        let room = malformed_room_at form s.grammar n free (λ z. omega arith) (λ p. omega arith) in
         call_malformed n f.passed within f.allowed f.holds seen (grind arith) room (λ p. omega arith)
         (λ query q more z. grind (arith, f.lowers query (length rest + more), ap length left_is, length-append))
 
     -- the held-back bytes are reported at the end of input
     call_report : {next : DecoderState} {a b : ℕ} → last ≡ true → rests s.grammar s.held ≡ true → events_of s.grammar s.held ≢ []
         → release_room_in form s.grammar ≤ free → Reports s next a b → DecoderCall form s [] last free next (Malformed a b) 0 []
-    call_report {next} {a} {b} end r some enough f =
-        grind (arith, call_malformed {source = []} {next = next} {a = a} {b = b} 0 f.passed, room_needed-report)
+    call_report {next} {a} {b} end r some enough f = grind (arith, call_malformed {source = []} {next = next} {a = a} {b = b} 0 f.passed, room_needed-report)
 
     call_finish : {next : DecoderState} (answer : DecoderResult) → rests s.grammar s.held ≡ true → may_hold s.grammar s.held ≡ true
         → Finishes form s last free next answer → DecoderCall form s [] last free next answer 0 [] × (IsMalformed answer ⊎ (next ≡ s))
@@ -164,7 +154,7 @@ module _ {form : EncodingForm} {last : Bool} where
 
     pub call_full_release : {source : List ℕ} → IsCovered s → may_hold s.grammar s.held ≡ true → rests s.grammar s.held ≡ false
         → free < release_room_in form s.grammar → DecoderCall form s source last free s OutputFull 0 []
-    call_full_release {source} c m r lacks = call_full m c (omega (arith, lacks, room_needed-release form s source last r))
+    call_full_release {source} c m r lacks = grind (arith, nat_tests, call_full, room_needed-release)
 
   -- ---- what follows on a call in progress
 
@@ -194,7 +184,7 @@ module _ {form : EncodingForm} {last : Bool} where
               (HadRoom-same form before.grammar now.grammar None (free - total_unit_count form scalars) ds a.rooms
               (subst (λ n. HadRoom form now.grammar None n ds) left_is (rw a.resting at b.had)));
           released = λ e z. a.released e (nil_from_length scalars (omega (arith, ap length z, length-append scalars ds)));
-          fits = omega (arith, b.fits, units);
+          fits = omega arith;
           scalar = All-append IsScalar scalars ds a.scalar b.scalar;
           once = λ l. absurd (omega (arith, some, (b.once (still l)).0));
           lowers = λ query q more. rw (← drop-drop n read source) (omega (arith, a.lowers query q more, b.lowers query q more, units));
@@ -213,7 +203,7 @@ module _ {form : EncodingForm} {last : Bool} where
         let suffices : (query : LengthQuery) → query_form query ≡ form → room query before (length source) ≤ free → answer ≢ OutputFull =
         λ query q enough. let k = a.lowers query q 0 in grind (arith, c.suffices query q) in
         record {
-          within = omega (arith, a.within, c.within);
+          within = omega arith;
           fits = a.fits;
           scalar = a.scalar;
           passed = a.passed + c.passed;

@@ -1,20 +1,18 @@
 -- Eight pairs whose bytes are all past ASCII.
-use Rattle.std.proofs.Common.{◌≡◌, ◌≢◌, ◌∙◌, ℕ, zero, suc, ◌+◌, ◌-◌, ◌*◌, ◌%◌, ◌/◌, ◌^◌, ◌<◌, ◌≤◌, cond, ltb, List, [], ◌∷◌, ◌++◌, length, get_or, map, take}
-use Rattle.std.proofs.{Common.{replicate, sym, ap, arith, w8}, lemmas.Bool.Decides.nat_tests, lemmas.List.{take_more, get_or-map}}
-use Rattle.std.proofs.{lemmas.Simd.{bitmask_splat, bit_mask_l, get_or-chunk, get_or_wider}}
+use Rattle.std.proofs.Common.{◌≡◌, ◌≢◌, ℕ, zero, suc, ◌+◌, ◌-◌, ◌*◌, ◌%◌, ◌^◌, ◌<◌, ◌≤◌, cond, ltb, List, [], ◌∷◌, ◌++◌, length, get_or, map, take, replicate}
+use Rattle.std.proofs.{Common.{arith, w8}, lemmas.Bool.Decides.nat_tests, lemmas.List.{take_more, get_or-map}, lemmas.Simd.{bitmask_splat, bit_mask_l}}
+use Rattle.std.proofs.lemmas.Simd.{get_or-chunk, get_or_wider}
 use Rattle.std.specs.{Char.IsScalar, Int.bit_at}
-use lib.Lanes.{Each1, zip2, top, mask_l, chunk, digits_l, number_l}
 use Rattle.legacy_text.specs.{declared.destination.Destination.Ghosts, EncodingForm.{all_code_units, total_unit_count}}
-use Rattle.legacy_base.specs.{Grammar.{Grammar}, States.new_state}
-use Rattle.legacy_decoder_engine.specs.{ReadAhead.{HasAscii, Runs, ReadsAhead}, PickedForms.{form_of}}
-use Rattle.legacy_decoder_engine.specs.LaneCodes.{kept_of, place_of, unit_at, ArePairs, AreUnits, IsForm, IsLane}
+use Rattle.legacy_base.specs.{Grammar.Grammar, States.new_state}
+use Rattle.legacy_decoder_engine.specs.{ReadAhead.{HasAscii, Runs, ReadsAhead}, LaneCodes.{kept_of, place_of, unit_at, ArePairs, AreUnits, IsForm, IsLane}}
 use Rattle.legacy_decoder_engine.proofs.{WrittenRuns.{runs_none, runs_more, take_two}, JoinedRuns.reads_written, LaneUnits.{few_units, is_form, lane_is}}
+use lib.Lanes.{Each1, zip2, top, mask_l, chunk, digits_l, number_l}
 
 -- the bits of the ASCII bytes among sixteen
 pub byte_past : (bs : List ℕ) → length bs ≡ 16 → (k : ℕ) → k < 16
     → bit_at (mask_l (map (top 7) (zip2 (λ a b. cond (ltb a b) (2 ^ 8 - 1) 0) bs (replicate 16 128))) % 2 ^ 64) k ≡ 0 → 128 ≤ get_or bs k 0
-byte_past bs long k h unset =
-    grind (arith, nat_tests, bit_mask_l, get_or-map, rw (bitmask_splat w8 ltb bs 16 128 long (omega arith)) at unset)
+byte_past bs long k h unset = grind (arith, nat_tests, bit_mask_l, get_or-map, rw (bitmask_splat w8 ltb bs 16 128 long (omega arith)) at unset)
 
 -- a code is that of two bytes
 pub code_is : (bs : List ℕ) → Each1 (λ x. x < 256) bs → length bs ≡ 16 → (k : ℕ) → k < 8
@@ -25,15 +23,13 @@ code_is bs small long k h = grind (arith, get_or_wider 256 2 65536 8 bs k, get_o
 module _ (pointer : ℕ → ℕ) (last : ℕ) (codes kept places : List ℕ) (long : length codes ≡ 8) (small : (k : ℕ) → k < 8 → get_or codes k 0 < 65536)
     (kept_is : kept ≡ map (kept_of pointer last) codes) (places_are : places ≡ map (place_of pointer last) codes) where
   place_at : (k : ℕ) → k < 8 → get_or places k 0 ≡ place_of pointer last (get_or codes k 0)
-  place_at k h = ap (λ l. get_or l k 0) places_are ∙ get_or-map (place_of pointer last) codes k 0 0 (omega (arith, long))
+  place_at k h = grind (arith, nat_tests, get_or-map)
 
   pub place_within : (entries : List ℕ) → last < length entries → (k : ℕ) → k < 8 → get_or places k 0 < length entries
-  place_within entries within k h = rw (place_at k h) (omega (arith, within))
+  place_within entries within k h = rw (place_at k h) (omega arith)
 
   lane_at : (k : ℕ) → k < 8 → IsLane pointer (get_or codes k 0) (get_or kept k 0) (get_or places k 0)
-  lane_at k h =
-      let kept_at = ap (λ l. get_or l k 0) kept_is ∙ get_or-map (kept_of pointer last) codes k 0 0 (omega (arith, long)) in
-      rw (kept_at, place_at k h) (lane_is pointer last (get_or codes k 0) (small k h))
+  lane_at k h = grind (arith, nat_tests, get_or-map, place_at, lane_is)
 
   pub form_at : (g : Grammar) (entries : List ℕ) → HasAscii g → ArePairs g entries pointer → last < length entries → (es us : List ℕ) (k : ℕ) → k < 8
       → get_or us k 0 < 65536 → (get_or es k 0 ≢ 0 → get_or es k 0 ≡ get_or entries (get_or places k 0) 0)
@@ -45,11 +41,7 @@ module _ (g : Grammar) where
   -- the scalar of a pair
   pub pair_is : (a b code kept unit : ℕ) → code ≡ a + 256 * b → a < 256 → b < 256 → 128 ≤ a → IsForm g code kept unit →
       IsScalar unit × Runs g (a ∷ b ∷ []) (unit ∷ [])
-  pair_is a b code kept unit e small small' past form =
-      let first : code % 256 ≡ a = omega (arith, e) in
-      let second : code / 256 ≡ b = omega (arith, e) in
-      let is : form_of code ≡ a ∷ b ∷ [] = grind (arith, nat_tests, first, second) in
-      (form.scalar, rw is at form.runs)
+  pair_is a b code kept unit e small small' past form = grind (arith, nat_tests)
 
   pairs_run : (n : ℕ) (bs us : List ℕ) → 2 * n ≤ length bs → n ≤ length us
       → ((k : ℕ) → k < n → Runs g (get_or bs (2 * k) 0 ∷ get_or bs (2 * k + 1) 0 ∷ []) (get_or us k 0 ∷ [])) → Runs g (take (2 * n) bs) (take n us)
@@ -67,11 +59,8 @@ pub reads_pairs : {D : Type 0} (T : Ghosts D) (g : Grammar) (src us : List ℕ) 
     → T.room new + total_unit_count T.form (take n us) ≡ T.room old → T.loan new ≡ T.loan old → 35 ≤ T.room old
     → ReadsAhead T (new_state g) src (2 * n) old new
 reads_pairs T g src us n room long most small are past known contents room_is loan enough =
-    let front : (k : ℕ) → k < 16 → get_or (chunk 0 16 src) k 0 ≡ get_or src k 0 =
-    λ k h. (let z : 0 + k ≡ k = omega arith in get_or-chunk 0 16 src k 0 h ∙ ap (λ i. get_or src i 0) z) in
     let each : (k : ℕ) → k < n → Runs g (get_or src (2 * k) 0 ∷ get_or src (2 * k + 1) 0 ∷ []) (get_or us k 0 ∷ []) =
-    λ k h. rw (sym (front (2 * k) (omega arith)), sym (front (2 * k + 1) (omega arith))) (are k (omega arith) (known k h) (past (2 * k) (omega arith))).1 in
+    λ k h. grind (arith, get_or-chunk 0 16 src (2 * k) 0, get_or-chunk 0 16 src (2 * k + 1) 0, are k, known k h, past (2 * k)) in
     let few = few_units T.form n us long small most in
-    reads_written (omega arith)
-    (record { scalars = take n us; runs = pairs_run g n src us (omega arith) (omega arith) each; written = contents; room = room_is; loan = loan })
-    (omega (arith, few, room_is)) (omega (arith, enough))
+    let runs = pairs_run g n src us (omega arith) (omega arith) each in
+    reads_written (omega arith) (record { scalars = take n us; runs = runs; written = contents; room = room_is; loan = loan }) (omega arith) (omega arith)

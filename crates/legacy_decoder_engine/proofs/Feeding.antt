@@ -3,7 +3,7 @@ use Rattle.std.proofs.Common.{◌≡◌, ◌≢◌, ◌∙◌, ℕ, suc, ◌≤�
 use Rattle.std.proofs.{Common.{length-drop, drop_of_length-le, true, false, ◌&&◌, ◌⊎◌, Some, None, All}, lemmas.List.drop-append-le}
 use Rattle.std.proofs.{lemmas.List.nil_from_length, lemmas.List.Elements.{All-nil, All-cons}, lemmas.Bool.Decides.nat_tests, Math.Seq.drop-length}
 use Rattle.std.specs.Char.{IsScalar, is_ascii}
-use Rattle.legacy_text.specs.EncodingForm.{EncodingForm, Utf8, Utf16, code_units, unit_count, all_code_units, total_unit_count, bmp_room, wide_room}
+use Rattle.legacy_text.specs.EncodingForm.{EncodingForm, Utf8, Utf16, unit_count, total_unit_count, bmp_room}
 use Rattle.legacy_tables.specs.Unicode.{IsByte, AreBytes}
 use Rattle.legacy_base.specs.{States.{rests, may_hold, state_of}, DecoderActs.{act_room, takes, full_room, has_short_ascii, has_reported, has_marks}}
 use Rattle.legacy_base.specs.{DecoderActs.{full_room_in, HadRoom}, Lengths.{LengthQuery, to_utf16, to_utf8, query_form, room}, Fronts.{reads, malformed}}
@@ -17,7 +17,7 @@ use Rattle.legacy_decoder_engine.proofs.{RoomMoves.all_needs, CallUnderWay.same_
 -- the code units of scalars, counted one by one
 pub units-total : (form : EncodingForm) (cs : List ℕ) → units (unit_count form) cs ≡ total_unit_count form cs
 units-total form [] = refl
-units-total form (c ∷ cs) = let e = units-total form cs in omega (arith, length-append (code_units form c) (all_code_units form cs))
+units-total form (c ∷ cs) = grind (arith, nat_tests, length-append, units-total form cs)
 
 -- a byte needs less than the full room only if it is ASCII and nothing is held back; then it is its own scalar
 module _ (narrow wide : ℕ) {g : Grammar} {m : DecoderMachine} (shown : IsShown g m) (b : ℕ) (unreported : has_reported g ≡ false) where
@@ -37,9 +37,9 @@ module _ {g : Grammar} {m : DecoderMachine} (shown : IsShown g m) (held : List �
   -- no next act needs more than the room of a query
   pub covered : IsCovered (state_of g held)
   covered = record {
-    covers = λ query unread last.
-        all_needs (bmp_room (query_form query)) (wide_room (query_form query)) (room query (state_of g held)) g m shown.meets (rests-none g) held may
-        (λ b n p. (shown.rooms query).reads_covered held b n may p) (λ n p. (shown.rooms query).holds_covered held n may p) unread last;
+    covers = λ query. let rooms = shown.rooms query in
+        all_needs _ _ (room query (state_of g held)) g m shown.meets (rests-none g) held may (λ b n. rooms.reads_covered held b n may)
+        (λ n. rooms.holds_covered held n may);
   }
 
   module _ (b : ℕ) (byte : IsByte b) (resting : rests g held ≡ true) where
@@ -79,11 +79,8 @@ module _ {g : Grammar} {m : DecoderMachine} (shown : IsShown g m) (held : List �
       had = λ form free. had_is form free s e;
       scalar = scalar;
       lowers = λ query n.
-          omega (
-            arith,
-            rw e at ((shown.rooms query).step_pays held b n may resting bytes byte),
-            units-total (query_form query) (fed_scalars (fed_of s held b)),
-          );
+          let pays = rw e at ((shown.rooms query).step_pays held b n may resting bytes byte) in
+          omega (arith, pays, units-total (query_form query) (fed_scalars (fed_of s held b)));
     }
 
     pub feeds : (fed : Fed) (kept : List ℕ) → Took (m.step held b) held b fed kept → Feeds (state_of g held) b (state_of (m.to held b) kept) fed
@@ -91,8 +88,6 @@ module _ {g : Grammar} {m : DecoderMachine} (shown : IsShown g m) (held : List �
 
   pub releases : (n c : ℕ) → rests g held ≡ false → m.pending held ≡ Some (n, c) → IsScalar c → Releases (state_of g held) (state_of g (drop n held)) c
   releases n c r e scalar =
-      let w = (rw e at (shown.meets.writes held may)).1 in
-      let s = rw e at (shown.write_settles held may) in
       let progress : Progress false (state_of g held) [] n (state_of g (drop n held)) [] (Scalar c ∷ []) = grind (arith, append-nil) in
       let pays = λ (query : LengthQuery). rw e at ((shown.rooms query).write_pays held may r bytes) in
       grind (arith, same_rooms, pays to_utf8, pays to_utf16, pays)
@@ -103,7 +98,6 @@ module _ {g : Grammar} {m : DecoderMachine} (shown : IsShown g m) (held : List �
     by_held [] m r' n = absurd (n refl)
     by_held (x ∷ xs) m r' n =
         let ends = shown.meets.ends (x ∷ xs) m r' in
-        let none = shown.meets.ends [] (may_none g) (rests-none g) in
         record {
           passed = length (x ∷ xs);
           holding = λ z. cc;

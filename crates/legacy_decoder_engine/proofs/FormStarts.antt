@@ -1,6 +1,6 @@
 -- The forms that are picked at their starts are the front of the block.
 use Rattle.std.proofs.Common.{◌≡◌, ◌∙◌, ℕ, zero, suc, ◌+◌, ◌-◌, ◌/◌, ◌%◌, ◌^◌, ◌<◌, ◌≤◌, min, List, [], ◌∷◌, ◌++◌, Bool, true, false, cond, ltb, leb}
-use Rattle.std.proofs.Common.{length, map, take, get_or, replicate, w8, w64, inl, inr, bit_and, bit_or, bit_xor, sym, ap, arith, append_assoc, append-nil}
+use Rattle.std.proofs.Common.{length, map, take, get_or, replicate, w8, w64, bit_and, bit_or, bit_xor, sym, ap, arith, append_assoc, append-nil}
 use Rattle.std.proofs.lemmas.{List.{take_more, get_or-map, length-map}, Bool.{Decides.nat_tests, cases_lt}, Nat.shr-shr}
 use Rattle.std.proofs.lemmas.Nat.Bits.{bit_at-suc, bit_at-lt, bit_at-zero, bit_at_and, bit_at_xor, bit_at_or, bit_at_ones, shr_and_one, bit_at-trailing_zeros}
 use Rattle.std.proofs.lemmas.Simd.{bit_mask_l, tops_compared, mask_l-mod, get_or-chunk}
@@ -12,20 +12,16 @@ use Rattle.legacy_decoder_engine.proofs.WrittenRuns.{take_two}
 
 -- bits that pass the check are the starts of forms
 pub asked : (past starts : ℕ) → bit_at starts 0 ≡ 1 → bit_and (bit_xor (starts / 2) (bit_and starts past)) (2 ^ 63 - 1) ≡ 2 ^ 63 - 1 → AreStarts past starts
-asked past starts first all = record {
-  first = first;
-  next = λ i below. let both = ap (λ n. bit_at n i) all in grind (arith, bit_at_and, bit_at_xor, bit_at-suc, bit_at_ones 63 i below, bit_at-lt, both);
-}
+asked past starts first all = grind (arith, bit_at_and, bit_at_xor, bit_at-suc, bit_at_ones 63, bit_at-lt, λ (i : ℕ). ap (λ n. bit_at n i) all)
 
 pub lowest_set : (n : ℕ) → bit_at (bit_or n 1) 0 ≡ 1
-lowest_set n = rw bit_at_or (omega (arith, bit_at-lt n 0))
+lowest_set n = rw bit_at_or (omega arith)
 
 pub past_bits : (block : List ℕ) → length block ≡ 64
     → ArePast (mask_l (map (top 7) (zip2 (λ a b. cond (leb a b) (2 ^ 8 - 1) 0) (replicate 64 128) block)) % 2 ^ 64) block
 past_bits block long i h =
     let mask = tops_compared w8 leb (replicate 64 128) block ∙ ap (λ n. zip2 leb (replicate n 128) block) (sym long) ∙ splat_zip2 leb 128 block in
-    let short = mask_l-mod (map (λ b. leb 128 b) block) 64 (omega (arith, length-map block (λ b. leb 128 b), long)) in
-    rw (mask, short) (grind (arith, bit_mask_l, leb, get_or-map, nat_tests))
+    grind (arith, mask, mask_l-mod (map (λ b. leb 128 b) block) 64, length-map block (λ b. leb 128 b), bit_mask_l, get_or-map, nat_tests)
 
 -- the bits from the place after the next byte past ASCII on
 pub past_behind : (past n at : ℕ) (bytes : List ℕ) → ArePastFrom past bytes at → ArePastFrom (past / 2 ^ n / 2 ^ 1) bytes (at + n + 1)
@@ -61,8 +57,8 @@ module _ (block : List ℕ) (past starts end : ℕ) (long : 72 ≤ length block)
   -- the form that starts at byte i has two bytes if that byte is past ASCII
   taken : (i : ℕ) (rest : List ℕ) → i < 64 → take (i + 0) block ++ (form_of (code_at block i) ++ rest) ≡ take (i + 1 + bit_at past i) block ++ rest
   taken i rest h =
-      let first : code_at block i % 256 ≡ get_or block i 0 = omega (arith, small i, small (i + 1)) in
-      let second : code_at block i / 256 ≡ get_or block (i + 1) 0 = omega (arith, small i, small (i + 1)) in
+      let first : code_at block i % 256 ≡ get_or block i 0 = omega arith in
+      let second : code_at block i / 256 ≡ get_or block (i + 1) 0 = omega arith in
       let none : i + 0 ≡ i = omega arith in
       rw (first, second, none, are_past i h) (go (ltb (get_or block i 0) 128))
     where
@@ -88,8 +84,7 @@ module _ (block : List ℕ) (past starts end : ℕ) (long : 72 ≤ length block)
   fronts zero i k e room few here = append-nil (take (i + k) block) ∙ ap (λ n. take n block) (omega arith)
   fronts (suc m) i zero e room few here =
       let is = here (omega arith) in
-      rw (started m i is, taken i (forms m (i + 1)) (omega arith))
-      (fronts m (i + 1) (bit_at past i) (omega arith) (room_left m i e is) (omega (arith, bit_at-lt past i))
+      rw (started m i is, taken i (forms m (i + 1)) (omega arith)) (fronts m (i + 1) (bit_at past i) (omega arith) (room_left m i e is) (omega arith)
       (λ h. omega (arith, next_starts i (omega arith), is, bit_at-lt past i)))
   fronts (suc m) i (suc k) e room few here =
       let none : bit_at starts i ≡ 0 = omega (arith, here (omega arith)) in
@@ -97,9 +92,7 @@ module _ (block : List ℕ) (past starts end : ℕ) (long : 72 ≤ length block)
       rw (place, skipped m i none) (fronts m (i + 1) 0 (omega arith) (omega arith) (omega arith) (λ h. omega (arith, next_starts i (omega arith), none)))
 
   pub picked : forms_of (map (code_at block) (places 0 end starts)) ≡ take end block
-  picked =
-      let whole : starts / 1 ≡ starts = omega arith in
-      rw whole at (fronts end 0 0 (omega arith) (omega arith) (omega arith) (λ h. are.first))
+  picked = grind (arith, fronts end 0 0, are.first)
 
 -- no form of two bytes starts at the byte before one that starts such a form
 apart : (past starts n : ℕ) → AreStarts past starts → n < 63 → bit_at (bit_and starts past) (suc n) ≡ 1 → bit_at (bit_and starts past) n ≡ 0
@@ -107,15 +100,7 @@ apart past starts n are h e = grind (arith, bit_at_and, bit_at-lt, are.next)
 
 pub whole_end : (past starts limit : ℕ) → AreStarts past starts → 0 < limit → limit ≤ 64
     → IsEnd past starts (limit - bit_and (bit_and starts past / 2 ^ (limit - 1)) 1)
-whole_end past starts limit are some most h =
-    let x = bit_and starts past in
-    let at = shr_and_one x (limit - 1) in
-    let m = limit - bit_and (x / 2 ^ (limit - 1)) 1 - 1 in
-    let low = bit_at-lt x (limit - 1) in
-    sym (bit_at_and starts past m) ∙ elim (cases_lt (bit_at x (limit - 1)) 1) [
-      | inl none ↦ let e : m ≡ limit - 1 = omega arith in rw e (omega arith)
-      | inr one ↦ let e : limit - 1 ≡ suc m = omega arith in apart past starts m are (omega arith) (ap (bit_at x) (sym e) ∙ omega arith)
-    ]
+whole_end past starts limit are some most h = grind (arith, nat_tests, shr_and_one, bit_at-lt, bit_at_and, cases_lt, apart)
 
 -- a byte of the block that is loaded
 pub front_chunk : (xs : List ℕ) (i : ℕ) → i < 64 → get_or (chunk 0 64 xs) i 0 ≡ get_or xs i 0

@@ -29,8 +29,7 @@ front_reported : (front : ℕ → List ℕ → Front) (b : ℕ) (rest : List ℕ
     → BeginsWith (cut front 0 0 (b ∷ rest)) (Bad 0 n ∷ []) → f ≡ malformed n
 front_reported front b rest n (reads k []) e some g =
     absurd (no_sooner k 0 n (cut front 0 0 (drop k (b ∷ rest))) g.0 some (sym (front_move front (b ∷ rest) _ (reads k []) e some refl) ∙ g.1))
-front_reported front b rest n f e some g =
-    let all = sym (front_move front (b ∷ rest) (drop (front_length f) (b ∷ rest)) f e some refl) ∙ g.1 in cc
+front_reported front b rest n f e some g = grind (arith, sym (front_move front (b ∷ rest) _ f e some refl) ∙ g.1)
 
 pub fits_test : (front : ℕ → List ℕ → Front) (may : List ℕ → Bool) (held : List ℕ) (b : ℕ) (t : Bool) (s₁ s₂ : Step) →
     (t ≡ true → Fits front may held b s₁) → (t ≡ false → Fits front may held b s₂) → Fits front may held b (cond t s₁ s₂)
@@ -65,14 +64,11 @@ module _ (g : Grammar) (front : ℕ → List ℕ → Front) (ev_is : (bytes : Li
 
   -- all held-back bytes are malformed at the end of input
   pub end_meets : (b : ℕ) (held : List ℕ) → front b held ≡ malformed (length (b ∷ held)) → events_of g (b ∷ held) ≡ end_events (b ∷ held)
-  end_meets b held h =
-      let none : events_of g [] ≡ [] = ev_is [] ∙ cut-nil front in
-      ev_front (b ∷ held) [] (malformed (length (b ∷ held))) h (omega arith) (drop-length (b ∷ held)) ∙ rw none
+  end_meets b held h = grind (arith, ev_is [], cut-nil front, ev_front (b ∷ held) [] (malformed (length (b ∷ held))), drop-length (b ∷ held))
 
   -- they are also malformed with bytes after them if the same sequence is reported
   pub report_meets : (held more : List ℕ) → ((b : ℕ) (rest : List ℕ) → held ++ more ≡ b ∷ rest → 0 < front_length (front b rest)) → ReportMeets g held more
   report_meets [] more some pos g = absurd (omega arith)
   report_meets (b ∷ held) more some pos g =
-      let n = length (b ∷ held) in
-      let is = front_reported front b (held ++ more) n _ refl (some b (held ++ more) refl) (rw (ev_is (b ∷ (held ++ more))) at g) in
-      ev_front (b ∷ (held ++ more)) more (malformed n) is (omega arith) (drop-append_seam (b ∷ held) more)
+      let is = front_reported front b (held ++ more) (length (b ∷ held)) _ refl (some b (held ++ more) refl) in
+      grind (arith, is, ev_is, ev_front (b ∷ (held ++ more)) more (malformed (length (b ∷ held))), drop-append_seam (b ∷ held) more)

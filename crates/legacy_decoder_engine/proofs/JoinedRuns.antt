@@ -30,7 +30,7 @@ reads_first {T = T} {state} {source} {old} {mid} {new} {s = s} none a b =
 module _ {D : Type 0} {T : Ghosts D} {source : List ℕ} {old new : D} {r : ℕ} where
   -- a decoder that holds nothing back reads as a new one
   pub reads_idle : {state : DecoderState} → IsIdle state → ReadsAhead T (new_state state.grammar) source r old new → ReadsAhead T state source r old new
-  reads_idle {state} idle reads = subst (λ s. ReadsAhead T s source r old new) (sym (with_empty state idle.empty)) reads
+  reads_idle {state} idle reads = grind (arith, with_empty)
 
   module _ {g : Grammar} where
     -- the bytes read and the scalars written, with the room left if there are any

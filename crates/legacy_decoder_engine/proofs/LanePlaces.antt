@@ -42,28 +42,20 @@ lead_places v lead width = times (columns (firsts v) lead) width
 -- a difference that wraps, times a width
 wrapped : (d width : ℕ) → 0 < width * d → width * d < 65536 → (65536 - d) * width % 65536 ≡ 65536 - width * d
 wrapped d zero some small = absurd (omega arith)
-wrapped d (suc w) some small =
-    let turned : (65536 - d) * suc w ≡ suc w * (65536 - d) = mul_comm (65536 - d) (suc w) in
-    let p = suc w * d in
-    rw (turned, mul-sub (suc w) 65536 d) (let e : (suc w * 65536 - p) % 65536 ≡ 65536 - p = omega (arith, some, small) in e)
+wrapped d (suc w) some small = grind (arith, nat_tests, mul_comm, mul-sub)
 
 module _ (lead leads width : ℕ) (room : lead + leads < 256) (narrow : width < 256) (some : 0 < width) (rows : (lead + leads + 1) * width ≤ 65536) where
   -- up to the end of the rows, the product is the place of the lead
   lead_limited : (b : ℕ) → b < 256 → min (less b lead * width % 65536) ((leads + 1) * width)
       ≡ min (cond (is_in_range lead (lead + leads) b) ((b - lead) * width) 65535) ((leads + 1) * width)
   lead_limited b byte =
-      let row : 1 * width ≤ (leads + 1) * width = mul-le-mul_right width (omega arith) in
-      let all : (lead + leads + 1) * width ≡ width * lead + (leads + 1) * width = omega arith in
-      let low : b < lead → less b lead * width % 65536 ≡ 65536 - width * (lead - b) =
-      λ h. (let e : less b lead ≡ 65536 - (lead - b) = omega (arith, h, byte, room) in
-      let one : width * 1 ≤ width * (lead - b) = mul-le-mul_left width (omega (arith, h)) in
       let back : width * (lead - b) ≤ width * lead = mul-le-mul_left width (omega arith) in
-      rw e (wrapped (lead - b) width (omega (arith, one, some)) (omega (arith, back, all, row, rows, some)))) in
-      let back : width * (lead - b) ≤ width * lead = mul-le-mul_left width (omega arith) in
+      let one : 1 ≤ lead - b → width * 1 ≤ width * (lead - b) = mul-le-mul_left width in
       let within : b - lead ≤ leads → (b - lead) * width ≤ leads * width = mul-le-mul_right width in
       let past : leads + 1 ≤ b - lead → (leads + 1) * width ≤ (b - lead) * width = mul-le-mul_right width in
-      let most : (b - lead) * width ≤ 255 * width = mul-le-mul_right width (omega (arith, byte)) in
-      grind (arith, nat_tests)
+      let most : (b - lead) * width ≤ 255 * width = mul-le-mul_right width (omega arith) in
+      let all : (lead + leads + 1) * width ≡ width * lead + (leads + 1) * width = omega arith in
+      grind (arith, nat_tests, wrapped (lead - b) width)
 
   lead_is : (c : ℕ) → c < 65536
       → map (λ p. min p ((leads + 1) * width)) (lead_places (c ∷ []) lead width) ≡ min (lead_place_of lead leads width c) ((leads + 1) * width) ∷ []
@@ -76,8 +68,7 @@ module _ (lead leads width : ℕ) (room : lead + leads < 256) (narrow : width < 
 
 module _ (first limit : ℕ) (byte : first < 256) (most : limit ≤ 65280) where
   abbrev late_places : List ℕ → List ℕ
-  late_places v =
-      sel_l (map (top 15) (zip2 (λ a b. mask_if (leb a b)) (replicate 8 65280) v)) (replicate 8 65535) (columns (seconds v) first)
+  late_places v = sel_l (map (top 15) (zip2 (λ a b. mask_if (leb a b)) (replicate 8 65280) v)) (replicate 8 65535) (columns (seconds v) first)
 
   late_is : (c : ℕ) → c < 65536 → map (λ p. min p limit) (late_places (c ∷ [])) ≡ min (late_place_of first c) limit ∷ []
   late_is c small = grind (arith, nat_tests)
@@ -113,10 +104,7 @@ module _ (limit : ℕ) (small : limit < 65536) (lead trail : ℕ → ℕ) where
       → ArePlaces limit (λ code. min (lead code + trail code) 65535) codes (place_sums leads trails)
   sums_are [] [] ts s t e f = refl
   sums_are (c ∷ cs) (l ∷ ls) (t ∷ ts) s u e f =
-      let first = ap (λ l. get_or l 0 0) e in
-      let second = ap (λ l. get_or l 0 0) f in
-      let rest = sums_are cs ls ts s.1 u.1 (ap (drop 1) e) (ap (drop 1) f) in
-      grind (arith, nat_tests, s.0.fits, u.0.fits, first, second, rest)
+      grind (arith, nat_tests, ap (λ l. get_or l 0 0) e, ap (λ l. get_or l 0 0) f, sums_are cs ls ts s.1 u.1 (ap (drop 1) e) (ap (drop 1) f))
   sums_are [] (l ∷ ls) ts s t e f = absurd (omega (arith, ap length e))
   sums_are (c ∷ cs) [] ts s t e f = absurd (omega (arith, ap length e))
   sums_are (c ∷ cs) (l ∷ ls) [] s t e f = absurd (omega (arith, ap length f))

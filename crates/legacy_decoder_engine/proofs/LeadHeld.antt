@@ -23,8 +23,7 @@ module _ {grammar : FlatIndexes → Grammar} {is_lead_byte : ℕ → Bool} {firs
       → Runs (grammar tables.flat) (lead ∷ trail ∷ []) (c ∷ [])
   pair lead trail c is_byte is_byte' scalar is_lead e =
       pair_runs (is.shown tables.flat tables.accepted) lead trail c is_byte is_byte' scalar
-      (is.may_is tables.flat (lead ∷ []) ∙ is_lead) (is.rests_is tables.flat (lead ∷ []))
-      refl refl (is.lead_first lead is_lead) (rw e refl)
+      (is.may_is tables.flat (lead ∷ []) ∙ is_lead) (is.rests_is tables.flat (lead ∷ [])) refl refl (is.lead_first lead is_lead) (rw e refl)
 
 module _ {L : Type 0} {grammar : FlatIndexes → Grammar} {is_lead_byte : ℕ → Bool} {first : ℕ → Step} {scalars : FlatIndexes → ℕ → ℕ → List ℕ}
     (is : IsLeadCodec grammar is_lead_byte first scalars) {byte : L → ℕ} (leads : (lead : L) → is_lead_byte (byte lead) ≡ true) (tables : AcceptedIndexes) where
@@ -43,8 +42,7 @@ module _ {L : Type 0} {grammar : FlatIndexes → Grammar} {is_lead_byte : ℕ �
   pub feeds : (held : Option L) (b : ℕ) → IsByte b → (fed : Fed) (kept : Option L)
       → Took (two_byte_step first (scalars tables.flat) (held_bytes byte held) b) (held_bytes byte held) b fed (held_bytes byte kept) →
       Feeds (lead_state grammar byte tables held) b (lead_state grammar byte tables kept) fed
-  feeds held b is_byte fed kept took =
-      feeding.feeds shown _ (may held) (are_bytes held) b is_byte (is.rests_is tables.flat _) fed _ took
+  feeds held b is_byte fed kept took = feeding.feeds shown _ (may held) (are_bytes held) b is_byte (is.rests_is tables.flat _) fed _ took
 
   pub ends_none : (held : Option L) → is_some held ≡ false → events_of (grammar tables.flat) (held_bytes byte held) ≡ []
   ends_none held e = grind (arith, shown, may, are_bytes)
@@ -53,8 +51,7 @@ module _ {L : Type 0} {grammar : FlatIndexes → Grammar} {is_lead_byte : ℕ �
   ends_some held e = grind (arith, shown, may, are_bytes)
 
   pub reports : (lead : L) → Reports (lead_state grammar byte tables (Some lead)) (lead_state grammar byte tables None) 1 0
-  reports lead =
-      feeding.reports_all shown _ (may (Some lead)) (are_bytes (Some lead)) (is.rests_is tables.flat _) (λ e. cc)
+  reports lead = feeding.reports_all shown _ (may (Some lead)) (are_bytes (Some lead)) (is.rests_is tables.flat _) (λ e. cc)
 
   pub malformed_byte : (b : ℕ) → first b ≡ finish (malformed 1) → IsMalformedByte (lead_state grammar byte tables None) b
   malformed_byte b e = feeding.malformed_byte shown b e refl

@@ -33,13 +33,10 @@ module _ (g : Grammar) (front : ℕ → List ℕ → Front) (found : ℕ → Opt
   ev_is bytes = ap (λ p. p.events bytes) is.profile_is
 
   meets : Meets g machine
-  meets =
-      grind (arith, fits_meets g front ev_is is_empty may_is, cond_both, may_is, ev_is, cut-nil, false≢true, no_report, few_held)
+  meets = grind (arith, fits_meets g front ev_is is_empty may_is, cond_both, may_is, ev_is, cut-nil, false≢true, no_report, few_held)
 
   costs : HasCosts g machine weightless 6
   costs = grind (arith, may_is, false≢true, cond_both, ltb-true)
 
   pub one_byte_shown : IsShown g machine
-  one_byte_shown =
-      let rooms = sloped_rooms g machine weightless 6 meets costs (grind (arith, false≢true, may_is)) in
-      grind (arith, meets, rooms, cond_both, or_settles, one_option, false≢true, may_is, same_rooms)
+  one_byte_shown = grind (arith, sloped_rooms, meets, costs, false≢true, may_is, cond_both, or_settles, one_option, same_rooms)

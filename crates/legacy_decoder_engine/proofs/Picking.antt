@@ -1,14 +1,13 @@
 -- Codes of two bytes at places, by a shuffle from a table.
-use Rattle.std.proofs.Common.{◌≡◌, ℕ, zero, suc, ◌+◌, ◌*◌, ◌/◌, ◌%◌, ◌<◌, ◌≤◌, true, leb, eqb, List, [], ◌∷◌, ◌++◌, length, get_or, map, take}
-use Rattle.std.proofs.{Common.{replicate, refl, sym, ap, ◌∙◌, arith, w8, Fits, ◌-◌, ◌^◌, drop}, lemmas.Bool.{leb-true, eqb-true}}
-use Rattle.std.proofs.{lemmas.Bool.{agree_below_at, cases_lt}, lemmas.List.{take-take, take-map, get_or_past, length-take-le}}
-use Rattle.std.proofs.{lemmas.List.{take-append-le, map-append, append_assoc, append-nil}, lemmas.Simd.{swz_l, Each1-get_or, below_from_Fits, get_or-chunk}}
-use Rattle.std.proofs.{lemmas.Simd.put_chunk_is, lemmas.Bool.Decides.nat_tests, Math.Seq.{take-append_seam, take-append-add}}
-use Rattle.std.proofs.{lemmas.Nat.{and_mask, pow_pos}, lemmas.Nat.Bits.ones_shr, Math.Nat.{div-eq_of_lt, mod-lt}}
+use Rattle.std.proofs.Common.{◌≡◌, ℕ, zero, suc, ◌+◌, ◌*◌, ◌/◌, ◌%◌, ◌<◌, ◌≤◌, true, eqb, List, [], ◌∷◌, ◌++◌, length, get_or, map, take, replicate, refl, sym}
+use Rattle.std.proofs.{Common.{ap, ◌∙◌, arith, w8, Fits, ◌-◌, ◌^◌}, lemmas.Bool.{leb-true, eqb-true, agree_below_at, cases_lt}, lemmas.List.take-take}
+use Rattle.std.proofs.{lemmas.List.{take-map, get_or_past, length-take-le, take-append-le, map-append, append_assoc, append-nil}, lemmas.Simd.swz_l}
+use Rattle.std.proofs.{lemmas.Simd.{Each1-get_or, below_from_Fits, get_or-chunk, put_chunk_is}, lemmas.Bool.Decides.nat_tests, Math.Seq.take-append_seam}
+use Rattle.std.proofs.{Math.Seq.take-append-add, lemmas.Nat.{and_mask, pow_pos}, lemmas.Nat.Bits.ones_shr, Math.Nat.{div-eq_of_lt, mod-lt}}
 use Rattle.std.specs.{List.range_with_len, Int.RustNames.count_ones, Int.Bits.bit_and}
-use lib.{Lanes.{Each1, number_l, digits_l, all_below, chunk, put_chunk}, Pow.{field, mod-mod-pow, shr-shr}}
 use Rattle.legacy_text.proofs.UnitLanes.{shuffled, each_below}
 use Rattle.legacy_decoder_engine.specs.{PickedForms.{places, pairs, row, code_at}, declared.picks.TheConstants.PICKED}
+use lib.{Lanes.{Each1, number_l, digits_l, all_below, chunk, put_chunk}, Pow.{field, mod-mod-pow, shr-shr}}
 
 abbrev pub eight_places : ℕ → List ℕ
 eight_places x = take 8 (places 0 8 x ++ replicate 8 0)
@@ -33,7 +32,7 @@ eight_long x h = eqb-true (length (eight_places x)) 8 (agree_below_at (λ n. eqb
 
 places_most : (x : ℕ) → x < 256 → length (places 0 8 x) ≤ 8
 unfolding places
-places_most x h = leb-true (length (places 0 8 x)) 8 (agree_below_at (λ n. leb (length (places 0 8 n)) 8) (λ _. true) 256 x refl h)
+places_most x h = grind (arith, nat_tests, leb-true, agree_below_at)
 
 -- ---- two bytes as one lane
 
@@ -71,19 +70,14 @@ pub codes_stored : (block : List ℕ) (from x : ℕ) (all found : List ℕ) (at 
     → take (length (places 0 8 x)) found ≡ map (code_at (chunk from 16 block)) (places 0 8 x)
     → take (at + count_ones x) (put_chunk at all found) ≡ take at all ++ map (code_at block) (places from 8 x)
 codes_stored block from x all found at small long room e =
-    let front : length (take at all) ≡ at = length-take-le at all (omega arith) in
-    let place : at + count_ones x ≡ length (take at all) + length (places 0 8 x) = omega (arith, counted x small) in
-    let behind = drop (length found) (drop at all) in
-    let zero_in : from + 0 ≡ from = omega arith in
-    let most : length (places 0 8 x) ≤ length found = omega (arith, places_most x small) in
-    let same = rw zero_in at (moved block from 0 8 x (omega arith)) in
-    rw (put_chunk_is at all found (omega arith), place, take-append-add, take-append-le _ found behind most, e, same) refl
+    let place : at + count_ones x ≡ length (take at all) + length (places 0 8 x) = omega (arith, counted x small, length-take-le at all) in
+    let same = moved block from 0 8 x (omega arith) in
+    grind (arith, nat_tests, put_chunk_is, take-append-add, take-append-le, places_most x small)
 
 pub low_places : (b k x : ℕ) → places b k (x % 2 ^ k) ≡ places b k x
 unfolding places
 low_places b zero x = refl
-low_places b (suc k) x =
-    grind (arith, nat_tests, mod-mod-pow x k 1, field x k 1, low_places (b + 1) k (x / 2))
+low_places b (suc k) x = grind (arith, nat_tests, mod-mod-pow x k 1, field x k 1, low_places (b + 1) k (x / 2))
 
 pub split_places : (b k m x : ℕ) → places b (k + m) x ≡ places b k x ++ places (b + k) m (x / 2 ^ k)
 unfolding places
@@ -111,13 +105,10 @@ no_places b zero = refl
 no_places b (suc n) = no_places (b + 1) n
 
 places_below : (b k m x : ℕ) → places b (k + m) (x % 2 ^ k) ≡ places b k x
-places_below b k m x =
-    rw (split_places b k m (x % 2 ^ k), div-eq_of_lt (mod-lt x (pow_pos k)), no_places (b + k) m, append-nil) (low_places b k x)
+places_below b k m x = grind (arith, nat_tests, split_places, div-eq_of_lt, mod-lt, pow_pos, no_places, append-nil, low_places)
 
 -- the starts below an end
 pub below_end : (end x : ℕ) → end ≤ 64 → places 0 64 (bit_and x ((2 ^ 64 - 1) / 2 ^ (64 - end))) ≡ places 0 end x
 below_end end x h =
-    let n : 64 ≡ end + (64 - end) = omega arith in
-    let k : 64 - (64 - end) ≡ end = omega arith in
-    let m : (2 ^ 64 - 1) / 2 ^ (64 - end) ≡ 2 ^ end - 1 = ones_shr 64 (64 - end) (omega arith) ∙ ap (λ j. 2 ^ j - 1) k in
-    ap (λ j. places 0 64 (bit_and x j)) m ∙ ap (places 0 64) (and_mask x end) ∙ ap (λ j. places 0 j (x % 2 ^ end)) n ∙ places_below 0 end (64 - end) x
+    let m : (2 ^ 64 - 1) / 2 ^ (64 - end) ≡ 2 ^ (64 - (64 - end)) - 1 = ones_shr 64 (64 - end) (omega arith) in
+    grind (arith, and_mask, places_below 0 end (64 - end) x)

@@ -1,5 +1,5 @@
 -- The sequences of a machine as runs, which a loop may read ahead.
-use Rattle.std.proofs.Common.{rules, ◌≡◌, ◌∙◌, ℕ, suc, ◌+◌, ◌≤◌, ◌<◌, List, [], ◌∷◌, ◌++◌, length, append_assoc, length-append, ap, refl, arith, true}
+use Rattle.std.proofs.Common.{rules, ◌≡◌, ℕ, suc, ◌+◌, ◌≤◌, ◌<◌, List, [], ◌∷◌, ◌++◌, length, append_assoc, length-append, refl, arith, true}
 use Rattle.std.proofs.{Common.{false, add-zero}, lemmas.List.Elements.{All-nil, All-cons, All-append}, lemmas.Bool.Decides.nat_tests}
 use Rattle.std.specs.Char.{IsScalar, is_ascii}
 use Rattle.legacy_tables.specs.Unicode.{IsByte, AreBytes}
@@ -44,18 +44,11 @@ module _ {g : Grammar} {m : DecoderMachine} (shown : IsShown g m) where
             let k = n + length (next ∷ rest) in
             let pays = rw (l.1, l.2, add-zero k) at ((shown.rooms query).step_pays held b k may resting bytes l.0) in
             let e : n + length (b ∷ next ∷ rest) ≡ k + 1 = omega arith in
-            rw e (omega (arith, pays, later.1 query n)),
+            rw e (omega arith),
       )
 
   runs : (b : ℕ) (rest : List ℕ) (c : ℕ) → IsScalar c → Leads g m [] b rest c → Runs g (b ∷ rest) (c ∷ [])
-  runs b rest c scalar l =
-      let all = leads [] b rest c (may_none g) (rests-none g) (All-nil IsByte) l in
-      let n : length {A = ℕ} [] + length (b ∷ rest) ≡ length (b ∷ rest) = omega arith in
-      record {
-        events = λ more. all.0 more ∙ ap (λ n. Scalar c ∷ shift n (events_of g more)) n;
-        scalar = All-cons IsScalar c [] scalar (All-nil IsScalar);
-        lowers = all.1;
-      }
+  runs b rest c scalar l = grind (arith, nat_tests, leads, may_none, rests-none, All-nil, All-cons)
 
   pub single_runs : (b c : ℕ) → IsByte b → IsScalar c → m.to [] b ≡ g → m.step [] b ≡ finish (reads 1 (c ∷ [])) → Runs g (b ∷ []) (c ∷ [])
   single_runs b c byte scalar to_is is = runs b [] c scalar (byte, to_is, is)
@@ -76,6 +69,4 @@ module _ {g : Grammar} {m : DecoderMachine} (shown : IsShown g m) where
       runs a (b ∷ c ∷ d ∷ []) x scalar (byte_a, to_same [] a, first, may_a, rest_a, (byte_b, to_same (a ∷ []) b, second, may_b, rest_b, last))
 
   pub has_ascii : ((b : ℕ) → m.to [] b ≡ g) → ((b : ℕ) → b < 0x80 → m.step [] b ≡ finish (reads 1 (b ∷ []))) → HasAscii g
-  has_ascii to_is first b h = single_runs b b (omega arith) (small b h) (to_is b) (first b h) where
-    small : (x : ℕ) → x < 128 → IsScalar x
-    small x l = search rules
+  has_ascii to_is first b h = single_runs b b (omega arith) (search (rules, h)) (to_is b) (first b h)

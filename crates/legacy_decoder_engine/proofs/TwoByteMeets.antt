@@ -40,10 +40,10 @@ pub record IsTwoByte (g : Grammar) (front : ℕ → List ℕ → Front) (is_lead
 
 module _ (is_lead_byte : ℕ → Bool) (paid : ℕ) (first : ℕ → Step) (firsts : (b : ℕ) → IsFirst is_lead_byte paid b (first b)) where
   pub ascii_first : (b : ℕ) → is_ascii b ≡ true → first b ≡ finish (reads 1 (b ∷ []))
-  ascii_first b a = elim (firsts b) [ ascii e a' n p ↦ e | other c e a' n q p ↦ cc | leads e a' l ↦ cc | fails e a' n ↦ cc ]
+  ascii_first b a = grind (arith, nat_tests)
 
   pub lead_holds : (b : ℕ) → is_lead_byte b ≡ true → first b ≡ hold
-  lead_holds b l = elim (firsts b) [ ascii e a n p ↦ cc | other c e a n q p ↦ cc | leads e a l' ↦ e | fails e a n ↦ cc ]
+  lead_holds b l = grind (arith, nat_tests)
 
 module _ (g : Grammar) (front : ℕ → List ℕ → Front) (is_lead_byte : ℕ → Bool) (first : ℕ → Step) (scalars : ℕ → ℕ → List ℕ)
     (is : IsTwoByte g front is_lead_byte first scalars)
@@ -64,17 +64,8 @@ module _ (g : Grammar) (front : ℕ → List ℕ → Front) (is_lead_byte : ℕ 
 
   pub two_byte_meets : Meets g (two_byte_machine g first scalars)
   two_byte_meets =
-      grind (
-        arith,
-        may_is,
-        is.profile_is,
-        fits_meets g front ev_is (single_lead_may_hold is_lead_byte) may_is,
-        false≢true,
-        fits_trail,
-        lead_holds,
-        all_ends,
-        all_reports,
-      )
+      let fits = fits_meets g front ev_is (single_lead_may_hold is_lead_byte) may_is in
+      grind (arith, may_is, is.profile_is, fits, false≢true, fits_trail, lead_holds, all_ends, all_reports)
 
 pub first_test : (is_lead_byte : ℕ → Bool) (paid b : ℕ) (t : Bool) (s₁ s₂ : Step) →
     (t ≡ true → IsFirst is_lead_byte paid b s₁) → (t ≡ false → IsFirst is_lead_byte paid b s₂) → IsFirst is_lead_byte paid b (cond t s₁ s₂)

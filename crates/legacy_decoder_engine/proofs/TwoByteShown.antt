@@ -24,24 +24,15 @@ module _ (g : Grammar) (front : ℕ → List ℕ → Front) (is_lead_byte : ℕ 
   costs has_rooms = record {
     to_is = λ held b. refl;
     cost = λ len narrow wide w held b h r bytes byte.
-        grind (
-          arith,
-          false≢true,
-          narrow_read,
-          first_cost,
-          trail_cost,
-          may_is,
-          firsts b,
-          has_rooms.pair_units len narrow wide w,
-          has_rooms.is_paid len narrow wide w,
-        );
+        let pair = has_rooms.pair_units len narrow wide w in
+        let enough = has_rooms.is_paid len narrow wide w in
+        grind (arith, false≢true, narrow_read, first_cost, trail_cost, may_is, firsts b, pair, enough);
   }
 
   pub two_byte_shown : HasTwoByteRooms g scalars paid → IsShown g (two_byte_machine g first scalars)
   two_byte_shown has_rooms =
       let meets = two_byte_meets g front is_lead_byte first scalars is paid firsts in
-      let rooms = sloped_rooms g (two_byte_machine g first scalars) length paid meets (costs has_rooms) (grind arith) in
-      grind (arith, rooms, trail_settles, false≢true, may_is, same_rooms, ascii_first)
+      grind (arith, meets, costs has_rooms, sloped_rooms, trail_settles, false≢true, may_is, same_rooms, ascii_first)
 
 -- the facts that the decoder requires, for a codec that has them for each index
 module _ (grammar : FlatIndexes → Grammar) (front : FlatIndexes → ℕ → List ℕ → Front) (is_lead_byte : ℕ → Bool) (first : ℕ → Step)
@@ -51,7 +42,5 @@ module _ (grammar : FlatIndexes → Grammar) (front : FlatIndexes → ℕ → Li
   pub lead_codec : ((flat : FlatIndexes) → AreAccepted flat → HasTwoByteRooms (grammar flat) (scalars flat) paid)
       → ((b : ℕ) → is_lead_byte b ≡ true → b < 0x100) → IsLeadCodec grammar is_lead_byte first scalars
   lead_codec rooms bytes =
-      let shown = λ (flat : FlatIndexes) (accepted : AreAccepted flat).
-      two_byte_shown (grammar flat) (front flat) is_lead_byte first (scalars flat) (is flat) paid firsts (rooms flat accepted) in
-      let profile_is = λ (flat : FlatIndexes). (is flat).profile_is in
-      grind (arith, shown, profile_is, ascii_first, lead_holds)
+      let shown = λ (flat : FlatIndexes). two_byte_shown (grammar flat) (front flat) is_lead_byte first (scalars flat) (is flat) paid firsts in
+      grind (arith, shown, rooms, λ (flat : FlatIndexes). (is flat).profile_is, ascii_first, lead_holds)

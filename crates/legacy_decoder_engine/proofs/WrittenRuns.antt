@@ -1,17 +1,17 @@
 -- Laws of runs of bytes and of the scalars written for them.
-use Rattle.std.proofs.Common.{add-zero, ◌≡◌, ◌∙◌, ℕ, zero, suc, ◌+◌, ◌-◌, ◌*◌, ◌≤◌, ◌<◌, List, [], ◌∷◌, ◌++◌, length, take, drop, get_or, refl, sym, subst}
+use Rattle.std.proofs.Common.{add-zero, ◌≡◌, ℕ, zero, suc, ◌+◌, ◌-◌, ◌*◌, ◌≤◌, ◌<◌, List, [], ◌∷◌, ◌++◌, length, take, drop, get_or, refl, sym, subst}
 use Rattle.std.proofs.{Common.{arith, append_assoc, append-nil, length-append, IsAscii}, lemmas.List.{map-append, take_more, take_all, length-drop}}
 use Rattle.std.proofs.{lemmas.List.Elements.{All-append, All-nil}, Math.Seq.take-add}
 use Rattle.std.specs.Char.{IsScalar}
 use Rattle.legacy_text.specs.{EncodingForm.{EncodingForm, code_units, all_code_units, bmp_room, total_unit_count}, declared.destination.Destination.Ghosts}
-use Rattle.legacy_base.specs.{Grammar.{Grammar, events_of}, Lengths.query_form, States.DecoderState}
+use Rattle.legacy_base.specs.{Grammar.Grammar, Lengths.query_form, States.DecoderState}
 use Rattle.legacy_base.proofs.{Shifts.{shift-append, shift-zero, shift-shift, shift-scalars}, SameUnits.some_unit}
 use Rattle.legacy_text.proofs.CodeUnits.{all_code_units-append, total_unit_count-append, code_units_ascii, length-code_units-bmp, length-code_units-wide}
 use Rattle.legacy_decoder_engine.specs.ReadAhead.{HasAscii, RunsTo, Runs, WritesTo, Writes, ReadsAhead}
 use Rattle.legacy_decoder_engine.proofs.CallUnderWay.{same_rooms}
 
 pub runs_none : (g : Grammar) → Runs g [] []
-runs_none g = record { events = λ more. sym (shift-zero (events_of g more)); scalar = All-nil IsScalar; lowers = λ query n. rw (add-zero n) (omega arith) }
+runs_none g = grind (arith, shift-zero, All-nil, add-zero)
 
 pub runs_then : (g h k : Grammar) (xs ys cs ds : List ℕ) → RunsTo g h xs cs → RunsTo h k ys ds → RunsTo g k (xs ++ ys) (cs ++ ds)
 runs_then g h k xs ys cs ds a b = record {
@@ -51,16 +51,11 @@ pub one_unit : (form : EncodingForm) (c : ℕ) → bmp_room form ≡ 1 → c < 6
 one_unit form c room h = let most = length-code_units-bmp form c h in let least = some_unit form c in omega arith
 
 pub take_two : (src : List ℕ) (at : ℕ) → at + 1 < length src → take (at + 2) src ≡ take at src ++ get_or src at 0 ∷ get_or src (at + 1) 0 ∷ []
-take_two src at h =
-    let e : at + 2 ≡ at + 1 + 1 = omega arith in
-    rw (e, take_more src (at + 1) 0 h, take_more src at 0 (omega arith), append_assoc) refl
+take_two src at h = grind (arith, take_more src (at + 1) 0 h, take_more src at 0, append_assoc)
 
 take_four : (src : List ℕ) (at : ℕ) → at + 3 < length src
     → take (at + 4) src ≡ take at src ++ get_or src at 0 ∷ get_or src (at + 1) 0 ∷ get_or src (at + 2) 0 ∷ get_or src (at + 3) 0 ∷ []
-take_four src at h =
-    let two : at + 4 ≡ at + 2 + 2 = omega arith in
-    let three : at + 3 ≡ at + 2 + 1 = omega arith in
-    rw (two, three, take_two src (at + 2) (omega arith), take_two src at (omega arith), append_assoc) refl
+take_four src at h = grind (arith, take_two src (at + 2), take_two src at, append_assoc)
 
 -- the rest of a source, as the code takes it
 pub rest_of : (source : List ℕ) (at : ℕ) → take (length source - at) (drop at source) ≡ drop at source
@@ -74,13 +69,9 @@ module _ {D : Type 0} (T : Ghosts D) where
   reads_none state source old = grind (arith, same_rooms, writes_none)
 
   pub writes_then : {g h k : Grammar} {xs ys : List ℕ} {x y z : D} → WritesTo T g h xs x y → WritesTo T h k ys y z → WritesTo T g k (xs ++ ys) x z
-  writes_then {g} {h} {k} {xs} {ys} a b = record {
-    scalars = a.scalars ++ b.scalars;
-    runs = runs_then g h k xs ys a.scalars b.scalars a.runs b.runs;
-    written = simp (b.written, a.written, append_assoc, all_code_units-append);
-    room = omega (arith, total_unit_count-append T.form a.scalars b.scalars, a.room, b.room);
-    loan = b.loan ∙ a.loan;
-  }
+  writes_then {g} {h} {k} {xs} {ys} a b =
+      let runs = runs_then g h k xs ys a.scalars b.scalars a.runs b.runs in
+      grind (arith, runs, append_assoc, all_code_units-append, total_unit_count-append)
 
   module _ {g : Grammar} {y z : D} where
     pub writes_put : (bytes : List ℕ) (c : ℕ) → Runs g bytes (c ∷ []) → T.contents z ≡ T.contents y ++ code_units T.form c
@@ -111,8 +102,7 @@ module _ {D : Type 0} (T : Ghosts D) where
 
   pub writes_ascii : (g : Grammar) (old new : D) (bytes : List ℕ) → HasAscii g → IsAscii bytes → T.contents new ≡ T.contents old ++ bytes
       → T.room new + length bytes ≡ T.room old → T.loan new ≡ T.loan old → Writes T g bytes old new
-  writes_ascii g old new bytes law ascii contents room loan =
-      grind (arith, all_code_units_ascii, runs_ascii g law bytes ascii)
+  writes_ascii g old new bytes law ascii contents room loan = grind (arith, all_code_units_ascii, runs_ascii g law bytes ascii)
 
 pub ruleset no_bytes = (same_rooms, writes_none)
 

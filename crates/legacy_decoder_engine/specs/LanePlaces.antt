@@ -1,6 +1,5 @@
 -- The places of the leads and the trails of codes, the lead low. The pointer is their sum, or 65535 if that is less.
-use Rattle.std.specs.Prelude.{ℕ, ◌+◌, ◌-◌, ◌*◌, ◌/◌, ◌%◌, min, if◌then◌else◌}
-use Rattle.std.specs.Int.{is_in_range}
+use Rattle.std.specs.{Prelude.{ℕ, ◌+◌, ◌-◌, ◌*◌, ◌/◌, ◌%◌, min, if◌then◌else◌}, Int.is_in_range}
 
 -- the place of a code's lead: leads are `lead` to `lead + leads`, and a row has `width` entries
 abbrev pub lead_place_of : ℕ → ℕ → ℕ → ℕ → ℕ

@@ -1,10 +1,9 @@
 -- The codecs whose sequences are one byte, or a lead and a trail: what their common decoder requires of each.
-use Rattle.std.specs.Prelude.{◌≡◌, ℕ, ◌<◌, ◌≤◌, List, [], ◌∷◌, Bool, true, false, length, Option, Some, None, MatchOption}
-use Rattle.std.specs.Char.{is_ascii}
-use Rattle.legacy_base.specs.States.{DecoderState, single_lead_may_hold, may_hold, rests, begins_in_ascii}
-use Rattle.legacy_base.specs.{Fronts.reads, Grammar.Grammar, DecoderActs.has_short_ascii, DecoderActs.has_reported, Lengths.weight}
+use Rattle.std.specs.{Prelude.{◌≡◌, ℕ, ◌<◌, ◌≤◌, List, [], ◌∷◌, Bool, true, false, length, Option, Some, None, MatchOption}, Char.is_ascii}
+use Rattle.legacy_base.specs.{States.{DecoderState, single_lead_may_hold, may_hold, rests, begins_in_ascii}, Fronts.reads, Grammar.Grammar}
+use Rattle.legacy_base.specs.{DecoderActs.{has_short_ascii, has_reported}, Lengths.weight}
 use Rattle.legacy_tables.specs.{Indexes.FlatIndexes, TableChecks.AreAccepted, AcceptedTables.AcceptedIndexes}
-use Rattle.legacy_decoder_engine.specs.{Steps.Step, Steps.hold, Steps.finish, LeadMachines.two_byte_machine, Shown.IsShown}
+use Rattle.legacy_decoder_engine.specs.{Steps.{Step, hold, finish}, LeadMachines.two_byte_machine, Shown.IsShown}
 
 -- a byte past ASCII
 abbrev pub IsPastAscii : ℕ → Type 0

@@ -1,7 +1,6 @@
 -- The machines of the codecs whose sequences are one byte, or a lead and a trail.
-use Rattle.std.specs.Prelude.{ℕ, List, [], ◌∷◌, Bool, if◌then◌else◌}
-use Rattle.std.specs.Char.{is_ascii}
-use Rattle.legacy_base.specs.{Fronts.reads, Fronts.malformed, Grammar.Grammar}
+use Rattle.std.specs.{Prelude.{ℕ, List, [], ◌∷◌, Bool, if◌then◌else◌}, Char.is_ascii}
+use Rattle.legacy_base.specs.{Fronts.{reads, malformed}, Grammar.Grammar}
 use Rattle.legacy_decoder_engine.specs.Steps.{no_pending, Step, hold, finish, DecoderMachine, trail_step}
 
 -- the step at a byte, from the step at a first byte and the scalars of a lead and a trail

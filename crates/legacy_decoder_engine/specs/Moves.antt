@@ -1,20 +1,16 @@
 -- The small moves of a decoder, which make up its calls. A move is the same in both encoding forms.
 use Rattle.std.specs.Prelude.{◌≡◌, ◌≢◌, ℕ, ◌+◌, ◌-◌, ◌<◌, ◌≤◌, List, [], ◌∷◌, ◌++◌, length, map, true, false, IsTrue, Bool, Option, None, ◌⊎◌, All}
-use Rattle.std.specs.Prelude.{if◌then◌else◌}
-use Rattle.std.specs.Char.{IsScalar}
-use Rattle.legacy_base.specs.declared.results.DecoderResult.TheVariants.{InputEmpty, OutputFull, Malformed}
-use Rattle.legacy_base.specs.States.{DecoderState, may_hold, rests}
-use Rattle.legacy_base.specs.DecoderActs.{act_room, full_room_in, release_room_in, room_needed, wants_full_room, HadRoom}
-use Rattle.legacy_base.specs.Lengths.{LengthQuery, query_form, replacement_units, room}
-use Rattle.legacy_base.specs.{declared.results.DecodeEvent.DecodeEvent, declared.results.DecodeEvent.TheVariants.Scalar}
-use Rattle.legacy_base.specs.{declared.results.DecodeEvent.TheVariants.Bad, declared.results.DecoderResult.DecoderResult, Grammar.Grammar, Grammar.events_of}
-use Rattle.legacy_base.specs.{Calls.Progress, Calls.IsMalformedSequence}
+use Rattle.std.specs.{Prelude.if◌then◌else◌, Char.IsScalar}
+use Rattle.legacy_base.specs.{declared.results.DecoderResult.TheVariants.{InputEmpty, OutputFull, Malformed}, States.{DecoderState, may_hold, rests}}
+use Rattle.legacy_base.specs.{DecoderActs.{act_room, full_room_in, release_room_in, room_needed, wants_full_room, HadRoom}, Lengths.{LengthQuery, query_form}}
+use Rattle.legacy_base.specs.{Lengths.{replacement_units, room}, declared.results.DecodeEvent.DecodeEvent, declared.results.DecodeEvent.TheVariants.Scalar}
+use Rattle.legacy_base.specs.{declared.results.DecodeEvent.TheVariants.Bad, declared.results.DecoderResult.DecoderResult, Grammar.{Grammar, events_of}}
+use Rattle.legacy_base.specs.Calls.{Progress, IsMalformedSequence}
 use Rattle.legacy_text.specs.EncodingForm.{EncodingForm, unit_count, all_code_units, total_unit_count, bmp_room, wide_room}
 use Rattle.legacy_text.specs.declared.destination.Destination.{Ghosts}
-use Rattle.legacy_decoder_engine.specs.declared.moves.Fed.TheVariants.{Nothing, One, Two, MalformedSequence}
-use Rattle.legacy_decoder_engine.specs.{declared.moves.Room.Room, declared.moves.Fed.Fed}
-use Rattle.legacy_base.specs.DecoderActs as acts
+use Rattle.legacy_decoder_engine.specs.{declared.moves.Fed.TheVariants.{Nothing, One, Two, MalformedSequence}, declared.moves.Room.Room, declared.moves.Fed.Fed}
 use Rattle.legacy_decoder_engine.specs.declared.moves.Room.TheVariants.{Nothing as NoRoom, Unit as OneUnit, Narrow, Wide}
+use Rattle.legacy_base.specs.DecoderActs as acts
 
 -- the number of code units of an amount of room
 abbrev pub room_units : EncodingForm → Room → ℕ

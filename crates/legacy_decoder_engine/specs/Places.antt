@@ -1,7 +1,6 @@
 -- The places of the bytes of a pair, whose sum is the pointer. A byte that is no lead or trail has a place past the end
 -- of every index.
-use Rattle.std.specs.Prelude.{◌≡◌, ℕ, ◌-◌, ◌*◌, List, map, if◌then◌else◌}
-use Rattle.std.specs.List.{range_with_len}
+use Rattle.std.specs.{Prelude.{◌≡◌, ℕ, ◌-◌, ◌*◌, List, map, if◌then◌else◌}, List.range_with_len}
 use Rattle.legacy_base.specs.States.{is_lead}
 
 -- the table has the place of every byte

@@ -1,11 +1,10 @@
 -- The bytes that the loop for runs of common sequences reads, and the scalars that it writes.
-use Rattle.std.specs.Prelude.{◌≡◌, ℕ, ◌+◌, ◌<◌, ◌≤◌, List, [], ◌∷◌, ◌++◌, length, map, take, All}
-use Rattle.std.specs.Char.{IsScalar}
-use Rattle.legacy_text.specs.{declared.destination.Destination.Ghosts, EncodingForm.all_code_units, EncodingForm.total_unit_count}
-use Rattle.legacy_base.specs.{declared.results.DecodeEvent.TheVariants.Scalar, Events.shift, Grammar.Grammar, Grammar.events_of, States.DecoderState}
-use Rattle.legacy_base.specs.{States.new_state, Lengths.LengthQuery, Lengths.query_form, Lengths.room}
-use Rattle.legacy_decoder_engine.specs.declared.common_forms.CommonForm.TheVariants.{Single, Pair, Other}
-use Rattle.legacy_decoder_engine.specs.{Moves.SameRooms, declared.common_forms.CommonForm.CommonForm}
+use Rattle.std.specs.{Prelude.{◌≡◌, ℕ, ◌+◌, ◌<◌, ◌≤◌, List, [], ◌∷◌, ◌++◌, length, map, take, All}, Char.IsScalar}
+use Rattle.legacy_text.specs.{declared.destination.Destination.Ghosts, EncodingForm.{all_code_units, total_unit_count}}
+use Rattle.legacy_base.specs.{declared.results.DecodeEvent.TheVariants.Scalar, Events.shift, Grammar.{Grammar, events_of}, States.{DecoderState, new_state}}
+use Rattle.legacy_base.specs.Lengths.{LengthQuery, query_form, room}
+use Rattle.legacy_decoder_engine.specs.{declared.common_forms.CommonForm.TheVariants.{Single, Pair, Other}, Moves.SameRooms}
+use Rattle.legacy_decoder_engine.specs.declared.common_forms.CommonForm.{CommonForm}
 
 -- Whatever bytes follow, the events of the bytes in the first grammar are these scalars, and then the events of the
 -- following bytes in the second grammar. The room still needed falls by what is written.

@@ -1,10 +1,8 @@
 -- The next step of a decoder, and its agreement with the grammar.
-use Rattle.std.specs.Prelude.{ℕ, ◌+◌, ◌≤◌, ◌<◌, ◌≡◌, List, [], ◌∷◌, ◌++◌, true, false, drop, length, Option, Some, None, if◌then◌else◌}
-use Rattle.std.specs.Char.{is_ascii}
-use Rattle.legacy_base.specs.Fronts.{Front, reads, malformed, front_length, front_events}
-use Rattle.legacy_base.specs.{declared.results.DecodeEvent.DecodeEvent, declared.results.DecodeEvent.TheVariants.Scalar}
-use Rattle.legacy_base.specs.{declared.results.DecodeEvent.TheVariants.Bad, Beginnings.BeginsWith, Events.shift, Grammar.Grammar, Grammar.events_of}
-use Rattle.legacy_base.specs.{States.may_hold, States.rests}
+use Rattle.std.specs.{Prelude.{ℕ, ◌+◌, ◌≤◌, ◌<◌, ◌≡◌, List, [], ◌∷◌, ◌++◌, true, false, drop, length, Option, Some, None, if◌then◌else◌}, Char.is_ascii}
+use Rattle.legacy_base.specs.{Fronts.{Front, reads, malformed, front_length, front_events}, declared.results.DecodeEvent.DecodeEvent}
+use Rattle.legacy_base.specs.{declared.results.DecodeEvent.TheVariants.{Scalar, Bad}, Beginnings.BeginsWith, Events.shift, Grammar.{Grammar, events_of}}
+use Rattle.legacy_base.specs.States.{may_hold, rests}
 
 -- what a decoder does with the next byte if no held-back scalar is to be written
 pub data Step : Type 0 where

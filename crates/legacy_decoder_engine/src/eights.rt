@@ -1,5 +1,7 @@
 //! Pairs whose bytes are all past ASCII, eight at a time and without codes in memory: short runs between tags.
 // The functions are always inlined, because a call would pass vectors through memory.
+#![tactic(auto, using(crate::proofs::WrittenRuns::no_bytes))]
+
 ghost use Rattle.std.specs.Prelude.{◌≡◌, ℕ, ◌*◌, ◌<◌, ◌≤◌, All, length, get_or};
 ghost use Rattle.std.specs.Char.{IsScalar};
 ghost use Rattle.legacy_base.specs.States.{new_state};
@@ -48,7 +50,6 @@ fn units_in<C: LaneCodec>(tables: &FlatTables<'_>, bytes: u8x16, last: u16) -> u
 /// Returns the number of bytes read, which may be 0. `last` is the last place of the index.
 // The number after eight pairs is a constant. A number that is counted from the units would be waited for.
 #[inline(always)]
-#[tactic(auto, using(crate::proofs::WrittenRuns::no_bytes))]
 fn read_eight<C: LaneCodec, T: Destination>(
     tables: &FlatTables<'_>,
     src: &[u8],
@@ -80,7 +81,6 @@ fn read_eight<C: LaneCodec, T: Destination>(
 ///
 /// Returns the number of bytes read, which may be 0. It reads none to UTF-16, where eights are no faster.
 #[inline(always)]
-#[tactic(auto, using(crate::proofs::WrittenRuns::no_bytes))]
 pub(crate) fn read_eights<C: LaneCodec, T: Destination>(
     tables: &FlatTables<'_>,
     src: &[u8],

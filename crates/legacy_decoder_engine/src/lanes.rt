@@ -1,6 +1,8 @@
 //! Blocks with many bytes past ASCII: their forms are picked out, and looked up eight at a time.
 // The functions that run for each block are always inlined: a call would pass vectors through memory, and would store
 // the destination's place there for each block.
+#![tactic(auto, using(crate::proofs::WrittenRuns::no_bytes))]
+
 ghost use Rattle.std.specs.Prelude.{◌≡◌, ◌≢◌, ℕ, ◌+◌, ◌*◌, ◌/◌, ◌%◌, ◌<◌, ◌≤◌, ◌++◌, List, [], ◌∷◌, All, IfSome, true, false, length, map, take, get_or, count_by, ltb};
 ghost use Rattle.std.specs.Char.{IsScalar};
 ghost use Rattle.legacy_tables.specs.{AcceptedTables.AcceptedIndexes, Indexes.FlatIndexes, Tables.{index_list, is_narrow_index}};
@@ -251,7 +253,6 @@ fn units_of<C: LaneCodec>(tables: &FlatTables<'_>, kept: &[u16], places: &[u32])
 ///
 /// It is given what is kept of the codes, and the places of their entries. Returns the number of groups written.
 #[inline(always)]
-#[tactic(auto, using(crate::proofs::WrittenRuns::no_bytes))]
 fn put_groups<C: LaneCodec, T: Destination>(
     tables: &FlatTables<'_>,
     kept: &[u16],
@@ -288,7 +289,6 @@ fn put_groups<C: LaneCodec, T: Destination>(
 ///
 /// Stops before a group of eight if fewer than 32 code units are free. Stores what is kept of the codes over them.
 #[inline(always)]
-#[tactic(auto, using(crate::proofs::WrittenRuns::no_bytes))]
 fn put_codes<C: LaneCodec, T: Destination>(
     tables: &FlatTables<'_>,
     codes: &mut [u16],
@@ -375,7 +375,6 @@ fn read_front<C: LaneCodec, T: Destination>(
 
 /// Reads forms of more than two bytes from the front, if one is there, and returns the number of bytes read.
 #[inline(always)]
-#[tactic(auto, using(crate::proofs::WrittenRuns::no_bytes))]
 pub(crate) fn read_any_longer<C: LaneCodec, T: Destination>(
     tables: &FlatTables<'_>,
     guess: &Cell<usize>,
@@ -419,7 +418,6 @@ fn begins_many<C: LaneCodec>(src: &[u8]) -> bool {
 /// Returns the number of bytes read, which may be 0.
 // A load of codes that were stored in parts waits for these stores. All of four blocks are stored before it.
 #[inline(always)]
-#[tactic(auto, using(crate::proofs::WrittenRuns::no_bytes))]
 fn read_long<C: LaneCodec, T: Destination>(
     tables: &FlatTables<'_>,
     guess: &Cell<usize>,
@@ -447,7 +445,6 @@ fn read_long<C: LaneCodec, T: Destination>(
 // Most runs of such blocks between tags are short: the larger arrays are made after a few blocks, and a copy of the tables,
 // whose parts a loop keeps in registers.
 #[inline(always)]
-#[tactic(auto, using(crate::proofs::WrittenRuns::no_bytes))]
 fn read_short<C: LaneCodec, T: Destination>(
     tables: &FlatTables<'_>,
     guess: &Cell<usize>,
@@ -476,7 +473,6 @@ fn read_short<C: LaneCodec, T: Destination>(
 /// Reads blocks with many bytes past ASCII from the front, if one is there, and returns the number of bytes read.
 // The test is a function of its own, so that it is inlined also if the compiler does not inline the loop.
 #[inline(always)]
-#[tactic(auto, using(crate::proofs::WrittenRuns::no_bytes))]
 fn read_lanes<C: LaneCodec, T: Destination>(
     tables: &FlatTables<'_>,
     guess: &Cell<usize>,
@@ -566,7 +562,6 @@ pub(crate) fn read_in_turn<C: LaneCodec, T: Destination>(
 /// A run of pairs at the front is read eight pairs at a time, if the codec has long runs, and then nothing after it.
 // What follows a run is mostly ASCII, or begins a form of more than two bytes. Both have ways of their own.
 #[inline(always)]
-#[tactic(auto, using(crate::proofs::WrittenRuns::no_bytes))]
 fn read_at_most<C: LaneCodec, T: Destination>(
     tables: &FlatTables<'_>,
     src: &[u8],
@@ -706,7 +701,6 @@ fn read_one_kind<C: LaneCodec, T: Destination>(
 /// Returns the number of bytes read, and whether a block with many bytes past ASCII may follow.
 // Most runs of pairs between tags are short, and lanes are no faster in them. Forms are counted since the last long ASCII.
 #[inline(always)]
-#[tactic(auto, using(crate::proofs::WrittenRuns::no_bytes))]
 fn read_few<C: LaneCodec, T: Destination>(
     blocks: &LaneBlocks<'_, '_, C>,
     src: &[u8],
@@ -745,7 +739,6 @@ impl<C: LaneCodec> Blocks for LaneBlocks<'_, '_, C> {
     // Malformed sequences often follow one another. No block is begun at an uncommon byte. After lanes a piece of text has
     // at most one byte left, mostly a lead. The machine reads it.
     #[inline(always)]
-    #[tactic(auto, using(crate::proofs::WrittenRuns::no_bytes))]
     fn read_block<T: Destination>(&self, src: &[u8], dst: &mut T) -> (usize, bool) {
         if begins_uncommon::<C>(src) {
             return (0, false);

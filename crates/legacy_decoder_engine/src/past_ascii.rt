@@ -16,6 +16,7 @@ pub fn has_past_ascii(src: &[u8]) -> bool
 
 /// Returns the bits of the bytes past ASCII.
 #[inline(always)]
+#[tactic(auto, using(crate::proofs::FormStarts::past_bits))]
 pub fn past_ascii(block: u8x64) -> u64
     ensures { ArePast result block }
 {

@@ -1,6 +1,8 @@
 //! The two loops that read ahead of the machine: forms four at a time, and blocks one after another.
 // The functions that run for each form or block are always inlined, and so are all between them and a decoder's call:
 // a call would pass vectors through memory, and would store the destination's place there for each form.
+#![tactic(auto, using(crate::proofs::WrittenRuns::no_bytes))]
+
 ghost use Rattle.std.specs.Prelude.{◌≡◌, ℕ, ◌+◌, ◌*◌, ◌<◌, ◌≤◌, length, take, true};
 ghost use Rattle.legacy_base.specs.{Grammar.Grammar, States.{DecoderState, new_state}};
 ghost use Rattle.legacy_decoder_engine.specs.ReadAhead.{HasAscii, Writes, ReadsAhead};
@@ -87,7 +89,6 @@ pub trait Blocks {
 
 /// Reads blocks from the front while another may follow, and returns the number of bytes read, which may be 0.
 #[inline(always)]
-#[tactic(auto, using(crate::proofs::WrittenRuns::no_bytes))]
 pub fn read_blocks<B: Blocks, T: Destination>(blocks: &B, src: &[u8], dst: &mut T) -> usize
     ensures { ReadsAhead T.Destination (new_state (B.grammar blocks.now)) src.now result dst.old dst.new }
 {
@@ -105,7 +106,6 @@ pub fn read_blocks<B: Blocks, T: Destination>(blocks: &B, src: &[u8], dst: &mut 
 ///
 /// Returns the number of bytes read, which may be 0, and whether all of them were whole blocks.
 #[inline(always)]
-#[tactic(auto, using(crate::proofs::WrittenRuns::no_bytes))]
 fn read_wide_blocks<T: Destination>(src: &[u8], dst: &mut T) -> (usize, bool)
     ensures read { result.0 ≤ length src.now }
     ensures ahead { (grammar : Grammar) → HasAscii grammar → ReadsAhead T.Destination (new_state grammar) src.now result.0 dst.old dst.new }
@@ -137,7 +137,6 @@ fn read_short_blocks<T: Destination>(src: &[u8], dst: &mut T) -> usize
 /// If it reads any, three code units stay free.
 // The byte after a malformed sequence is often past ASCII. No block is begun there.
 #[inline(always)]
-#[tactic(auto, using(crate::proofs::WrittenRuns::no_bytes))]
 pub fn read_ascii<T: Destination>(src: &[u8], dst: &mut T) -> usize
     ensures read { result ≤ length src.now }
     ensures ahead { (grammar : Grammar) → HasAscii grammar → ReadsAhead T.Destination (new_state grammar) src.now result dst.old dst.new }

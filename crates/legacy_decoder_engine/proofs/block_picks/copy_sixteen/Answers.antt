@@ -9,5 +9,5 @@ returns c =
     let src = c.args.src.now in
     let part = chunk at 16 src in
     let long : length part ≡ 16 = length-chunk at 16 src c.requires.source in
-    put_front at 16 c.args.padded.now part (omega (arith, long, c.requires.room)) (omega (arith, long))
-    ∙ ap₂ (λ (a b : List ℕ). a ++ b) c.requires.before (take_all 16 part (omega (arith, long))) ∙ sym (take-add at 16 src)
+    put_front at 16 c.args.padded.now part (omega arith) (omega arith)
+    ∙ ap₂ (λ (a b : List ℕ). a ++ b) c.requires.before (take_all 16 part (omega arith)) ∙ sym (take-add at 16 src)

@@ -29,13 +29,12 @@ pub returns-in-Some-read_byte-2-clause-call : goal.returns-in-Some-read_byte-2-c
 returns-in-Some-read_byte-2-clause-call g c =
     let i = front_going c.args.dst.now c.loop-decoder.invariant c.read_ahead-read.ensures c.hold_back-read.ensures.within c.hold_back-read.ensures.holds in
     let ends = c.in-Some-read_byte-2.ensures in
-    byte_ends g.T.Destination c.args.dst.now i (omega (arith, i.1.within, c.if-read-src.false))
-    c.in-Some-read_byte-2.result c.in-Some-read_byte-2.count ends.1 ends.0
+    byte_ends g.T.Destination c.args.dst.now i (omega arith) c.in-Some-read_byte-2.result c.in-Some-read_byte-2.count ends.1 ends.0
 
 pub loop-decoder-preserved : goal.loop-decoder-preserved
 loop-decoder-preserved g c =
     let i = front_going c.args.dst.now c.loop-decoder.invariant c.read_ahead-read.ensures c.hold_back-read.ensures.within c.hold_back-read.ensures.holds in
-    byte_going g.T.Destination c.args.dst.now i (omega (arith, i.1.within, c.if-read-src.false)) c.in_default-read_byte-2.ensures
+    byte_going g.T.Destination c.args.dst.now i (omega arith) c.in_default-read_byte-2.ensures
 
 pub finish-requires : goal.finish-requires
 finish-requires g c =
@@ -51,7 +50,7 @@ loop-decoder-init g c =
             w.in-Some.scalar ∷ [],
             going_release (sym c.rests.ensures.is ∙ w.if-not-rests.true) enough w.in-Some.ensures,
             w.put.ensures.contents ∙ ap (λ l. T.contents c.args.dst.now ++ l) (sym (append-nil (code_units T.form w.in-Some.scalar))),
-            simp length-append (omega (arith, w.put.ensures.room)),
+            simp length-append (omega arith),
             w.put.ensures.loan,
           )
       | else-not-rests w ↦

@@ -6,18 +6,17 @@ pub returns-clause-ahead : goal.returns-clause-ahead
 returns-clause-ahead g c =
     let u = c.units_in-units.ensures in
     let e = c.put_eight.ensures in
-    let long : length c.units_in-units.result ≡ 8 = omega (arith, c.units_in-units.type_inv) in
-    let all : take 8 c.units_in-units.result ≡ c.units_in-units.result = take_all 8 c.units_in-units.result (omega (arith, long)) in
+    let long : length c.units_in-units.result ≡ 8 = omega arith in
+    let all : take 8 c.units_in-units.result ≡ c.units_in-units.result = take_all 8 c.units_in-units.result (omega arith) in
     reads_pairs g.T.Destination _ c.args.src.now c.units_in-units.result 8 c.requires.block long (omega arith) u.small u.pairs
-    (λ k h. c.pair_count-pairs.ensures.past k (omega (arith, h, c.if-pairs-lt8.false))) (c.are_known.ensures c.if-not-are_known.false)
+    (λ k h. c.pair_count-pairs.ensures.past k (omega arith)) (c.are_known.ensures c.if-not-are_known.false)
     (rw all e.contents) (rw all e.room) e.loan c.requires.room
 
 pub returns-then-pairs-lt8-clause-ahead : goal.returns-then-pairs-lt8-clause-ahead
 returns-then-pairs-lt8-clause-ahead g c =
     let u = c.units_in-units.ensures in
     let e = c.put_first.ensures in
-    let long : length c.units_in-units.result ≡ 8 = omega (arith, c.units_in-units.type_inv) in
-    let few = c.min-few.ensures in
+    let long : length c.units_in-units.result ≡ 8 = omega arith in
     reads_pairs g.T.Destination _ c.args.src.now c.units_in-units.result c.min-few.result c.requires.block long
-    (omega (arith, few, c.pair_count-pairs.ensures.most)) u.small u.pairs (λ k h. c.pair_count-pairs.ensures.past k (omega (arith, h, few)))
-    (λ k h. c.known_count.ensures.known k (omega (arith, h, few))) e.contents e.room e.loan c.requires.room
+    (omega arith) u.small u.pairs (λ k h. c.pair_count-pairs.ensures.past k (omega arith))
+    (λ k h. c.known_count.ensures.known k (omega arith)) e.contents e.room e.loan c.requires.room

@@ -4,20 +4,13 @@ use Rattle.legacy_decoder_engine.proofs.LaneUnits.{ascii_first, ascii_more}
 use Rattle.legacy_decoder_engine.proofs.lanes.byte_total.Goals as goal
 
 pub loop-group-preserved : goal.loop-group-preserved
-loop-group-preserved c =
-    let i = c.loop-group.invariant in
-    let ks = c.args.kept.now in
-    let at = 8 * c.loop-group.group in
-    let room : at + 8 ≤ length ks = omega (arith, c.requires, c.loop-group-test.true) in
-    let more = ascii_more at 8 (8 * (c.loop-group.group + 1)) ks (omega arith) room (omega arith) in
-    grind (arith, c.byte_count-bytes.ensures, take_all 8 (chunk at 8 ks), length-chunk at 8 ks room)
+loop-group-preserved c = grind (arith, ascii_more, take_all, length-chunk, c.byte_count-bytes.ensures)
 
 pub returns : goal.returns
 returns c =
-    let i = c.loop-group.invariant in
     let ks = c.args.kept.now in
     let at = 8 * c.loop-group.group in
-    let room : at + 8 ≤ length ks = omega (arith, c.requires, i.within) in
-    let more = ascii_more at (c.args.count % 8) c.args.count ks (omega (arith, i.within, c.loop-group-test.false)) room (omega arith) in
+    let room : at + 8 ≤ length ks = omega arith in
+    let more = ascii_more at (c.args.count % 8) c.args.count ks (omega arith) room (omega arith) in
     let first = ascii_first (c.args.count % 8) (chunk at 8 ks) (omega (arith, length-chunk at 8 ks room)) in
     grind (arith, c.byte_count.ensures, c.first_units-last.ensures)

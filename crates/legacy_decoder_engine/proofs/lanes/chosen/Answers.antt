@@ -1,4 +1,3 @@
-use Rattle.std.proofs.Common.{◌<◌, get_or, subst, sym}
 use Rattle.legacy_text.proofs.VectorUnits.{unit-below}
 use Rattle.legacy_decoder_engine.proofs.LaneUnits.{chosen_at, unit_small}
 use Rattle.legacy_decoder_engine.proofs.lanes.chosen.Goals as goal
@@ -7,6 +6,5 @@ pub returns-clause-lanes : goal.returns-clause-lanes
 returns-clause-lanes c = chosen_at c.args.kept c.args.entries c.fits-kept.0 c.fits-entries.0
 
 pub returns-clause-small : goal.returns-clause-small
-returns-clause-small c k h =
-    subst (λ u. u < 0x1_0000) (sym (chosen_at c.args.kept c.args.entries c.fits-kept.0 c.fits-entries.0 k h))
-    (unit_small (get_or c.args.kept k 0) (get_or c.args.entries k 0) (unit-below c.args.kept k c.fits-kept.1) (unit-below c.args.entries k c.fits-entries.1))
+returns-clause-small c k h = rw (chosen_at c.args.kept c.args.entries c.fits-kept.0 c.fits-entries.0 k h)
+    (unit_small _ _ (unit-below c.args.kept k c.fits-kept.1) (unit-below c.args.entries k c.fits-entries.1))

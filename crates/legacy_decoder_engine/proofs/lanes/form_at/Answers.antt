@@ -3,12 +3,9 @@ use Rattle.legacy_decoder_engine.proofs.WrittenRuns.{runs_byte}
 use Rattle.legacy_decoder_engine.proofs.lanes.form_at.Goals as goal
 
 pub returns-then-byte-lt128 : goal.returns-then-byte-lt128
-returns-then-byte-lt128 g c = (
-  omega arith,
-  omega (arith, c.requires.some),
-  rw (take_more c.args.src.now 0 0 c.requires.some)
-      (runs_byte c.requires.ascii _ _ c.if-byte-lt128.true c.from.ensures),
-)
+returns-then-byte-lt128 g c =
+    let run = runs_byte c.requires.ascii _ _ c.if-byte-lt128.true c.from.ensures in
+    grind (arith, run, take_more c.args.src.now 0 0)
 
 pub returns-then-begins_longer : goal.returns-then-begins_longer
 returns-then-begins_longer g c = c.longer_at.ensures

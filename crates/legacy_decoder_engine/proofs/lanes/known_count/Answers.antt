@@ -8,5 +8,4 @@ returns-then-zeros-eq0-clause-known c k h = unit_known c.args.units c.fits-units
 
 pub returns-clause-known : goal.returns-clause-known
 returns-clause-known c k h =
-    unit_known c.args.units c.fits-units.0 k (omega (arith, h, c.min.ensures))
-    ((bit_at-trailing_zeros w64 _ (omega (arith, c.if-zeros-eq0.false)) (omega arith)).2 k (omega (arith, h, c.min.ensures)))
+    unit_known c.args.units c.fits-units.0 k (omega arith) ((bit_at-trailing_zeros w64 _ (omega arith) (omega arith)).2 k (omega arith))

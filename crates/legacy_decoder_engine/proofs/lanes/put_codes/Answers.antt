@@ -4,33 +4,24 @@ use Rattle.legacy_decoder_engine.proofs.lanes.put_codes.Goals as goal
 
 pub put_groups-at-requires-clause-lanes : goal.put_groups-at-requires-clause-lanes
 put_groups-at-requires-clause-lanes g c =
-    record { codes = c.args.codes.now; lanes = λ k h. c.split_codes.ensures.lanes k (omega (arith, h, c.min-groups.ensures)) }
+    record { codes = c.args.codes.now; lanes = λ k h. c.split_codes.ensures.lanes k (omega arith) }
 
 pub returns-then-at-most-clause-writes : goal.returns-then-at-most-clause-writes
 returns-then-at-most-clause-writes g c =
-    c.put_groups-at.ensures.writes c.args.codes.now (omega (arith, c.min-groups.ensures, c.requires.codes))
-    (λ k h. c.split_codes.ensures.lanes k (omega (arith, h, c.min-groups.ensures)))
+    c.put_groups-at.ensures.writes c.args.codes.now (omega arith) (λ k h. c.split_codes.ensures.lanes k (omega arith))
 
 pub put_first-requires-clause-scalars : goal.put_first-requires-clause-scalars
 put_first-requires-clause-scalars g c =
     known_scalars _ g.C.LaneCodec.place (8 * c.put_groups-at.result) (8 * ((c.args.most + 7) / 8)) c.args.codes.now c.split_codes.new.codes
-    c.split_codes.new.places _ (omega (arith, c.put_groups-at.ensures.most, c.min-groups.ensures, c.if-at-most.false))
-    (omega (arith, c.units_of-units.type_inv)) c.split_codes.ensures.lanes c.units_of-units.ensures.forms
+    c.split_codes.new.places _ (omega arith) (omega arith) c.split_codes.ensures.lanes c.units_of-units.ensures.forms
 
 pub returns-clause-writes : goal.returns-clause-writes
 returns-clause-writes g c =
     let e = c.put_first.ensures in
     next_written _ g.C.LaneCodec.place (8 * c.put_groups-at.result) (8 * ((c.args.most + 7) / 8)) c.args.codes.now c.split_codes.new.codes
-    c.split_codes.new.places _ (omega (arith, c.put_groups-at.ensures.most, c.min-groups.ensures, c.if-at-most.false))
-    (omega (arith, c.units_of-units.type_inv)) c.split_codes.ensures.lanes c.units_of-units.ensures.forms g.T.Destination c.min-few.result
-    (omega (arith, c.min-few.ensures, c.known_count.ensures.most)) c.requires.codes (omega (arith, c.requires.codes, c.split_codes.auto.codes))
-    (λ k h. c.known_count.ensures.known k (omega (arith, h, c.min-few.ensures)))
-    (c.put_groups-at.ensures.writes c.args.codes.now (omega (arith, c.min-groups.ensures, c.requires.codes))
-    (λ k h. c.split_codes.ensures.lanes k (omega (arith, h, c.min-groups.ensures)))) e.contents e.room e.loan
+    c.split_codes.new.places _ (omega arith) (omega arith) c.split_codes.ensures.lanes c.units_of-units.ensures.forms g.T.Destination c.min-few.result
+    (omega arith) c.requires.codes (omega arith) (λ k h. c.known_count.ensures.known k (omega arith))
+    (c.put_groups-at.ensures.writes c.args.codes.now (omega arith) (λ k h. c.split_codes.ensures.lanes k (omega arith))) e.contents e.room e.loan
 
 pub returns-clause-slack : goal.returns-clause-slack
-returns-clause-slack g c h =
-    let n =
-    few_units g.T.Destination.form c.min-few.result c.units_of-units.result (omega (arith, c.units_of-units.type_inv))
-    c.units_of-units.ensures.small (omega (arith, c.min-few.ensures, c.known_count.ensures.most)) in
-    omega (arith, n, c.put_first.ensures.room, c.free-else-at-most.ensures, c.if-free-lt32.false)
+returns-clause-slack g c h = grind (arith, few_units, c.units_of-units.type_inv, c.units_of-units.ensures.small, c.known_count.ensures.most)

@@ -6,4 +6,4 @@ pub returns-then-eights-gt0 : goal.returns-then-eights-gt0
 returns-then-eights-gt0 g c = c.read_eights-eights.ensures
 
 pub returns : goal.returns
-returns g c = reads_first (omega (arith, c.if-eights-gt0.false)) c.read_eights-eights.ensures c.read_in_turn.ensures
+returns g c = reads_first (omega arith) c.read_eights-eights.ensures c.read_in_turn.ensures

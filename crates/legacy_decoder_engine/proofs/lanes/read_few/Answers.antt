@@ -1,4 +1,4 @@
-use Rattle.std.proofs.{Common.{ℕ, arith}, lemmas.List.{length-take, length-drop}}
+use Rattle.std.proofs.Common.{arith}
 use Rattle.legacy_decoder_engine.proofs.{JoinedRuns.reads_more}
 use Rattle.legacy_decoder_engine.proofs.lanes.read_few.Goals as goal
 
@@ -6,16 +6,14 @@ pub returns-then-src-at-lt16-clause-ahead : goal.returns-then-src-at-lt16-clause
 returns-then-src-at-lt16-clause-ahead g c = reads_more (reads_more c.loop-at.invariant (c.read_ascii-ascii.ensures.ahead _ c.requires)) c.read_last.ensures
 
 pub returns-then-few-eq0-clause-ahead : goal.returns-then-few-eq0-clause-ahead
-returns-then-few-eq0-clause-ahead g c =
-    reads_more (reads_more c.loop-at.invariant (c.read_ascii-ascii.ensures.ahead _ c.requires)) c.read_one_kind-few.ensures
+returns-then-few-eq0-clause-ahead g c = reads_more (reads_more c.loop-at.invariant (c.read_ascii-ascii.ensures.ahead _ c.requires)) c.read_one_kind-few.ensures
 
 pub returns-then-saturating_add-enough-clause-ahead : goal.returns-then-saturating_add-enough-clause-ahead
 returns-then-saturating_add-enough-clause-ahead g c =
     reads_more (reads_more c.loop-at.invariant (c.read_ascii-ascii.ensures.ahead _ c.requires)) c.read_one_kind-few.ensures
 
 pub loop-at-preserved : goal.loop-at-preserved
-loop-at-preserved g c =
-    reads_more (reads_more c.loop-at.invariant (c.read_ascii-ascii.ensures.ahead _ c.requires)) c.read_one_kind-few.ensures
+loop-at-preserved g c = reads_more (reads_more c.loop-at.invariant (c.read_ascii-ascii.ensures.ahead _ c.requires)) c.read_one_kind-few.ensures
 
 pub loop-at-smaller : goal.loop-at-smaller
-loop-at-smaller g c = omega (arith, c.if-few-eq0.false, c.read_one_kind-few.ensures.within, length-take {A = ℕ}, length-drop {A = ℕ})
+loop-at-smaller g c = omega arith

@@ -9,8 +9,7 @@ returns-then-done-count-clause-ahead g c =
     let e = c.put_codes-done.ensures in
     let src = c.args.src.now in
     let done = c.put_codes-done.result in
-    let bytes : c.byte_total.result ≡ length (forms_of (take done p.new.codes)) = omega (arith, e.writes.counted, c.byte_total.ensures) in
-    let read = rw (← bytes) at (front_forms done p.result.0 p.result.1 p.new.codes src (omega (arith, e.most)) p.ensures.forms) in
+    let bytes : c.byte_total.result ≡ length (forms_of (take done p.new.codes)) = omega arith in
+    let read = rw (← bytes) at (front_forms done p.result.0 p.result.1 p.new.codes src (omega arith) p.ensures.forms) in
     let within : c.byte_total.result ≤ length src = omega (arith, bytes, ap length read, length-take c.byte_total.result src) in
-    reads_front within (rw read e.writes.writes)
-    (λ h. e.slack (omega (arith, h, c.byte_total.ensures))) (λ h. e.had (omega (arith, h, c.byte_total.ensures)))
+    reads_front within (rw read e.writes.writes) (λ h. e.slack (omega arith)) (λ h. e.had (omega arith))

@@ -1,10 +1,9 @@
-use Rattle.std.proofs.{Common.{ℕ, arith}, lemmas.List.{length-take, length-drop}}
+use Rattle.std.proofs.{Common.arith, lemmas.List.{length-take, length-drop}}
 use Rattle.legacy_decoder_engine.proofs.{JoinedRuns.reads_more}
 use Rattle.legacy_decoder_engine.proofs.lanes.read_short.Goals as goal
 
 pub loop-codes-smaller : goal.loop-codes-smaller
-loop-codes-smaller g c =
-    let read = c.read_front-read.ensures in omega (arith, read.goes_on c.if-not-goes_on.false, read.ahead.within, length-take {A = ℕ}, length-drop {A = ℕ})
+loop-codes-smaller g c = grind (arith, length-take, length-drop, c.read_front-read.ensures)
 
 pub loop-codes-preserved : goal.loop-codes-preserved
 loop-codes-preserved g c = reads_more c.loop-codes.invariant c.read_front-read.ensures.ahead

@@ -8,7 +8,7 @@ loop-group-preserved c =
     let l = c.loop-group in
     record {
       within = omega arith;
-      counted = omega (arith, c.put_codes-at.ensures.most, l.invariant.counted);
+      counted = omega arith;
       picked = next_eight (code_at c.args.block.now) l.group l.left l.at c.put_codes-at.result l.codes c.put_codes-at.new.codes _
           (omega arith) l.invariant.picked c.put_codes-at.ensures.written;
     }

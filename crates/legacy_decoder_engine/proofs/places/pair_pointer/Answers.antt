@@ -4,11 +4,6 @@ use Rattle.legacy_decoder_engine.proofs.places.pair_pointer.Goals as goal
 
 pub returns : goal.returns
 returns c lead_place trail_place leads trails =
-    rw (
-      c.from-2.ensures,
-      c.from-4.ensures,
-      c.from.ensures,
-      c.from-3.ensures,
-      read _ lead_place leads c.args.lead (omega arith),
-      read _ trail_place trails c.args.trail (omega arith),
-    ) refl
+    let lead = read _ lead_place leads c.args.lead (omega arith) in
+    let trail = read _ trail_place trails c.args.trail (omega arith) in
+    rw (c.from-2.ensures, c.from-4.ensures, c.from.ensures, c.from-3.ensures, lead, trail) refl

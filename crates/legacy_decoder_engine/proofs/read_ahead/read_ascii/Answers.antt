@@ -2,5 +2,4 @@ use Rattle.legacy_decoder_engine.proofs.{JoinedRuns.reads_more}
 use Rattle.legacy_decoder_engine.proofs.read_ahead.read_ascii.Goals as goal
 
 pub returns-clause-ahead : goal.returns-clause-ahead
-returns-clause-ahead g c grammar law =
-    reads_more (c.read_wide_blocks-front.ensures.ahead grammar law) (c.read_short_blocks.ensures.ahead grammar law)
+returns-clause-ahead g c grammar law = reads_more (c.read_wide_blocks-front.ensures.ahead grammar law) (c.read_short_blocks.ensures.ahead grammar law)

@@ -1,19 +1,16 @@
-use Rattle.std.proofs.{Common.{ℕ, arith}, lemmas.List.{length-take, length-drop}}
+use Rattle.std.proofs.Common.{arith}
 use Rattle.legacy_decoder_engine.proofs.{JoinedRuns.{reads_ascii, reads_more}}
 use Rattle.legacy_decoder_engine.proofs.read_ahead.read_wide_blocks.Goals as goal
 
 pub returns-then-count-lt64-clause-ahead : goal.returns-then-count-lt64-clause-ahead
 returns-then-count-lt64-clause-ahead g c grammar law =
     let e = c.put_front-count.ensures in
-    reads_more (c.loop-at.invariant.1 grammar law)
-    (reads_ascii law (omega (arith, e.read, length-take {A = ℕ}, length-drop {A = ℕ}, c.loop-at-test.true)) e.ascii e.contents e.room e.loan
-    (λ h. omega (arith, e.room, e.read, c.free.ensures, c.if-free-ge67.true)))
+    reads_more (c.loop-at.invariant.1 grammar law) (reads_ascii law (omega arith) e.ascii e.contents e.room e.loan (λ h. omega arith))
 
 pub loop-at-preserved : goal.loop-at-preserved
 loop-at-preserved g c =
     let e = c.put_front-count.ensures in (
-      omega (arith, e.read, length-take {A = ℕ}, length-drop {A = ℕ}, c.loop-at-test.true, c.loop-at.invariant.0),
+      omega arith,
       λ grammar law. reads_more (c.loop-at.invariant.1 grammar law)
-          (reads_ascii law (omega (arith, e.read, length-take {A = ℕ}, length-drop {A = ℕ}, c.loop-at-test.true)) e.ascii e.contents e.room e.loan
-          (λ h. omega (arith, e.room, e.read, c.free.ensures, c.if-free-ge67.true))),
+          (reads_ascii law (omega arith) e.ascii e.contents e.room e.loan (λ h. omega arith)),
     )
