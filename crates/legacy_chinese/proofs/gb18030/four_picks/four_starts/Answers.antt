@@ -1,4 +1,4 @@
-use Rattle.legacy_chinese.proofs.FourStarts.{asked, lowest_set}
+use Rattle.{legacy_chinese.proofs.FourStarts.asked, legacy_decoder_engine.proofs.FormStarts.lowest_set}
 use Rattle.legacy_chinese.proofs.gb18030.four_picks.four_starts.Goals as goal
 
 pub returns-then-after-fours : goal.returns-then-after-fours
