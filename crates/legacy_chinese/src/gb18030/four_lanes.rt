@@ -1,5 +1,6 @@
 //! ASCII and sequences of four bytes eight at a time, if all sequences have their scalars in one range.
-ghost use Rattle.std.specs.Prelude.{◌≡◌, ◌≢◌, ℕ, ◌+◌, ◌*◌, ◌/◌, ◌%◌, ◌<◌, ◌≤◌, List, true, cond, ltb, length, map, min, get_or, take};
+ghost use Rattle.std.specs.Prelude.{◌≡◌, ◌≢◌, ℕ, ◌+◌, ◌*◌, ◌/◌, ◌%◌, ◌<◌, ◌≤◌, All, List, true, cond, ltb, length, min, get_or, take};
+ghost use Rattle.std.specs.Char.{IsScalar};
 ghost use Rattle.legacy_tables.specs.{Indexes.{range}, RangeParts.{IsRangePart}};
 ghost use Rattle.legacy_base.specs.{Grammar.{gb18030}, States.{new_state}};
 ghost use Rattle.legacy_decoder_engine.specs.ReadAhead.{ReadsAhead, Writes};
@@ -15,8 +16,9 @@ use std::simd::prelude::*;
 
 /// Returns the places of eight codes of two bytes: of a lead and a digit, the lead low.
 #[inline(always)]
+#[tactic(auto, using(crate::proofs::FourLanes::halves_are))]
 fn half_places(codes: u16x8) -> u16x8
-    ensures { result ≡ map half_place codes }
+    ensures { (k : ℕ) → k < 8 → get_or result k 0 ≡ half_place (get_or codes k 0) }
 {
     let lead = (codes & u16x8::splat(0xFF)) - u16x8::splat(0x81);
     let digit = (codes >> u16x8::splat(8)) - u16x8::splat(0x30);
@@ -27,7 +29,7 @@ fn half_places(codes: u16x8) -> u16x8
 /// Returns the first pointers of eight places of the first two bytes. From place 52 on no pointer has a scalar up to U+FFFF.
 #[inline(always)]
 fn first_pointers(places: u16x8) -> u16x8
-    ensures { result ≡ map (λ place. 1260 * min place 52) places }
+    ensures { (k : ℕ) → k < 8 → get_or result k 0 ≡ 1260 * min (get_or places k 0) 52 }
 {
     places.simd_min(u16x8::splat(52)) * u16x8::splat(1260)
 }
@@ -49,7 +51,7 @@ fn four_pointers(front: u16x8, back: u16x8) -> u16x8
 fn part_units(part: RangePart, pointers: u16x8) -> u16x8
     requires pointers { part.first + part.count ≤ 39420 }
     requires scalars { part.scalar + part.count ≤ 0x1_0000 }
-    ensures { result ≡ map (part_unit part) pointers }
+    ensures { (k : ℕ) → k < 8 → get_or result k 0 ≡ part_unit part (get_or pointers k 0) }
 {
     let at = pointers - u16x8::splat(part.first as u16);
     let is_given = at.simd_lt(u16x8::splat(part.count as u16))
@@ -68,6 +70,7 @@ fn units_of(part: RangePart, front: u16x8, back: u16x8) -> u16x8
     requires pointers { part.first + part.count ≤ 39420 }
     requires scalars { part.scalar + part.count ≤ 0x1_0000 }
     ensures small { (k : ℕ) → k < 8 → get_or result k 0 < 0x1_0000 }
+    ensures scalars { (ranges : List (ℕ × ℕ)) → IsRangePart ranges part → All IsScalar result }
     ensures units { (ranges : List (ℕ × ℕ)) → IsRangePart ranges part → (k : ℕ) → k < 8 → get_or result k 0 ≢ 0 →
         IsFour ranges (get_or front k 0) (get_or back k 0) (get_or result k 0) }
 {
