@@ -1,7 +1,7 @@
 -- The forms that are picked at their starts are the front of the block: ASCII bytes, and sequences of four bytes.
 use Rattle.std.proofs.Common.{◌≡◌, ◌∙◌, ℕ, zero, suc, ◌+◌, ◌-◌, ◌*◌, ◌/◌, ◌%◌, ◌^◌, ◌<◌, ◌≤◌, min, List, [], ◌∷◌, ◌++◌, cond, ◌==◌}
 use Rattle.std.proofs.Common.{length, map, flat_map, take, drop, get_or, w64, inl, inr, bit_and, bit_or, bit_xor, refl, sym, ap, ap₂, arith}
-use Rattle.std.proofs.lemmas.{List.{take_more, get_or-drop, length-map, length-take-le}, Bool.{Decides.nat_tests, cases_lt}, Nat.{shr-shr, or_lt, and_le_l}}
+use Rattle.std.proofs.lemmas.{List.{length-drop, take_more, get_or-drop, length-map, length-take-le}, Bool.{Decides.nat_tests, cases_lt}, Nat.{shr-shr, or_lt, and_le_l}}
 use Rattle.std.proofs.{Common.{length-append, append_assoc, append-nil}, lemmas.Nat.Bits.{bit_at-lt, bit_at-zero, bit_at_and, bit_at_xor, bit_at_or, bit_at_ones, bit_at-trailing_zeros, bit_at-pow_other}}
 use Rattle.std.specs.Int.{bit_at, trailing_zeros}
 use Rattle.{std.proofs.Math.Seq.take-add, legacy_decoder_engine.proofs.WrittenRuns.{rest_of, take_two}}
@@ -152,3 +152,5 @@ block_picked count n m ps block fronts backs front-now back-now f b within withi
 pub forms_more : (at bytes : ℕ) (src before now : List ℕ) → before ≡ take at src → now ≡ before ++ take bytes (take (length src - at) (drop at src))
     → now ≡ take (at + bytes) src
 forms_more at bytes src before now front more = grind (arith, take-add, rest_of)
+
+pub ruleset next_forms = (forms_more, length-drop, rest_of)

@@ -280,6 +280,7 @@ impl DecoderMoves for Gb18030Decoder<'_> {
     }
 
     #[inline]
+    #[tactic(auto, using(crate::proofs::Gb18030Held::releases))]
     fn release(&mut self) -> Option<char> {
         match self.held {
             Held::Digit(digit) => {

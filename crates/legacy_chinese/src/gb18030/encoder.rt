@@ -137,6 +137,7 @@ fn far_pointer<V: EncoderTables>(tables: &V, near: &mut RangePart, c: char) -> O
 
 /// Returns the four bytes of a scalar's range pointer, if any, and keeps its range in `near`.
 #[inline(always)]
+#[tactic(auto, using(crate::proofs::Gb18030Pairs::pointer_bound))]
 fn near_range_bytes_of<V: EncoderTables>(
     tables: &V,
     near: &mut RangePart,

@@ -27,6 +27,7 @@ use std::simd::prelude::*;
 // Cold, so that the loop that calls it keeps its values in registers.
 #[cold]
 #[inline(never)]
+#[tactic(auto, using(crate::proofs::FourPlaces::range_past))]
 fn far_scalar(ranges: Ranges<'_>, guess: &Cell<usize>, pointer: usize) -> Option<char>
     requires { pointer < 0x1_0000_0000 }
     ensures { result ≡ range ranges.entry.list.now pointer }
@@ -176,6 +177,7 @@ impl LaneCodec for Gb18030 {
     }
 
     #[inline(always)]
+    #[tactic(auto, using(legacy_decoder_engine::proofs::WrittenRuns::no_bytes))]
     fn read_longer_blocks<T: Destination>(
         tables: &FlatTables<'_>,
         guess: usize,

@@ -89,6 +89,7 @@ fn form_length(code: u16) -> usize
 /// Returns the number of bytes of the first `count` forms, given the codes of their first two bytes.
 // Never inlined, because few blocks have a sequence outside of the part.
 #[inline(never)]
+#[tactic(auto, unfolding(crate::specs::FourForms::fours_of))]
 fn byte_total(front: &[u16], count: usize) -> usize
     requires { count ≤ length front.now }
     ensures { (back : List ℕ) → count ≤ length back → result ≡ length (fours_of (take count front.now) (take count back)) }
@@ -107,6 +108,7 @@ fn byte_total(front: &[u16], count: usize) -> usize
 /// It stops at one whose scalar is not in the part of the ranges, and if fewer than 35 code units are free.
 // Eight at a time, and then the last few. The lists have room for eight codes after the last form.
 #[inline(always)]
+#[tactic(auto, using(legacy_decoder_engine::proofs::WrittenRuns::writes_none), unfolding(crate::specs::FourForms::fours_of))]
 fn put_fours<T: Destination>(
     tables: &FlatTables<'_>,
     part: RangePart,

@@ -1,10 +1,6 @@
-use Rattle.std.proofs.{Common.{arith, refl}, lemmas.Bool.Decides.nat_tests}
-use Rattle.legacy_chinese.{specs.FourForms.fours_of, proofs.FourWrites.next_length}
+use Rattle.std.proofs.{Common.arith, lemmas.Bool.Decides.nat_tests}
+use Rattle.legacy_chinese.proofs.FourWrites.{next_length}
 use Rattle.legacy_chinese.proofs.gb18030.four_lanes.byte_total.Goals as goal
-
-pub loop-at-init : goal.loop-at-init
-unfolding fours_of
-loop-at-init c = record { within = omega arith; most = omega arith; counted = λ back h. refl }
 
 pub loop-at-preserved : goal.loop-at-preserved
 loop-at-preserved c =

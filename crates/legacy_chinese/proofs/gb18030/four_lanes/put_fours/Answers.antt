@@ -1,11 +1,7 @@
 use Rattle.std.proofs.{Common.{◌≡◌, length, take, arith}, lemmas.List.take_all}
-use Rattle.legacy_decoder_engine.proofs.{LaneUnits.few_units, WrittenRuns.{all_short, writes_none}}
-use Rattle.legacy_chinese.{specs.FourForms.fours_of, proofs.FourWrites.next_written}
+use Rattle.legacy_decoder_engine.proofs.{LaneUnits.few_units, WrittenRuns.all_short}
+use Rattle.legacy_chinese.proofs.FourWrites.{next_written}
 use Rattle.legacy_chinese.proofs.gb18030.four_lanes.put_fours.Goals as goal
-
-pub loop-at-init : goal.loop-at-init
-unfolding fours_of
-loop-at-init g c = grind (arith, writes_none)
 
 pub returns-then-few-lt8-clause-writes : goal.returns-then-few-lt8-clause-writes
 returns-then-few-lt8-clause-writes g c =
