@@ -1,7 +1,7 @@
 -- Forms whose codes are read eight at a time are written.
 use Rattle.std.proofs.Common.{◌≡◌, ◌≢◌, ◌∙◌, ℕ, zero, suc, ◌+◌, ◌/◌, ◌%◌, ◌<◌, ◌≤◌, cond, ltb, min, List, [], ◌∷◌, ◌++◌}
 use Rattle.std.proofs.Common.{ap, ap₂, arith, drop, get_or, length, length-append, refl, sym, take}
-use Rattle.std.proofs.lemmas.{Bool.{Decides.nat_tests}, List.{take_more, get_or-drop, length-drop, length-take, length-take-le}}
+use Rattle.std.proofs.lemmas.{Bool.{Decides.nat_tests}, List.{take_more, get_or-drop, get_or-take, length-drop, length-take, length-take-le}}
 use Rattle.std.proofs.lemmas.List.{take-take, take-append-drop}
 use Rattle.std.proofs.{Math.Seq.{take-add, take-append_seam}, lemmas.Simd.get_or-chunk}
 use lib.Lanes.{chunk}
@@ -84,3 +84,5 @@ fours_read T g done count bytes r fs bs src most long long' front is writes slac
     let read : take r src ≡ xs = rw is (sym (take-take (length xs) bytes src (omega (arith, within))) ∙ ap (take (length xs)) (sym all) ∙ take-append_seam xs ys) in
     let some : 0 < r → 0 < done = λ h. some_forms done fs bs (omega (arith, h, is)) in
     reads_front (omega (arith, is, within)) (rw read writes) (λ h. slack (some h)) (λ h. had (some h))
+
+pub ruleset counted_forms = (nat_tests, next_length, get_or-take, length-take-le)

@@ -1,15 +1,9 @@
 //! The decoder of GB18030 and GBK.
-ghost use Rattle.std.specs.Prelude.{◌≡◌, ℕ, List, ◌∷◌, [], true, length, option_to_list, IfSome};
-ghost use Rattle.std.specs.Char.{IsScalar};
+ghost use Rattle.std.specs.{Prelude.{◌≡◌, ℕ, List, ◌∷◌, [], true, length, option_to_list, IfSome}, Char.IsScalar};
 ghost use Rattle.legacy_text.specs.EncodingForm.{EncodingForm};
-ghost use Rattle.legacy_base.specs.Gb18030.{gb18030_scalars};
-ghost use Rattle.legacy_base.specs.Grammar.{gb18030};
-ghost use Rattle.legacy_base.specs.States.{is_neutral, new_state};
-ghost use Rattle.legacy_chinese.specs.Gb18030Machine.{gb18030_step};
-ghost use Rattle.legacy_base.specs.States.{state_of};
-ghost use Rattle.legacy_decoder_engine.specs.Moves.{read_room, room_units};
-ghost use Rattle.legacy_decoder_engine.specs.Feeding.{Took};
-ghost use Rattle.legacy_chinese.specs.Gb18030Held.{held_bytes, is_resting};
+ghost use Rattle.legacy_base.specs.{Gb18030.gb18030_scalars, Grammar.gb18030, States.{is_neutral, new_state, state_of}};
+ghost use Rattle.legacy_decoder_engine.specs.{Feeding.Took, Moves.{read_room, room_units}};
+ghost use Rattle.legacy_chinese.specs.{Gb18030Held.{held_bytes, is_resting}, Gb18030Machine.gb18030_step};
 
 use super::digit::Digit;
 use super::four_byte_blocks::{Gb18030, guessed_scalar};

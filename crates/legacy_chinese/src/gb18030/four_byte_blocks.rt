@@ -2,10 +2,8 @@
 // Functions that run for each sequence or block are always inlined. A call would pass vectors through memory, and keep
 // the destination's place there.
 ghost use Rattle.std.specs.Prelude.{◌*◌, ◌≡◌, ◌<◌, Some, IfSome};
-ghost use Rattle.legacy_tables.specs.Indexes.{range};
-ghost use Rattle.legacy_tables.specs.RangeParts.{IsRangePart};
-ghost use Rattle.legacy_base.specs.Grammar.{gb18030};
-ghost use Rattle.legacy_chinese.specs.Gb18030Places.{gb18030_place};
+ghost use Rattle.legacy_tables.specs.{Indexes.range, RangeParts.IsRangePart};
+ghost use Rattle.{legacy_base.specs.Grammar.gb18030, legacy_chinese.specs.Gb18030Places.gb18030_place};
 
 use super::four_lanes::read_fours;
 use super::four_places::four_pointer;

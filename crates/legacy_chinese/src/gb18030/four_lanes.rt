@@ -1,11 +1,9 @@
 //! ASCII and sequences of four bytes eight at a time, if all sequences have their scalars in one range.
 ghost use Rattle.std.specs.Prelude.{◌≡◌, ◌≢◌, ℕ, ◌+◌, ◌*◌, ◌/◌, ◌%◌, ◌<◌, ◌≤◌, All, List, true, cond, ltb, length, min, get_or, take};
 ghost use Rattle.std.specs.Char.{IsScalar};
-ghost use Rattle.legacy_tables.specs.{Indexes.{range}, RangeParts.{IsRangePart}};
-ghost use Rattle.legacy_base.specs.{Grammar.{gb18030}, States.{new_state}};
-ghost use Rattle.legacy_decoder_engine.specs.ReadAhead.{ReadsAhead, Writes};
-ghost use Rattle.legacy_chinese.specs.FourPlaces.{four_place};
-ghost use Rattle.legacy_chinese.specs.FourForms.{fours_of, half_place, part_unit, IsFour};
+ghost use Rattle.legacy_tables.specs.{Indexes.range, RangeParts.IsRangePart};
+ghost use Rattle.{legacy_base.specs.{Grammar.gb18030, States.new_state}, legacy_decoder_engine.specs.ReadAhead.{ReadsAhead, Writes}};
+ghost use Rattle.legacy_chinese.specs.{FourPlaces.four_place, FourForms.{fours_of, half_place, part_unit, IsFour}};
 
 use super::four_picks::pick_fours;
 use legacy_base::Destination;
@@ -89,16 +87,14 @@ fn form_length(code: u16) -> usize
 /// Returns the number of bytes of the first `count` forms, given the codes of their first two bytes.
 // Never inlined, because few blocks have a sequence outside of the part.
 #[inline(never)]
-#[tactic(auto, unfolding(crate::specs::FourForms::fours_of))]
+#[tactic(auto, using(crate::proofs::FourWrites::counted_forms), unfolding(crate::specs::FourForms::fours_of))]
 fn byte_total(front: &[u16], count: usize) -> usize
     requires { count ≤ length front.now }
     ensures { (back : List ℕ) → count ≤ length back → result ≡ length (fours_of (take count front.now) (take count back)) }
 {
     let mut bytes = 0;
-    let mut at = 0;
-    while at < count {
-        bytes += form_length(front[at]);
-        at += 1;
+    for code in &front[..count] {
+        bytes += form_length(*code);
     }
     bytes
 }
