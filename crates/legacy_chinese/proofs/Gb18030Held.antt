@@ -13,6 +13,7 @@ use Rattle.legacy_decoder_engine.specs.{declared.moves.Fed.TheVariants.One, Read
 use Rattle.legacy_decoder_engine.{specs.{Moves.{Reports, read_room}, Feeding.Took, Places.lead_place, Shown.IsShown}, proofs.LeadHeld.neutral_empty}
 use Rattle.legacy_decoder_engine.proofs.{RunForms.{pair_runs, four_runs, has_ascii, ascii_is}, Widths.idx_below, LanePlaces.entry_is, PairPlaces.found}
 use Rattle.legacy_tables.specs.declared.tables.IndexName.TheVariants as names
+use Rattle.legacy_decoder_engine.proofs.{JoinedRuns.reads_idle, WrittenRuns.no_bytes}
 use Rattle.legacy_decoder_engine.proofs.Feeding as moves
 
 may : (held : Held) → gb18030_may_hold (held_bytes held) ≡ true
@@ -110,3 +111,5 @@ module _ (tables : AcceptedIndexes) where
 -- a decoder that holds nothing back is idle
 pub idle : (decoder : Gb18030Decoder) → is_neutral (gb18030_state decoder) ≡ true → IsIdle (gb18030_state decoder)
 idle decoder neutral = record { empty = neutral_empty (held_bytes decoder.held) neutral; ascii = ascii decoder.tables.now }
+
+pub ruleset idle_reads = (reads_idle, idle, no_bytes)

@@ -290,7 +290,7 @@ impl DecoderMoves for Gb18030Decoder<'_> {
     }
 
     #[inline(always)]
-    #[tactic(auto, using(crate::proofs::Gb18030Held::feeds))]
+    #[tactic(auto, using(crate::proofs::Gb18030Held::feeds, crate::proofs::Gb18030Held::takes_pair))]
     fn feed(&mut self, byte: u8) -> Fed {
         if let Held::First(first) = self.held {
             if let Some(scalar) = pair_scalar(self.tables, first, byte) {
@@ -334,6 +334,7 @@ impl DecoderMoves for Gb18030Decoder<'_> {
 
     /// Holds back the first bytes of a sequence: those before the end of the input, and those that go on with held-back ones.
     #[inline(always)]
+    #[tactic(auto, using(legacy_decoder_engine::proofs::CallUnderWay::holds_none))]
     fn hold_back<T: Destination>(&mut self, src: &[u8], dst: &T) -> usize {
         if dst.free() < T::wide() {
             return 0;
@@ -351,6 +352,7 @@ impl DecoderMoves for Gb18030Decoder<'_> {
 
     // Over packed tables only ASCII is read ahead.
     #[inline(always)]
+    #[tactic(auto, using(crate::proofs::Gb18030Held::idle_reads))]
     fn read_runs<T: Destination>(&mut self, src: &[u8], dst: &mut T) -> usize {
         if !self.in_neutral_state() {
             return 0;

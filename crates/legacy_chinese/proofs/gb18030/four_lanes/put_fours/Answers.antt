@@ -12,11 +12,7 @@ returns-then-few-lt8-clause-writes g c =
     (c.units_of-units.ensures.units c.args.tables.now.flat.ranges c.requires.part) c.loop-at.invariant.writes e.contents e.room e.loan
 
 pub returns-then-few-lt8-clause-slack : goal.returns-then-few-lt8-clause-slack
-returns-then-few-lt8-clause-slack g c h =
-    let n =
-    few_units g.T.Destination.form c.min-few.result c.units_of-units.result (omega (arith, c.units_of-units.type_inv)) c.units_of-units.ensures.small
-    (omega (arith, c.if-few-lt8.true)) in
-    omega (arith, n, c.put_first.ensures.room, c.free.ensures, c.if-free-ge35.true)
+returns-then-few-lt8-clause-slack g c = grind (arith, few_units)
 
 pub loop-at-preserved : goal.loop-at-preserved
 loop-at-preserved g c =
