@@ -123,7 +123,7 @@ module _ (block : List ℕ) (past starts end : ℕ) (long : 67 ≤ length block)
             rw (one_more m i, s, ← append_assoc, taken i (omega arith), none, place) rest
         | inr four ↦
             let p : bit_at past i ≡ 1 = omega (arith, four, bit_at-lt past i) in
-            let enough : 3 ≤ m = elim (cases_lt m 3) [ | inl short ↦ absurd (omega (arith, is_end i (omega arith) (omega arith), s, p)) | inr h ↦ h ] in
+            let enough : 3 ≤ m = elim (cases_lt m 3) [ inl short ↦ absurd (omega (arith, is_end i (omega arith) (omega arith), s, p)) | inr h ↦ h ] in
             let rest = fronts fuel (m - 3) (i + 4) (omega arith) (omega arith) (λ h. are.after i (omega arith) s p) in
             let place : i + 1 + 3 * 1 ≡ i + 4 = omega arith in
             rw (four_more m (m - 3) i (omega arith) (omega arith) s p, ← append_assoc, taken i (omega arith), p, place) rest

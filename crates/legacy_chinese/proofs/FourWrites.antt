@@ -53,8 +53,8 @@ module _ (tables : AcceptedIndexes) where
       let runs =
       first_runs few (drop at front) (drop at back) us (omega (arith, length-drop at front)) (omega (arith, length-drop at back)) (omega arith)
       (λ k h.
-        rw (get_or-drop at front k 0, get_or-drop at back k 0, ← get_or-chunk at 8 front k 0 (omega arith), ← get_or-chunk at 8 back k 0 (omega arith))
-        (run_is (get_or (chunk at 8 front) k 0) (get_or (chunk at 8 back) k 0) (get_or us k 0) (fours k (omega arith) (known k h)))) in
+      rw (get_or-drop at front k 0, get_or-drop at back k 0, ← get_or-chunk at 8 front k 0 (omega arith), ← get_or-chunk at 8 back k 0 (omega arith))
+      (run_is (get_or (chunk at 8 front) k 0) (get_or (chunk at 8 back) k 0) (get_or us k 0) (fours k (omega arith) (known k h)))) in
       let same : length (take at front) ≡ length (take at back) =
       length-take-le at front (omega (arith, room)) ∙ sym (length-take-le at back (omega (arith, room'))) in
       rw (take-add at few front, take-add at few back, fours_append (take at front) (take few (drop at front)) (take at back) (take few (drop at back)) same)

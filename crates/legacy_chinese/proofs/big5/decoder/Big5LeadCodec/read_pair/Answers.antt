@@ -1,4 +1,4 @@
-use Rattle.{std.proofs.Common.{◌∷◌, [], subst, arith}, legacy_decoder_engine.{specs.{Feeding.Took, Steps.trail_step}, proofs.TwoByteMeets.is_lead-in}}
+use Rattle.{std.proofs.Common.{◌∷◌, [], subst}, legacy_decoder_engine.{specs.{Feeding.Took, Steps.trail_step}, proofs.TwoByteMeets.is_lead-in}}
 use Rattle.legacy_chinese.{specs.Big5Places.{big5_lead_place, big5_trail_place}, proofs.Big5Places.{big5_rows_are, big5_trails_are, big5_at}}
 use Rattle.legacy_chinese.proofs.big5.decoder.Big5LeadCodec.read_pair.Goals as goal
 

@@ -1,5 +1,5 @@
-use Rattle.{std.proofs.Common.arith, legacy_decoder_engine.proofs.{JoinedRuns.reads_idle, WrittenRuns.reads_none}}
-use Rattle.legacy_chinese.{specs.Gb18030Decoder.gb18030_state, proofs.Gb18030Held.{ascii, idle}}
+use Rattle.{std.proofs.Common.arith, legacy_decoder_engine.proofs.{JoinedRuns.reads_idle}}
+use Rattle.legacy_chinese.{proofs.Gb18030Held.{ascii, idle}}
 use Rattle.legacy_chinese.proofs.gb18030.decoder.Gb18030DecoderDecoderMoves.read_runs.Goals as goal
 
 pub returns-in-None : goal.returns-in-None

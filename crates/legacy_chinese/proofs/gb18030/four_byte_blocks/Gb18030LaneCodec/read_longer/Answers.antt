@@ -1,4 +1,4 @@
-use Rattle.{std.proofs.Common.{◌+◌, get_or, arith}, legacy_decoder_engine.proofs.{JoinedRuns.reads_front, WrittenRuns.{runs_byte, writes_none, writes_one}}}
+use Rattle.{std.proofs.Common.{◌+◌, get_or, arith}, legacy_decoder_engine.proofs.{JoinedRuns.reads_front, WrittenRuns.{runs_byte, writes_one}}}
 use Rattle.{legacy_decoder_engine.proofs.WrittenRuns.{writes_four, four_fit}, legacy_text.proofs.CodeUnits.code_units_ascii}
 use Rattle.legacy_chinese.proofs.{AsciiBehind.writes_behind, Gb18030Held.ascii, FourPlaces.four_at}
 use Rattle.legacy_chinese.proofs.gb18030.four_byte_blocks.Gb18030LaneCodec.read_longer.Goals as goal
