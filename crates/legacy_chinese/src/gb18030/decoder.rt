@@ -392,8 +392,6 @@ impl RawDecoder for Gb18030Decoder<'_> {
     }
 
     fn max_utf8_buffer_length(&self, byte_length: usize) -> Option<usize> {
-        self.weighted_length(byte_length)?
-            .checked_mul(3)?
-            .checked_add(1)
+        self.max_utf8_buffer_length_without_replacement(byte_length)
     }
 }
