@@ -2,7 +2,7 @@
 use Rattle.std.proofs.Common.{◌≡◌, ℕ, zero, suc, ◌+◌, ◌-◌, ◌*◌, ◌/◌, ◌%◌, ◌^◌, ◌<◌, ◌≤◌, Bool, true, cond, ltb, leb, eqb, List, [], ◌∷◌, ◌++◌, length, get_or}
 use Rattle.std.proofs.Common.{map, take, drop, replicate, bit_and, refl, sym, ap, ap₂, ◌∙◌, arith, subst, zero-add, w8, w16, Fits, ◌&&◌, mod-lt, zero-lt-suc}
 use Rattle.std.proofs.{Common.{mul_assoc, length-append}, lemmas.Bool.{leb-true, and_parts, agree_below_at}, lemmas.List.{map-append, append_assoc}}
-use Rattle.std.proofs.{lemmas.List.{length-replicate, length-take-le, take-take, take-map}, lemmas.List.FromFn.get_or-range_with_len, Math.Seq.take-append_seam}
+use Rattle.std.proofs.{lemmas.List.{length-replicate, length-take-le, take-take, take-map}, lemmas.List.FromFn.{get_or-range_with_len, get_or-map-range_with_len}, Math.Seq.take-append_seam}
 use Rattle.std.proofs.{lemmas.Nat.and_mask, lemmas.Nat.Bits.and_high, lemmas.Simd.{mask_l-lt, mask_l-mod, swz_l, SwzOk, SwzOk-from_below, Each1-get_or}}
 use Rattle.std.proofs.{lemmas.Simd.pick_l_whole, lemmas.Grind.{flat_map-append, common_steps}, lemmas.Bool.Decides.nat_tests}
 use Rattle.std.specs.{Char.encode_utf8, List.range_with_len}
@@ -134,9 +134,12 @@ pub rows_are : WRITTEN ≡ map row (range_with_len 0 256)
 unfolding row places
 rows_are = refl
 
-pub counts_are : COUNTS ≡ map (λ r. length (places 0 4 r)) (range_with_len 0 256)
+counts_are : COUNTS ≡ map (λ r. length (places 0 4 r)) (range_with_len 0 256)
 unfolding places
 counts_are = refl
+
+pub count_read : (r : ℕ) → r < 256 → get_or COUNTS r 0 ≡ length (places 0 4 r)
+count_read r h = ap (λ l. get_or l r 0) counts_are ∙ get_or-map-range_with_len (λ r. length (places 0 4 r)) 0 256 r r 0 h (zero-add r)
 
 pub each_below : (n : ℕ) (js : List ℕ) → all_below n js ≡ true → Each1 (λ j. j < n) js
 each_below n [] e = tt
