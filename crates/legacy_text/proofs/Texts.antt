@@ -25,18 +25,6 @@ utf8_stands text place c u e = record {
   is = sym (encodes-chars (drop place text) (IsUtf8-from_is_utf8 (drop place text) u)) ∙ ap encodes (first_cons (chars (drop place text)) c e);
 }
 
-pub utf8_reads : (text : List ℕ) (place c : ℕ) → place ≤ length text → is_utf8 (drop place text) ≡ true → Some c ≡ slice_get (chars (drop place text)) 0 →
-    ReadsScalar text place c (place + unit_count Utf8 c)
-utf8_reads text place c p u e =
-    let bs = drop place text in
-    let is = IsUtf8-from_is_utf8 bs u in
-    let rest = (utf8_stands text place c u e).rest in
-    let split : bs ≡ encode c ++ rest = (utf8_stands text place c u e).is in
-    let is_text = is_utf8-from_IsUtf8 rest (IsUtf8-past_char bs rest c is split) in
-    let past = drop_past_char text rest place c split in
-    let all = chars_past_char bs rest c is split in
-    grind (arith, length-encode c, ap length split, length-append (encode c) rest, length-drop place text)
-
 -- what the bytes say of the scalar c with which they begin: its number of bytes by the first, and what it is made of
 pub record ByFirst (c : ℕ) (bytes : List ℕ) : Type 0 where
   pub one : get_or bytes 0 0 < 0x80 → (unit_count Utf8 c ≡ 1) × (get_or bytes 0 0 ≡ c)
@@ -219,7 +207,15 @@ none_left (x ∷ xs) e = cc
 -- the scalar at a place, and the text after it
 pub utf8_next : (text : List ℕ) (place : ℕ) → place ≤ length text → is_utf8 (drop place text) ≡ true → 0 < length (chars (drop place text))
     → ReadsScalar text place (get_or (chars (drop place text)) 0 0) (place + unit_count Utf8 (get_or (chars (drop place text)) 0 0))
-utf8_next text place p u some = utf8_reads text place (get_or (chars (drop place text)) 0 0) p u (first_some _ some)
+utf8_next text place p u some =
+    let bs = drop place text in
+    let c = get_or (chars bs) 0 0 in
+    let is = IsUtf8-from_is_utf8 bs u in
+    let stands = utf8_stands text place c u (first_some _ some) in
+    let is_text = is_utf8-from_IsUtf8 stands.rest (IsUtf8-past_char bs stands.rest c is stands.is) in
+    let past = drop_past_char text stands.rest place c stands.is in
+    let all = chars_past_char bs stands.rest c is stands.is in
+    grind (arith, length-encode c, ap length stands.is, length-append (encode c) stands.rest, length-drop place text)
 
 pub utf16_next : (list : List ℕ) (place : ℕ) → ((i : ℕ) → get_or list i 0 < 65536) → 0 < length (unit_scalars (drop place list))
     → let c = get_or (unit_scalars (drop place list)) 0 0 in

@@ -126,10 +126,8 @@ pub trait Destination {
         ensures room { room self.new + count ≡ room self.old }
         ensures loan { loan self.new ≡ loan self.old }
     {
-        let mut at = 0;
-        while at < count {
+        for at in 0..count {
             self.put(char::from(bytes[at]));
-            at += 1;
         }
     }
 
@@ -169,10 +167,8 @@ pub trait Destination {
         ensures loan { loan self.new ≡ loan self.old }
     {
         let scalars = units.to_array();
-        let mut at = 0;
-        while at < count {
+        for at in 0..count {
             self.put(unsafe { char::from_u32_unchecked(u32::from(scalars[at])) });
-            at += 1;
         }
     }
 
