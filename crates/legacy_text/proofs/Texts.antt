@@ -168,11 +168,10 @@ utf8_ascii text place n within ascii u =
     let rest = drop place text in
     let is = IsUtf8-from_is_utf8 rest u in
     let front = IsUtf8-from_ascii (take n rest) ascii in
-    let split = ap chars (sym (take-append-drop n rest)) ∙ chars-append (take n rest) (drop n rest) front in
+    let split = chars-append (take n rest) (drop n rest) front in
     let is_text = is_utf8-from_IsUtf8 (drop n rest) (IsUtf8-drop rest n is (IsCharBoundary-from_take rest n is within front)) in
-    let own = rw (chars-IsAscii (take n rest) ascii) at split in
-    let is_front = front_of (chars rest) (take n rest) (chars (drop n rest)) n (length-take-le n rest within) own in
-    (rw (drop-drop n place text) at is_front, rw (drop-drop n place text) at is_text)
+    let is_front = front_of (chars rest) (take n rest) (chars (drop n rest)) n (length-take-le n rest within) in
+    grind (arith, take-append-drop n rest, split, chars-IsAscii (take n rest) ascii, is_text, drop-drop n place text, is_front)
 
 -- code units from a place on that are no surrogates
 pub bmp_front : (list : List ℕ) (place n : ℕ) → n ≤ length (drop place list) → ((k : ℕ) → k < n → IsNoSurrogate (get_or (drop place list) k 0))
@@ -181,8 +180,8 @@ bmp_front list place n within bmp =
     let rest = drop place list in
     let long = length-take-le n rest within in
     let own = bmp_scalars (take n rest) (drop n rest) (λ k h. grind (arith, bmp k, get_or-take)) in
-    rw (drop-drop n place list) at
-    (front_of (unit_scalars rest) (take n rest) (unit_scalars (drop n rest)) n long (ap unit_scalars (sym (take-append-drop n rest)) ∙ own))
+    let front = front_of (unit_scalars rest) (take n rest) (unit_scalars (drop n rest)) n in
+    grind (arith, take-append-drop n rest, own, drop-drop n place list, front)
 
 pub utf16_ascii : (list : List ℕ) (place n : ℕ) → n ≤ length (drop place list) → IsAscii (take n (drop place list))
     → IsFront (unit_scalars (drop place list)) (take n (drop place list)) (unit_scalars (drop (place + n) list)) n
