@@ -6,14 +6,12 @@ use Rattle.std.proofs.{lemmas.List.{length-drop, get_or_append_left, get_or-appe
 use Rattle.std.proofs.{lemmas.Nat.Bits.{bit_at_lowest, bit_at-suc, bit_at_and, bit_at_or, bit_at_not, bit_at-lt}, lemmas.List.FromFn.get_or-map-range_with_len}
 use Rattle.std.proofs.{lemmas.Grind.common_steps, lemmas.Simd.{mask_l-lt, get_or_wider, Each1-from_get_or, Each1-get_or, get_or-chunk, length-chunk}}
 use Rattle.std.proofs.lemmas.Simd.{below_from_Fits, get_or-put_chunk_below, get_or-put_chunk_at, length-put_chunk, get_or-zip2, get_or-replicate}
-use Rattle.std.proofs.lemmas.Str.{encode_ascii}
+use Rattle.std.{proofs.lemmas.Str.encode_ascii, specs.Str.is_utf8}
 use Rattle.std.specs.{List.range_with_len, Int.{bit_at, bit_not, trailing_zeros}, Simd.Lanes.{zip2, number_l, digits_l, put_chunk, chunk, Each1}, Str.chars}
-use Rattle.std.specs.Str.{is_utf8}
 use lib.Utf8.{encode}
 use Rattle.legacy_text.specs.{EncodingForm.{Utf8, unit_count}, ShortScalars.ReadsScalar, ScalarTurns.{IsStart, IsUnitAt, ReadsUnits}, UnitCodes.IsNoSurrogate}
-use Rattle.legacy_text.specs.UnitTurns.{AreNoSurrogates}
+use Rattle.legacy_text.{specs.UnitTurns.AreNoSurrogates, proofs.{Texts.by_first, ShortScalars.{stands, reads_here, reads_ascii, one_count}}}
 use Rattle.legacy_text.proofs.{Ascii.{mask_from, mask_from-is, mask_bit}, CodeUnits.{some_units, encode_2, encode_3, encode_4, total_unit_count-append}}
-use Rattle.legacy_text.proofs.{Texts.by_first, ShortScalars.{stands, reads_here, reads_ascii, one_count}}
 
 -- ---- the lowest bit
 

@@ -6,8 +6,7 @@ use Rattle.std.proofs.{lemmas.Simd.{bitmask_splat, bit_mask_l, mask_l-lt}, Math.
 use Rattle.std.specs.{Char.encode_utf8, Int.RustNames.count_ones, List.range_with_len}
 use lib.Lanes.{Each1, zip2, sel_l, mask_l, top, number_l, digits_l, all_below}
 use Rattle.legacy_text.specs.{declared.unit_rows.TheConstants.SHORT_WRITTEN, UnitBytes.{short_bytes, short_lanes, short_pattern, short_places, short_row}}
-use Rattle.legacy_text.specs.UnitBytes.{AreShort, utf8_bytes}
-use Rattle.legacy_text.proofs.UnitLanes.{of_eight, le_bytes_map, each_below}
+use Rattle.legacy_text.{specs.UnitBytes.{AreShort, utf8_bytes}, proofs.UnitLanes.{of_eight, le_bytes_map, each_below}}
 
 -- ---- two bytes of each code unit
 

@@ -1,4 +1,4 @@
-use Rattle.std.proofs.{Common.arith, lemmas.List.map-id}
+use Rattle.std.proofs.{lemmas.List.map-id}
 use Rattle.legacy_text.proofs.Ascii.{put_slice}
 use Rattle.legacy_text.proofs.destination.store_bytes.Goals as goal
 

@@ -1,6 +1,5 @@
 use Rattle.std.proofs.Common.{arith}
-use Rattle.legacy_text.specs.UnitBytes.{row, places}
-use Rattle.legacy_text.proofs.UnitLanes.{rows_are, count_read, rows_fit, row_ok, row_written}
+use Rattle.legacy_text.{specs.UnitBytes.{row, places}, proofs.UnitLanes.{rows_are, count_read, rows_fit, row_ok, row_written}}
 use Rattle.legacy_text.proofs.eight_units.put_four.Goals as goal
 
 pub swizzle : goal.swizzle

@@ -1,6 +1,5 @@
 use Rattle.std.proofs.{Common.{◌+◌, ◌*◌, arith}, lemmas.List.length-set}
-use Rattle.legacy_text.specs.ScalarTurns.{IsUnitAt}
-use Rattle.legacy_text.proofs.ScalarTurns.{filled}
+use Rattle.legacy_text.{specs.ScalarTurns.IsUnitAt, proofs.ScalarTurns.filled}
 use Rattle.legacy_text.proofs.scalar_turns.parts_at.Goals as goal
 
 pub loop-k-preserved : goal.loop-k-preserved
