@@ -1,16 +1,14 @@
 -- Forms whose codes are read eight at a time are written.
 use Rattle.std.proofs.Common.{◌≡◌, ◌≢◌, ◌∙◌, ℕ, zero, suc, ◌+◌, ◌/◌, ◌%◌, ◌<◌, ◌≤◌, cond, ltb, min, List, [], ◌∷◌, ◌++◌}
-use Rattle.std.proofs.Common.{ap, ap₂, arith, drop, get_or, length, length-append, refl, sym, take}
+use Rattle.std.proofs.{Common.{ap, ap₂, arith, drop, get_or, length, length-append, refl, sym, take}, lemmas.List.{take-take, take-append-drop}}
 use Rattle.std.proofs.lemmas.{Bool.{Decides.nat_tests}, List.{take_more, get_or-drop, get_or-take, length-drop, length-take, length-take-le}}
-use Rattle.std.proofs.lemmas.List.{take-take, take-append-drop}
 use Rattle.std.proofs.{Math.Seq.{take-add, take-append_seam}, lemmas.Simd.get_or-chunk}
 use lib.Lanes.{chunk}
 use Rattle.legacy_text.specs.{declared.destination.Destination.Ghosts, EncodingForm.{all_code_units, total_unit_count}}
 use Rattle.legacy_tables.specs.{AcceptedTables.AcceptedIndexes}
 use Rattle.legacy_base.specs.{Grammar.{Grammar, gb18030}, States.new_state}
 use Rattle.legacy_decoder_engine.{specs.ReadAhead.{Runs, Writes, ReadsAhead}, proofs.{JoinedRuns.reads_front, WrittenRuns.{runs_none, runs_more, runs_byte, writes_then}}}
-use Rattle.legacy_chinese.specs.{FourForms.{four_form, fours_of, IsFour}}
-use Rattle.legacy_chinese.proofs.{FourPlaces.four_at, FourStarts.fours_append, Gb18030Held.ascii}
+use Rattle.legacy_chinese.{specs.FourForms.{four_form, fours_of, IsFour}, proofs.{FourPlaces.four_at, FourStarts.fours_append, Gb18030Held.ascii}}
 
 -- the number of bytes of one form more
 pub next_length : (at : ℕ) (fs bs : List ℕ) → at < length fs → at < length bs
