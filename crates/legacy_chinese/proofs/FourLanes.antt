@@ -1,7 +1,7 @@
 -- The pointers and the scalars of eight sequences of four bytes, lane by lane.
 use Rattle.std.proofs.Common.{◌≡◌, ◌≢◌, ◌∙◌, ℕ, ◌+◌, ◌*◌, ◌/◌, ◌%◌, ◌^◌, ◌<◌, ◌≤◌, ◌++◌, All, leb, ltb, eqb, not, min, List, [], ◌∷◌}
 use Rattle.std.proofs.Common.{ap, arith, bit_and, get_or, length, map, refl, replicate, sym, w16, zero-add, Fits}
-use Rattle.std.proofs.{lemmas.{Bool.Decides.nat_tests, Nat.and_mask, List.get_or-map, List.get_or-replicate, List.FromFn.get_or-range_with_len}}
+use Rattle.std.proofs.{lemmas.{Bool.Decides.nat_tests, Nat.and_mask, List.get_or-map, List.get_or-replicate, List.FromFn.get_or-map-range_with_len}}
 use Rattle.std.{proofs.lemmas.{Simd.{pick_l_whole, get_or-zip2}, List.Elements.All-from_get_or}, specs.{List.range_with_len, Char.IsScalar}}
 use lib.Lanes.{Each1, zip2, sel_l, top}
 use Rattle.legacy_tables.specs.{declared.tables.ranges.RangePart.RangePart, RangeParts.IsRangePart}
@@ -80,9 +80,8 @@ sum_at high low sums e e' e'' are k h below =
     let cut : ℕ → ℕ = λ p. min p 65520 in
     let all = are 65520 (λ k. get_or high k 0) (λ k. get_or low k 0) (range_with_len 0 8) (omega arith) (by_place cut high e) (by_place cut low e') in
     let left = get_or-map cut sums k 0 0 (omega (arith, h, e'')) in
-    let right = get_or-map (λ k. cut (min (get_or high k 0 + get_or low k 0) 65535)) (range_with_len 0 8) k 0 0 (omega (arith, h)) in
-    let place : get_or (range_with_len 0 8) k 0 ≡ k = get_or-range_with_len 0 8 k 0 h ∙ zero-add k in
-    let both = rw place at (sym left ∙ ap (λ l. get_or l k 0) all ∙ right) in
+    let right = get_or-map-range_with_len (λ k. cut (min (get_or high k 0 + get_or low k 0) 65535)) 0 8 k k 0 h (zero-add k) in
+    let both = sym left ∙ ap (λ l. get_or l k 0) all ∙ right in
     omega (arith, both, below)
 
 -- ---- the units

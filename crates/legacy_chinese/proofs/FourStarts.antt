@@ -87,21 +87,8 @@ module _ (block : List ℕ) (past starts end : ℕ) (long : 67 ≤ length block)
 
   -- the form that starts at byte i has four bytes if that byte is past ASCII
   taken : (i : ℕ) → i < 64 → take i block ++ form_at block i ≡ take (i + 1 + 3 * bit_at past i) block
-  taken i h = grind (
-    arith,
-    nat_tests,
-    are_past i h,
-    take_more block i 0,
-    take_two block i,
-    take_two block (i + 2),
-    append_assoc,
-    get_or-drop 2 block i 0,
-    get_or-drop 2 block (i + 1) 0,
-    small i,
-    small (i + 1),
-    small (i + 2),
-    small (i + 3),
-  )
+  taken i h =
+      grind (arith, nat_tests, are_past i h, take_more block i 0, take_two block i, take_two block (i + 2), append_assoc, get_or-drop 2 block, small)
 
   four_more : (n m i : ℕ) → n ≡ suc (suc (suc m)) → i < 63 → bit_at starts i ≡ 1 → bit_at past i ≡ 1 → forms (suc n) i ≡ form_at block i ++ forms m (i + 4)
   four_more n m i e h s p =

@@ -199,9 +199,7 @@ impl LaneCodec for Gb18030 {
             return None;
         }
         let pointer = four_pointer(src[0], src[1], src[2], src[3]);
-        let Some(scalar) = guessed_scalar(tables.ranges(), guess, pointer) else {
-            return None;
-        };
+        let scalar = guessed_scalar(tables.ranges(), guess, pointer)?;
         Some((scalar, 4))
     }
 
