@@ -47,16 +47,10 @@ whole_end past starts n small are is =
     let lowest = rw (← is) at (bit_at-trailing_zeros w64 y some fits) in
     let most : n ≤ 3 = grind (arith, lowest.2 3, three) in (
       most,
-      λ i below close. elim (cases_lt i 61) [
-        | inl early ↦
-            let e : i + (n + 61 - i) ≡ n + 61 = omega arith in
-            let none = rw e at (near past starts i (n + 61 - i) are) in
-            grind (arith, bit_at_or, moved x 61 n, bit_at_and, bit_at-lt, bit_at-pow_other 3 n, lowest.1, none)
-        | inr late ↦
-            let e : i - 61 + 61 ≡ i = omega arith in
-            let none = rw e at (moved x 61 (i - 61)) in
-            grind (arith, bit_at_or, none, bit_at_and, lowest.2 (i - 61))
-      ],
+      λ i below close.
+          let e : i + (n + 61 - i) ≡ n + 61 = omega arith in
+          let none = rw e at (near past starts i (n + 61 - i) are) in
+          grind (arith, nat_tests, bit_at_or, moved x 61 n, moved x 61 (i - 61), bit_at_and, bit_at-lt, bit_at-pow_other 3 n, lowest.1, lowest.2 (i - 61), none),
     )
 
 -- ---- lists of codes
@@ -128,9 +122,8 @@ pub block_picked : (count n m : ℕ) (ps block fronts backs front-now back-now :
     → fours_of (take n front-now) (take n back-now) ≡ fours_of (take count fronts) (take count backs) ++ flat_map (form_at block) ps
 block_picked count n m ps block fronts backs front-now back-now f b within within' e e' =
     let same : m ≡ n = omega (arith, long fronts front-now n (code_at block) f within e, long backs back-now m (code_at (drop 2 block)) b within' e') in
-    let behind = rw same at e' in
-    let equal : length (take count fronts) ≡ length (take count backs) = length-take-le count fronts f ∙ sym (length-take-le count backs b) in
-    rw (e, behind, fours_append (take count fronts) _ (take count backs) _ equal, fours_map) refl
+    let equal : length (take count fronts) ≡ length (take count backs) = grind (arith, length-take-le) in
+    rw (e, rw same at e', fours_append (take count fronts) _ (take count backs) _ equal, fours_map) refl
   where
     long : (old now : List ℕ) (n : ℕ) (g : ℕ → ℕ) → count ≤ length old → n ≤ length now → take n now ≡ take count old ++ map g ps → n ≡ count + length ps
     long old now n g h h' e = let all = ap length e in grind (arith, length-take-le, length-append, length-map, all)

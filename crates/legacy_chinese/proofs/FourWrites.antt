@@ -15,7 +15,7 @@ pub next_length : (at : ℕ) (fs bs : List ℕ) → at < length fs → at < leng
     → length (fours_of (take (at + 1) fs) (take (at + 1) bs)) ≡ length (fours_of (take at fs) (take at bs)) + cond (ltb (get_or fs at 0 % 256) 128) 1 4
 unfolding fours_of
 next_length at fs bs h h' =
-    let same : length (take at fs) ≡ length (take at bs) = length-take-le at fs (omega (arith, h)) ∙ sym (length-take-le at bs (omega (arith, h'))) in
+    let same : length (take at fs) ≡ length (take at bs) = grind (arith, length-take-le) in
     let one = fours_append (take at fs) (get_or fs at 0 ∷ []) (take at bs) (get_or bs at 0 ∷ []) same in
     grind (arith, nat_tests, take_more fs at 0, take_more bs at 0, one, length-append)
 
@@ -53,8 +53,7 @@ module _ (tables : AcceptedIndexes) where
       (λ k h.
       rw (get_or-drop at front k 0, get_or-drop at back k 0, ← get_or-chunk at 8 front k 0 (omega arith), ← get_or-chunk at 8 back k 0 (omega arith))
       (run_is (get_or (chunk at 8 front) k 0) (get_or (chunk at 8 back) k 0) (get_or us k 0) (fours k (omega arith) (known k h)))) in
-      let same : length (take at front) ≡ length (take at back) =
-      length-take-le at front (omega (arith, room)) ∙ sym (length-take-le at back (omega (arith, room'))) in
+      let same : length (take at front) ≡ length (take at back) = grind (arith, length-take-le) in
       rw (take-add at few front, take-add at few back, fours_append (take at front) (take few (drop at front)) (take at back) (take few (drop at back)) same)
       (writes_then T before (record { scalars = take few us; runs = runs; written = contents; room = room-is; loan = loan }))
 
@@ -71,15 +70,12 @@ pub fours_read : {D : Type 0} (T : Ghosts D) (g : Grammar) (done count bytes r :
 fours_read T g done count bytes r fs bs src most long long' front is writes slack had =
     let xs = fours_of (take done fs) (take done bs) in
     let ys = fours_of (drop done (take count fs)) (drop done (take count bs)) in
-    let whole : (l : List ℕ) → take done l ++ drop done (take count l) ≡ take count l =
-    λ l. ap (λ (k : List ℕ). k ++ drop done (take count l)) (sym (take-take done count l most)) ∙ take-append-drop done (take count l) in
-    let same : length (take done fs) ≡ length (take done bs) =
-    length-take-le done fs (omega (arith, most, long)) ∙ sym (length-take-le done bs (omega (arith, most, long'))) in
-    let all : xs ++ ys ≡ take bytes src =
-    sym (fours_append (take done fs) (drop done (take count fs)) (take done bs) (drop done (take count bs)) same)
-    ∙ ap₂ fours_of (whole fs) (whole bs) ∙ front in
+    let same : length (take done fs) ≡ length (take done bs) = grind (arith, length-take-le) in
+    let both = fours_append (take done fs) (drop done (take count fs)) (take done bs) (drop done (take count bs)) same in
+    let whole = λ (l : List ℕ). take-append-drop done (take count l) in
+    let all : xs ++ ys ≡ take bytes src = grind (arith, both, whole fs, whole bs, take-take done count fs, take-take done count bs) in
     let within : length xs ≤ min bytes (length src) = omega (arith, length-append xs ys, ap length all, length-take bytes src) in
-    let read : take r src ≡ xs = rw is (sym (take-take (length xs) bytes src (omega (arith, within))) ∙ ap (take (length xs)) (sym all) ∙ take-append_seam xs ys) in
+    let read : take r src ≡ xs = grind (arith, all, take-take (length xs) bytes src, take-append_seam xs ys) in
     let some : 0 < r → 0 < done = λ h. some_forms done fs bs (omega (arith, h, is)) in
     reads_front (omega (arith, is, within)) (rw read writes) (λ h. slack (some h)) (λ h. had (some h))
 
