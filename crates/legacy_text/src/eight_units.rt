@@ -130,6 +130,7 @@ pub fn first_units(units: u16x8, count: usize) -> u16x8
 /// Returns the place after the text.
 // The text of each of the others is one byte, of U+0000.
 #[inline(always)]
+#[tactic(auto, using(crate::proofs::UnitLanes::first_stored))]
 pub(crate) fn put_first_units(dst: &mut [u8], at: usize, units: u16x8, count: usize) -> usize
     requires room { at + 32 ≤ length dst.old }
     requires count { count ≤ 8 }

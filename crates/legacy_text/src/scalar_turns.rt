@@ -113,6 +113,7 @@ fn units_at(bytes: &[u8], place: usize) -> [u16; 33]
 
 /// Returns the places among the next 32 at which scalars begin, as bits.
 #[inline(always)]
+#[tactic(auto, using(crate::proofs::ScalarTurns::starts_here))]
 fn starts_at(bytes: &[u8], place: usize) -> u32
     requires { place + 32 ≤ length bytes.now }
     ensures { (k : ℕ) → k < 32 → (bit_at result k ≡ 1) ↔ IsStart (slice_index bytes.now (place + k)) }
