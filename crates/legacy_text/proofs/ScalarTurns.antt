@@ -150,15 +150,12 @@ units_more : (text : List ℕ) (start : ℕ) (units : List ℕ) (place c behind 
 units_more text start units place c behind unit before r is = record {
   is_text = r.is_text;
   within = r.within;
-  front = λ bmp. grind (arith, is (last bmp), before.front (firsts bmp), r.left, append_assoc);
-  passed = λ bmp. grind (arith, is (last bmp), before.passed (firsts bmp), r.passed, total_unit_count-append, one_count);
+  front = λ bmp. let own = both bmp in grind (arith, is own.1, before.front own.0, r.left, append_assoc);
+  passed = λ bmp. let own = both bmp in grind (arith, is own.1, before.passed own.0, r.passed, total_unit_count-append, one_count);
 }
   where
-    firsts : AreNoSurrogates (units ++ unit ∷ []) → AreNoSurrogates units
-    firsts bmp k h = grind (arith, get_or_append_left, bmp k, length-append)
-
-    last : AreNoSurrogates (units ++ unit ∷ []) → IsNoSurrogate unit
-    last bmp = subst IsNoSurrogate (get_or-append-add units (unit ∷ []) 0 0) (bmp (length units + 0) (omega (arith, length-append units (unit ∷ []))))
+    both : AreNoSurrogates (units ++ unit ∷ []) → AreNoSurrogates units × IsNoSurrogate unit
+    both bmp = (λ k h. grind (arith, get_or_append_left, bmp k, length-append), grind (arith, bmp (length units + 0), get_or-append-add, length-append))
 
 -- code units were read up to the lowest bit, and the bits from there on say where scalars begin
 pub record StandsBehind (text : List ℕ) (start : ℕ) (units : List ℕ) (bits : ℕ) : Type 0 where

@@ -115,7 +115,7 @@ cut_pair u v list left place n p e h = grind arith
 
 pub utf16_cut : (list taken left : List ℕ) → Bounded list → unit_scalars list ≡ taken ++ left → CutUnits list left (length (all_code_units Utf16 taken))
 utf16_cut list [] left b e = grind arith
-utf16_cut [] (c ∷ taken) left b e = let n : unit_scalars [] ≡ [] = ap (map replaced) utf16_chars-nil in let f : [] ≡ c ∷ (taken ++ left) = sym n ∙ e in cc
+utf16_cut [] (c ∷ taken) left b e = grind (arith, utf16_chars-nil)
 utf16_cut (u ∷ []) (c ∷ taken) left b e =
     grind (arith, scalars_lone (u ∷ []) 0, unpaired_bound u (b 0), utf16_1 c, cut_lone u [] left, utf16_cut [] taken left (λ i. b (suc i)))
 utf16_cut (u ∷ v ∷ list) (c ∷ taken) left b e =
