@@ -50,9 +50,6 @@ short_rows_fit r h =
 
 -- ---- the bytes that are written are the text
 
-digit : (s : Bool) (m : ℕ) → (eqb ((cond s 1 0 + 2 * m) % 2) 1 ≡ s) × ((cond s 1 0 + 2 * m) / 2 ≡ m)
-digit s m = grind arith
-
 short_unit : (u a b : ℕ) → u < 2048 → a ≡ short_bytes u % 256 → b ≡ short_bytes u / 256 → cond (ltb u 128) (a ∷ []) (a ∷ b ∷ []) ≡ encode_utf8 u
 unfolding encode_utf8
 short_unit u a b small p q = grind arith
@@ -62,7 +59,6 @@ short_text : (f : ℕ → ℕ) (base : ℕ) (us : List ℕ) → All (λ u. u < 2
 unfolding short_places short_pattern
 short_text f base [] small reads = refl
 short_text f base (u ∷ us) small reads =
-    let d = digit (ltb u 128) (short_pattern us) in
     let rest = short_text f (base + 2) us (λ k d' h. small (suc k) d' (omega arith)) (λ k.
     let at : base + 2 + k ≡ base + suc (suc k) = omega arith in
     rw at (reads (suc (suc k)))) in

@@ -172,16 +172,12 @@ module _ (js : List ℕ) (within : Each1 (λ j. j < 16) (take 16 (js ++ replicat
 
 -- ---- the bytes that are written are the text
 
-digit : (s t : Bool) (m : ℕ) → ((cond s 1 0 + 2 * (cond t 1 0 + 2 * m)) % 4 ≡ cond s 1 0 + 2 * cond t 1 0) × ((cond s 1 0 + 2 * (cond t 1 0 + 2 * m)) / 4 ≡ m)
-digit s t m = (grind arith, grind arith)
-
 -- `f` reads the lanes of these code units from a place on
 pub text_written : (f : ℕ → ℕ) (base : ℕ) (us : List ℕ) → Each1 (λ u. u < 65536) us → ((k : ℕ) → f (base + k) ≡ get_or (lanes us) k 0) →
     map f (places base (length us) (pattern us)) ≡ utf8_bytes us
 unfolding places pattern
 text_written f base [] small reads = refl
 text_written f base (u ∷ us) small reads =
-    let d = digit (ltb u 128) (ltb u 2048) (mask_l (flags us)) in
     let rest = text_written f (base + 4) us small.1 (λ k.
     let at : base + 4 + k ≡ base + suc (suc (suc (suc k))) = omega arith in
     rw at (reads (suc (suc (suc (suc k)))))) in
