@@ -7,7 +7,6 @@ loop-k-preserved c =
     let k = c.loop-k.k in
     let at = c.args.place + k in
     let r = c.unit_parts-low.result in
-    let fits = c.type_inv.bytes at in
     let here : IsUnitAt c.args.bytes.now at (r.0 + 256 * r.1) =
     grind (arith, c.turned_at-firsts.ensures k, c.tails_at-seconds.ensures k, c.tails_at-thirds.ensures k, c.unit_parts-low.ensures) in
     grind (arith, length-set, filled (λ j unit. IsUnitAt c.args.bytes.now (c.args.place + j) unit) c.loop-k.lows c.loop-k.highs k r.0 r.1)
