@@ -6,9 +6,6 @@ pub swizzle : goal.swizzle
 unfolding row
 swizzle c = rw (c.row_of-row.ensures row rows_are) (row_ok (places 0 4 c.args.pattern) (rows_fit c.args.pattern c.requires.within).0)
 
-pub overflow_add-result : goal.overflow_add-result
-overflow_add-result c = grind (arith, rows_fit c.args.pattern, count_read c.args.pattern)
-
 pub returns-clause-most : goal.returns-clause-most
 returns-clause-most c = grind (arith, rows_fit c.args.pattern, count_read c.args.pattern)
 
