@@ -1,6 +1,6 @@
 -- Bits that say where scalars begin, and the scalars of one and three bytes of UTF-8 between them.
 use Rattle.std.proofs.{lemmas.Bool.Decides.nat_tests, Common.{◌≡◌, ◌↔◌, ◌∙◌, ℕ, zero, suc, ◌+◌, ◌-◌, ◌*◌, ◌/◌, ◌%◌, ◌^◌, ◌≤◌, ◌<◌, List, [], ◌∷◌, ◌++◌, length}}
-use Rattle.std.proofs.Common.{get_or, true, max, min, map, take, drop, replicate, refl, ap, ap₂, sym, subst, arith, append_assoc, length-append, add-zero, slice_set}
+use Rattle.std.proofs.Common.{get_or, true, max, min, map, take, drop, replicate, refl, ap, ap₂, sym, arith, append_assoc, length-append, add-zero, slice_set}
 use Rattle.std.proofs.{Common.{w8, w32, Fits, bit_and, bit_or, cond, leb}, lemmas.Bool.cases_lt, lemmas.List.{get_or-set_same, get_or-set_other, get_or_past}}
 use Rattle.std.proofs.{lemmas.List.{length-drop, get_or_append_left, get_or-append-add, get_or-drop, length-map}, lemmas.Nat.Bits.bit_at-trailing_zeros}
 use Rattle.std.proofs.{lemmas.Nat.Bits.{bit_at_lowest, bit_at-suc, bit_at_and, bit_at_or, bit_at_not, bit_at-lt}, lemmas.List.FromFn.get_or-map-range_with_len}

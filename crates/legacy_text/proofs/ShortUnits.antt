@@ -1,5 +1,5 @@
 -- Code units below 0x800.
-use Rattle.std.proofs.Common.{◌≡◌, ℕ, suc, ◌+◌, ◌-◌, ◌*◌, ◌/◌, ◌%◌, ◌^◌, ◌<◌, Bool, true, cond, ltb, eqb, List, [], ◌∷◌, length, get_or, map, replicate}
+use Rattle.std.proofs.Common.{◌≡◌, ℕ, suc, ◌+◌, ◌-◌, ◌*◌, ◌/◌, ◌%◌, ◌^◌, ◌<◌, true, cond, ltb, eqb, List, [], ◌∷◌, length, get_or, map, replicate}
 use Rattle.std.proofs.{Common.{bit_and, refl, sym, ap, zero-add, ◌∙◌, ◌&&◌, arith, w16, Fits, All}, lemmas.Bool.{and_parts, eqb-true, agree_below_at}}
 use Rattle.std.proofs.{lemmas.Bool.Decides.nat_tests, lemmas.Grind.common_steps, lemmas.List.{map-append, length-map}, lemmas.Nat.and_mask}
 use Rattle.std.proofs.{lemmas.Simd.{bitmask_splat, bit_mask_l, mask_l-lt}, Math.ListN.get_or-map, lemmas.Nat.Bits.bit_at_ones}

@@ -1,6 +1,6 @@
 -- Eight code units that a destination writes at once, none of them a surrogate.
 use Rattle.std.proofs.Common.{◌≡◌, ◌∙◌, ℕ, zero, suc, ◌+◌, ◌-◌, ◌≤◌, ◌<◌, List, [], ◌∷◌, ◌++◌, length, take, get_or, refl, ap, ap₂, arith, append-nil}
-use Rattle.std.proofs.{Common.{append_assoc, length-append, w16, Fits}, lemmas.List.{get_or-take, take_more, length-take, length-take-le, flat_map_more, take_all}}
+use Rattle.std.proofs.{Common.{append_assoc, length-append, w16, Fits}, lemmas.List.{get_or-take, length-take, length-take-le, flat_map_more, take_all}}
 use Rattle.std.proofs.{lemmas.List.get_or_past, lemmas.Grind.common_steps, lemmas.Bool.cases_lt, lemmas.Simd.{Each1-get_or, below_from_Fits}}
 use lib.Lanes.{Each1}
 use Rattle.legacy_text.specs.EncodingForm.{Utf16, all_code_units}
@@ -26,4 +26,4 @@ pub ruleset eight_steps = (common_steps, take_all)
 
 pub ruleset first_steps = (common_steps, append-nil, append_assoc, length-code_units-bmp, unit-below, flat_map_more, total_unit_count-append)
 
-pub ruleset ascii_steps = (common_steps, code_units_ascii, append_assoc, take_more, get_or-take)
+pub ruleset ascii_steps = (common_steps, code_units_ascii, append_assoc)

@@ -1,5 +1,5 @@
-use Rattle.std.proofs.{lemmas.Grind.common_steps, Common.{add-zero, arith}}
-use Rattle.legacy_text.proofs.ShortScalars.{scalars_none, scalars_append}
+use Rattle.std.proofs.{Common.{arith}}
+use Rattle.legacy_text.proofs.ShortScalars.{scalars_append}
 use Rattle.legacy_text.proofs.short_scalars.copy_short_scalars.Goals as goal
 
 pub returns-then-is_ascii-clause-writes : goal.returns-then-is_ascii-clause-writes

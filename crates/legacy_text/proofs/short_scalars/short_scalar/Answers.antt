@@ -1,4 +1,4 @@
-use Rattle.std.proofs.Common.{◌≡◌, ◌+◌, ◌%◌, get_or, arith}
+use Rattle.std.proofs.Common.{arith}
 use Rattle.legacy_text.proofs.ShortScalars.{reads_ascii, reads_pair}
 use Rattle.legacy_text.proofs.short_scalars.short_scalar.Goals as goal
 
