@@ -1,5 +1,5 @@
 -- The entry of index Big5 at the sum of a lead's place and a trail's place.
-use Rattle.std.proofs.{Common.{◌≡◌, ℕ, ◌+◌, ◌≤◌, List, [], ◌∷◌, length, cond, refl, arith, Some}, lemmas.Bool.Decides.nat_tests}
+use Rattle.std.proofs.{Common.{◌≡◌, ℕ, ◌+◌, [], ◌∷◌, cond, refl, arith, Some}, lemmas.Bool.Decides.nat_tests}
 use Rattle.legacy_tables.{specs.{Indexes.idx, AcceptedTables.AcceptedIndexes, Unicode.IsByte}, proofs.Accepted.{length-big5, entry-used}}
 use Rattle.{legacy_base.specs.{Big5.big5_scalars, States.is_lead, Grammar.big5}, legacy_decoder_engine.specs.{ReadAhead.{HasAscii, Runs}, Places.IsTableOf}}
 use Rattle.{legacy_decoder_engine.proofs.{LeadHeld.{ascii, pair}, PairPlaces.{none_past, pair_entry}}, legacy_chinese.specs.Big5Shown.big5_codec}
@@ -15,10 +15,10 @@ pub big5_trails_are : IsTableOf big5_trail_place TRAILS
 unfolding big5_trail_place
 big5_trails_are = refl
 
-pub big5_at : (index : List ℕ) → length index ≤ 65535 → (lead trail : ℕ) →
-    big5_scalars index (big5_lead_place lead + big5_trail_place trail) ≡ cond (is_lead lead) (big5_pair_scalars index lead trail) []
+pub big5_at : (tables : AcceptedIndexes) (lead trail : ℕ) → big5_scalars tables.flat.big5 (big5_lead_place lead + big5_trail_place trail)
+    ≡ cond (is_lead lead) (big5_pair_scalars tables.flat.big5 lead trail) []
 unfolding big5_lead_place big5_trail_place
-big5_at index short lead trail = grind (arith, pair_entry, none_past, nat_tests)
+big5_at tables lead trail = grind (arith, pair_entry, none_past, nat_tests, length-big5 tables.flat tables.accepted)
 
 pub big5_ascii : (tables : AcceptedIndexes) → HasAscii (big5 tables.flat.big5)
 big5_ascii = ascii big5_codec
@@ -27,9 +27,7 @@ big5_ascii = ascii big5_codec
 pub big5_runs : (tables : AcceptedIndexes) (lead trail c : ℕ) → IsByte lead → IsByte trail →
     Some c ≡ idx tables.flat.big5 (big5_lead_place lead + big5_trail_place trail) → Runs (big5 tables.flat.big5) (lead ∷ trail ∷ []) (c ∷ [])
 big5_runs tables lead trail c byte byte' e =
-    let index = tables.flat.big5 in
     let p = big5_lead_place lead + big5_trail_place trail in
-    let short : length index ≤ 65535 = let most = length-big5 tables.flat tables.accepted in omega arith in
     let used = entry-used tables.flat tables.accepted names.Big5 p c e in
     let run = pair big5_codec tables lead trail c byte byte' in
-    grind (arith, big5_at index short lead trail, scalar_at tables names.Big5 p c, run)
+    grind (arith, big5_at tables lead trail, scalar_at tables names.Big5 p c, run)

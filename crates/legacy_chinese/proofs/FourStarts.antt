@@ -1,9 +1,8 @@
 -- The forms that are picked at their starts are the front of the block: ASCII bytes, and sequences of four bytes.
-use Rattle.std.proofs.Common.{◌≡◌, ◌∙◌, ℕ, zero, suc, ◌+◌, ◌-◌, ◌*◌, ◌/◌, ◌%◌, ◌^◌, ◌<◌, ◌≤◌, min, List, [], ◌∷◌, ◌++◌, Bool, true, false, cond, ltb}
+use Rattle.std.proofs.Common.{◌≡◌, ◌∙◌, ℕ, zero, suc, ◌+◌, ◌-◌, ◌*◌, ◌/◌, ◌%◌, ◌^◌, ◌<◌, ◌≤◌, min, List, [], ◌∷◌, ◌++◌, cond, ◌==◌}
 use Rattle.std.proofs.Common.{length, map, flat_map, take, drop, get_or, w64, inl, inr, bit_and, bit_or, bit_xor, refl, sym, ap, ap₂, arith}
-use Rattle.std.proofs.Common.{length-append, append_assoc, append-nil}
-use Rattle.std.proofs.lemmas.{List.{take_more, get_or-drop, length-map, length-take-le}, Bool.{Decides.nat_tests, cases_lt}, Nat.{shr-shr, or_lt, and_le_l}}
-use Rattle.std.proofs.lemmas.Nat.Bits.{bit_at-lt, bit_at-zero, bit_at_and, bit_at_xor, bit_at_or, bit_at_ones, bit_at-trailing_zeros, bit_at-pow_other}
+use Rattle.std.proofs.lemmas.{List.{length-drop, take_more, get_or-drop, length-map, length-take-le}, Bool.{Decides.nat_tests, cases_lt}, Nat.{shr-shr, or_lt, and_le_l}}
+use Rattle.std.proofs.{Common.{length-append, append_assoc, append-nil}, lemmas.Nat.Bits.{bit_at-lt, bit_at-zero, bit_at_and, bit_at_xor, bit_at_or, bit_at_ones, bit_at-trailing_zeros, bit_at-pow_other}}
 use Rattle.std.specs.Int.{bit_at, trailing_zeros}
 use Rattle.{std.proofs.Math.Seq.take-add, legacy_decoder_engine.proofs.WrittenRuns.{rest_of, take_two}}
 use Rattle.legacy_decoder_engine.specs.PickedForms.{places, code_at, ArePast}
@@ -28,31 +27,13 @@ asked past starts first next inner after = record {
       grind (arith, bit_at_and, moved starts 4 i, bit_at_ones 60 i below, bit_at-lt, both);
 }
 
-pub lowest_set : (n : ℕ) → bit_at (bit_or n 1) 0 ≡ 1
-lowest_set n = rw bit_at_or (omega (arith, bit_at-lt n 0))
-
--- no form of four bytes starts at one of the three bytes before a start
-near_start : (past starts i m : ℕ) → AreFourStarts past starts → i < m → m < i + 4 → m < 64 → bit_at starts m ≡ 1 → min (bit_at starts i) (bit_at past i) ≡ 0
-near_start past starts i m are behind near within start = elim (cases_lt (bit_at starts i) 1) [
-  | inl none ↦ omega (arith, none)
-  | inr some ↦
-      elim (cases_lt (bit_at past i) 1) [
-        | inl none ↦ omega (arith, none)
-        | inr both ↦
-            let s : bit_at starts i ≡ 1 = omega (arith, some, bit_at-lt starts i) in
-            let p : bit_at past i ≡ 1 = omega (arith, both, bit_at-lt past i) in
-            let next = are.next i (omega arith) s in
-            let inner = are.inner i s p in
-            elim (cases_lt m (i + 2)) [
-              | inl one ↦ let e : m ≡ i + 1 = omega arith in absurd (omega (arith, rw e at start, next, p))
-              | inr two ↦
-                  elim (cases_lt m (i + 3)) [
-                    | inl second ↦ let e : m ≡ i + 2 = omega arith in absurd (omega (arith, rw e at start, inner.0))
-                    | inr third ↦ let e : m ≡ i + 3 = omega arith in absurd (omega (arith, rw e at start, inner.1))
-                  ]
-            ]
-      ]
-]
+-- no form starts at one of the three bytes after the start of a form of four bytes
+near : (past starts i j : ℕ) → AreFourStarts past starts → i < 63 → bit_at starts i ≡ 1 → bit_at past i ≡ 1 → 0 < j → j < 4 → bit_at starts (i + j) ≡ 0
+near past starts i (suc zero) are h s p some few = omega (arith, are.next i h s, p)
+near past starts i (suc (suc zero)) are h s p some few = (are.inner i s p).0
+near past starts i (suc (suc (suc zero))) are h s p some few = (are.inner i s p).1
+near past starts i zero are h s p some few = absurd (omega (arith, some))
+near past starts i (suc (suc (suc (suc j)))) are h s p some few = absurd (omega (arith, few))
 
 -- the bytes of the forms that end in a block
 pub whole_end : (past starts n : ℕ) → starts < 2 ^ 64 → AreFourStarts past starts → n ≡ trailing_zeros w64 (bit_or (bit_and starts past / 2 ^ 61) 8)
@@ -64,23 +45,12 @@ whole_end past starts n small are is =
     let some : 0 < y = grind (arith, bit_at-zero 3, three) in
     let fits : y < 2 ^ 64 = or_lt 64 (x / 2 ^ 61) 8 (omega (arith, and_le_l starts past, small)) (omega arith) in
     let lowest = rw (← is) at (bit_at-trailing_zeros w64 y some fits) in
-    let most : n ≤ 3 = grind (arith, lowest.2 3, three) in
-    let moved-bit : (j : ℕ) → bit_at (x / 2 ^ 61) j ≡ min (bit_at starts (j + 61)) (bit_at past (j + 61)) =
-    λ j. moved x 61 j ∙ bit_at_and starts past (j + 61) in (
+    let most : n ≤ 3 = grind (arith, lowest.2 3, three) in (
       most,
-      λ i below near. elim (cases_lt i 61) [
-        | inl early ↦
-            let one : bit_at y n ≡ 1 = lowest.1 in
-            let none : bit_at 8 n ≡ 0 = bit_at-pow_other 3 n (λ e. omega (arith, e, early, near)) in
-            let start : bit_at starts (n + 61) ≡ 1 = grind (arith, bit_at_or, moved-bit n, bit_at-lt) in
-            near_start past starts i (n + 61) are (omega (arith, early)) (omega (arith, near)) (omega (arith, early, near)) start
-        | inr late ↦
-            let j = i - 61 in
-            let e : j + 61 ≡ i = omega arith in
-            let zero-bit : bit_at y j ≡ 0 = lowest.2 j (omega arith) in
-            let none : min (bit_at starts (j + 61)) (bit_at past (j + 61)) ≡ 0 = grind (arith, bit_at_or, moved-bit j, zero-bit) in
-            rw e at none
-      ],
+      λ i below close.
+          let e : i + (n + 61 - i) ≡ n + 61 = omega arith in
+          let none = rw e at (near past starts i (n + 61 - i) are) in
+          grind (arith, nat_tests, bit_at_or, moved x 61 n, moved x 61 (i - 61), bit_at_and, bit_at-lt, bit_at-pow_other 3 n, lowest.1, lowest.2 (i - 61), none),
     )
 
 -- ---- lists of codes
@@ -105,96 +75,45 @@ module _ (block : List ℕ) (past starts end : ℕ) (long : 67 ≤ length block)
   abbrev forms : ℕ → ℕ → List ℕ
   forms n i = flat_map (form_at block) (places i n (starts / 2 ^ i))
 
-  -- no form starts at byte i
-  skipped : (m i : ℕ) → bit_at starts i ≡ 0 → forms (suc m) i ≡ forms m (i + 1)
+  one_more : (m i : ℕ) → forms (suc m) i ≡ cond (bit_at starts i == 1) (form_at block i) [] ++ forms m (i + 1)
   unfolding places
-  skipped m i none = let half = shr-shr starts i 1 in grind (arith, nat_tests)
-
-  started : (m i : ℕ) → bit_at starts i ≡ 1 → forms (suc m) i ≡ form_at block i ++ forms m (i + 1)
-  unfolding places
-  started m i some = let half = shr-shr starts i 1 in grind (arith, nat_tests)
+  one_more m i = let half = shr-shr starts i 1 in grind (arith, nat_tests)
 
   -- the form that starts at byte i has four bytes if that byte is past ASCII
-  taken : (i : ℕ) (rest : List ℕ) → i < 64 → take (i + 0) block ++ (form_at block i ++ rest) ≡ take (i + 1 + 3 * bit_at past i) block ++ rest
-  taken i rest h =
-      let behind : (j : ℕ) → get_or (drop 2 block) j 0 ≡ get_or block (2 + j) 0 = λ j. get_or-drop 2 block j 0 in
-      let first : code_at block i % 256 ≡ get_or block i 0 = omega (arith, small i, small (i + 1)) in
-      let second : code_at block i / 256 ≡ get_or block (i + 1) 0 = omega (arith, small i, small (i + 1)) in
-      let third : code_at (drop 2 block) i % 256 ≡ get_or block (2 + i) 0 =
-      rw (behind i, behind (i + 1)) (omega (arith, small (2 + i), small (2 + (i + 1)))) in
-      let fourth : code_at (drop 2 block) i / 256 ≡ get_or block (2 + (i + 1)) 0 =
-      rw (behind i, behind (i + 1)) (omega (arith, small (2 + i), small (2 + (i + 1)))) in
-      let none : i + 0 ≡ i = omega arith in
-      rw (first, second, third, fourth, none, are_past i h) (go (ltb (get_or block i 0) 128))
-    where
-      go : (t : Bool) → take i block ++ (cond t (get_or block i 0 ∷ [])
-          (get_or block i 0 ∷ get_or block (i + 1) 0 ∷ get_or block (2 + i) 0 ∷ get_or block (2 + (i + 1)) 0 ∷ []) ++ rest)
-          ≡ take (i + 1 + 3 * cond t 0 1) block ++ rest
-      go true =
-          let e : i + 1 + 3 * 0 ≡ i + 1 = omega arith in
-          rw (e, take_more block i 0 (omega arith)) (sym (append_assoc (take i block) (get_or block i 0 ∷ []) rest))
-      go false =
-          let e : i + 1 + 3 * 1 ≡ i + 2 + 2 = omega arith in
-          let two : i + 2 ≡ 2 + i = omega arith in
-          let three : 2 + i + 1 ≡ 2 + (i + 1) = omega arith in
-          rw (e, take_two block (i + 2) (omega arith), take_two block i (omega arith), two, three, append_assoc, append_assoc) refl
+  taken : (i : ℕ) → i < 64 → take i block ++ form_at block i ≡ take (i + 1 + 3 * bit_at past i) block
+  taken i h =
+      grind (arith, nat_tests, are_past i h, take_more block i 0, take_two block i, take_two block (i + 2), append_assoc, get_or-drop 2 block, small)
 
-  -- a form of four bytes ends before the end
-  room_left : (m i : ℕ) → i + suc m ≡ end → bit_at starts i ≡ 1 → 3 * bit_at past i ≤ m
-  room_left m i e is = elim (cases_lt m 3) [
-    | inl few ↦ let none = is_end i (omega (arith, e)) (omega (arith, e, few)) in omega (arith, none, is, bit_at-lt past i)
-    | inr enough ↦ omega (arith, enough, bit_at-lt past i)
-  ]
+  four_more : (n m i : ℕ) → n ≡ suc (suc (suc m)) → i < 63 → bit_at starts i ≡ 1 → bit_at past i ≡ 1 → forms (suc n) i ≡ form_at block i ++ forms m (i + 4)
+  four_more n m i e h s p =
+      let none = λ (j : ℕ). near past starts i j are h s p in
+      rw e (grind (arith, one_more (suc (suc (suc m))) i, one_more (suc (suc m)) (i + 1), one_more (suc m) (i + 2), one_more m (i + 3), none 1, none 2, none 3))
 
-  no_start : (i j : ℕ) → i < 63 → bit_at starts i ≡ 1 → j < 3 * bit_at past i → bit_at starts (i + 1 + j) ≡ 0
-  no_start i j h is below =
-      let p : bit_at past i ≡ 1 = omega (arith, below, bit_at-lt past i) in
-      let inner = are.inner i is p in
-      let next = are.next i h is in
-      elim (cases_lt j 1) [
-        | inl nought ↦ let e : i + 1 + j ≡ i + 1 = omega arith in rw e (omega (arith, next, p))
-        | inr more ↦
-            elim (cases_lt j 2) [
-              | inl one ↦ let e : i + 1 + j ≡ i + 2 = omega arith in rw e inner.0
-              | inr two ↦ let e : i + 1 + j ≡ i + 3 = omega (arith, below, p) in rw e inner.1
-            ]
-      ]
-
-  next_start : (i : ℕ) → i + 1 + 3 * bit_at past i < 64 → bit_at starts i ≡ 1 → bit_at starts (i + 1 + 3 * bit_at past i) ≡ 1
-  next_start i h is = elim (cases_lt (bit_at past i) 1) [
-    | inl ascii ↦
-        let e : i + 1 + 3 * bit_at past i ≡ i + 1 = omega (arith, ascii) in
-        rw e (omega (arith, ascii, are.next i (omega (arith, h)) is))
-    | inr past-ascii ↦
-        let p : bit_at past i ≡ 1 = omega (arith, past-ascii, bit_at-lt past i) in
-        let e : i + 1 + 3 * bit_at past i ≡ i + 4 = omega (arith, p) in
-        rw e (are.after i (omega (arith, h, p)) is p)
-  ]
-
-  -- the forms from byte i on; k bytes from there on belong to the form before them
-  fronts : (n i k : ℕ) → i + n ≡ end → k ≤ n → ((j : ℕ) → j < k → bit_at starts (i + j) ≡ 0) → (k < n → bit_at starts (i + k) ≡ 1)
-      → take (i + k) block ++ forms n i ≡ take end block
+  -- the forms from a start on
+  fronts : (fuel n i : ℕ) → n ≤ fuel → i + n ≡ end → (0 < n → bit_at starts i ≡ 1) → take i block ++ forms n i ≡ take end block
   unfolding places
-  fronts zero i k e room zeros here = append-nil (take (i + k) block) ∙ ap (λ n. take n block) (omega arith)
-  fronts (suc m) i zero e room zeros here =
-      let same : i + 0 ≡ i = omega arith in
-      let is : bit_at starts i ≡ 1 = rw same at (here (omega arith)) in
-      let k = 3 * bit_at past i in
-      rw (started m i is, taken i (forms m (i + 1)) (omega arith))
-      (fronts m (i + 1) k (omega (arith, e)) (room_left m i e is) (λ j h. no_start i j (omega (arith, h, room_left m i e is, e, most)) is h)
-      (λ h. next_start i (omega (arith, h, e, most)) is))
-  fronts (suc m) i (suc k) e room zeros here =
-      let same : i + 0 ≡ i = omega arith in
-      let none : bit_at starts i ≡ 0 = rw same at (zeros 0 (omega arith)) in
-      let place : i + suc k ≡ i + 1 + k = omega arith in
-      rw (place, skipped m i none)
-      (fronts m (i + 1) k (omega (arith, e)) (omega arith) (λ j h. let p : i + 1 + j ≡ i + suc j = omega arith in rw p (zeros (suc j) (omega (arith, h))))
-      (λ h. rw place at (here (omega (arith, h)))))
+  fronts fuel zero i few e is = append-nil (take i block) ∙ ap (λ n. take n block) (omega arith)
+  fronts zero (suc m) i few e is = elim few [ ]
+  fronts (suc fuel) (suc m) i few e is =
+      let s = is (omega arith) in
+      elim (cases_lt (bit_at past i) 1) [
+        | inl ascii ↦
+            let rest = fronts fuel m (i + 1) (omega arith) (omega arith) (λ h. omega (arith, are.next i (omega (arith, h)) s, ascii)) in
+            let none : bit_at past i ≡ 0 = omega (arith, ascii) in
+            let place : i + 1 + 3 * 0 ≡ i + 1 = omega arith in
+            rw (one_more m i, s, ← append_assoc, taken i (omega arith), none, place) rest
+        | inr four ↦
+            let p : bit_at past i ≡ 1 = omega (arith, four, bit_at-lt past i) in
+            let enough : 3 ≤ m = elim (cases_lt m 3) [ inl short ↦ absurd (omega (arith, is_end i (omega arith) (omega arith), s, p)) | inr h ↦ h ] in
+            let rest = fronts fuel (m - 3) (i + 4) (omega arith) (omega arith) (λ h. are.after i (omega arith) s p) in
+            let place : i + 1 + 3 * 1 ≡ i + 4 = omega arith in
+            rw (four_more m (m - 3) i (omega arith) (omega arith) s p, ← append_assoc, taken i (omega arith), p, place) rest
+      ]
 
   pub picked : flat_map (form_at block) (places 0 end starts) ≡ take end block
   picked =
       let whole : starts / 1 ≡ starts = omega arith in
-      rw whole at (fronts end 0 0 (omega arith) (omega arith) (λ j h. absurd (omega (arith, h))) (λ h. are.first))
+      rw whole at (fronts end end 0 (omega arith) (omega arith) (λ h. are.first))
 
 -- the codes of a block's forms, after those before them
 pub block_picked : (count n m : ℕ) (ps block fronts backs front-now back-now : List ℕ) → count ≤ length fronts → count ≤ length backs
@@ -202,19 +121,16 @@ pub block_picked : (count n m : ℕ) (ps block fronts backs front-now back-now :
     → take m back-now ≡ take count backs ++ map (code_at (drop 2 block)) ps
     → fours_of (take n front-now) (take n back-now) ≡ fours_of (take count fronts) (take count backs) ++ flat_map (form_at block) ps
 block_picked count n m ps block fronts backs front-now back-now f b within within' e e' =
-    let first : n ≡ count + length ps = sym (length-take-le n front-now within) ∙ ap length e ∙ long fronts f (code_at block) in
-    let second : m ≡ count + length ps = sym (length-take-le m back-now within') ∙ ap length e' ∙ long backs b (code_at (drop 2 block)) in
-    let same : m ≡ n = second ∙ sym first in
-    let behind : take n back-now ≡ take count backs ++ map (code_at (drop 2 block)) ps = ap (λ k. take k back-now) (sym same) ∙ e' in
-    rw (e, behind) (fours_append (take count fronts) _ (take count backs) _ (length-take-le count fronts f ∙ sym (length-take-le count backs b))
-    ∙ ap (λ l. fours_of (take count fronts) (take count backs) ++ l) (fours_map block ps))
+    let same : m ≡ n = omega (arith, long fronts front-now n (code_at block) f within e, long backs back-now m (code_at (drop 2 block)) b within' e') in
+    let equal : length (take count fronts) ≡ length (take count backs) = grind (arith, length-take-le) in
+    rw (e, rw same at e', fours_append (take count fronts) _ (take count backs) _ equal, fours_map) refl
   where
-    long : (old : List ℕ) → count ≤ length old → (g : ℕ → ℕ) → length (take count old ++ map g ps) ≡ count + length ps
-    long old h g = length-append (take count old) (map g ps) ∙ ap₂ (λ a b. a + b) (length-take-le count old h) (length-map ps g)
+    long : (old now : List ℕ) (n : ℕ) (g : ℕ → ℕ) → count ≤ length old → n ≤ length now → take n now ≡ take count old ++ map g ps → n ≡ count + length ps
+    long old now n g h h' e = let all = ap length e in grind (arith, length-take-le, length-append, length-map, all)
 
 -- the forms so far, and those of the next bytes
 pub forms_more : (at bytes : ℕ) (src before now : List ℕ) → before ≡ take at src → now ≡ before ++ take bytes (take (length src - at) (drop at src))
     → now ≡ take (at + bytes) src
-forms_more at bytes src before now front more =
-    more ∙ ap (λ (l : List ℕ). l ++ take bytes (take (length src - at) (drop at src))) front
-    ∙ ap (λ (l : List ℕ). take at src ++ take bytes l) (rest_of src at) ∙ sym (take-add at bytes src)
+forms_more at bytes src before now front more = grind (arith, take-add, rest_of)
+
+pub ruleset next_forms = (forms_more, length-drop, rest_of)

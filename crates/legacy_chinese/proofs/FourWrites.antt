@@ -1,30 +1,23 @@
 -- Forms whose codes are read eight at a time are written.
-use Rattle.std.proofs.Common.{◌≡◌, ◌≢◌, ◌∙◌, ℕ, zero, suc, ◌+◌, ◌/◌, ◌%◌, ◌<◌, ◌≤◌, All, cond, ltb, Bool, true, false, List, [], ◌∷◌, ◌++◌}
-use Rattle.std.proofs.Common.{ap, ap₂, arith, drop, get_or, length, length-append, refl, sym, take}
-use Rattle.std.proofs.lemmas.{Bool.{Decides.nat_tests}, List.{take_more, get_or-drop, length-drop, length-take, length-take-le}}
-use Rattle.std.proofs.lemmas.List.{take-take, take-append-drop, Elements.All-from_get_or}
-use Rattle.std.{proofs.{Math.Seq.{take-add, take-append_seam}, lemmas.Simd.get_or-chunk}, specs.Char.IsScalar}
+use Rattle.std.proofs.Common.{◌≡◌, ◌≢◌, ◌∙◌, ℕ, zero, suc, ◌+◌, ◌/◌, ◌%◌, ◌<◌, ◌≤◌, cond, ltb, min, List, [], ◌∷◌, ◌++◌}
+use Rattle.std.proofs.{Common.{ap, ap₂, arith, drop, get_or, length, length-append, refl, sym, take}, lemmas.List.{take-take, take-append-drop}}
+use Rattle.std.proofs.lemmas.{Bool.{Decides.nat_tests}, List.{take_more, get_or-drop, get_or-take, length-drop, length-take, length-take-le}}
+use Rattle.std.proofs.{Math.Seq.{take-add, take-append_seam}, lemmas.Simd.get_or-chunk}
 use lib.Lanes.{chunk}
 use Rattle.legacy_text.specs.{declared.destination.Destination.Ghosts, EncodingForm.{all_code_units, total_unit_count}}
 use Rattle.legacy_tables.specs.{AcceptedTables.AcceptedIndexes}
-use Rattle.legacy_base.specs.Grammar.{Grammar, gb18030}
-use Rattle.legacy_decoder_engine.{specs.ReadAhead.{Runs, Writes}, proofs.WrittenRuns.{runs_none, runs_more, runs_byte, writes_then}}
-use Rattle.legacy_chinese.specs.{FourForms.{four_form, fours_of, IsFour}}
-use Rattle.legacy_chinese.proofs.{FourPlaces.four_at, FourStarts.fours_append, Gb18030Held.ascii}
+use Rattle.legacy_base.specs.{Grammar.{Grammar, gb18030}, States.new_state}
+use Rattle.legacy_decoder_engine.{specs.ReadAhead.{Runs, Writes, ReadsAhead}, proofs.{JoinedRuns.reads_front, WrittenRuns.{runs_none, runs_more, runs_byte, writes_then}}}
+use Rattle.legacy_chinese.{specs.FourForms.{four_form, fours_of, IsFour}, proofs.{FourPlaces.four_at, FourStarts.fours_append, Gb18030Held.ascii}}
 
 -- the number of bytes of one form more
 pub next_length : (at : ℕ) (fs bs : List ℕ) → at < length fs → at < length bs
     → length (fours_of (take (at + 1) fs) (take (at + 1) bs)) ≡ length (fours_of (take at fs) (take at bs)) + cond (ltb (get_or fs at 0 % 256) 128) 1 4
 unfolding fours_of
 next_length at fs bs h h' =
-    let same : length (take at fs) ≡ length (take at bs) = length-take-le at fs (omega (arith, h)) ∙ sym (length-take-le at bs (omega (arith, h'))) in
-    rw (take_more fs at 0 h, take_more bs at 0 h', fours_append (take at fs) (get_or fs at 0 ∷ []) (take at bs) (get_or bs at 0 ∷ []) same)
-    (length-append (fours_of (take at fs) (take at bs)) _ ∙ ap (λ n. length (fours_of (take at fs) (take at bs)) + n) (go (ltb (get_or fs at 0 % 256) 128)))
-  where
-    go : (t : Bool) → length (cond t (get_or fs at 0 % 256 ∷ [])
-        (get_or fs at 0 % 256 ∷ get_or fs at 0 / 256 ∷ get_or bs at 0 % 256 ∷ get_or bs at 0 / 256 ∷ []) ++ []) ≡ cond t 1 4
-    go true = refl
-    go false = refl
+    let same : length (take at fs) ≡ length (take at bs) = grind (arith, length-take-le) in
+    let one = fours_append (take at fs) (get_or fs at 0 ∷ []) (take at bs) (get_or bs at 0 ∷ []) same in
+    grind (arith, nat_tests, take_more fs at 0, take_more bs at 0, one, length-append)
 
 module _ (tables : AcceptedIndexes) where
   abbrev g : Grammar
@@ -47,53 +40,43 @@ module _ (tables : AcceptedIndexes) where
   first_runs (suc n) (f ∷ fs) [] us p q r each = absurd (omega arith)
   first_runs (suc n) (f ∷ fs) (b ∷ bs) [] p q r each = absurd (omega arith)
 
-  -- eight units, of the codes from a place on
-  module _ (at : ℕ) (front back us : List ℕ) (room : at + 8 ≤ length front) (room' : at + 8 ≤ length back) (long : length us ≡ 8)
-      (fours : (k : ℕ) → k < 8 → get_or us k 0 ≢ 0
-      → IsFour tables.flat.ranges (get_or (chunk at 8 front) k 0) (get_or (chunk at 8 back) k 0) (get_or us k 0)) where
-    run_at : (k : ℕ) → k < 8 → get_or us k 0 ≢ 0 → Runs g (four_form (get_or (drop at front) k 0) (get_or (drop at back) k 0)) (get_or us k 0 ∷ [])
-    run_at k h some =
-        rw (get_or-drop at front k 0, get_or-drop at back k 0, ← get_or-chunk at 8 front k 0 h, ← get_or-chunk at 8 back k 0 h)
-        (run_is (get_or (chunk at 8 front) k 0) (get_or (chunk at 8 back) k 0) (get_or us k 0) (fours k h some))
-
-    -- units that are 0 or scalars are scalars
-    pub known_scalars : All IsScalar us
-    known_scalars = All-from_get_or IsScalar us 0 (λ k h. grind (arith, nat_tests, run_at k))
-
-    -- the first of the units are written, after those before them
-    pub next_written : {D : Type 0} (T : Ghosts D) (few : ℕ) {x y z : D} → few ≤ 8 → ((k : ℕ) → k < few → get_or us k 0 ≢ 0)
-        → Writes T g (fours_of (take at front) (take at back)) x y → T.contents z ≡ T.contents y ++ all_code_units T.form (take few us)
-        → T.room z + total_unit_count T.form (take few us) ≡ T.room y → T.loan z ≡ T.loan y
-        → Writes T g (fours_of (take (at + few) front) (take (at + few) back)) x z
-    next_written T few most known before contents room-is loan =
-        let runs =
-        first_runs few (drop at front) (drop at back) us (omega (arith, length-drop at front)) (omega (arith, length-drop at back)) (omega arith)
-        (λ k h. run_at k (omega arith) (known k h)) in
-        let long-fronts : length (take at front) ≡ length (take at back) =
-        length-take-le at front (omega (arith, room)) ∙ sym (length-take-le at back (omega (arith, room'))) in
-        let both = fours_append (take at front) (take few (drop at front)) (take at back) (take few (drop at back)) long-fronts in
-        rw (take-add at few front, take-add at few back, both)
-        (writes_then T before (record { scalars = take few us; runs = runs; written = contents; room = room-is; loan = loan }))
-
--- the forms of fewer codes are also the front of the input
-pub front_fours : (done count bytes : ℕ) (fs bs src : List ℕ) → done ≤ count → count ≤ length fs → count ≤ length bs
-    → fours_of (take count fs) (take count bs) ≡ take bytes src
-    → take (length (fours_of (take done fs) (take done bs))) src ≡ fours_of (take done fs) (take done bs)
-front_fours done count bytes fs bs src most long long' front =
-    let xs = fours_of (take done fs) (take done bs) in
-    let ys = fours_of (drop done (take count fs)) (drop done (take count bs)) in
-    let whole : (l : List ℕ) → take done l ++ drop done (take count l) ≡ take count l =
-    λ l. ap (λ (k : List ℕ). k ++ drop done (take count l)) (sym (take-take done count l most)) ∙ take-append-drop done (take count l) in
-    let same : length (take done fs) ≡ length (take done bs) =
-    length-take-le done fs (omega (arith, most, long)) ∙ sym (length-take-le done bs (omega (arith, most, long'))) in
-    let all : xs ++ ys ≡ take bytes src =
-    sym (fours_append (take done fs) (drop done (take count fs)) (take done bs) (drop done (take count bs)) same)
-    ∙ ap₂ fours_of (whole fs) (whole bs) ∙ front in
-    let within : length xs ≤ bytes = omega (arith, length-append xs ys, ap length all, length-take bytes src) in
-    sym (take-take (length xs) bytes src within) ∙ ap (take (length xs)) (sym all) ∙ take-append_seam xs ys
+  -- the first of eight units are written, of the codes from a place on, after those before them
+  pub next_written : {D : Type 0} (T : Ghosts D) (at few : ℕ) (front back us : List ℕ) {x y z : D} → few ≤ 8 → at + 8 ≤ length front → at + 8 ≤ length back
+      → length us ≡ 8 → ((k : ℕ) → k < few → get_or us k 0 ≢ 0)
+      → ((k : ℕ) → k < 8 → get_or us k 0 ≢ 0 → IsFour tables.flat.ranges (get_or (chunk at 8 front) k 0) (get_or (chunk at 8 back) k 0) (get_or us k 0))
+      → Writes T g (fours_of (take at front) (take at back)) x y → T.contents z ≡ T.contents y ++ all_code_units T.form (take few us)
+      → T.room z + total_unit_count T.form (take few us) ≡ T.room y → T.loan z ≡ T.loan y
+      → Writes T g (fours_of (take (at + few) front) (take (at + few) back)) x z
+  next_written T at few front back us most room room' long known fours before contents room-is loan =
+      let runs =
+      first_runs few (drop at front) (drop at back) us (omega (arith, length-drop at front)) (omega (arith, length-drop at back)) (omega arith)
+      (λ k h.
+      rw (get_or-drop at front k 0, get_or-drop at back k 0, ← get_or-chunk at 8 front k 0 (omega arith), ← get_or-chunk at 8 back k 0 (omega arith))
+      (run_is (get_or (chunk at 8 front) k 0) (get_or (chunk at 8 back) k 0) (get_or us k 0) (fours k (omega arith) (known k h)))) in
+      let same : length (take at front) ≡ length (take at back) = grind (arith, length-take-le) in
+      rw (take-add at few front, take-add at few back, fours_append (take at front) (take few (drop at front)) (take at back) (take few (drop at back)) same)
+      (writes_then T before (record { scalars = take few us; runs = runs; written = contents; room = room-is; loan = loan }))
 
 -- where bytes were read, forms were
-pub some_forms : (n : ℕ) (fs bs : List ℕ) → 0 < length (fours_of (take n fs) (take n bs)) → 0 < n
+some_forms : (n : ℕ) (fs bs : List ℕ) → 0 < length (fours_of (take n fs) (take n bs)) → 0 < n
 unfolding fours_of
 some_forms zero fs bs h = h
 some_forms (suc n) fs bs h = omega arith
+
+-- the bytes of the first codes are read, if the forms of some more are the front of the input
+pub fours_read : {D : Type 0} (T : Ghosts D) (g : Grammar) (done count bytes r : ℕ) (fs bs src : List ℕ) {x y : D} → done ≤ count
+    → count ≤ length fs → count ≤ length bs → fours_of (take count fs) (take count bs) ≡ take bytes src → r ≡ length (fours_of (take done fs) (take done bs))
+    → Writes T g (fours_of (take done fs) (take done bs)) x y → (0 < done → 3 ≤ T.room y) → (0 < done → 4 ≤ T.room x) → ReadsAhead T (new_state g) src r x y
+fours_read T g done count bytes r fs bs src most long long' front is writes slack had =
+    let xs = fours_of (take done fs) (take done bs) in
+    let ys = fours_of (drop done (take count fs)) (drop done (take count bs)) in
+    let same : length (take done fs) ≡ length (take done bs) = grind (arith, length-take-le) in
+    let both = fours_append (take done fs) (drop done (take count fs)) (take done bs) (drop done (take count bs)) same in
+    let whole = λ (l : List ℕ). take-append-drop done (take count l) in
+    let all : xs ++ ys ≡ take bytes src = grind (arith, both, whole fs, whole bs, take-take done count fs, take-take done count bs) in
+    let within : length xs ≤ min bytes (length src) = omega (arith, length-append xs ys, ap length all, length-take bytes src) in
+    let read : take r src ≡ xs = grind (arith, all, take-take (length xs) bytes src, take-append_seam xs ys) in
+    let some : 0 < r → 0 < done = λ h. some_forms done fs bs (omega (arith, h, is)) in
+    reads_front (omega (arith, is, within)) (rw read writes) (λ h. slack (some h)) (λ h. had (some h))
+
+pub ruleset counted_forms = (nat_tests, next_length, get_or-take, length-take-le)

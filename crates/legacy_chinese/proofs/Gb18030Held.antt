@@ -2,17 +2,18 @@
 use Rattle.std.proofs.Common.{◌≡◌, ◌≢◌, ◌∙◌, ℕ, ◌+◌, ◌/◌, ◌%◌, ◌<◌, ◌≤◌, List, [], ◌∷◌, length, get_or, true, false, refl, sym, ap, arith, Some}
 use Rattle.std.{proofs.lemmas.{Bool.Decides.nat_tests, List.Elements.{All-nil, All-cons}}, specs.{Prelude.option_to_list, Char.{IsScalar, is_ascii_digit}}}
 use Rattle.{legacy_text.specs.EncodingForm.{EncodingForm, wide_room}, legacy_tables.specs.{Unicode.{IsByte, AreBytes}, Indexes.{idx, range}}}
-use Rattle.legacy_tables.{specs.AcceptedTables.AcceptedIndexes, proofs.Accepted.{gb18030-below, gb18030-scalars, length-gb18030, range-scalar}}
+use Rattle.legacy_tables.{specs.AcceptedTables.AcceptedIndexes, proofs.Accepted.{gb18030-below, gb18030-scalars, range-scalar}}
 use Rattle.legacy_base.specs.{Calls.IsMalformedByte, Gb18030.{gb18030_scalars, gb18030_range_pointer}, States.{is_lead, gb18030_may_hold, is_neutral, rests}}
 use Rattle.legacy_base.specs.{States.{DecoderState, state_of}, Grammar.{Grammar, gb18030, events_of}}
 use Rattle.legacy_chinese.specs.declared.gb18030.{decoder.{Gb18030Decoder.Gb18030Decoder, Held.{Held, TheVariants.Nothing}}, digit.Digit.Digit as HeldDigit}
 use Rattle.legacy_chinese.specs.{Gb18030Decoder.gb18030_state, Gb18030Machine.{gb18030_step, gb18030_machine}, Gb18030Held.{held_bytes, is_resting}}
-use Rattle.legacy_chinese.{specs.Gb18030Places.{gb18030_place, gb18030_trail_place}, proofs.{Gb18030Places.gb18030_entry, EntryScalars.scalar_at}}
+use Rattle.legacy_chinese.{specs.Gb18030Places.{gb18030_place, gb18030_trail_place}, proofs.{Gb18030Places.{gb18030_entry, short}, EntryScalars.scalar_at}}
 use Rattle.{legacy_chinese.proofs.Gb18030Shown.{lead_other, gb18030_shown}, legacy_decoder_engine.specs.declared.{held_lead.Lead.Lead, moves.Fed.Fed}}
 use Rattle.legacy_decoder_engine.specs.{declared.moves.Fed.TheVariants.One, ReadAhead.{Runs, HasAscii, IsIdle, IsPair}, Moves.{IsCovered, Feeds, Releases}}
 use Rattle.legacy_decoder_engine.{specs.{Moves.{Reports, read_room}, Feeding.Took, Places.lead_place, Shown.IsShown}, proofs.LeadHeld.neutral_empty}
 use Rattle.legacy_decoder_engine.proofs.{RunForms.{pair_runs, four_runs, has_ascii, ascii_is}, Widths.idx_below, LanePlaces.entry_is, PairPlaces.found}
 use Rattle.legacy_tables.specs.declared.tables.IndexName.TheVariants as names
+use Rattle.legacy_decoder_engine.proofs.{JoinedRuns.reads_idle, WrittenRuns.no_bytes}
 use Rattle.legacy_decoder_engine.proofs.Feeding as moves
 
 may : (held : Held) → gb18030_may_hold (held_bytes held) ≡ true
@@ -25,9 +26,6 @@ are_bytes held = grind (arith, nat_tests, All-nil, All-cons)
 
 trail_not_digit : (index : List ℕ) (lead trail c : ℕ) → gb18030_scalars index lead trail ≡ c ∷ [] → is_ascii_digit trail ≡ false
 trail_not_digit index lead trail c e = grind (arith, nat_tests)
-
-short : (tables : AcceptedIndexes) → length tables.flat.gb18030 ≤ 65535
-short tables = let most = length-gb18030 tables.flat tables.accepted in omega arith
 
 module _ (tables : AcceptedIndexes) where
   abbrev g : Grammar
@@ -90,7 +88,7 @@ module _ (tables : AcceptedIndexes) where
       option_to_list (idx tables.flat.gb18030 (lead_place lead + gb18030_trail_place trail)) ≡ c ∷ [] → IsPair g lead trail c
   pair_at lead trail c byte byte' e =
       let index = tables.flat.gb18030 in
-      let both = found (is_lead lead) (gb18030_scalars index lead trail) c (sym e ∙ gb18030_entry index (short tables) lead trail) in
+      let both = found (is_lead lead) (gb18030_scalars index lead trail) c (sym e ∙ gb18030_entry tables lead trail) in
       let run = pair_runs shown lead trail c byte byte' (scalar_at tables names.Gb18030 _ c e) in
       (idx_below index _ c (gb18030-below tables.flat tables.accepted) e, grind (arith, trail_not_digit index lead trail c, lead_other, run))
 
@@ -113,3 +111,5 @@ module _ (tables : AcceptedIndexes) where
 -- a decoder that holds nothing back is idle
 pub idle : (decoder : Gb18030Decoder) → is_neutral (gb18030_state decoder) ≡ true → IsIdle (gb18030_state decoder)
 idle decoder neutral = record { empty = neutral_empty (held_bytes decoder.held) neutral; ascii = ascii decoder.tables.now }
+
+pub ruleset idle_reads = (reads_idle, idle, no_bytes)

@@ -1,11 +1,9 @@
 -- The bytes of the codes of Big5.
-use Rattle.std.proofs.Common.{ℕ, ◌≢◌, ◌+◌, ◌*◌, ◌/◌, ◌%◌, List, refl, arith, nat_lt}
-use Rattle.std.specs.Prelude.{if◌then◌else◌}
+use Rattle.std.{proofs.Common.{ℕ, ◌≢◌, ◌+◌, ◌*◌, ◌/◌, ◌%◌, List, refl, arith, nat_lt}, specs.Prelude.if◌then◌else◌}
 use Rattle.legacy_tables.specs.Pointers.{big5_pointer_of}
 use Rattle.legacy_base.specs.Big5.{big5_code, big5_bytes}
 use Rattle.legacy_base.specs.Encoders.{big5}
-use Rattle.legacy_encoder_engine.specs.PairCodecs.{IsPairCodec}
-use Rattle.legacy_encoder_engine.proofs.PairAnswers.{by_pointers}
+use Rattle.legacy_encoder_engine.{specs.PairCodecs.IsPairCodec, proofs.PairAnswers.by_pointers}
 
 -- Big5 is a codec of ASCII and pairs, with any index
 pub big5_pairs : (index : List ℕ) → IsPairCodec (big5 index)

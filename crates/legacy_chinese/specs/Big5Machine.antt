@@ -1,6 +1,5 @@
 -- The scalars of the pairs of Big5.
-use Rattle.std.specs.Prelude.{ℕ, List, []}
-use Rattle.std.specs.Option.{option_map_or}
+use Rattle.std.specs.{Prelude.{ℕ, List, []}, Option.option_map_or}
 use Rattle.legacy_base.specs.Big5.{big5_scalars, big5_pointer}
 
 -- the scalars of a lead and a trail, if they have a pointer with scalars

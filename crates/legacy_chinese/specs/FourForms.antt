@@ -1,6 +1,6 @@
 -- ASCII bytes and sequences of four bytes of gb18030, by the codes of their first two and their last two bytes.
 use Rattle.std.specs.Prelude.{◌≡◌, ℕ, ◌+◌, ◌-◌, ◌/◌, ◌%◌, ◌<◌, ◌≤◌, ◌&&◌, List, [], ◌∷◌, ◌++◌, Some, cond, ltb, leb, eqb, not, min, drop}
-use Rattle.std.specs.Int.{bit_at}
+use Rattle.std.specs.{Int.bit_at, Char.IsScalar}
 use Rattle.legacy_tables.specs.{declared.tables.ranges.RangePart.RangePart, Indexes.range}
 use Rattle.legacy_decoder_engine.specs.PickedForms.{code_at}
 use Rattle.legacy_chinese.specs.FourPlaces.{lead_part, digit_part, four_place}
@@ -41,4 +41,5 @@ part_unit part p = cond (leb part.first p && ltb p (part.first + part.count) && 
 -- a unit is the scalar of the form that two codes begin with
 pub record IsFour (ranges : List (ℕ × ℕ)) (front back unit : ℕ) : Type 0 where
   pub ascii : front % 256 < 128 → unit ≡ front % 256
+  pub scalar : IsScalar unit
   pub four : 128 ≤ front % 256 → range ranges (four_place (front % 256) (front / 256) (back % 256) (back / 256)) ≡ Some unit

@@ -1,7 +1,6 @@
 -- The pointer of a four-byte sequence of gb18030, as a sum of parts of its bytes (Encoding Standard, "gb18030 decoder").
 -- A byte that is not allowed there has a part past all pointers.
-use Rattle.std.specs.Prelude.{ℕ, ◌+◌, ◌-◌, ◌*◌, if◌then◌else◌}
-use Rattle.std.specs.Char.{is_ascii_digit}
+use Rattle.std.specs.{Prelude.{ℕ, ◌+◌, ◌-◌, ◌*◌, if◌then◌else◌}, Char.is_ascii_digit}
 use Rattle.legacy_base.specs.States.{is_lead}
 
 -- the part of a first or a third byte

@@ -1,14 +1,10 @@
 -- The bytes of the codes of gb18030 and GBK.
-use Rattle.std.proofs.Common.{ℕ, ◌≤◌, ◌==◌, List, [], ◌∷◌, Bool, true, false, refl, arith}
-use Rattle.std.proofs.lemmas.Bool.{lt-ltb}
-use Rattle.legacy_tables.specs.Indexes.{FlatIndexes, gb18030_pua_of}
-use Rattle.legacy_base.specs.EncodeEvents.{code_length}
-use Rattle.legacy_tables.specs.Pointers.{gb18030_pointer_of, range_pointer_of}
-use Rattle.legacy_base.specs.Lengths.{number, ◌⊕◌, ◌⊗◌}
+use Rattle.std.proofs.{Common.{ℕ, ◌≤◌, ◌==◌, List, [], ◌∷◌, Bool, true, false, refl, arith}, lemmas.Bool.lt-ltb}
+use Rattle.legacy_tables.specs.{Indexes.{FlatIndexes, gb18030_pua_of}, Pointers.{gb18030_pointer_of, range_pointer_of}}
+use Rattle.legacy_base.specs.{EncodeEvents.code_length, Lengths.{number, ◌⊕◌, ◌⊗◌}}
 use Rattle.legacy_base.specs.Gb18030.{gb18030_pair_bytes, gb18030_range_bytes, gb18030_pair_code, gb18030_code, gbk_code}
 use Rattle.legacy_chinese.specs.Gb18030Codec.{gb18030_codec}
-use Rattle.legacy_encoder_engine.specs.PlainCodecs.{HasPlainLengths, IsPlainCodec}
-use Rattle.legacy_encoder_engine.proofs.PlainServes.{short_past, short_if, short_map, short_or}
+use Rattle.legacy_encoder_engine.{specs.PlainCodecs.{HasPlainLengths, IsPlainCodec}, proofs.PlainServes.{short_past, short_if, short_map, short_or}}
 
 -- a pair has at most two bytes
 short_pair : (pua : List (ℕ × ℕ × ℕ)) (index : List ℕ) (c : ℕ) → code_length (gb18030_pair_code pua index c) ≤ 2

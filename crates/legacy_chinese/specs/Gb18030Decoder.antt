@@ -1,6 +1,5 @@
 -- The state of the gb18030 decoder between two calls.
-use Rattle.legacy_base.specs.Grammar.{gb18030}
-use Rattle.legacy_base.specs.States.{DecoderState}
+use Rattle.legacy_base.specs.{Grammar.gb18030, States.DecoderState}
 use Rattle.legacy_chinese.specs.declared.gb18030.decoder.Gb18030Decoder.{Gb18030Decoder}
 use Rattle.legacy_chinese.specs.Gb18030Held.{held_bytes}
 

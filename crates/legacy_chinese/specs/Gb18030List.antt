@@ -1,7 +1,5 @@
 -- The scalars of gb18030 and GBK that have the codes of their pointers.
-use Rattle.std.proofs.Common.{◌≡◌, ℕ, ◌≢◌, ◌+◌, ◌*◌, ◌/◌, ◌%◌, List, Bool, false, ◌==◌, arith, nat_lt}
-use Rattle.std.specs.Prelude.{if◌then◌else◌}
-use Rattle.std.specs.List.{list_any}
+use Rattle.std.{proofs.Common.{◌≡◌, ℕ, ◌≢◌, ◌+◌, ◌*◌, ◌/◌, ◌%◌, List, Bool, false, ◌==◌, arith, nat_lt}, specs.{Prelude.if◌then◌else◌, List.list_any}}
 use Rattle.legacy_encoder_engine.specs.CachedPairs.{IsOutside}
 
 -- a private-use row has the scalar

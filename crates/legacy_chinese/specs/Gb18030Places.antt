@@ -1,7 +1,6 @@
 -- The places of trails in the rows of index gb18030.
 use Rattle.std.specs.Prelude.{ℕ, ◌+◌, ◌/◌, ◌%◌, min}
-use Rattle.legacy_decoder_engine.specs.Places.{lead_place}
-use Rattle.legacy_decoder_engine.specs.LanePlaces.{trail_place}
+use Rattle.legacy_decoder_engine.specs.{Places.lead_place, LanePlaces.trail_place}
 
 -- the place of a trail in its row; a number past the end of the index if the byte is not a trail
 unfoldable pub gb18030_trail_place : ℕ → ℕ

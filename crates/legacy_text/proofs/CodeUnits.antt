@@ -1,8 +1,7 @@
 -- The bytes of a scalar, by its range.
 use Rattle.std.proofs.Common.{◌≡◌, ◌∙◌, ℕ, ◌+◌, ◌-◌, ◌/◌, ◌%◌, ◌≤◌, ◌<◌, List, [], ◌∷◌, ◌++◌, length, refl, ap, arith, append_assoc, length-append, inl, inr}
 use Rattle.std.proofs.{Common.{get_or, suc}, lemmas.List.Concat.flat_map-append, lemmas.Bool.{lt-ltb, le-ltb}, lemmas.Bool.Decides.nat_tests}
-use Rattle.std.proofs.lemmas.Str.{encode_ascii}
-use Rattle.std.specs.Char.Escape.{encode_utf16}
+use Rattle.std.{proofs.lemmas.Str.encode_ascii, specs.Char.Escape.encode_utf16}
 use lib.Utf8.{encode}
 use Rattle.legacy_text.specs.EncodingForm.{Utf16, EncodingForm, code_units, all_code_units, unit_count, total_unit_count, Utf8, bmp_room, wide_room}
 

@@ -1,41 +1,36 @@
 -- Bits that say where scalars begin, and the scalars of one and three bytes of UTF-8 between them.
 use Rattle.std.proofs.{lemmas.Bool.Decides.nat_tests, Common.{◌≡◌, ◌↔◌, ◌∙◌, ℕ, zero, suc, ◌+◌, ◌-◌, ◌*◌, ◌/◌, ◌%◌, ◌^◌, ◌≤◌, ◌<◌, List, [], ◌∷◌, ◌++◌, length}}
-use Rattle.std.proofs.Common.{get_or, true, max, map, take, drop, replicate, refl, ap, ap₂, sym, subst, arith, append_assoc, length-append, add-zero, slice_set}
+use Rattle.std.proofs.Common.{get_or, true, max, min, map, take, drop, replicate, refl, ap, ap₂, sym, arith, append_assoc, length-append, add-zero, slice_set}
 use Rattle.std.proofs.{Common.{w8, w32, Fits, bit_and, bit_or, cond, leb}, lemmas.Bool.cases_lt, lemmas.List.{get_or-set_same, get_or-set_other, get_or_past}}
 use Rattle.std.proofs.{lemmas.List.{length-drop, get_or_append_left, get_or-append-add, get_or-drop, length-map}, lemmas.Nat.Bits.bit_at-trailing_zeros}
 use Rattle.std.proofs.{lemmas.Nat.Bits.{bit_at_lowest, bit_at-suc, bit_at_and, bit_at_or, bit_at_not, bit_at-lt}, lemmas.List.FromFn.get_or-map-range_with_len}
 use Rattle.std.proofs.{lemmas.Grind.common_steps, lemmas.Simd.{mask_l-lt, get_or_wider, Each1-from_get_or, Each1-get_or, get_or-chunk, length-chunk}}
 use Rattle.std.proofs.lemmas.Simd.{below_from_Fits, get_or-put_chunk_below, get_or-put_chunk_at, length-put_chunk, get_or-zip2, get_or-replicate}
-use Rattle.std.proofs.lemmas.Str.{encode_ascii}
+use Rattle.std.{proofs.lemmas.Str.encode_ascii, specs.Str.is_utf8}
 use Rattle.std.specs.{List.range_with_len, Int.{bit_at, bit_not, trailing_zeros}, Simd.Lanes.{zip2, number_l, digits_l, put_chunk, chunk, Each1}, Str.chars}
-use Rattle.std.specs.Str.{is_utf8}
 use lib.Utf8.{encode}
 use Rattle.legacy_text.specs.{EncodingForm.{Utf8, unit_count}, ShortScalars.ReadsScalar, ScalarTurns.{IsStart, IsUnitAt, ReadsUnits}, UnitCodes.IsNoSurrogate}
-use Rattle.legacy_text.specs.UnitTurns.{AreNoSurrogates}
+use Rattle.legacy_text.{specs.UnitTurns.AreNoSurrogates, proofs.{Texts.by_first, ShortScalars.{stands, reads_here, reads_ascii, one_count}}}
 use Rattle.legacy_text.proofs.{Ascii.{mask_from, mask_from-is, mask_bit}, CodeUnits.{some_units, encode_2, encode_3, encode_4, total_unit_count-append}}
-use Rattle.legacy_text.proofs.{Texts.by_first, ShortScalars.{stands, reads_here, reads_ascii, one_count}}
 
 -- ---- the lowest bit
 
--- the bits of the number before n, from the lowest bit of n on
-less : (t n m : ℕ) → n ≡ suc m → bit_at n t ≡ 1 → ((i : ℕ) → i < t → bit_at n i ≡ 0) → (k : ℕ)
-    → (k ≡ t → bit_at m k ≡ 0) × (t < k → bit_at m k ≡ bit_at n k)
-less zero n m e one none zero = grind (arith, bit_at_lowest)
-less zero n m e one none (suc k) = grind (arith, bit_at_lowest n, bit_at-suc)
-less (suc t) n m e one none zero = (λ h. absurd (omega arith), λ h. absurd (omega arith))
-less (suc t) n m e one none (suc k) =
+-- without the lowest bit of n, no bit up to it is set, and all others are unchanged
+cleared : (t n m k : ℕ) → n ≡ suc m → bit_at n t ≡ 1 → ((i : ℕ) → i < t → bit_at n i ≡ 0) → min (bit_at n k) (bit_at m k) ≡ cond (leb k t) 0 (bit_at n k)
+cleared zero n m zero e one none = grind (arith, bit_at_lowest)
+cleared zero n m (suc k) e one none = grind (arith, nat_tests, bit_at_lowest n, bit_at-suc)
+cleared (suc t) n m zero e one none = grind (arith, nat_tests, none 0)
+cleared (suc t) n m (suc k) e one none =
     let half : n / 2 ≡ suc (m / 2) = omega (arith, bit_at_lowest n, none 0 (omega arith)) in
-    let rest = less t (n / 2) (m / 2) half (sym (bit_at-suc n t) ∙ one) (λ i h. sym (bit_at-suc n i) ∙ none (suc i) (omega arith)) k in
-    rw (bit_at-suc m k, bit_at-suc n k) (λ h. rest.0 (omega arith), λ h. rest.1 (omega arith))
+    let rest = cleared t (n / 2) (m / 2) k half (sym (bit_at-suc n t) ∙ one) (λ i h. sym (bit_at-suc n i) ∙ none (suc i) (omega arith)) in
+    grind (arith, nat_tests, bit_at-suc m k, bit_at-suc n k, rest)
 
--- without the lowest bit, no bit up to it is set, and all others are unchanged
 pub lowest : (n : ℕ) → 0 < n → n < 2 ^ 32 → (k : ℕ)
     → bit_at (bit_and n ((n + 4294967295) % 4294967296)) k ≡ cond (leb k (trailing_zeros w32 n)) 0 (bit_at n k)
 lowest n some fits k =
     let at = bit_at-trailing_zeros w32 n some fits in
-    let m : (n + 4294967295) % 4294967296 ≡ n - 1 = omega arith in
-    let bits = less (trailing_zeros w32 n) n (n - 1) (omega arith) at.1 at.2 k in
-    grind (arith, nat_tests, bit_at_and)
+    let before : (n + 4294967295) % 4294967296 ≡ n - 1 = omega arith in
+    rw (before, bit_at_and) (cleared (trailing_zeros w32 n) n (n - 1) k (omega arith) at.1 at.2)
 
 -- ---- the bits of starts
 
@@ -52,9 +47,10 @@ pub starts_here : (bytes : List ℕ) (place : ℕ) → place + 32 ≤ length byt
 starts_here bytes place within k h =
     let v = chunk place 32 bytes in
     let long = length-chunk place 32 bytes within in
-    rw (get_or-chunk place 32 bytes k 0 h) at (starts_from (get_or v k 0) _ _ _
-    (mask_bit 128 refl 32 v (omega arith) long k) (mask_bit 192 refl 32 v (omega arith) long k) (bit_at-lt _ k) (bit_at-lt _ k)
-    (bit_at_or _ _ k ∙ ap (λ n. max n (bit_at (mask_from 192 32 v) k)) (bit_at_not w32 (mask_from 128 32 v) k (mask_from-lt 128 32 v (omega arith) long) h)))
+    let one = bit_at_or (bit_not w32 (mask_from 128 32 v)) (mask_from 192 32 v) k in
+    let none = bit_at_not w32 (mask_from 128 32 v) k (mask_from-lt 128 32 v (omega arith) long) h in
+    rw (get_or-chunk place 32 bytes k 0 h) at (starts_from (get_or v k 0) _ _ _ (mask_bit 128 refl 32 v (omega arith) long k)
+    (mask_bit 192 refl 32 v (omega arith) long k) (bit_at-lt _ k) (bit_at-lt _ k) (rw none at one))
 
 -- ---- lanes of two bytes
 
@@ -97,14 +93,8 @@ words zero a xs are = refl
 words (suc n) a xs are = grind (arith, are a, are (a + 16), words n (a + 1) xs are)
 
 module _ (lows highs : List ℕ) (count : length lows ≡ 16) (low : Each1 (Fits w8) lows) (high : Each1 (Fits w8) highs) where
-  low_at : (i : ℕ) → i < 16 → get_or (lows ++ highs) i 0 ≡ get_or lows i 0
-  low_at i h = grind (arith, get_or_append_left)
-
-  high_at : (i : ℕ) → get_or (lows ++ highs) (i + 16) 0 ≡ get_or highs i 0
-  high_at i = grind (arith, get_or-append-add)
-
   are : (i : ℕ) → get_or (lows ++ highs) i 0 < 256
-  are i = grind (arith, nat_tests, low_at, high_at (i - 16), below_256 lows low i, below_256 highs high (i - 16))
+  are i = grind (arith, nat_tests, get_or_append_left, get_or-append-add lows highs (i - 16), below_256 lows low i, below_256 highs high (i - 16))
 
   -- a lane of eight of them, from one on
   pub joined_lane : (a k i : ℕ) → a + k ≡ i → i < 16 → k < 8
@@ -112,7 +102,7 @@ module _ (lows highs : List ℕ) (count : length lows ≡ 16) (low : Each1 (Fits
   joined_lane a k i is within h =
       ap (λ l. get_or l k 0) (words 8 a (lows ++ highs) are)
       ∙ get_or-map-range_with_len (λ i. get_or (lows ++ highs) i 0 + 256 * get_or (lows ++ highs) (i + 16) 0) a 8 k i 0 h is
-      ∙ rw (low_at i within, high_at i) refl
+      ∙ grind (arith, get_or_append_left, get_or-append-add lows highs i)
 
 -- two vectors that are stored from a place on change nothing before it
 pub stored_before : (all front back : List ℕ) (at k : ℕ) → k < at → get_or (put_chunk (at + 8) (put_chunk at all front) back) k 0 ≡ get_or all k 0
@@ -160,15 +150,12 @@ units_more : (text : List ℕ) (start : ℕ) (units : List ℕ) (place c behind 
 units_more text start units place c behind unit before r is = record {
   is_text = r.is_text;
   within = r.within;
-  front = λ bmp. grind (arith, is (last bmp), before.front (firsts bmp), r.left, append_assoc);
-  passed = λ bmp. grind (arith, is (last bmp), before.passed (firsts bmp), r.passed, total_unit_count-append, one_count);
+  front = λ bmp. let own = both bmp in grind (arith, is own.1, before.front own.0, r.left, append_assoc);
+  passed = λ bmp. let own = both bmp in grind (arith, is own.1, before.passed own.0, r.passed, total_unit_count-append, one_count);
 }
   where
-    firsts : AreNoSurrogates (units ++ unit ∷ []) → AreNoSurrogates units
-    firsts bmp k h = grind (arith, get_or_append_left, bmp k, length-append)
-
-    last : AreNoSurrogates (units ++ unit ∷ []) → IsNoSurrogate unit
-    last bmp = subst IsNoSurrogate (get_or-append-add units (unit ∷ []) 0 0) (bmp (length units + 0) (omega (arith, length-append units (unit ∷ []))))
+    both : AreNoSurrogates (units ++ unit ∷ []) → AreNoSurrogates units × IsNoSurrogate unit
+    both bmp = (λ k h. grind (arith, get_or_append_left, bmp k, length-append), grind (arith, bmp (length units + 0), get_or-append-add, length-append))
 
 -- code units were read up to the lowest bit, and the bits from there on say where scalars begin
 pub record StandsBehind (text : List ℕ) (start : ℕ) (units : List ℕ) (bits : ℕ) : Type 0 where

@@ -1,13 +1,12 @@
 -- Code units below 0x800.
-use Rattle.std.proofs.Common.{◌≡◌, ℕ, suc, ◌+◌, ◌-◌, ◌*◌, ◌/◌, ◌%◌, ◌^◌, ◌<◌, Bool, true, cond, ltb, eqb, List, [], ◌∷◌, length, get_or, map, replicate}
+use Rattle.std.proofs.Common.{◌≡◌, ℕ, suc, ◌+◌, ◌-◌, ◌*◌, ◌/◌, ◌%◌, ◌^◌, ◌<◌, true, cond, ltb, eqb, List, [], ◌∷◌, length, get_or, map, replicate}
 use Rattle.std.proofs.{Common.{bit_and, refl, sym, ap, zero-add, ◌∙◌, ◌&&◌, arith, w16, Fits, All}, lemmas.Bool.{and_parts, eqb-true, agree_below_at}}
 use Rattle.std.proofs.{lemmas.Bool.Decides.nat_tests, lemmas.Grind.common_steps, lemmas.List.{map-append, length-map}, lemmas.Nat.and_mask}
 use Rattle.std.proofs.{lemmas.Simd.{bitmask_splat, bit_mask_l, mask_l-lt}, Math.ListN.get_or-map, lemmas.Nat.Bits.bit_at_ones}
 use Rattle.std.specs.{Char.encode_utf8, Int.RustNames.count_ones, List.range_with_len}
 use lib.Lanes.{Each1, zip2, sel_l, mask_l, top, number_l, digits_l, all_below}
 use Rattle.legacy_text.specs.{declared.unit_rows.TheConstants.SHORT_WRITTEN, UnitBytes.{short_bytes, short_lanes, short_pattern, short_places, short_row}}
-use Rattle.legacy_text.specs.UnitBytes.{AreShort, utf8_bytes}
-use Rattle.legacy_text.proofs.UnitLanes.{of_eight, le_bytes_map, each_below}
+use Rattle.legacy_text.{specs.UnitBytes.{AreShort, utf8_bytes}, proofs.UnitLanes.{of_eight, le_bytes_map, each_below}}
 
 -- ---- two bytes of each code unit
 
@@ -51,9 +50,6 @@ short_rows_fit r h =
 
 -- ---- the bytes that are written are the text
 
-digit : (s : Bool) (m : ℕ) → (eqb ((cond s 1 0 + 2 * m) % 2) 1 ≡ s) × ((cond s 1 0 + 2 * m) / 2 ≡ m)
-digit s m = grind arith
-
 short_unit : (u a b : ℕ) → u < 2048 → a ≡ short_bytes u % 256 → b ≡ short_bytes u / 256 → cond (ltb u 128) (a ∷ []) (a ∷ b ∷ []) ≡ encode_utf8 u
 unfolding encode_utf8
 short_unit u a b small p q = grind arith
@@ -63,7 +59,6 @@ short_text : (f : ℕ → ℕ) (base : ℕ) (us : List ℕ) → All (λ u. u < 2
 unfolding short_places short_pattern
 short_text f base [] small reads = refl
 short_text f base (u ∷ us) small reads =
-    let d = digit (ltb u 128) (short_pattern us) in
     let rest = short_text f (base + 2) us (λ k d' h. small (suc k) d' (omega arith)) (λ k.
     let at : base + 2 + k ≡ base + suc (suc k) = omega arith in
     rw at (reads (suc (suc k)))) in

@@ -25,18 +25,6 @@ utf8_stands text place c u e = record {
   is = sym (encodes-chars (drop place text) (IsUtf8-from_is_utf8 (drop place text) u)) ∙ ap encodes (first_cons (chars (drop place text)) c e);
 }
 
-pub utf8_reads : (text : List ℕ) (place c : ℕ) → place ≤ length text → is_utf8 (drop place text) ≡ true → Some c ≡ slice_get (chars (drop place text)) 0 →
-    ReadsScalar text place c (place + unit_count Utf8 c)
-utf8_reads text place c p u e =
-    let bs = drop place text in
-    let is = IsUtf8-from_is_utf8 bs u in
-    let rest = (utf8_stands text place c u e).rest in
-    let split : bs ≡ encode c ++ rest = (utf8_stands text place c u e).is in
-    let is_text = is_utf8-from_IsUtf8 rest (IsUtf8-past_char bs rest c is split) in
-    let past = drop_past_char text rest place c split in
-    let all = chars_past_char bs rest c is split in
-    grind (arith, length-encode c, ap length split, length-append (encode c) rest, length-drop place text)
-
 -- what the bytes say of the scalar c with which they begin: its number of bytes by the first, and what it is made of
 pub record ByFirst (c : ℕ) (bytes : List ℕ) : Type 0 where
   pub one : get_or bytes 0 0 < 0x80 → (unit_count Utf8 c ≡ 1) × (get_or bytes 0 0 ≡ c)
@@ -127,7 +115,7 @@ cut_pair u v list left place n p e h = grind arith
 
 pub utf16_cut : (list taken left : List ℕ) → Bounded list → unit_scalars list ≡ taken ++ left → CutUnits list left (length (all_code_units Utf16 taken))
 utf16_cut list [] left b e = grind arith
-utf16_cut [] (c ∷ taken) left b e = let n : unit_scalars [] ≡ [] = ap (map replaced) utf16_chars-nil in let f : [] ≡ c ∷ (taken ++ left) = sym n ∙ e in cc
+utf16_cut [] (c ∷ taken) left b e = grind (arith, utf16_chars-nil)
 utf16_cut (u ∷ []) (c ∷ taken) left b e =
     grind (arith, scalars_lone (u ∷ []) 0, unpaired_bound u (b 0), utf16_1 c, cut_lone u [] left, utf16_cut [] taken left (λ i. b (suc i)))
 utf16_cut (u ∷ v ∷ list) (c ∷ taken) left b e =
@@ -143,8 +131,7 @@ utf8_read text taken left read u e p =
     let all : text ≡ encodes taken ++ encodes left = sym (encodes-chars text u) ∙ ap encodes e ∙ encodes-append taken left in
     let good : scalars left ≡ true = scalars-right taken left (ap scalars (sym e) ∙ scalars-chars text u) in
     let boundary = IsCharBoundary-at_seam text (encodes taken) (encodes left) all (left, (good, refl)) in
-    let place = passed_is Utf8 (chars text) taken left read e p in
-    grind (arith, encodes-code_units taken, drop-append_seam (encodes taken) (encodes left), chars-encodes left good)
+    grind (arith, passed_is Utf8 (chars text) taken left read e p, encodes-code_units taken, drop-append_seam (encodes taken) (encodes left), chars-encodes left good)
 
 pub utf16_read : (list taken left : List ℕ) (read : ℕ) → Bounded list → unit_scalars list ≡ taken ++ left
     → read + length (all_code_units Utf16 left) ≡ 0 + length (all_code_units Utf16 (unit_scalars list)) → CutUnits list left read
@@ -180,11 +167,10 @@ utf8_ascii text place n within ascii u =
     let rest = drop place text in
     let is = IsUtf8-from_is_utf8 rest u in
     let front = IsUtf8-from_ascii (take n rest) ascii in
-    let split = ap chars (sym (take-append-drop n rest)) ∙ chars-append (take n rest) (drop n rest) front in
+    let split = chars-append (take n rest) (drop n rest) front in
     let is_text = is_utf8-from_IsUtf8 (drop n rest) (IsUtf8-drop rest n is (IsCharBoundary-from_take rest n is within front)) in
-    let own = rw (chars-IsAscii (take n rest) ascii) at split in
-    let is_front = front_of (chars rest) (take n rest) (chars (drop n rest)) n (length-take-le n rest within) own in
-    (rw (drop-drop n place text) at is_front, rw (drop-drop n place text) at is_text)
+    let is_front = front_of (chars rest) (take n rest) (chars (drop n rest)) n (length-take-le n rest within) in
+    grind (arith, take-append-drop n rest, split, chars-IsAscii (take n rest) ascii, is_text, drop-drop n place text, is_front)
 
 -- code units from a place on that are no surrogates
 pub bmp_front : (list : List ℕ) (place n : ℕ) → n ≤ length (drop place list) → ((k : ℕ) → k < n → IsNoSurrogate (get_or (drop place list) k 0))
@@ -193,8 +179,8 @@ bmp_front list place n within bmp =
     let rest = drop place list in
     let long = length-take-le n rest within in
     let own = bmp_scalars (take n rest) (drop n rest) (λ k h. grind (arith, bmp k, get_or-take)) in
-    rw (drop-drop n place list) at
-    (front_of (unit_scalars rest) (take n rest) (unit_scalars (drop n rest)) n long (ap unit_scalars (sym (take-append-drop n rest)) ∙ own))
+    let front = front_of (unit_scalars rest) (take n rest) (unit_scalars (drop n rest)) n in
+    grind (arith, take-append-drop n rest, own, drop-drop n place list, front)
 
 pub utf16_ascii : (list : List ℕ) (place n : ℕ) → n ≤ length (drop place list) → IsAscii (take n (drop place list))
     → IsFront (unit_scalars (drop place list)) (take n (drop place list)) (unit_scalars (drop (place + n) list)) n
@@ -219,7 +205,15 @@ none_left (x ∷ xs) e = cc
 -- the scalar at a place, and the text after it
 pub utf8_next : (text : List ℕ) (place : ℕ) → place ≤ length text → is_utf8 (drop place text) ≡ true → 0 < length (chars (drop place text))
     → ReadsScalar text place (get_or (chars (drop place text)) 0 0) (place + unit_count Utf8 (get_or (chars (drop place text)) 0 0))
-utf8_next text place p u some = utf8_reads text place (get_or (chars (drop place text)) 0 0) p u (first_some _ some)
+utf8_next text place p u some =
+    let bs = drop place text in
+    let c = get_or (chars bs) 0 0 in
+    let is = IsUtf8-from_is_utf8 bs u in
+    let stands = utf8_stands text place c u (first_some _ some) in
+    let is_text = is_utf8-from_IsUtf8 stands.rest (IsUtf8-past_char bs stands.rest c is stands.is) in
+    let past = drop_past_char text stands.rest place c stands.is in
+    let all = chars_past_char bs stands.rest c is stands.is in
+    grind (arith, length-encode c, ap length stands.is, length-append (encode c) stands.rest, length-drop place text)
 
 pub utf16_next : (list : List ℕ) (place : ℕ) → ((i : ℕ) → get_or list i 0 < 65536) → 0 < length (unit_scalars (drop place list))
     → let c = get_or (unit_scalars (drop place list)) 0 0 in

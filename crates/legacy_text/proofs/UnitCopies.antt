@@ -3,8 +3,7 @@ use Rattle.std.proofs.{lemmas.Bool.Decides.nat_tests, Common.{◌≡◌, ◌∙�
 use Rattle.std.proofs.{Common.{ap, subst, arith, append_assoc, append-nil, length-append, length-drop, IsAscii, add-zero}, lemmas.List.get_or_append_left}
 use Rattle.std.proofs.lemmas.List.{get_or-append-add, get_or-drop, length-take-le, get_or-take, take_all, take-append-drop}
 use Rattle.legacy_text.specs.{EncodingForm.{Utf16, total_unit_count}, Texts.unit_scalars, UnitCodes.{IsNoSurrogate, WritesCodes}, UnitTurns.AreNoSurrogates}
-use Rattle.legacy_text.specs.UnitTurns.{TakesUnits}
-use Rattle.legacy_text.proofs.{CodeUnits.own_units, Texts.bmp_front}
+use Rattle.legacy_text.{specs.UnitTurns.TakesUnits, proofs.{CodeUnits.own_units, Texts.bmp_front}}
 
 -- ---- blocks
 

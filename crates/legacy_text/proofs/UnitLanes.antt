@@ -2,7 +2,7 @@
 use Rattle.std.proofs.Common.{◌≡◌, ℕ, zero, suc, ◌+◌, ◌-◌, ◌*◌, ◌/◌, ◌%◌, ◌^◌, ◌<◌, ◌≤◌, Bool, true, cond, ltb, leb, eqb, List, [], ◌∷◌, ◌++◌, length, get_or}
 use Rattle.std.proofs.Common.{map, take, drop, replicate, bit_and, refl, sym, ap, ap₂, ◌∙◌, arith, subst, zero-add, w8, w16, Fits, ◌&&◌, mod-lt, zero-lt-suc}
 use Rattle.std.proofs.{Common.{mul_assoc, length-append}, lemmas.Bool.{leb-true, and_parts, agree_below_at}, lemmas.List.{map-append, append_assoc}}
-use Rattle.std.proofs.{lemmas.List.{length-replicate, length-take-le, take-take, take-map}, lemmas.List.FromFn.get_or-range_with_len, Math.Seq.take-append_seam}
+use Rattle.std.proofs.{lemmas.List.{length-replicate, length-take-le, take-take, take-map}, lemmas.List.FromFn.{get_or-range_with_len, get_or-map-range_with_len}, Math.Seq.take-append_seam}
 use Rattle.std.proofs.{lemmas.Nat.and_mask, lemmas.Nat.Bits.and_high, lemmas.Simd.{mask_l-lt, mask_l-mod, swz_l, SwzOk, SwzOk-from_below, Each1-get_or}}
 use Rattle.std.proofs.{lemmas.Simd.pick_l_whole, lemmas.Grind.{flat_map-append, common_steps}, lemmas.Bool.Decides.nat_tests}
 use Rattle.std.specs.{Char.encode_utf8, List.range_with_len}
@@ -134,9 +134,12 @@ pub rows_are : WRITTEN ≡ map row (range_with_len 0 256)
 unfolding row places
 rows_are = refl
 
-pub counts_are : COUNTS ≡ map (λ r. length (places 0 4 r)) (range_with_len 0 256)
+counts_are : COUNTS ≡ map (λ r. length (places 0 4 r)) (range_with_len 0 256)
 unfolding places
 counts_are = refl
+
+pub count_read : (r : ℕ) → r < 256 → get_or COUNTS r 0 ≡ length (places 0 4 r)
+count_read r h = ap (λ l. get_or l r 0) counts_are ∙ get_or-map-range_with_len (λ r. length (places 0 4 r)) 0 256 r r 0 h (zero-add r)
 
 pub each_below : (n : ℕ) (js : List ℕ) → all_below n js ≡ true → Each1 (λ j. j < n) js
 each_below n [] e = tt
@@ -169,16 +172,12 @@ module _ (js : List ℕ) (within : Each1 (λ j. j < 16) (take 16 (js ++ replicat
 
 -- ---- the bytes that are written are the text
 
-digit : (s t : Bool) (m : ℕ) → ((cond s 1 0 + 2 * (cond t 1 0 + 2 * m)) % 4 ≡ cond s 1 0 + 2 * cond t 1 0) × ((cond s 1 0 + 2 * (cond t 1 0 + 2 * m)) / 4 ≡ m)
-digit s t m = (grind arith, grind arith)
-
 -- `f` reads the lanes of these code units from a place on
 pub text_written : (f : ℕ → ℕ) (base : ℕ) (us : List ℕ) → Each1 (λ u. u < 65536) us → ((k : ℕ) → f (base + k) ≡ get_or (lanes us) k 0) →
     map f (places base (length us) (pattern us)) ≡ utf8_bytes us
 unfolding places pattern
 text_written f base [] small reads = refl
 text_written f base (u ∷ us) small reads =
-    let d = digit (ltb u 128) (ltb u 2048) (mask_l (flags us)) in
     let rest = text_written f (base + 4) us small.1 (λ k.
     let at : base + 4 + k ≡ base + suc (suc (suc (suc k))) = omega arith in
     rw at (reads (suc (suc (suc (suc k)))))) in

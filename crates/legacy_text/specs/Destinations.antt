@@ -1,6 +1,5 @@
 -- The model of the destinations over slices.
-use Rattle.std.specs.Prelude.{ℕ, ◌-◌, List, length, take}
-use Rattle.std.specs.Borrow.{GName}
+use Rattle.std.specs.{Prelude.{ℕ, ◌-◌, List, length, take}, Borrow.GName}
 use Rattle.legacy_text.specs.declared.destination.Utf8Destination.{Utf8Destination}
 use Rattle.legacy_text.specs.declared.destination.Utf16Destination.{Utf16Destination}
 

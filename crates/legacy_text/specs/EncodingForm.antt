@@ -1,6 +1,5 @@
 -- The encoding forms in which a destination takes scalars (Unicode, 3.9: UTF-8 and UTF-16).
-use Rattle.std.specs.Prelude.{ℕ, List, encode_utf8, flat_map, length}
-use Rattle.std.specs.Char.Escape.{encode_utf16}
+use Rattle.std.specs.{Prelude.{ℕ, List, encode_utf8, flat_map, length}, Char.Escape.encode_utf16}
 
 -- the two forms
 pub data EncodingForm : Type 0 where

@@ -1,7 +1,6 @@
 -- The next scalar of a text, by the number of its code units.
 use Rattle.std.specs.Prelude.{◌≡◌, ℕ, List, [], ◌∷◌, ◌++◌, drop}
-use Rattle.legacy_text.specs.declared.text_cursor.Next.{Next}
-use Rattle.legacy_text.specs.declared.text_cursor.Next.TheVariants.{End, One, Two, Three, Four}
+use Rattle.legacy_text.specs.declared.text_cursor.Next.{Next, TheVariants.{End, One, Two, Three, Four}}
 use Rattle.legacy_text.specs.EncodingForm.{EncodingForm, Utf8, code_units, unit_count}
 
 -- it is the scalar c, with the number of its code units

@@ -1,9 +1,6 @@
 -- Scalars of UTF-8 that are read several at a time, as 16-bit code units.
-use Rattle.std.specs.Prelude.{◌≡◌, ℕ, ◌+◌, ◌*◌, ◌%◌, ◌<◌, ◌≤◌, List, ◌++◌, length, drop, true, slice_index, ◌⊎◌}
-use Rattle.std.specs.Str.{chars, is_utf8}
-use Rattle.legacy_text.specs.EncodingForm.{Utf8, total_unit_count}
-use Rattle.legacy_text.specs.UnitCodes.{IsNoSurrogate}
-use Rattle.legacy_text.specs.UnitTurns.{AreNoSurrogates}
+use Rattle.std.specs.{Prelude.{◌≡◌, ℕ, ◌+◌, ◌*◌, ◌%◌, ◌<◌, ◌≤◌, List, ◌++◌, length, drop, true, slice_index, ◌⊎◌}, Str.{chars, is_utf8}}
+use Rattle.legacy_text.specs.{EncodingForm.{Utf8, total_unit_count}, UnitCodes.IsNoSurrogate, UnitTurns.AreNoSurrogates}
 
 -- a byte with which a scalar begins: not 80 to BF
 abbrev pub IsStart : ℕ → Type 0

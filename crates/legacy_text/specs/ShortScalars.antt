@@ -1,8 +1,6 @@
 -- Scalars of one and two bytes of UTF-8 that were written as one byte each.
-use Rattle.std.specs.Prelude.{◌≡◌, ℕ, ◌+◌, ◌≤◌, List, ◌∷◌, length, take, drop, true}
-use Rattle.std.specs.Str.{chars, is_utf8}
-use Rattle.legacy_text.specs.EncodingForm.{Utf8, unit_count, total_unit_count}
-use Rattle.legacy_text.specs.UnitCodes.{WritesCodes}
+use Rattle.std.specs.{Prelude.{◌≡◌, ℕ, ◌+◌, ◌≤◌, List, ◌∷◌, length, take, drop, true}, Str.{chars, is_utf8}}
+use Rattle.legacy_text.specs.{EncodingForm.{Utf8, unit_count, total_unit_count}, UnitCodes.WritesCodes}
 
 -- The scalar at a place of a text, and the place after it.
 pub record ReadsScalar (text : List ℕ) (place scalar behind : ℕ) : Type 0 where

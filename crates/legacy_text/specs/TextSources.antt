@@ -1,6 +1,5 @@
 -- The text that is left in a source.
-use Rattle.std.specs.Prelude.{ℕ, List, drop}
-use Rattle.std.specs.Str.{chars}
+use Rattle.std.specs.{Prelude.{ℕ, List, drop}, Str.chars}
 use Rattle.legacy_text.specs.declared.text_source.Utf8Source.{Utf8Source}
 use Rattle.legacy_text.specs.declared.text_source.Utf16Source.{Utf16Source}
 use Rattle.legacy_text.specs.Texts.{unit_scalars}

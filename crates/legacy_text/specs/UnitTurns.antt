@@ -1,7 +1,6 @@
 -- Scalars that are read several at a time, as UTF-16 code units.
 use Rattle.std.specs.Prelude.{◌≡◌, ℕ, ◌+◌, ◌<◌, List, ◌++◌, length, slice_index}
-use Rattle.legacy_text.specs.EncodingForm.{EncodingForm, Utf16, total_unit_count}
-use Rattle.legacy_text.specs.UnitCodes.{IsNoSurrogate}
+use Rattle.legacy_text.specs.{EncodingForm.{EncodingForm, Utf16, total_unit_count}, UnitCodes.IsNoSurrogate}
 
 -- none of the code units is a surrogate
 abbrev pub AreNoSurrogates : List ℕ → Type 0

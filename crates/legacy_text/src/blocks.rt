@@ -22,15 +22,16 @@ pub(crate) fn ascii_count(block: u8x16) -> usize
     (past.trailing_zeros() as usize).min(15)
 }
 
-/// Stores a block from the place `at` on, and returns the number of ASCII bytes at its front.
+/// Stores the first 16 bytes from the place `at` on, and returns the number of ASCII bytes at their front.
 #[inline(always)]
-#[tactic(auto, using(crate::proofs::Ascii::put_front))]
-fn store_block(dst: &mut [u8], at: usize, block: u8x16) -> usize
-    requires { at + 16 ≤ length dst.old }
+fn store_block(dst: &mut [u8], at: usize, bytes: &[u8]) -> usize
+    requires block { 16 ≤ length bytes.now }
+    requires room { at + 16 ≤ length dst.old }
     ensures count { result ≤ 16 }
-    ensures ascii { IsAscii (take result block) }
-    ensures stored { take (at + result) dst.new ≡ take at dst.old ++ take result block }
+    ensures ascii { IsAscii (take result bytes.now) }
+    ensures stored { take (at + result) dst.new ≡ take at dst.old ++ take result bytes.now }
 {
+    let block = u8x16::from_slice(bytes);
     block.copy_to_slice(&mut dst[at..]);
     ascii_count(block)
 }
@@ -63,14 +64,14 @@ pub(crate) fn wide_ascii_count(bytes: &[u8]) -> usize
     (past.trailing_zeros() as usize).min(63)
 }
 
-/// Stores a wide block from the place `at` on.
+/// Stores the first 64 bytes from the place `at` on.
 #[inline(always)]
-#[tactic(auto, using(crate::proofs::Ascii::put_front))]
-pub(crate) fn store_wide(dst: &mut [u8], at: usize, block: u8x64)
-    requires { at + 64 ≤ length dst.old }
-    ensures { (k : ℕ) → k ≤ 64 → take (at + k) dst.new ≡ take at dst.old ++ take k block }
+pub(crate) fn store_wide(dst: &mut [u8], at: usize, bytes: &[u8])
+    requires block { 64 ≤ length bytes.now }
+    requires room { at + 64 ≤ length dst.old }
+    ensures { (k : ℕ) → k ≤ 64 → take (at + k) dst.new ≡ take at dst.old ++ take k bytes.now }
 {
-    block.copy_to_slice(&mut dst[at..]);
+    u8x64::from_slice(bytes).copy_to_slice(&mut dst[at..]);
 }
 
 /// Stores the first 64 bytes from the place `at` on, and returns the number of ASCII bytes at their front.
@@ -83,7 +84,7 @@ fn store_wide_block(dst: &mut [u8], at: usize, bytes: &[u8]) -> usize
     ensures stored { take (at + result) dst.new ≡ take at dst.old ++ take result bytes.now }
 {
     let count = wide_ascii_count(bytes);
-    store_wide(dst, at, u8x64::from_slice(bytes));
+    store_wide(dst, at, bytes);
     count
 }
 
@@ -110,7 +111,7 @@ fn store_front(bytes: &[u8], dst: &mut [u8], at: usize, is_wide: bool) -> usize
     if is_wide {
         store_wide_block(dst, at, bytes)
     } else {
-        store_block(dst, at, u8x16::from_slice(bytes))
+        store_block(dst, at, bytes)
     }
 }
 
@@ -192,7 +193,7 @@ pub(crate) fn copy_ascii_units(units: &[u16], dst: &mut [u8], at: usize) -> usiz
     let mut copied = 0;
     while units.len() - copied >= 16 && most - copied >= 16 {
         let block = narrow_block(&units[copied..]);
-        let count = store_block(dst, at + copied, u8x16::from_array(block));
+        let count = store_block(dst, at + copied, &block);
         copied += count;
         if count < 16 {
             return copied;

@@ -1,12 +1,8 @@
 //! The outputs of a decoder.
-ghost use Rattle.std.specs.Prelude.{◌≡◌, ℕ, ◌+◌, ◌-◌, ◌<◌, ◌≤◌, List, [], ◌∷◌, ◌++◌, length, take};
-ghost use Rattle.std.specs.Prelude.{slice_index, IsAscii, encode_utf8, All};
-ghost use Rattle.std.specs.Char.{IsScalar};
-ghost use Rattle.std.specs.Borrow.{GName};
-ghost use Rattle.legacy_text.specs.EncodingForm.{EncodingForm, Utf8, Utf16, code_units, unit_count};
-ghost use Rattle.legacy_text.specs.EncodingForm.{all_code_units, total_unit_count};
+ghost use Rattle.std.specs.Prelude.{◌≡◌, ℕ, ◌+◌, ◌-◌, ◌<◌, ◌≤◌, List, [], ◌∷◌, ◌++◌, length, take, slice_index, IsAscii, encode_utf8, All};
+ghost use Rattle.std.specs.{Borrow.GName, Char.IsScalar};
+ghost use Rattle.legacy_text.specs.EncodingForm.{EncodingForm, Utf8, Utf16, code_units, unit_count, all_code_units, total_unit_count, bmp_room, wide_room};
 ghost use Rattle.legacy_text.specs.UnitBytes.{AreShort, IsUtf8Entry};
-ghost use Rattle.legacy_text.specs.EncodingForm.{bmp_room, wide_room};
 
 use crate::blocks::{ascii_count, copy_blocks, store_wide, wide_ascii_count};
 use crate::eight_units::{put_eight_units, put_first_units};
@@ -130,10 +126,8 @@ pub trait Destination {
         ensures room { room self.new + count ≡ room self.old }
         ensures loan { loan self.new ≡ loan self.old }
     {
-        let mut at = 0;
-        while at < count {
+        for at in 0..count {
             self.put(char::from(bytes[at]));
-            at += 1;
         }
     }
 
@@ -142,6 +136,7 @@ pub trait Destination {
     /// The number is at most 64. The slice must have at least 64 bytes, and as many code units must
     /// be free, as for `put_block`.
     #[inline(always)]
+    #[tactic(auto, using(crate::proofs::Ascii::fewer_ascii))]
     fn put_front(&mut self, bytes: &[u8], most: usize) -> usize
         requires block { 64 ≤ length bytes.now }
         requires room { 64 ≤ room self.old }
@@ -172,10 +167,8 @@ pub trait Destination {
         ensures loan { loan self.new ≡ loan self.old }
     {
         let scalars = units.to_array();
-        let mut at = 0;
-        while at < count {
+        for at in 0..count {
             self.put(unsafe { char::from_u32_unchecked(u32::from(scalars[at])) });
-            at += 1;
         }
     }
 
@@ -215,8 +208,7 @@ pub struct Utf8Destination<'a> {
 }
 
 impl<'a> Utf8Destination<'a> {
-    ghost use Rattle.legacy_text.specs.Destinations.{utf8_written, utf8_free, utf8_loan};
-    ghost use Rattle.legacy_text.specs.Destinations.{utf8_buffer};
+    ghost use Rattle.legacy_text.specs.Destinations.{utf8_written, utf8_free, utf8_loan, utf8_buffer};
 
     /// Returns a destination that has written nothing, with the whole slice free.
     pub fn new(buffer: &'a mut [u8]) -> Utf8Destination<'a>
@@ -296,7 +288,7 @@ impl Destination for Utf8Destination<'_> {
 
     #[inline(always)]
     fn put_block(&mut self, bytes: &[u8], count: usize) {
-        store_wide(self.buffer, self.filled, u8x64::from_slice(bytes));
+        store_wide(self.buffer, self.filled, bytes);
         self.filled += count;
     }
 
@@ -330,13 +322,16 @@ fn store_units(dst: &mut [u16], at: usize, units: u16x8)
     units.copy_to_slice(&mut dst[at..]);
 }
 
-/// Stores the code units of a wide block of bytes from the place `at` on.
+/// Stores the first 64 bytes as code units from the place `at` on.
 #[inline(always)]
-fn store_bytes(dst: &mut [u16], at: usize, block: u8x64)
-    requires { at + 64 ≤ length dst.old }
-    ensures { (k : ℕ) → k ≤ 64 → take (at + k) dst.new ≡ take at dst.old ++ take k block }
+fn store_bytes(dst: &mut [u16], at: usize, bytes: &[u8])
+    requires block { 64 ≤ length bytes.now }
+    requires room { at + 64 ≤ length dst.old }
+    ensures { (k : ℕ) → k ≤ 64 → take (at + k) dst.new ≡ take at dst.old ++ take k bytes.now }
 {
-    block.cast::<u16>().copy_to_slice(&mut dst[at..]);
+    u8x64::from_slice(bytes)
+        .cast::<u16>()
+        .copy_to_slice(&mut dst[at..]);
 }
 
 /// A destination that writes UTF-16 to a slice of code units, from its beginning on.
@@ -348,8 +343,7 @@ pub struct Utf16Destination<'a> {
 }
 
 impl<'a> Utf16Destination<'a> {
-    ghost use Rattle.legacy_text.specs.Destinations.{utf16_written, utf16_free, utf16_loan};
-    ghost use Rattle.legacy_text.specs.Destinations.{utf16_buffer};
+    ghost use Rattle.legacy_text.specs.Destinations.{utf16_written, utf16_free, utf16_loan, utf16_buffer};
 
     /// Returns a destination that has written nothing, with the whole slice free.
     pub fn new(buffer: &'a mut [u16]) -> Utf16Destination<'a>
@@ -474,7 +468,7 @@ impl Destination for Utf16Destination<'_> {
 
     #[inline(always)]
     fn put_block(&mut self, bytes: &[u8], count: usize) {
-        store_bytes(self.buffer, self.filled, u8x64::from_slice(bytes));
+        store_bytes(self.buffer, self.filled, bytes);
         self.filled += count;
     }
 

@@ -3,8 +3,7 @@
 //! Lanes make four bytes of each code unit, and a shuffle keeps those of its text.
 // Functions that run for each vector are always inlined, because a call would pass the vectors through memory.
 ghost use Rattle.std.specs.Prelude.{◌≡◌, ℕ, ◌+◌, ◌-◌, ◌<◌, ◌≤◌, ◌++◌, List, length, map, take, drop, get_or, replicate};
-ghost use Rattle.std.specs.List.{range_with_len};
-ghost use Rattle.legacy_text.specs.UnitBytes.{last_byte, front_bytes, lanes, pattern, places, utf8_bytes};
+ghost use Rattle.{std.specs.List.range_with_len, legacy_text.specs.UnitBytes.{last_byte, front_bytes, lanes, pattern, places, utf8_bytes}};
 
 use crate::unit_rows::{COUNTS, WRITTEN};
 use std::simd::prelude::*;
@@ -74,15 +73,6 @@ pub(crate) fn row_of(rows: &[[u8; 16]; 256], pattern: usize) -> u8x16
     u8x16::from_array(rows[pattern])
 }
 
-/// Returns an entry of a table of counts.
-#[inline(always)]
-fn count_of(counts: &[u8; 256], pattern: usize) -> usize
-    requires { pattern < 256 }
-    ensures { (rule : ℕ → ℕ) → counts.now ≡ map rule (range_with_len 0 256) → result ≡ rule pattern }
-{
-    usize::from(counts[pattern])
-}
-
 /// Stores a vector from the place `at` on.
 #[inline(always)]
 #[tactic(auto, using(crate::proofs::Ascii::put_front))]
@@ -105,7 +95,7 @@ fn put_four(dst: &mut [u8], at: usize, lanes: u8x16, pattern: usize) -> usize
 {
     let row = row_of(&WRITTEN, pattern);
     store(dst, at, lanes.swizzle_dyn(row));
-    at + count_of(&COUNTS, pattern)
+    at + usize::from(COUNTS[pattern])
 }
 
 /// Stores the text of eight code units from the place `at` on, with other bytes after it.
@@ -140,6 +130,7 @@ pub fn first_units(units: u16x8, count: usize) -> u16x8
 /// Returns the place after the text.
 // The text of each of the others is one byte, of U+0000.
 #[inline(always)]
+#[tactic(auto, using(crate::proofs::UnitLanes::first_stored))]
 pub(crate) fn put_first_units(dst: &mut [u8], at: usize, units: u16x8, count: usize) -> usize
     requires room { at + 32 ≤ length dst.old }
     requires count { count ≤ 8 }

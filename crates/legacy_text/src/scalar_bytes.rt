@@ -1,8 +1,7 @@
 //! Writes one scalar value as UTF-8.
 // The functions take the output as a slice. So its address is loaded once for a scalar, and not again after each byte.
 ghost use Rattle.std.specs.Prelude.{◌≡◌, ℕ, ◌+◌, ◌<◌, ◌≤◌, ◌∷◌, [], ◌++◌, length, take, encode_utf8};
-ghost use Rattle.std.specs.Char.{IsScalar};
-ghost use Rattle.legacy_text.specs.UnitBytes.{IsUtf8Entry};
+ghost use Rattle.{std.specs.Char.IsScalar, legacy_text.specs.UnitBytes.IsUtf8Entry};
 
 use std::simd::prelude::*;
 

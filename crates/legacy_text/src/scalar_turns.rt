@@ -4,8 +4,7 @@
 // In text with spaces, no pattern predicts where a one-byte scalar comes, so the code does not branch on it.
 // Functions that run for each turn are always inlined, because a call would pass vectors through memory.
 ghost use Rattle.std.specs.Prelude.{◌≡◌, ◌↔◌, ℕ, ◌+◌, ◌*◌, ◌%◌, ◌^◌, ◌<◌, ◌≤◌, length, take, drop, true, slice_index, MatchOption, ⊤};
-ghost use Rattle.std.specs.Int.{bit_at, trailing_zeros, w32};
-ghost use Rattle.std.specs.Str.{is_utf8};
+ghost use Rattle.std.specs.{Int.{bit_at, trailing_zeros, w32}, Str.is_utf8};
 ghost use Rattle.legacy_text.specs.ScalarTurns.{IsStart, IsUnitOf, IsUnitAt, ReadsUnits};
 
 use std::simd::prelude::*;
@@ -114,6 +113,7 @@ fn units_at(bytes: &[u8], place: usize) -> [u16; 33]
 
 /// Returns the places among the next 32 at which scalars begin, as bits.
 #[inline(always)]
+#[tactic(auto, using(crate::proofs::ScalarTurns::starts_here))]
 fn starts_at(bytes: &[u8], place: usize) -> u32
     requires { place + 32 ≤ length bytes.now }
     ensures { (k : ℕ) → k < 32 → (bit_at result k ≡ 1) ↔ IsStart (slice_index bytes.now (place + k)) }

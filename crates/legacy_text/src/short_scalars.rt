@@ -4,8 +4,7 @@
 // In text whose letters have two bytes, no pattern predicts where a one-byte scalar comes, so the code does not branch
 // on it.
 ghost use Rattle.std.specs.Prelude.{◌≡◌, ◌+◌, ◌<◌, ◌≤◌, length, take, drop, true, slice_index, MatchOption, ⊤};
-ghost use Rattle.std.specs.Str.{is_utf8};
-ghost use Rattle.legacy_text.specs.ShortScalars.{ReadsScalar, WritesScalars};
+ghost use Rattle.{std.specs.Str.is_utf8, legacy_text.specs.ShortScalars.{ReadsScalar, WritesScalars}};
 
 use crate::unit_codes::UnitCodes;
 

@@ -1,9 +1,7 @@
 //! The cursors by which the loops of encoders read several scalars at a time.
 ghost use Rattle.std.specs.Prelude.{◌≡◌, ℕ, ◌+◌, ◌≤◌, ◌<◌, List, ◌++◌, length, take, drop, slice_index, IsAscii, MatchOption};
 ghost use Rattle.legacy_text.specs.EncodingForm.{EncodingForm, unit_count, total_unit_count};
-ghost use Rattle.legacy_text.specs.NextScalars.{IsNext};
-ghost use Rattle.legacy_text.specs.UnitCodes.{WritesCodes};
-ghost use Rattle.legacy_text.specs.UnitTurns.{TakesUnits};
+ghost use Rattle.legacy_text.specs.{NextScalars.IsNext, UnitCodes.WritesCodes, UnitTurns.TakesUnits};
 
 use crate::unit_codes::UnitCodes;
 

@@ -1,10 +1,8 @@
 //! The sources of an encoder.
 ghost use Rattle.std.specs.Prelude.{◌≡◌, ℕ, ◌+◌, ◌-◌, ◌^◌, ◌<◌, ◌≤◌, List, [], ◌∷◌, ◌++◌, length, take, drop, true, slice_get, slice_index, IsAscii, MatchOption};
-ghost use Rattle.std.specs.Char.{IsScalar};
-ghost use Rattle.std.specs.Str.{chars, is_utf8};
+ghost use Rattle.std.specs.{Char.IsScalar, Str.{chars, is_utf8}};
 ghost use Rattle.legacy_text.specs.EncodingForm.{EncodingForm, Utf8, Utf16, unit_count, total_unit_count};
-ghost use Rattle.legacy_text.specs.Texts.{unit_scalars};
-ghost use Rattle.legacy_text.specs.NextScalars.{IsSized, IsNext, StandsAt};
+ghost use Rattle.legacy_text.specs.{NextScalars.{IsSized, IsNext, StandsAt}, Texts.unit_scalars};
 
 use crate::blocks::{copy_ascii_bytes, copy_ascii_units};
 use crate::scalar_turns::ten_scalars;

@@ -1,15 +1,9 @@
 //! The decoder of Big5.
 ghost use Rattle.std.specs.Prelude.{◌*◌, ◌≡◌, ◌≢◌, ℕ, ◌<◌, ◌≤◌, [], ◌∷◌, length, get_or};
-ghost use Rattle.legacy_base.specs.Big5.{big5_scalars};
-ghost use Rattle.legacy_base.specs.Grammar.{big5};
-ghost use Rattle.legacy_base.specs.States.{is_lead};
-ghost use Rattle.legacy_chinese.specs.Big5Places.{big5_place};
-ghost use Rattle.legacy_decoder_engine.specs.Steps.{trail_step};
-ghost use Rattle.legacy_decoder_engine.specs.LeadMachines.{lead_first};
-ghost use Rattle.legacy_chinese.specs.Big5Machine.{big5_pair_scalars};
-ghost use Rattle.legacy_decoder_engine.specs.Feeding.{Took};
-ghost use Rattle.legacy_chinese.specs.Big5Shown.{big5_codec};
+ghost use Rattle.legacy_base.specs.{Big5.big5_scalars, Grammar.big5, States.is_lead};
+ghost use Rattle.legacy_decoder_engine.specs.{Feeding.Took, LeadMachines.lead_first, Steps.trail_step};
 ghost use Rattle.legacy_decoder_engine.proofs.TwoByteMeets.{is_lead-in};
+ghost use Rattle.legacy_chinese.specs.{Big5Machine.big5_pair_scalars, Big5Places.big5_place, Big5Shown.big5_codec};
 
 use super::places::{ROWS_OF_157, TRAILS};
 use legacy_base::{IndexName, Tables};

@@ -1,8 +1,6 @@
 //! The encoder of Big5.
 ghost use Rattle.std.specs.Prelude.{◌≡◌, [], ◌∷◌, option_map};
-ghost use Rattle.legacy_base.specs.Big5.{big5_bytes};
-ghost use Rattle.legacy_base.specs.Encoders.{big5};
-ghost use Rattle.legacy_tables.specs.Pointers.{big5_pointer_of};
+ghost use Rattle.{legacy_base.specs.{Big5.big5_bytes, Encoders.big5}, legacy_tables.specs.Pointers.big5_pointer_of};
 ghost use Rattle.legacy_chinese.specs.Big5Codes.{big5_pairs, big5_mark, big5_mark-some};
 
 use super::decoder::Big5;

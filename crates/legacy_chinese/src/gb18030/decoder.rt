@@ -1,15 +1,9 @@
 //! The decoder of GB18030 and GBK.
-ghost use Rattle.std.specs.Prelude.{◌≡◌, ℕ, List, ◌∷◌, [], true, length, option_to_list, IfSome};
-ghost use Rattle.std.specs.Char.{IsScalar};
+ghost use Rattle.std.specs.{Prelude.{◌≡◌, ℕ, List, ◌∷◌, [], true, length, option_to_list, IfSome}, Char.IsScalar};
 ghost use Rattle.legacy_text.specs.EncodingForm.{EncodingForm};
-ghost use Rattle.legacy_base.specs.Gb18030.{gb18030_scalars};
-ghost use Rattle.legacy_base.specs.Grammar.{gb18030};
-ghost use Rattle.legacy_base.specs.States.{is_neutral, new_state};
-ghost use Rattle.legacy_chinese.specs.Gb18030Machine.{gb18030_step};
-ghost use Rattle.legacy_base.specs.States.{state_of};
-ghost use Rattle.legacy_decoder_engine.specs.Moves.{read_room, room_units};
-ghost use Rattle.legacy_decoder_engine.specs.Feeding.{Took};
-ghost use Rattle.legacy_chinese.specs.Gb18030Held.{held_bytes, is_resting};
+ghost use Rattle.legacy_base.specs.{Gb18030.gb18030_scalars, Grammar.gb18030, States.{is_neutral, new_state, state_of}};
+ghost use Rattle.legacy_decoder_engine.specs.{Feeding.Took, Moves.{read_room, room_units}};
+ghost use Rattle.legacy_chinese.specs.{Gb18030Held.{held_bytes, is_resting}, Gb18030Machine.gb18030_step};
 
 use super::digit::Digit;
 use super::four_byte_blocks::{Gb18030, guessed_scalar};
@@ -280,6 +274,7 @@ impl DecoderMoves for Gb18030Decoder<'_> {
     }
 
     #[inline]
+    #[tactic(auto, using(crate::proofs::Gb18030Held::releases))]
     fn release(&mut self) -> Option<char> {
         match self.held {
             Held::Digit(digit) => {
@@ -295,7 +290,7 @@ impl DecoderMoves for Gb18030Decoder<'_> {
     }
 
     #[inline(always)]
-    #[tactic(auto, using(crate::proofs::Gb18030Held::feeds))]
+    #[tactic(auto, using(crate::proofs::Gb18030Held::feeds, crate::proofs::Gb18030Held::takes_pair))]
     fn feed(&mut self, byte: u8) -> Fed {
         if let Held::First(first) = self.held {
             if let Some(scalar) = pair_scalar(self.tables, first, byte) {
@@ -339,6 +334,7 @@ impl DecoderMoves for Gb18030Decoder<'_> {
 
     /// Holds back the first bytes of a sequence: those before the end of the input, and those that go on with held-back ones.
     #[inline(always)]
+    #[tactic(auto, using(legacy_decoder_engine::proofs::CallUnderWay::holds_none))]
     fn hold_back<T: Destination>(&mut self, src: &[u8], dst: &T) -> usize {
         if dst.free() < T::wide() {
             return 0;
@@ -356,6 +352,7 @@ impl DecoderMoves for Gb18030Decoder<'_> {
 
     // Over packed tables only ASCII is read ahead.
     #[inline(always)]
+    #[tactic(auto, using(crate::proofs::Gb18030Held::idle_reads))]
     fn read_runs<T: Destination>(&mut self, src: &[u8], dst: &mut T) -> usize {
         if !self.in_neutral_state() {
             return 0;
@@ -395,8 +392,6 @@ impl RawDecoder for Gb18030Decoder<'_> {
     }
 
     fn max_utf8_buffer_length(&self, byte_length: usize) -> Option<usize> {
-        self.weighted_length(byte_length)?
-            .checked_mul(3)?
-            .checked_add(1)
+        self.max_utf8_buffer_length_without_replacement(byte_length)
     }
 }

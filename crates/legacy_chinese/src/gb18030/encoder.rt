@@ -1,16 +1,10 @@
 //! The encoder of GB18030 and GBK.
-ghost use Rattle.std.specs.Prelude.{◌≡◌, ◌≢◌, ℕ, ◌+◌, ◌*◌, ◌/◌, ◌%◌, ◌<◌, ◌≤◌, [], ◌∷◌, length, true, false};
-ghost use Rattle.std.specs.Prelude.{Some, IfSome, option_map};
-ghost use Rattle.legacy_tables.specs.Pointers.{range_pointer_of};
-ghost use Rattle.legacy_tables.specs.RangeParts.{IsRangePart};
+ghost use Rattle.std.specs.Prelude.{◌≡◌, ◌≢◌, ℕ, ◌+◌, ◌*◌, ◌/◌, ◌%◌, ◌<◌, ◌≤◌, [], ◌∷◌, length, true, false, Some, IfSome, option_map};
+ghost use Rattle.legacy_tables.specs.{Pointers.range_pointer_of, RangeParts.IsRangePart};
 ghost use Rattle.legacy_base.specs.Gb18030.{gb18030_pair_code, gb18030_range_bytes, gb18030_code, gbk_code};
-ghost use Rattle.legacy_base.specs.Encoders.{encoder_profile, new_encoder};
-ghost use Rattle.legacy_base.specs.Lengths.{answer, number, ◌⊕◌, ◌⊗◌};
-ghost use Rattle.legacy_encoder_engine.specs.CachedPairs.{AreAllPairsOf};
-ghost use Rattle.legacy_encoder_engine.specs.Moves.{IsCode};
-ghost use Rattle.legacy_encoder_engine.specs.UnfinishedCall.{EncodesFrom};
-ghost use Rattle.legacy_chinese.specs.Gb18030Codec.{gb18030_codec};
-ghost use Rattle.legacy_chinese.specs.Gb18030Codes.{gb18030_plain};
+ghost use Rattle.legacy_base.specs.{Encoders.{encoder_profile, new_encoder}, Lengths.{answer, number, ◌⊕◌, ◌⊗◌}};
+ghost use Rattle.legacy_encoder_engine.specs.{CachedPairs.AreAllPairsOf, Moves.IsCode, UnfinishedCall.EncodesFrom};
+ghost use Rattle.legacy_chinese.specs.{Gb18030Codec.gb18030_codec, Gb18030Codes.gb18030_plain};
 
 use super::list::{Gb18030Marks, ask_rows};
 use legacy_base::{EncoderStep, PackedPart, RawEncoder, Source, Tables};
@@ -137,6 +131,7 @@ fn far_pointer<V: EncoderTables>(tables: &V, near: &mut RangePart, c: char) -> O
 
 /// Returns the four bytes of a scalar's range pointer, if any, and keeps its range in `near`.
 #[inline(always)]
+#[tactic(auto, using(crate::proofs::Gb18030Pairs::pointer_bound))]
 fn near_range_bytes_of<V: EncoderTables>(
     tables: &V,
     near: &mut RangePart,

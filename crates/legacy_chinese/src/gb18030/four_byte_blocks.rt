@@ -2,10 +2,8 @@
 // Functions that run for each sequence or block are always inlined. A call would pass vectors through memory, and keep
 // the destination's place there.
 ghost use Rattle.std.specs.Prelude.{◌*◌, ◌≡◌, ◌<◌, Some, IfSome};
-ghost use Rattle.legacy_tables.specs.Indexes.{range};
-ghost use Rattle.legacy_tables.specs.RangeParts.{IsRangePart};
-ghost use Rattle.legacy_base.specs.Grammar.{gb18030};
-ghost use Rattle.legacy_chinese.specs.Gb18030Places.{gb18030_place};
+ghost use Rattle.legacy_tables.specs.{Indexes.range, RangeParts.IsRangePart};
+ghost use Rattle.{legacy_base.specs.Grammar.gb18030, legacy_chinese.specs.Gb18030Places.gb18030_place};
 
 use super::four_lanes::read_fours;
 use super::four_places::four_pointer;
@@ -27,6 +25,7 @@ use std::simd::prelude::*;
 // Cold, so that the loop that calls it keeps its values in registers.
 #[cold]
 #[inline(never)]
+#[tactic(auto, using(crate::proofs::FourPlaces::range_past))]
 fn far_scalar(ranges: Ranges<'_>, guess: &Cell<usize>, pointer: usize) -> Option<char>
     requires { pointer < 0x1_0000_0000 }
     ensures { result ≡ range ranges.entry.list.now pointer }
@@ -143,6 +142,7 @@ impl LaneCodec for Gb18030 {
     /// It reads whole sequences while at least five bytes are left.
     // A single ASCII byte often follows a sequence, as between words, and no processor predicts where.
     #[inline(always)]
+    #[tactic(auto, using(legacy_decoder_engine::proofs::WrittenRuns::writes_none, legacy_decoder_engine::proofs::WrittenRuns::four_fit))]
     fn read_longer<T: Destination>(
         tables: &FlatTables<'_>,
         guess: &Cell<usize>,
@@ -176,6 +176,7 @@ impl LaneCodec for Gb18030 {
     }
 
     #[inline(always)]
+    #[tactic(auto, using(legacy_decoder_engine::proofs::WrittenRuns::no_bytes))]
     fn read_longer_blocks<T: Destination>(
         tables: &FlatTables<'_>,
         guess: usize,
@@ -198,9 +199,7 @@ impl LaneCodec for Gb18030 {
             return None;
         }
         let pointer = four_pointer(src[0], src[1], src[2], src[3]);
-        let Some(scalar) = guessed_scalar(tables.ranges(), guess, pointer) else {
-            return None;
-        };
+        let scalar = guessed_scalar(tables.ranges(), guess, pointer)?;
         Some((scalar, 4))
     }
 

@@ -1,10 +1,9 @@
 //! ASCII and sequences of four bytes eight at a time, if all sequences have their scalars in one range.
-ghost use Rattle.std.specs.Prelude.{◌≡◌, ◌≢◌, ℕ, ◌+◌, ◌*◌, ◌/◌, ◌%◌, ◌<◌, ◌≤◌, List, true, cond, ltb, length, map, min, get_or, take};
-ghost use Rattle.legacy_tables.specs.{Indexes.{range}, RangeParts.{IsRangePart}};
-ghost use Rattle.legacy_base.specs.{Grammar.{gb18030}, States.{new_state}};
-ghost use Rattle.legacy_decoder_engine.specs.ReadAhead.{ReadsAhead, Writes};
-ghost use Rattle.legacy_chinese.specs.FourPlaces.{four_place};
-ghost use Rattle.legacy_chinese.specs.FourForms.{fours_of, half_place, part_unit, IsFour};
+ghost use Rattle.std.specs.Prelude.{◌≡◌, ◌≢◌, ℕ, ◌+◌, ◌*◌, ◌/◌, ◌%◌, ◌<◌, ◌≤◌, All, List, true, cond, ltb, length, min, get_or, take};
+ghost use Rattle.std.specs.Char.{IsScalar};
+ghost use Rattle.legacy_tables.specs.{Indexes.range, RangeParts.IsRangePart};
+ghost use Rattle.{legacy_base.specs.{Grammar.gb18030, States.new_state}, legacy_decoder_engine.specs.ReadAhead.{ReadsAhead, Writes}};
+ghost use Rattle.legacy_chinese.specs.{FourPlaces.four_place, FourForms.{fours_of, half_place, part_unit, IsFour}};
 
 use super::four_picks::pick_fours;
 use legacy_base::Destination;
@@ -15,8 +14,9 @@ use std::simd::prelude::*;
 
 /// Returns the places of eight codes of two bytes: of a lead and a digit, the lead low.
 #[inline(always)]
+#[tactic(auto, using(crate::proofs::FourLanes::halves_are))]
 fn half_places(codes: u16x8) -> u16x8
-    ensures { result ≡ map half_place codes }
+    ensures { (k : ℕ) → k < 8 → get_or result k 0 ≡ half_place (get_or codes k 0) }
 {
     let lead = (codes & u16x8::splat(0xFF)) - u16x8::splat(0x81);
     let digit = (codes >> u16x8::splat(8)) - u16x8::splat(0x30);
@@ -27,7 +27,7 @@ fn half_places(codes: u16x8) -> u16x8
 /// Returns the first pointers of eight places of the first two bytes. From place 52 on no pointer has a scalar up to U+FFFF.
 #[inline(always)]
 fn first_pointers(places: u16x8) -> u16x8
-    ensures { result ≡ map (λ place. 1260 * min place 52) places }
+    ensures { (k : ℕ) → k < 8 → get_or result k 0 ≡ 1260 * min (get_or places k 0) 52 }
 {
     places.simd_min(u16x8::splat(52)) * u16x8::splat(1260)
 }
@@ -49,7 +49,7 @@ fn four_pointers(front: u16x8, back: u16x8) -> u16x8
 fn part_units(part: RangePart, pointers: u16x8) -> u16x8
     requires pointers { part.first + part.count ≤ 39420 }
     requires scalars { part.scalar + part.count ≤ 0x1_0000 }
-    ensures { result ≡ map (part_unit part) pointers }
+    ensures { (k : ℕ) → k < 8 → get_or result k 0 ≡ part_unit part (get_or pointers k 0) }
 {
     let at = pointers - u16x8::splat(part.first as u16);
     let is_given = at.simd_lt(u16x8::splat(part.count as u16))
@@ -68,6 +68,7 @@ fn units_of(part: RangePart, front: u16x8, back: u16x8) -> u16x8
     requires pointers { part.first + part.count ≤ 39420 }
     requires scalars { part.scalar + part.count ≤ 0x1_0000 }
     ensures small { (k : ℕ) → k < 8 → get_or result k 0 < 0x1_0000 }
+    ensures scalars { (ranges : List (ℕ × ℕ)) → IsRangePart ranges part → All IsScalar result }
     ensures units { (ranges : List (ℕ × ℕ)) → IsRangePart ranges part → (k : ℕ) → k < 8 → get_or result k 0 ≢ 0 →
         IsFour ranges (get_or front k 0) (get_or back k 0) (get_or result k 0) }
 {
@@ -86,15 +87,14 @@ fn form_length(code: u16) -> usize
 /// Returns the number of bytes of the first `count` forms, given the codes of their first two bytes.
 // Never inlined, because few blocks have a sequence outside of the part.
 #[inline(never)]
+#[tactic(auto, using(crate::proofs::FourWrites::counted_forms), unfolding(crate::specs::FourForms::fours_of))]
 fn byte_total(front: &[u16], count: usize) -> usize
     requires { count ≤ length front.now }
     ensures { (back : List ℕ) → count ≤ length back → result ≡ length (fours_of (take count front.now) (take count back)) }
 {
     let mut bytes = 0;
-    let mut at = 0;
-    while at < count {
-        bytes += form_length(front[at]);
-        at += 1;
+    for code in &front[..count] {
+        bytes += form_length(*code);
     }
     bytes
 }
@@ -104,6 +104,7 @@ fn byte_total(front: &[u16], count: usize) -> usize
 /// It stops at one whose scalar is not in the part of the ranges, and if fewer than 35 code units are free.
 // Eight at a time, and then the last few. The lists have room for eight codes after the last form.
 #[inline(always)]
+#[tactic(auto, using(legacy_decoder_engine::proofs::WrittenRuns::writes_none), unfolding(crate::specs::FourForms::fours_of))]
 fn put_fours<T: Destination>(
     tables: &FlatTables<'_>,
     part: RangePart,

@@ -30,6 +30,7 @@ fn inner_bytes(past: u64) -> u64 {
 /// Returns the bits of the bytes at which forms start, if each byte past ASCII is the first or third of four.
 // The bits are checked, so the proof needs no facts about parities.
 #[inline(always)]
+#[tactic(auto, using(crate::proofs::FourStarts::asked, legacy_decoder_engine::proofs::FormStarts::lowest_set))]
 fn four_starts(past: u64) -> Option<u64>
     ensures { IfSome result (λ starts. AreFourStarts past starts) }
 {
@@ -47,6 +48,7 @@ fn four_starts(past: u64) -> Option<u64>
 
 /// Returns the number of bytes of the forms that end in a block of 64 bytes: the first start of four from byte 61 on, or 64.
 #[inline(always)]
+#[tactic(auto, using(crate::proofs::FourStarts::whole_end))]
 fn whole_fours(past: u64, starts: u64) -> usize
     requires { AreFourStarts past starts }
     ensures most { result ≤ 64 }
@@ -88,6 +90,7 @@ fn pick_block(block: &[u8], front: &mut [u16], back: &mut [u16], count: usize) -
 ///
 /// Returns the number of codes, and the number of bytes of their forms.
 #[inline(always)]
+#[tactic(auto, using(crate::proofs::FourStarts::next_forms), unfolding(crate::specs::FourForms::fours_of))]
 pub fn pick_fours(src: &[u8], front: &mut [u16], back: &mut [u16]) -> (usize, usize)
     requires same { length front.old ≡ length back.old }
     requires some { 8 ≤ length front.old }

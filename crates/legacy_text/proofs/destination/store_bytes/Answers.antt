@@ -1,6 +1,6 @@
-use Rattle.std.proofs.{Common.arith, lemmas.List.map-id}
-use Rattle.legacy_text.proofs.Ascii.{put_front}
+use Rattle.std.proofs.{lemmas.List.map-id}
+use Rattle.legacy_text.proofs.Ascii.{put_slice}
 use Rattle.legacy_text.proofs.destination.store_bytes.Goals as goal
 
 pub returns : goal.returns
-returns c = λ k few. simp map-id (put_front c.args.at k c.args.dst.now c.args.block (omega (arith, c.fits-block.0, c.requires)) (omega (arith, c.fits-block.0)))
+returns c = λ k few. simp map-id (put_slice c.args.at 64 k c.args.dst.now c.args.bytes.now c.requires.room c.requires.block few)

@@ -6,6 +6,3 @@ pub overflow_sub-result-2 : goal.overflow_sub-result-2
 overflow_sub-result-2 c =
     let put = c.put_eight_units in
     grind (arith, first_stored c.args.at put.result (8 - c.args.count) c.args.dst.now put.new.dst (take c.args.count c.args.units))
-
-pub returns-clause-written : goal.returns-clause-written
-returns-clause-written c = grind (arith, first_stored)

@@ -1,6 +1,5 @@
 use Rattle.std.proofs.Common.{◌+◌, arith}
-use Rattle.legacy_text.specs.ScalarTurns.{IsUnitAt}
-use Rattle.legacy_text.proofs.ScalarTurns.{stored_at}
+use Rattle.legacy_text.{specs.ScalarTurns.IsUnitAt, proofs.ScalarTurns.stored_at}
 use Rattle.legacy_text.proofs.scalar_turns.put_units.Goals as goal
 
 pub returns-clause-units : goal.returns-clause-units

@@ -1,9 +1,6 @@
-use Rattle.std.proofs.{lemmas.Grind.common_steps, Common.{add-zero, arith}}
-use Rattle.legacy_text.proofs.ShortScalars.{scalars_none, scalars_append}
+use Rattle.std.proofs.{Common.{arith}}
+use Rattle.legacy_text.proofs.ShortScalars.{scalars_append}
 use Rattle.legacy_text.proofs.short_scalars.copy_short_scalars.Goals as goal
-
-pub loop-place-init : goal.loop-place-init
-loop-place-init g c = grind (arith, common_steps, scalars_none, add-zero)
 
 pub returns-then-is_ascii-clause-writes : goal.returns-then-is_ascii-clause-writes
 returns-then-is_ascii-clause-writes g c = grind (arith, scalars_append _ _ _ _ _ _ _ _ _ _ c.loop-place.invariant.1 c.in-Some.ensures.turn)

@@ -1,10 +1,7 @@
-use Rattle.std.proofs.{Common.{◌≡◌, ◌∙◌, ◌+◌, ◌<◌, length, take, ap, add-zero, arith, slice_set}, lemmas.Bool.{ltb-true, and_parts}}
+use Rattle.std.proofs.{Common.{◌≡◌, ◌∙◌, ◌+◌, ◌<◌, length, take, ap, arith, slice_set}, lemmas.Bool.{ltb-true, and_parts}}
 use Rattle.std.proofs.lemmas.List.{take-set-le, take_more_set}
-use Rattle.legacy_text.proofs.ShortScalars.{scalars_none, scalars_one, scalars_append}
+use Rattle.legacy_text.proofs.ShortScalars.{scalars_one, scalars_append}
 use Rattle.legacy_text.proofs.short_scalars.put_turn.Goals as goal
-
-pub loop-k-init : goal.loop-k-init
-loop-k-init g c = grind (arith, scalars_none, add-zero)
 
 pub loop-k-preserved : goal.loop-k-preserved
 loop-k-preserved g c =

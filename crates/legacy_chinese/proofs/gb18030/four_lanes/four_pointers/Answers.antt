@@ -1,9 +1,8 @@
-use Rattle.std.proofs.Common.{◌*◌, ◌∙◌, ap, arith, map, min}
-use Rattle.legacy_chinese.proofs.FourLanes.{pointers_are}
+use Rattle.std.proofs.Common.{arith}
+use Rattle.legacy_chinese.proofs.FourLanes.{sum_at}
 use Rattle.legacy_chinese.proofs.gb18030.four_lanes.four_pointers.Goals as goal
 
 pub returns : goal.returns
-returns c =
-    pointers_are c.args.front c.args.back c.first_pointers.result c.half_places-2.result c.place_sums.result c.fits-front.0 c.fits-back.0
-    (omega (arith, c.place_sums.type_inv)) (c.first_pointers.ensures ∙ ap (map (λ place. 1260 * min place 52)) c.half_places.ensures)
-    c.half_places-2.ensures c.place_sums.ensures
+returns c k h below =
+    let sum = sum_at _ _ c.place_sums.result (omega (arith, c.first_pointers.type_inv)) (omega (arith, c.half_places-2.type_inv)) (omega (arith, c.place_sums.type_inv)) c.place_sums.ensures k h below in
+    omega (arith, sum, c.first_pointers.ensures k h, c.half_places.ensures k h, c.half_places-2.ensures k h, below)

@@ -1,39 +1,18 @@
 use Rattle.std.proofs.{Common.{◌≡◌, length, take, arith}, lemmas.List.take_all}
-use Rattle.legacy_decoder_engine.proofs.{LaneUnits.few_units, WrittenRuns.{all_short, writes_none}}
-use Rattle.legacy_chinese.{specs.FourForms.fours_of, proofs.FourWrites.{known_scalars, next_written}}
+use Rattle.legacy_decoder_engine.proofs.{LaneUnits.few_units, WrittenRuns.all_short}
+use Rattle.legacy_chinese.proofs.FourWrites.{next_written}
 use Rattle.legacy_chinese.proofs.gb18030.four_lanes.put_fours.Goals as goal
-
-pub loop-at-init : goal.loop-at-init
-unfolding fours_of
-loop-at-init g c = grind (arith, writes_none)
-
-pub put_first-requires-clause-scalars : goal.put_first-requires-clause-scalars
-put_first-requires-clause-scalars g c =
-    known_scalars c.args.tables.now c.loop-at.at c.args.front.now c.args.back.now c.units_of-units.result
-    (omega (arith, c.loop-at-test.true, c.requires.front)) (omega (arith, c.loop-at-test.true, c.requires.back)) (omega (arith, c.type_inv.units.0))
-    (c.units_of-units.ensures.units c.args.tables.now.flat.ranges c.requires.part)
 
 pub returns-then-few-lt8-clause-writes : goal.returns-then-few-lt8-clause-writes
 returns-then-few-lt8-clause-writes g c =
     let e = c.put_first.ensures in
-    next_written c.args.tables.now c.loop-at.at c.args.front.now c.args.back.now c.units_of-units.result
-    (omega (arith, c.loop-at-test.true, c.requires.front)) (omega (arith, c.loop-at-test.true, c.requires.back)) (omega (arith, c.units_of-units.type_inv))
-    (c.units_of-units.ensures.units c.args.tables.now.flat.ranges c.requires.part) g.T.Destination c.min-few.result
-    (omega (arith, c.if-few-lt8.true)) (λ k h. c.known_count.ensures.known k (omega (arith, h, c.min-few.ensures)))
-    c.loop-at.invariant.writes e.contents e.room e.loan
+    next_written c.args.tables.now g.T.Destination c.loop-at.at c.min-few.result c.args.front.now c.args.back.now c.units_of-units.result
+    (omega (arith, c.if-few-lt8.true)) (omega (arith, c.loop-at-test.true, c.requires.front)) (omega (arith, c.loop-at-test.true, c.requires.back))
+    (omega (arith, c.units_of-units.type_inv)) (λ k h. c.known_count.ensures.known k (omega (arith, h, c.min-few.ensures)))
+    (c.units_of-units.ensures.units c.args.tables.now.flat.ranges c.requires.part) c.loop-at.invariant.writes e.contents e.room e.loan
 
 pub returns-then-few-lt8-clause-slack : goal.returns-then-few-lt8-clause-slack
-returns-then-few-lt8-clause-slack g c h =
-    let n =
-    few_units g.T.Destination.form c.min-few.result c.units_of-units.result (omega (arith, c.units_of-units.type_inv)) c.units_of-units.ensures.small
-    (omega (arith, c.if-few-lt8.true)) in
-    omega (arith, n, c.put_first.ensures.room, c.free.ensures, c.if-free-ge35.true)
-
-pub put_eight-requires-clause-scalars : goal.put_eight-requires-clause-scalars
-put_eight-requires-clause-scalars g c =
-    known_scalars c.args.tables.now c.loop-at.at c.args.front.now c.args.back.now c.units_of-units.result
-    (omega (arith, c.loop-at-test.true, c.requires.front)) (omega (arith, c.loop-at-test.true, c.requires.back)) (omega (arith, c.type_inv.units.0))
-    (c.units_of-units.ensures.units c.args.tables.now.flat.ranges c.requires.part)
+returns-then-few-lt8-clause-slack g c = grind (arith, few_units)
 
 pub loop-at-preserved : goal.loop-at-preserved
 loop-at-preserved g c =
@@ -46,10 +25,10 @@ loop-at-preserved g c =
     let n = all_short T.form units (λ k h. c.units_of-units.ensures.small k (omega (arith, h, long))) in
     record {
       within = omega (arith, c.if-few-lt8.false, c.min-few.ensures, c.loop-at-test.true);
-      writes = next_written c.args.tables.now c.loop-at.at c.args.front.now c.args.back.now units
+      writes = next_written c.args.tables.now T c.loop-at.at 8 c.args.front.now c.args.back.now units (omega arith)
           (omega (arith, c.loop-at-test.true, c.requires.front)) (omega (arith, c.loop-at-test.true, c.requires.back)) long
-          (c.units_of-units.ensures.units c.args.tables.now.flat.ranges c.requires.part) T 8 (omega arith)
-          (λ k h. c.known_count.ensures.known k (omega (arith, h, c.min-few.ensures, c.if-few-lt8.false))) i.writes (rw all e.contents) (rw all e.room) e.loan;
+          (λ k h. c.known_count.ensures.known k (omega (arith, h, c.min-few.ensures, c.if-few-lt8.false)))
+          (c.units_of-units.ensures.units c.args.tables.now.flat.ranges c.requires.part) i.writes (rw all e.contents) (rw all e.room) e.loan;
       slack = λ h. omega (arith, n, long, e.room, c.free.ensures, c.if-free-ge35.true);
       had = λ h. omega (arith, i.writes.room, i.had, c.free.ensures, c.if-free-ge35.true);
     }

@@ -1,13 +1,7 @@
 use Rattle.{std.proofs.{Common.{arith, get_or, take, ◌∙◌, ◌≤◌}, lemmas.List.take_more}, legacy_decoder_engine.specs.Moves.read_room}
-use Rattle.legacy_decoder_engine.{specs.declared.moves.Fed.TheVariants.Nothing, proofs.CallUnderWay.{holds_none, holds_more}}
+use Rattle.legacy_decoder_engine.{specs.declared.moves.Fed.TheVariants.Nothing, proofs.CallUnderWay.{holds_more}}
 use Rattle.legacy_chinese.{specs.{Gb18030Decoder.gb18030_state, Gb18030Held.held_bytes}, proofs.Gb18030Held.{feeds, reads_wide, rests-held}}
 use Rattle.legacy_chinese.proofs.gb18030.decoder.Gb18030DecoderDecoderMoves.hold_back.Goals as goal
-
-pub returns-then-free-wide-clause-holds : goal.returns-then-free-wide-clause-holds
-returns-then-free-wide-clause-holds g c = grind (arith, holds_none)
-
-pub loop-at-init : goal.loop-at-init
-loop-at-init g c = grind (arith, holds_none)
 
 pub loop-at-preserved : goal.loop-at-preserved
 loop-at-preserved g c =

@@ -1,12 +1,6 @@
-use Rattle.{std.proofs.Common.arith, legacy_decoder_engine.proofs.{JoinedRuns.reads_idle, WrittenRuns.reads_none}}
-use Rattle.legacy_chinese.{specs.Gb18030Decoder.gb18030_state, proofs.Gb18030Held.{ascii, idle}}
+use Rattle.{std.proofs.Common.arith, legacy_decoder_engine.proofs.{JoinedRuns.reads_idle}}
+use Rattle.legacy_chinese.{proofs.Gb18030Held.{ascii, idle}}
 use Rattle.legacy_chinese.proofs.gb18030.decoder.Gb18030DecoderDecoderMoves.read_runs.Goals as goal
-
-pub returns-then-not-in_neutral_state : goal.returns-then-not-in_neutral_state
-returns-then-not-in_neutral_state g c = record { runs = reads_none g.T.Destination (gb18030_state c.args.self.now) c.args.src.now c.args.dst.now }
-
-pub returns-in-Some : goal.returns-in-Some
-returns-in-Some g c = grind (arith, reads_idle, idle)
 
 pub returns-in-None : goal.returns-in-None
 returns-in-None g c = let read = c.read_ascii.ensures.ahead _ (ascii c.args.self.now.tables.now) in grind (arith, reads_idle, idle, read)

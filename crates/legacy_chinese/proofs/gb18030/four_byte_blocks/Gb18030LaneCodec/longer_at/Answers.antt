@@ -5,4 +5,4 @@ pub returns : goal.returns
 returns c =
     let src = c.args.src.now in
     let run = four_at c.args.tables.now c.ranges-2.result.list.now c.four_pointer-pointer.result (get_or src 0 0) (get_or src 1 0) (get_or src 2 0) in
-    let run' = run (get_or src 3 0) c.in-Some.scalar in grind (arith, take_two src 0, take_two src 2, run')
+    let run' = run (get_or src 3 0) c.in_ok-scalar.scalar in grind (arith, take_two src 0, take_two src 2, run')

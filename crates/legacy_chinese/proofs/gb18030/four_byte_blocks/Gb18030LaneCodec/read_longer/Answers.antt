@@ -1,10 +1,7 @@
-use Rattle.{std.proofs.Common.{◌+◌, get_or, arith}, legacy_decoder_engine.proofs.{JoinedRuns.reads_front, WrittenRuns.{runs_byte, writes_none, writes_one}}}
+use Rattle.{std.proofs.Common.{◌+◌, get_or, arith}, legacy_decoder_engine.proofs.{JoinedRuns.reads_front, WrittenRuns.{runs_byte, writes_one}}}
 use Rattle.{legacy_decoder_engine.proofs.WrittenRuns.{writes_four, four_fit}, legacy_text.proofs.CodeUnits.code_units_ascii}
 use Rattle.legacy_chinese.proofs.{AsciiBehind.writes_behind, Gb18030Held.ascii, FourPlaces.four_at}
 use Rattle.legacy_chinese.proofs.gb18030.four_byte_blocks.Gb18030LaneCodec.read_longer.Goals as goal
-
-pub loop-at-init : goal.loop-at-init
-loop-at-init g c = grind (arith, writes_none)
 
 pub returns-then-src-at-lt128 : goal.returns-then-src-at-lt128
 returns-then-src-at-lt128 g c =
@@ -15,12 +12,6 @@ returns-then-src-at-lt128 g c =
 pub loop-at-preserved-else-src-at-lt128 : goal.loop-at-preserved-else-src-at-lt128
 loop-at-preserved-else-src-at-lt128 g c =
     let run = runs_byte (ascii c.args.tables.now) (get_or c.args.src.now c.loop-at.at 0) c.from.result in grind (arith, writes_one, run, code_units_ascii)
-
-pub put-requires-else-byte-lt128 : goal.put-requires-else-byte-lt128
-put-requires-else-byte-lt128 g c = grind (arith, four_fit)
-
-pub put_ascii-at-requires : goal.put_ascii-at-requires
-put_ascii-at-requires g c = grind (arith, four_fit)
 
 pub loop-at-preserved : goal.loop-at-preserved
 loop-at-preserved g c =
