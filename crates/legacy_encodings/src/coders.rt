@@ -1,6 +1,7 @@
 //! Coders of an encoding that is chosen when the program runs.
 ghost use Rattle.std.specs.Prelude.{◌≡◌};
 ghost use Rattle.std.specs.Option.{option_map};
+ghost use Rattle.legacy_base.specs.States.{DecoderState};
 ghost use Rattle.legacy_encodings.specs.Coders.{decoder_of, encoder_of};
 
 use crate::tasks::{DecoderTask, EncoderTask};
@@ -14,7 +15,8 @@ use legacy_codecs::{
 use legacy_index_files::Codec;
 
 /// A decoder of any encoding.
-#[derive(Drop)]
+///
+/// Outside this crate, match on a reference to it.
 pub enum AnyDecoder<'a> {
     /// Of a single-byte encoding.
     SingleByte(SingleByteDecoder<'a>),
@@ -54,6 +56,13 @@ macro_rules! match_decoder {
             AnyDecoder::UserDefined($coder) => $value,
         }
     };
+}
+
+// Written out: the prover lets no method move a decoder out of this enum if it derives `Drop`.
+impl Drop for AnyDecoder<'_> {
+    fn drop(self) {
+        match_decoder!(self, coder => drop(coder))
+    }
 }
 
 impl<'a> RawDecoder for AnyDecoder<'a> {
@@ -203,14 +212,29 @@ impl<'a> AnyDecoder<'a> {
 
     /// Does a task with the decoder of the encoding, for whose type the task's code is compiled.
     ///
-    /// Returns what the task returns: the number of code units that it wrote to `output`.
+    /// The decoder is used up: outside the enum it can be in registers during the task. Returns
+    /// what the task returns: the number of code units that it wrote to `output`.
     #[inline(always)]
-    pub fn lend<U, T: DecoderTask<U>>(&mut self, task: &T, output: &mut [U]) -> usize
-        ensures { T.gives task.now (⟦<AnyDecoder<'static> as RawDecoder>⟧.state self.old)
-            (⟦<AnyDecoder<'static> as RawDecoder>⟧.state self.new) output.old output.new result }
+    pub fn lend<U, T: DecoderTask<U>>(self, task: &T, output: &mut [U]) -> usize
+        ensures { (after : DecoderState)
+            × T.gives task.now (⟦<AnyDecoder<'static> as RawDecoder>⟧.state self.entry) after
+            output.old output.new result }
     {
-        match_decoder!(self, coder => task.run(coder, output))
+        match_decoder!(self, coder => run_with(coder, task, output))
     }
+}
+
+/// Does a task with a decoder, which is used up.
+#[inline(always)]
+fn run_with<U, D: RawDecoder + Drop, T: DecoderTask<U>>(
+    mut decoder: D,
+    task: &T,
+    output: &mut [U],
+) -> usize
+    ensures { (after : DecoderState) × T.gives task.now (D.state decoder) after output.old
+        output.new result }
+{
+    task.run(&mut decoder, output)
 }
 
 impl<'a> AnyEncoder<'a> {

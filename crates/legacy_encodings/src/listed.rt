@@ -1,12 +1,13 @@
 //! Encoders of an encoding that is chosen when the program runs, with a list of its pairs.
 ghost use Rattle.std.specs.Prelude.{◌≡◌, ◌<◌, ◌≤◌, ◌⊎◌, length, false, true, MatchOption};
+ghost use Rattle.legacy_base.specs.Encoders.{new_encoder};
 ghost use Rattle.legacy_encodings.specs.Lists.{has_pairs};
 
 use crate::coders::AnyEncoder;
 use crate::tasks::EncoderTask;
 use legacy_codecs::{
-    Big5Encoder, CachedEncoder, CachedIso2022JpEncoder, EncoderResult, EucJpEncoder, EucKrEncoder,
-    Gb18030Encoder, RawEncoder, ShiftJisEncoder, Source,
+    Big5Encoder, CachedEncoder, CachedIso2022JpEncoder, EncoderResult, EncodesPairs, EucJpEncoder,
+    EucKrEncoder, Gb18030Encoder, PAIR_ROOM, RawEncoder, ShiftJisEncoder, Source,
 };
 
 /// An encoder of any encoding of pairs, with a list of its pairs in memory that the caller lends.
@@ -82,25 +83,21 @@ impl<'a, 'b> ListedEncoder<'a, 'b> {
             × (⟦<ListedEncoder<'static, 'static> as RawEncoder>⟧.state listed
             ≡ ⟦<AnyEncoder<'static> as RawEncoder>⟧.state encoder.now)) }
     {
-        match encoder {
-            AnyEncoder::Gb18030(coder) => Some(ListedEncoder::Gb18030(CachedEncoder::new(
-                coder, room,
-            )?)),
-            AnyEncoder::Big5(coder) => Some(ListedEncoder::Big5(CachedEncoder::new(coder, room)?)),
-            AnyEncoder::EucJp(coder) => Some(ListedEncoder::EucJp(CachedEncoder::new(
-                coder, room,
-            )?)),
-            AnyEncoder::Iso2022Jp(coder) => Some(ListedEncoder::Iso2022Jp(
-                CachedIso2022JpEncoder::new(coder, room)?,
-            )),
-            AnyEncoder::ShiftJis(coder) => Some(ListedEncoder::ShiftJis(CachedEncoder::new(
-                coder, room,
-            )?)),
-            AnyEncoder::EucKr(coder) => Some(ListedEncoder::EucKr(CachedEncoder::new(
-                coder, room,
-            )?)),
-            AnyEncoder::SingleByte(_) | AnyEncoder::UserDefined(_) => None,
+        if room.len() < PAIR_ROOM {
+            return None;
         }
+        let listed = match encoder {
+            AnyEncoder::Gb18030(coder) => ListedEncoder::Gb18030(with_list(coder, room)),
+            AnyEncoder::Big5(coder) => ListedEncoder::Big5(with_list(coder, room)),
+            AnyEncoder::EucJp(coder) => ListedEncoder::EucJp(with_list(coder, room)),
+            AnyEncoder::Iso2022Jp(coder) => {
+                ListedEncoder::Iso2022Jp(CachedIso2022JpEncoder::new(coder, room)?)
+            }
+            AnyEncoder::ShiftJis(coder) => ListedEncoder::ShiftJis(with_list(coder, room)),
+            AnyEncoder::EucKr(coder) => ListedEncoder::EucKr(with_list(coder, room)),
+            AnyEncoder::SingleByte(_) | AnyEncoder::UserDefined(_) => return None,
+        };
+        Some(listed)
     }
 
     /// Does a task with the encoder of the encoding, for whose type the task's code is compiled.
@@ -113,6 +110,14 @@ impl<'a, 'b> ListedEncoder<'a, 'b> {
     {
         match_listed!(self, coder => task.run(coder, output))
     }
+}
+
+/// Returns an encoder that writes what `encoder` writes, with a list of its pairs in the room.
+fn with_list<'b, E: EncodesPairs>(encoder: &'b E, room: &'b mut [u16]) -> CachedEncoder<'b, E>
+    requires { 65536 ≤ length room.old }
+    ensures { new_encoder (E.codec result.encoder.now) ≡ E.state encoder.now }
+{
+    CachedEncoder::new(encoder, room).unwrap()
 }
 
 /// Checks whether an encoder is of an encoding of pairs, so that `ListedEncoder` takes it.

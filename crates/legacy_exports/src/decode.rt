@@ -49,7 +49,7 @@ fn decode_over<'a, C: DecoderCalls<U>, U: CodeUnit>(
     ensures unchanged { IfNone result (output.new ≡ output.old) }
     ensures taken { IsSome result ↔ (codec ≡ Codec.SingleByte → IsSome single_byte.entry) }
 {
-    let mut decoder = AnyDecoder::new(codec, tables, single_byte)?;
+    let decoder = AnyDecoder::new(codec, tables, single_byte)?;
     Some(decoder.lend(reading, output))
 }
 
