@@ -128,31 +128,6 @@ fn runs<E: TestedEncoder>(
     goes(rt, place, &mut E::made(rt, of), input, wanted);
 }
 
-/// Makes a run over these pieces with small outputs, and one with an empty piece after each.
-fn encodes_in_both<E: TestedEncoder>(
-    rt: &(impl AllocGlobal + Abort),
-    place: Place,
-    of: E::Of,
-    pieces: TextPieces,
-    wanted: &[EncodeEvent],
-) {
-    let lengths = small_lengths();
-    let ends = (wanted, None, true);
-    runs::<E>(rt, place, of, (pieces, &lengths), ends);
-    match pieces {
-        TextPieces::Utf8(texts) => {
-            let all = spaced(texts, "");
-            let pieces = TextPieces::Utf8(all.as_slice());
-            runs::<E>(rt, place, of, (pieces, &lengths), ends);
-        }
-        TextPieces::Utf16(texts) => {
-            let all = spaced(texts, &[]);
-            let pieces = TextPieces::Utf16(all.as_slice());
-            runs::<E>(rt, place, of, (pieces, &lengths), ends);
-        }
-    }
-}
-
 /// Returns the first 96 code units of the text, and their number.
 fn units_of(text: &str) -> ([u16; 96], usize) {
     let mut units = [0u16; 96];
@@ -166,18 +141,29 @@ fn units_of(text: &str) -> ([u16; 96], usize) {
     (units, count)
 }
 
-/// Makes the runs over a text: whole and scalar by scalar, with outputs that are large, small or 0.
-fn encodes_in_cuts<E: TestedEncoder>(
+/// Makes a run over these pieces with outputs of 0 to 4 bytes.
+fn encodes_pieces<E: TestedEncoder>(
     rt: &(impl AllocGlobal + Abort),
     place: Place,
     of: E::Of,
-    (whole, scalars): (TextPieces, TextPieces),
+    pieces: TextPieces,
+    wanted: &[EncodeEvent],
+) {
+    let lengths = small_lengths();
+    runs::<E>(rt, place, of, (pieces, &lengths), (wanted, None, true));
+}
+
+/// Makes the runs over a whole text, with outputs that are large, 0 or small.
+fn encodes_whole<E: TestedEncoder>(
+    rt: &(impl AllocGlobal + Abort),
+    place: Place,
+    of: E::Of,
+    whole: TextPieces,
     wanted: &[EncodeEvent],
 ) {
     runs::<E>(rt, place, of, (whole, &[48; 8]), (wanted, None, true));
     runs::<E>(rt, place, of, (whole, &[0; 5]), (&[], Some(5), false));
-    encodes_in_both::<E>(rt, place, of, whole, wanted);
-    encodes_in_both::<E>(rt, place, of, scalars, wanted);
+    encodes_pieces::<E>(rt, place, of, whole, wanted);
 }
 
 /// Makes a run that must be refused, and compares the error with the wanted one.
@@ -287,13 +273,34 @@ fn encodes_units<E: TestedEncoder>(
     (text, units): (&str, &[u16]),
     wanted: &[EncodeEvent],
 ) {
-    let whole = [units];
-    let scalars = unit_pieces(text, units);
-    let cuts = (
-        TextPieces::Utf16(&whole),
-        TextPieces::Utf16(scalars.as_slice()),
-    );
-    encodes_in_cuts::<E>(rt, place, of, cuts, wanted);
+    let (whole, scalars) = ([units], unit_pieces(text, units));
+    encodes_whole::<E>(rt, place, of, TextPieces::Utf16(&whole), wanted);
+    let pieces = TextPieces::Utf16(scalars.as_slice());
+    encodes_pieces::<E>(rt, place, of, pieces, wanted);
+    let (whole, scalars) = (spaced(&whole, &[]), spaced(scalars.as_slice(), &[]));
+    let pieces = TextPieces::Utf16(whole.as_slice());
+    encodes_pieces::<E>(rt, place, of, pieces, wanted);
+    let pieces = TextPieces::Utf16(scalars.as_slice());
+    encodes_pieces::<E>(rt, place, of, pieces, wanted);
+}
+
+/// Makes the runs over a text in UTF-8.
+fn encodes_text<E: TestedEncoder>(
+    rt: &(impl AllocGlobal + Abort),
+    place: Place,
+    of: E::Of,
+    text: &str,
+    wanted: &[EncodeEvent],
+) {
+    let (whole, scalars) = ([text], text_pieces(text));
+    encodes_whole::<E>(rt, place, of, TextPieces::Utf8(&whole), wanted);
+    let pieces = TextPieces::Utf8(scalars.as_slice());
+    encodes_pieces::<E>(rt, place, of, pieces, wanted);
+    let (whole, scalars) = (spaced(&whole, ""), spaced(scalars.as_slice(), ""));
+    let pieces = TextPieces::Utf8(whole.as_slice());
+    encodes_pieces::<E>(rt, place, of, pieces, wanted);
+    let pieces = TextPieces::Utf8(scalars.as_slice());
+    encodes_pieces::<E>(rt, place, of, pieces, wanted);
 }
 
 /// Follows the row of a text in all cuts.
@@ -305,12 +312,7 @@ fn follow_text<E: TestedEncoder>(
 ) {
     if let EncoderRow::Encodes(text, wanted) = row {
         let wanted = events_of(wanted);
-        let (whole, scalars) = ([*text], text_pieces(text));
-        let cuts = (
-            TextPieces::Utf8(&whole),
-            TextPieces::Utf8(scalars.as_slice()),
-        );
-        encodes_in_cuts::<E>(rt, place, of, cuts, wanted.as_slice());
+        encodes_text::<E>(rt, place, of, text, wanted.as_slice());
         let (units, count) = units_of(text);
         let input = (*text, &units[..count.min(96)]);
         encodes_units::<E>(rt, place, of, input, wanted.as_slice());

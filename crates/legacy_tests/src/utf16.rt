@@ -1,5 +1,5 @@
 //! UTF-16.
-use crate::codecs::{DecoderCase, follow_each};
+use crate::codecs::follow_rows;
 use crate::events::{Found, bad};
 use crate::indexes::{EMPTY, fill};
 use crate::rows::Row;
@@ -13,7 +13,7 @@ use legacy_base::DecoderResult::{InputEmpty, Malformed, OutputFull};
 use legacy_index_files::Codec;
 use std::process::Abort;
 
-const LITTLE_ENDIAN: &[Row] = &[
+pub(crate) const LITTLE_ENDIAN: &[Row] = &[
     Decoder("the unit after an unpaired high surrogate is held back"),
     HeldBack(b"\x00\xD8"),
     ToUtf8(
@@ -100,7 +100,7 @@ const LITTLE_ENDIAN: &[Row] = &[
     Replaced(b"\xFF", "\u{FFFD}"),
 ];
 
-const BIG_ENDIAN: &[Row] = &[
+pub(crate) const BIG_ENDIAN: &[Row] = &[
     Decoder("a high and a low surrogate are one scalar"),
     ToUtf8(b"\xD8\x3D\xDC\xA9", 16, true, InputEmpty, 4, "\u{1F4A9}"),
     Events(
@@ -115,11 +115,6 @@ const BIG_ENDIAN: &[Row] = &[
     Pieces(b"\x00\x61\x00\xE4\x26\x03\xD8\x3D\xDC\xA9", 1),
     Decoder("so do three bytes at a time"),
     Pieces(b"\x00\xE4\x26\x03\xD8\x3D\xDC\xA9\x00\x61\x00\xE4", 3),
-];
-
-pub(crate) const CASES: &[DecoderCase] = &[
-    (Codec::Utf16Le, EMPTY, LITTLE_ENDIAN),
-    (Codec::Utf16Be, EMPTY, BIG_ENDIAN),
 ];
 
 /// Compares the events of these units, and of an odd byte if there is one, in either byte order.
@@ -145,7 +140,7 @@ fn in_either_order(
         } else {
             Codec::Utf16Le
         };
-        follow_each(rt, &[(codec, EMPTY, &[EventList(&bytes, events)])]);
+        follow_rows(rt, &[codec], EMPTY, &[EventList(&bytes, events)]);
     }
 }
 
