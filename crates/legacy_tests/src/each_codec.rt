@@ -25,6 +25,7 @@ fn decoders_of_chinese_and_korean_follow_their_rows(rt: HostRuntime) {
     follow_rows(&rt, &[Big5], big5::LAST, big5::THE_LAST_POINTER);
     follow_rows(&rt, &[EucKr], ONE_ENTRY, euc_kr::ROWS);
     follow_rows(&rt, &[Gb18030], EMPTY, gb18030::WITHOUT_ENTRIES);
+    follow_rows(&rt, &[Gb18030], EMPTY, gb18030::LENGTHS_AND_FORMS);
     follow_rows(&rt, &[Gb18030], gb18030::BESIDE_7F, gb18030::PAIRS);
     follow_rows(&rt, &[Gb18030], gb18030::TWO_RANGES, gb18030::RANGES);
     follow_rows(&rt, &[Gb18030], ROW_AND_ENTRY, gb18030::DECODED);
@@ -35,6 +36,7 @@ fn decoders_of_japanese_follow_their_rows(rt: HostRuntime) {
     follow_rows(&rt, &[EucJp], EMPTY, euc_jp::WITHOUT_ENTRIES);
     follow_rows(&rt, &[EucJp], euc_jp::ENTRIES, euc_jp::PAIRS);
     follow_rows(&rt, &[Iso2022Jp], EMPTY, iso_2022_jp::WITHOUT_ENTRIES);
+    follow_rows(&rt, &[Iso2022Jp], EMPTY, iso_2022_jp::ENDS_AND_LENGTHS);
     follow_rows(&rt, &[Iso2022Jp], iso_2022_jp::ENTRIES, iso_2022_jp::PAIRS);
     follow_rows(&rt, &[ShiftJis], EMPTY, shift_jis::WITHOUT_ENTRIES);
 }
@@ -47,6 +49,7 @@ fn decoders_without_pairs_follow_their_rows(rt: HostRuntime) {
     follow_rows(&rt, &[SingleByte], single_byte::LETTERS, single_byte::GREEK);
     follow_rows(&rt, &[UserDefined], EMPTY, user_defined::ROWS);
     follow_rows(&rt, &[Utf16Le], EMPTY, utf16::LITTLE_ENDIAN);
+    follow_rows(&rt, &[Utf16Le], EMPTY, utf16::CUT_UNITS);
     follow_rows(&rt, &[Utf16Be], EMPTY, utf16::BIG_ENDIAN);
 }
 

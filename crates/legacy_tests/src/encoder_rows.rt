@@ -12,7 +12,7 @@ use legacy_encodings::AnyEncoder;
 use std::process::Abort;
 
 /// A call, a query or a run of an encoder, with its wanted result.
-#[derive(Clone, Copy)]
+#[derive(Drop)]
 pub(crate) enum EncoderRow<'a> {
     /// A new encoder, and the name of the case that begins with it.
     Encoder(&'a str),

@@ -55,6 +55,10 @@ pub(crate) const WITHOUT_ENTRIES: &[Row] = &[
     ToUtf8(b"\xE3\x32\x9A\x36", 4, true, Malformed(4, 0), 4, ""),
     Decoder("pointer 7457 is U+E7C7 whatever the ranges"),
     ToUtf16(b"\x81\x35\xF4\x37", 2, true, InputEmpty, 4, &[0xE7C7]),
+];
+
+/// Also without entries: lengths, rooms, and malformed forms.
+pub(crate) const LENGTHS_AND_FORMS: &[Row] = &[
     Decoder("each byte that is held back counts in the lengths"),
     Utf8Length(4, Some(13)),
     Utf16Length(usize::MAX, None),

@@ -54,6 +54,10 @@ pub(crate) const WITHOUT_ENTRIES: &[Row] = &[
     ToUtf8(b"\x1B(B", 16, true, InputEmpty, 3, ""),
     Neutral(false),
     Events(b"\x1B(B", "", &[]),
+];
+
+/// Also without entries: the end of an input, lengths, and small outputs.
+pub(crate) const ENDS_AND_LENGTHS: &[Row] = &[
     Decoder("an escape byte alone at the end takes the escape before it away"),
     ToUtf8(b"\x1B(B\x1B", 16, true, Malformed(1, 0), 4, ""),
     Neutral(true),

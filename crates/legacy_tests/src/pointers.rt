@@ -1,6 +1,6 @@
 //! Look-ups of the scalars of pointers, and of the pointers and bytes that encoders use.
-use self::Row::{Pointer, Range, Scalar};
-use crate::compared::{is_pointer, is_scalar};
+use self::Row::{Pointer, PrivateUse, Range, Scalar};
+use crate::compared::{is_answer, is_pointer, is_scalar};
 use crate::gb18030::encoder::{LAST_RANGE, RANGE_FROM_7457};
 use crate::indexes::{EMPTY, Filled, Flat, flat, packed_of, packed_tables_of, tables_of};
 use legacy_base::IndexName::{Big5, EucKr, Gb18030, Jis0208, Jis0212, Katakana};
@@ -31,7 +31,7 @@ fn pointer_of(tables: &Tables, look_up: LookUp, scalar: char) -> Option<usize> {
 }
 
 /// A look-up, and its wanted result.
-#[derive(Clone, Copy)]
+#[derive(Drop)]
 enum Row {
     /// An index, a pointer, and its scalar.
     Scalar(IndexName, usize, Option<char>),
@@ -39,6 +39,8 @@ enum Row {
     Range(usize, Option<char>),
     /// A scalar, and its pointer.
     Pointer(LookUp, char, Option<usize>),
+    /// A scalar of the private-use rows of GB18030, and its bytes.
+    PrivateUse(char, Option<(u8, u8)>),
 }
 
 /// The name of a case, its indexes, and look-ups in their tables.
@@ -58,20 +60,22 @@ fn answer(rt: &impl Abort, tables: &Tables, case: &str, rows: &[Row]) {
                 let came = pointer_of(tables, *look_up, *scalar);
                 is_pointer(rt, (case, at), came, *wanted);
             }
+            PrivateUse(scalar, wanted) => {
+                let came = tables.gb18030_pua_bytes(*scalar);
+                is_answer(rt, (case, at), "the bytes", came, *wanted);
+            }
         }
     }
 }
 
-/// Looks up in flat tables of the indexes of each case, and in packed ones.
-fn answer_in_each(rt: &(impl AllocGlobal + Abort), cases: &[Case]) {
-    for (case, flat, rows) in cases {
-        let filled = Filled::of(flat);
-        let indexes = filled.indexes(flat);
-        answer(rt, &tables_of(rt, &indexes), case, rows);
-        let packed = packed_of(rt, &indexes);
-        let tables = packed_tables_of(rt, &indexes, &packed.packed());
-        answer(rt, &tables, case, rows);
-    }
+/// Looks up in flat tables of the indexes, and in packed ones.
+fn answer_in_both(rt: &(impl AllocGlobal + Abort), (case, flat, rows): Case) {
+    let filled = Filled::of(flat);
+    let indexes = filled.indexes(flat);
+    answer(rt, &tables_of(rt, &indexes), case, rows);
+    let packed = packed_of(rt, &indexes);
+    let tables = packed_tables_of(rt, &indexes, &packed.packed());
+    answer(rt, &tables, case, rows);
 }
 
 const ENTRIES: Case = (
@@ -242,29 +246,42 @@ const AROUND_E7C7: Case = (
 
 #[test]
 fn a_pointer_has_the_scalar_of_its_index_or_range(rt: HostRuntime) {
-    answer_in_each(&rt, &[ENTRIES, RUNS, THREE_RANGES]);
+    answer_in_both(&rt, ENTRIES);
+    answer_in_both(&rt, RUNS);
+    answer_in_both(&rt, THREE_RANGES);
 }
 
 #[test]
 fn the_first_pointer_is_taken_but_of_six_scalars_the_last(rt: HostRuntime) {
-    answer_in_each(&rt, &[FIRST_POINTERS, BIG5, TWICE_IN_BIG5]);
+    answer_in_both(&rt, FIRST_POINTERS);
+    answer_in_both(&rt, BIG5);
+    answer_in_both(&rt, TWICE_IN_BIG5);
 }
 
 #[test]
 fn shift_jis_takes_no_pointer_that_nec_repeats(rt: HostRuntime) {
-    answer_in_each(&rt, &[TWICE_IN_JIS0208, ONCE_IN_JIS0208]);
+    answer_in_both(&rt, TWICE_IN_JIS0208);
+    answer_in_both(&rt, ONCE_IN_JIS0208);
 }
 
 #[test]
 fn four_bytes_go_by_the_ranges(rt: HostRuntime) {
-    answer_in_each(&rt, &[BY_THE_LAST_RANGE, AROUND_7457]);
-    answer_in_each(&rt, &[BY_PAGES, AROUND_E7C7]);
+    answer_in_both(&rt, BY_THE_LAST_RANGE);
+    answer_in_both(&rt, AROUND_7457);
+    answer_in_both(&rt, BY_PAGES);
+    answer_in_both(&rt, AROUND_E7C7);
 }
+
+const PRIVATE_USE: Case = (
+    "private use",
+    EMPTY,
+    &[
+        PrivateUse('\u{E843}', Some((0xFE, 0x7E))),
+        PrivateUse('\u{E844}', None),
+    ],
+);
 
 #[test]
 fn a_private_use_row_gives_its_bytes(rt: HostRuntime) {
-    let filled = Filled::of(EMPTY);
-    let tables = tables_of(&rt, &filled.indexes(EMPTY));
-    assert!(rt; tables.gb18030_pua_bytes('\u{E843}') == Some((0xFE, 0x7E)));
-    assert!(rt; tables.gb18030_pua_bytes('\u{E844}') == None);
+    answer_in_both(&rt, PRIVATE_USE);
 }

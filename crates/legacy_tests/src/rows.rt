@@ -13,7 +13,7 @@ use legacy_encodings::AnyDecoder;
 use std::process::Abort;
 
 /// A call, a query or a run of a decoder, with its wanted result.
-#[derive(Clone, Copy)]
+#[derive(Drop)]
 pub(crate) enum Row<'a> {
     /// A new decoder, and the name of the case that begins with it.
     Decoder(&'a str),

@@ -54,6 +54,10 @@ pub(crate) const LITTLE_ENDIAN: &[Row] = &[
     OneMalformed(b"\x3D\xD8\xA9"),
     Decoder("a high and a low surrogate are one scalar"),
     ToUtf8(b"\x3D\xD8\xA9\xDC", 16, true, InputEmpty, 4, "\u{1F4A9}"),
+];
+
+/// Also little-endian: units that are cut, and malformed ones.
+pub(crate) const CUT_UNITS: &[Row] = &[
     Decoder("an odd byte adds one to the lengths, a unit held back two"),
     Additional(1),
     HeldBack(b"\x3D"),
@@ -192,29 +196,13 @@ const UNITS: &[u16] = &[
     0xE9, 0x4E00, 0x41, 0xE9, 0x4E00, 0x41, 0xE9, 0x4E00, 0x41, 0xE9, 0x4E00, 0xD83D,
 ];
 
-/// Returns the scalars of the units, and the places of unpaired surrogates, by Rust's own decoder.
-fn events_of(units: &[u16]) -> Found {
-    let mut found = Found::new();
-    let mut place = 0usize;
-    for unit in char::decode_utf16(units.iter().copied()) {
-        match unit {
-            Ok(scalar) => {
-                found.push(Scalar(scalar));
-                place = place.saturating_add(2 * scalar.len_utf16());
-            }
-            Err(_) => {
-                found.push(bad!(place, 2));
-                place = place.saturating_add(2);
-            }
-        }
-    }
-    found
-}
-
 #[test]
 fn decodes_units_of_any_length_in_either_order(rt: HostRuntime) {
-    let mut events = events_of(RUNS);
+    let mut events = Found::new();
+    events.push_utf16(RUNS);
     events.push(bad!(48, 1));
     in_either_order(&rt, RUNS, b"\x41", events.as_slice());
-    in_either_order(&rt, UNITS, b"", events_of(UNITS).as_slice());
+    let mut events = Found::new();
+    events.push_utf16(UNITS);
+    in_either_order(&rt, UNITS, b"", events.as_slice());
 }
