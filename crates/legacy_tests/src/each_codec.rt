@@ -1,14 +1,19 @@
 //! The rows of each codec, followed.
 // The promise of a call grows with the square of the rows that its arguments have: each table of rows has its own call.
+use crate::big5::encoder::{FIRST, FIRST_POINTERS, TWICE};
 use crate::codecs::follow_rows;
 use crate::decoder_runs::encoders;
+use crate::euc_jp::encoder::FIRST_OF_TWO;
 use crate::euc_kr::ONE_ENTRY;
+use crate::euc_kr::encoder::LAST_ENTRY;
 use crate::gb18030::encoder::{
-    LAST_RANGE, PRIVATE_USE, RANGE_FROM_7457, ROW_AND_ENTRY, ROW_OF_E000, WITHOUT_ROWS,
+    BESIDE_7457, BOTH, GBK_WITH_RANGE, GBK_WITHOUT_ENTRIES, IN_THE_INDEX, LAST_RANGE, NO_ROWS,
+    OTHER_ROW, PRIVATE_USE, RANGE_FROM_7457, ROW_AND_ENTRY, ROW_OF_E000, WITH_RANGE, WITHOUT_ROWS,
 };
 use crate::indexes::EMPTY;
 use crate::rows::NO_INPUT;
-use crate::single_byte::encoder::{RUN_ALONE, WITH_RUN, WITHOUT_RUN};
+use crate::shift_jis::encoder::{A_DUPLICATE, ONLY_THERE, SECOND_OF_TWO};
+use crate::single_byte::encoder::{RUN_ALONE, WITH_RUN, WITHOUT_RUN, WITHOUT_SCALARS};
 use crate::{
     big5, decoder_runs, euc_jp, euc_kr, gb18030, iso_2022_jp, pairs, replacement, shift_jis,
     single_byte, user_defined, utf16,
@@ -34,11 +39,11 @@ fn decoders_of_chinese_and_korean_follow_their_rows(rt: HostRuntime) {
 #[test]
 fn decoders_of_japanese_follow_their_rows(rt: HostRuntime) {
     follow_rows(&rt, &[EucJp], EMPTY, euc_jp::WITHOUT_ENTRIES);
-    follow_rows(&rt, &[EucJp], euc_jp::ENTRIES, euc_jp::PAIRS);
     follow_rows(&rt, &[Iso2022Jp], EMPTY, iso_2022_jp::WITHOUT_ENTRIES);
     follow_rows(&rt, &[Iso2022Jp], EMPTY, iso_2022_jp::ENDS_AND_LENGTHS);
-    follow_rows(&rt, &[Iso2022Jp], iso_2022_jp::ENTRIES, iso_2022_jp::PAIRS);
     follow_rows(&rt, &[ShiftJis], EMPTY, shift_jis::WITHOUT_ENTRIES);
+    follow_rows(&rt, &[EucJp], euc_jp::ENTRIES, euc_jp::PAIRS);
+    follow_rows(&rt, &[Iso2022Jp], iso_2022_jp::ENTRIES, iso_2022_jp::PAIRS);
 }
 
 #[test]
@@ -56,24 +61,14 @@ fn decoders_without_pairs_follow_their_rows(rt: HostRuntime) {
 /// Follows the rows of the encoders of gb18030 and GBK.
 fn follow_gb18030(rt: &(impl AllocGlobal + Abort)) {
     follow_rows(rt, &[Gb18030], EMPTY, gb18030::encoder::WITHOUT_ENTRIES);
-    follow_rows(rt, &[Gbk], EMPTY, gb18030::encoder::GBK_WITHOUT_ENTRIES);
-    follow_rows(rt, &[Gb18030], LAST_RANGE, gb18030::encoder::WITH_RANGE);
-    follow_rows(rt, &[Gbk], LAST_RANGE, gb18030::encoder::GBK_WITH_RANGE);
-    follow_rows(
-        rt,
-        &[Gb18030],
-        RANGE_FROM_7457,
-        gb18030::encoder::BESIDE_7457,
-    );
-    follow_rows(
-        rt,
-        &[Gb18030, Gbk],
-        ROW_OF_E000,
-        gb18030::encoder::OTHER_ROW,
-    );
-    follow_rows(rt, &[Gb18030], WITHOUT_ROWS, gb18030::encoder::NO_ROWS);
-    follow_rows(rt, &[Gb18030], PRIVATE_USE, gb18030::encoder::IN_THE_INDEX);
-    follow_rows(rt, &[Gb18030], ROW_AND_ENTRY, gb18030::encoder::BOTH);
+    follow_rows(rt, &[Gbk], EMPTY, GBK_WITHOUT_ENTRIES);
+    follow_rows(rt, &[Gb18030], LAST_RANGE, WITH_RANGE);
+    follow_rows(rt, &[Gbk], LAST_RANGE, GBK_WITH_RANGE);
+    follow_rows(rt, &[Gb18030], RANGE_FROM_7457, BESIDE_7457);
+    follow_rows(rt, &[Gb18030, Gbk], ROW_OF_E000, OTHER_ROW);
+    follow_rows(rt, &[Gb18030], WITHOUT_ROWS, NO_ROWS);
+    follow_rows(rt, &[Gb18030], PRIVATE_USE, IN_THE_INDEX);
+    follow_rows(rt, &[Gb18030], ROW_AND_ENTRY, BOTH);
 }
 
 // The encoder of ISO-2022-JP has tests of its own, which also list its pairs.
@@ -82,58 +77,28 @@ fn encoders_of_pairs_follow_their_rows(rt: HostRuntime) {
     let codecs = [Big5, EucJp, EucKr, ShiftJis];
     follow_rows(&rt, &codecs, EMPTY, pairs::WITHOUT_ENTRIES);
     follow_rows(&rt, &[EucJp, ShiftJis], EMPTY, pairs::JAPANESE);
-    follow_rows(
-        &rt,
-        &[Big5],
-        big5::encoder::TWICE,
-        big5::encoder::WITH_ENTRIES,
-    );
-    follow_rows(
-        &rt,
-        &[Big5],
-        big5::encoder::FIRST,
-        big5::encoder::FIRST_POINTERS,
-    );
+    follow_rows(&rt, &[Big5], TWICE, big5::encoder::WITH_ENTRIES);
+    follow_rows(&rt, &[Big5], FIRST, FIRST_POINTERS);
     follow_rows(&rt, &[EucJp], EMPTY, euc_jp::encoder::WITHOUT_ENTRIES);
-    follow_rows(
-        &rt,
-        &[EucJp],
-        euc_jp::encoder::ENTRIES,
-        euc_jp::encoder::WITH_ENTRIES,
-    );
+    follow_rows(&rt, &[EucJp], FIRST_OF_TWO, euc_jp::encoder::WITH_ENTRIES);
     follow_rows(&rt, &[EucKr], ONE_ENTRY, euc_kr::encoder::ROWS);
-    follow_rows(
-        &rt,
-        &[EucKr],
-        euc_kr::encoder::LAST_ENTRY,
-        euc_kr::encoder::LAST,
-    );
+    follow_rows(&rt, &[EucKr], LAST_ENTRY, euc_kr::encoder::LAST);
     follow_gb18030(&rt);
     follow_rows(&rt, &[ShiftJis], EMPTY, shift_jis::encoder::WITHOUT_ENTRIES);
     follow_rows(
         &rt,
         &[ShiftJis],
-        shift_jis::encoder::ENTRIES,
+        SECOND_OF_TWO,
         shift_jis::encoder::WITH_ENTRIES,
     );
-    follow_rows(
-        &rt,
-        &[ShiftJis],
-        shift_jis::encoder::A_DUPLICATE,
-        shift_jis::encoder::ONLY_THERE,
-    );
+    follow_rows(&rt, &[ShiftJis], A_DUPLICATE, ONLY_THERE);
 }
 
 #[test]
 fn encoders_of_bytes_follow_their_rows(rt: HostRuntime) {
     follow_rows(&rt, &[SingleByte], WITH_RUN, single_byte::encoder::GREEK);
     follow_rows(&rt, &[SingleByte], WITHOUT_RUN, single_byte::encoder::GREEK);
-    follow_rows(
-        &rt,
-        &[SingleByte],
-        RUN_ALONE,
-        single_byte::encoder::WITHOUT_ENTRIES,
-    );
+    follow_rows(&rt, &[SingleByte], RUN_ALONE, WITHOUT_SCALARS);
     follow_rows(&rt, &[UserDefined], EMPTY, user_defined::encoder::ROWS);
 }
 
@@ -148,10 +113,9 @@ fn runs_of_decoders_give_their_events(rt: HostRuntime) {
 fn runs_of_encoders_give_the_same_events_in_every_cut(rt: HostRuntime) {
     follow_rows(&rt, &[Iso2022Jp], ONE_ENTRY, encoders::OF_ISO_2022_JP);
     follow_rows(&rt, &[Gb18030], ONE_ENTRY, encoders::OF_GB18030);
-    follow_rows(&rt, &[EucJp], ONE_ENTRY, encoders::OF_EUC_JP);
-    follow_rows(&rt, &[ShiftJis], ONE_ENTRY, encoders::OF_SHIFT_JIS);
-    follow_rows(&rt, &[Big5], ONE_ENTRY, encoders::OF_BIG5);
-    follow_rows(&rt, &[EucKr], ONE_ENTRY, encoders::OF_EUC_KR);
+    for (codec, rows) in encoders::OF_PAIRS {
+        follow_rows(&rt, &[*codec], ONE_ENTRY, rows);
+    }
     follow_rows(&rt, &[UserDefined], ONE_ENTRY, encoders::OF_USER_DEFINED);
     follow_rows(&rt, &[SingleByte], WITH_RUN, encoders::OF_SINGLE_BYTE);
 }

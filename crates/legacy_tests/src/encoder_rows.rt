@@ -153,17 +153,22 @@ fn encodes_pieces<E: TestedEncoder>(
     runs::<E>(rt, place, of, (pieces, &lengths), (wanted, None, true));
 }
 
-/// Makes the runs over a whole text, with outputs that are large, 0 or small.
-fn encodes_whole<E: TestedEncoder>(
+/// Makes runs over these pieces of a text in either form, and over these with an empty one after each.
+fn encodes_in_both<E: TestedEncoder>(
     rt: &(impl AllocGlobal + Abort),
     place: Place,
     of: E::Of,
-    whole: TextPieces,
+    (texts, units): (&[&str], &[&[u16]]),
     wanted: &[EncodeEvent],
 ) {
-    runs::<E>(rt, place, of, (whole, &[48; 8]), (wanted, None, true));
-    runs::<E>(rt, place, of, (whole, &[0; 5]), (&[], Some(5), false));
-    encodes_pieces::<E>(rt, place, of, whole, wanted);
+    encodes_pieces::<E>(rt, place, of, TextPieces::Utf8(texts), wanted);
+    encodes_pieces::<E>(rt, place, of, TextPieces::Utf16(units), wanted);
+    let all = spaced(texts, "");
+    let pieces = TextPieces::Utf8(all.as_slice());
+    encodes_pieces::<E>(rt, place, of, pieces, wanted);
+    let all = spaced(units, &[]);
+    let pieces = TextPieces::Utf16(all.as_slice());
+    encodes_pieces::<E>(rt, place, of, pieces, wanted);
 }
 
 /// Makes a run that must be refused, and compares the error with the wanted one.
@@ -265,42 +270,25 @@ fn follow_replaced<E: TestedEncoder>(rt: &impl Abort, place: Place, of: E::Of, r
     );
 }
 
-/// Makes the runs over a text in these code units of UTF-16.
-fn encodes_units<E: TestedEncoder>(
+/// Makes the runs over a text, and over the same in code units of UTF-16: whole, and scalar by scalar.
+fn encodes_in_cuts<E: TestedEncoder>(
     rt: &(impl AllocGlobal + Abort),
     place: Place,
     of: E::Of,
     (text, units): (&str, &[u16]),
     wanted: &[EncodeEvent],
 ) {
-    let (whole, scalars) = ([units], unit_pieces(text, units));
-    encodes_whole::<E>(rt, place, of, TextPieces::Utf16(&whole), wanted);
-    let pieces = TextPieces::Utf16(scalars.as_slice());
-    encodes_pieces::<E>(rt, place, of, pieces, wanted);
-    let (whole, scalars) = (spaced(&whole, &[]), spaced(scalars.as_slice(), &[]));
-    let pieces = TextPieces::Utf16(whole.as_slice());
-    encodes_pieces::<E>(rt, place, of, pieces, wanted);
-    let pieces = TextPieces::Utf16(scalars.as_slice());
-    encodes_pieces::<E>(rt, place, of, pieces, wanted);
-}
-
-/// Makes the runs over a text in UTF-8.
-fn encodes_text<E: TestedEncoder>(
-    rt: &(impl AllocGlobal + Abort),
-    place: Place,
-    of: E::Of,
-    text: &str,
-    wanted: &[EncodeEvent],
-) {
-    let (whole, scalars) = ([text], text_pieces(text));
-    encodes_whole::<E>(rt, place, of, TextPieces::Utf8(&whole), wanted);
-    let pieces = TextPieces::Utf8(scalars.as_slice());
-    encodes_pieces::<E>(rt, place, of, pieces, wanted);
-    let (whole, scalars) = (spaced(&whole, ""), spaced(scalars.as_slice(), ""));
-    let pieces = TextPieces::Utf8(whole.as_slice());
-    encodes_pieces::<E>(rt, place, of, pieces, wanted);
-    let pieces = TextPieces::Utf8(scalars.as_slice());
-    encodes_pieces::<E>(rt, place, of, pieces, wanted);
+    let (texts, whole) = ([text], [units]);
+    let (utf8, utf16) = (TextPieces::Utf8(&texts), TextPieces::Utf16(&whole));
+    runs::<E>(rt, place, of, (utf8, &[48; 8]), (wanted, None, true));
+    runs::<E>(rt, place, of, (utf16, &[48; 8]), (wanted, None, true));
+    runs::<E>(rt, place, of, (utf8, &[0; 5]), (&[], Some(5), false));
+    runs::<E>(rt, place, of, (utf16, &[0; 5]), (&[], Some(5), false));
+    encodes_in_both::<E>(rt, place, of, (&texts, &whole), wanted);
+    let texts = text_pieces(text);
+    let units = unit_pieces(text, units);
+    let scalars = (texts.as_slice(), units.as_slice());
+    encodes_in_both::<E>(rt, place, of, scalars, wanted);
 }
 
 /// Follows the row of a text in all cuts.
@@ -312,10 +300,9 @@ fn follow_text<E: TestedEncoder>(
 ) {
     if let EncoderRow::Encodes(text, wanted) = row {
         let wanted = events_of(wanted);
-        encodes_text::<E>(rt, place, of, text, wanted.as_slice());
         let (units, count) = units_of(text);
         let input = (*text, &units[..count.min(96)]);
-        encodes_units::<E>(rt, place, of, input, wanted.as_slice());
+        encodes_in_cuts::<E>(rt, place, of, input, wanted.as_slice());
     }
 }
 

@@ -78,6 +78,13 @@ fn answer_in_both(rt: &(impl AllocGlobal + Abort), (case, flat, rows): Case) {
     answer(rt, &tables, case, rows);
 }
 
+/// Looks up in the tables of each case.
+fn answer_in_each(rt: &(impl AllocGlobal + Abort), cases: &[Case]) {
+    for case in cases {
+        answer_in_both(rt, *case);
+    }
+}
+
 const ENTRIES: Case = (
     "entries",
     &flat!(big5: (1, &[(0, 0x2_008A)]), euc_kr: (2, &[(0, 0xAC02)]), jis0208: (1, &[(0, 0x3000)]), jis0212: (1, &[(0, 0x4E02)]), gb18030: (2, &[(0, 0x4E02), (1, 0x4E04)]), gb18030_pua: &[]),
@@ -246,30 +253,23 @@ const AROUND_E7C7: Case = (
 
 #[test]
 fn a_pointer_has_the_scalar_of_its_index_or_range(rt: HostRuntime) {
-    answer_in_both(&rt, ENTRIES);
-    answer_in_both(&rt, RUNS);
-    answer_in_both(&rt, THREE_RANGES);
+    answer_in_each(&rt, &[ENTRIES, RUNS, THREE_RANGES]);
 }
 
 #[test]
 fn the_first_pointer_is_taken_but_of_six_scalars_the_last(rt: HostRuntime) {
-    answer_in_both(&rt, FIRST_POINTERS);
-    answer_in_both(&rt, BIG5);
-    answer_in_both(&rt, TWICE_IN_BIG5);
+    answer_in_each(&rt, &[FIRST_POINTERS, BIG5, TWICE_IN_BIG5]);
 }
 
 #[test]
 fn shift_jis_takes_no_pointer_that_nec_repeats(rt: HostRuntime) {
-    answer_in_both(&rt, TWICE_IN_JIS0208);
-    answer_in_both(&rt, ONCE_IN_JIS0208);
+    answer_in_each(&rt, &[TWICE_IN_JIS0208, ONCE_IN_JIS0208]);
 }
 
 #[test]
 fn four_bytes_go_by_the_ranges(rt: HostRuntime) {
-    answer_in_both(&rt, BY_THE_LAST_RANGE);
-    answer_in_both(&rt, AROUND_7457);
-    answer_in_both(&rt, BY_PAGES);
-    answer_in_both(&rt, AROUND_E7C7);
+    answer_in_each(&rt, &[BY_THE_LAST_RANGE, AROUND_7457]);
+    answer_in_each(&rt, &[BY_PAGES, AROUND_E7C7]);
 }
 
 const PRIVATE_USE: Case = (

@@ -8,6 +8,7 @@ use crate::encoder_rows::EncoderRow::{Encoder, Encodes, FromUtf8, Pending, Refus
 use crate::source_texts::TextPieces::{Utf8, Utf16};
 use legacy_base::EncoderResult::InputEmpty;
 use legacy_codecs::RunError;
+use legacy_index_files::Codec;
 
 pub(crate) const OF_ISO_2022_JP: &[EncoderRow] = &[
     Encoder("ASCII, the yen sign, and a reverse solidus"),
@@ -67,24 +68,36 @@ pub(crate) const OF_GB18030: &[EncoderRow] = &[
     ),
 ];
 
-pub(crate) const OF_EUC_JP: &[EncoderRow] = &[
-    Encoder("a half-width katakana, and the overline"),
-    Encodes("\u{FF61}\u{203E}", &[Bytes(b"\x8E\xA1\x7E")]),
-];
-
-pub(crate) const OF_SHIFT_JIS: &[EncoderRow] = &[
-    Encoder("a control, and a half-width katakana"),
-    Encodes("\u{80}\u{FF9F}", &[Bytes(b"\x80\xDF")]),
-];
-
-pub(crate) const OF_BIG5: &[EncoderRow] = &[
-    Encoder("a scalar that the index lacks"),
-    Encodes("\u{4E00}", &[Report('\u{4E00}')]),
-];
-
-pub(crate) const OF_EUC_KR: &[EncoderRow] = &[
-    Encoder("a scalar of the index"),
-    Encodes("\u{AC02}", &[Bytes(b"\x81\x41")]),
+/// The codecs whose encoders write pairs, with their rows.
+pub(crate) const OF_PAIRS: &[(Codec, &[EncoderRow])] = &[
+    (
+        Codec::EucJp,
+        &[
+            Encoder("a half-width katakana, and the overline"),
+            Encodes("\u{FF61}\u{203E}", &[Bytes(b"\x8E\xA1\x7E")]),
+        ],
+    ),
+    (
+        Codec::ShiftJis,
+        &[
+            Encoder("a control, and a half-width katakana"),
+            Encodes("\u{80}\u{FF9F}", &[Bytes(b"\x80\xDF")]),
+        ],
+    ),
+    (
+        Codec::Big5,
+        &[
+            Encoder("a scalar that the index lacks"),
+            Encodes("\u{4E00}", &[Report('\u{4E00}')]),
+        ],
+    ),
+    (
+        Codec::EucKr,
+        &[
+            Encoder("a scalar of the index"),
+            Encodes("\u{AC02}", &[Bytes(b"\x81\x41")]),
+        ],
+    ),
 ];
 
 pub(crate) const OF_USER_DEFINED: &[EncoderRow] = &[

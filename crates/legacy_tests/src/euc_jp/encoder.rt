@@ -20,5 +20,5 @@ pub(crate) const WITH_ENTRIES: &[EncoderRow] = &[
 ];
 
 /// U+FF0D, U+FF02 at two pointers of which the first is used, and U+3001 at one that never is.
-pub(crate) const ENTRIES: &Flat =
+pub(crate) const FIRST_OF_TWO: &Flat =
     &flat!(jis0208: (10740, &[(60, 0xFF0D), (8647, 0xFF02), (10738, 0x3001), (10739, 0xFF02)]));

@@ -27,7 +27,7 @@ pub(crate) const ONLY_THERE: &[EncoderRow] = &[
 ];
 
 /// U+FF0D, and U+FF02 at two pointers of which the second is used.
-pub(crate) const ENTRIES: &Flat =
+pub(crate) const SECOND_OF_TWO: &Flat =
     &flat!(jis0208: (11280, &[(60, 0xFF0D), (8647, 0xFF02), (10739, 0xFF02)]));
 
 pub(crate) const A_DUPLICATE: &Flat = &flat!(jis0208: (11280, &[(8647, 0xFF02)]));

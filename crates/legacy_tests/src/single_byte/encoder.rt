@@ -39,12 +39,13 @@ pub(crate) const GREEK: &[EncoderRow] = &[
     Encoder("a pair is not parted where the output ends"),
     FromUtf16(&[0x391, 0xD83D, 0xDCA9], 1, true, OutputFull, 1, b"\xC1"),
     FromUtf16(&[0xD83D, 0xDCA9], 1, true, Unmappable('\u{1F4A9}'), 2, b""),
-    Encoder("U+0000 is the byte 00, though entries without a scalar are 0"),
-    Encodes("\0a\u{391}", &[Bytes(b"\0a\xC1")]),
+    Encoder("a scalar that the table lacks is reported"),
     Encodes(
         "\u{391}\u{392}\u{3C4}",
         &[Bytes(b"\xC1"), Report('\u{392}'), Bytes(b"\xF4")],
     ),
+    Encoder("U+0000 is the byte 00, though entries without a scalar are 0"),
+    Encodes("\0a\u{391}", &[Bytes(b"\0a\xC1")]),
     Encoder("each scalar needs one byte"),
     FromUtf8("a\u{391}", 1, true, OutputFull, 1, b"a"),
     FromUtf8("\u{391}", 1, true, InputEmpty, 2, b"\xC1"),
@@ -79,7 +80,7 @@ pub(crate) const GREEK: &[EncoderRow] = &[
     Replaced(Text::Utf16(&[0x391, 0x3C4, 0xD83D]), b"\xC1\xF4&#65533;"),
 ];
 
-pub(crate) const WITHOUT_ENTRIES: &[EncoderRow] = &[
+pub(crate) const WITHOUT_SCALARS: &[EncoderRow] = &[
     Encoder("a run over places without a scalar leaves U+0000 the byte 00"),
     Encodes("\0a", &[Bytes(b"\0a")]),
     Encodes("\u{A0}", &[Report('\u{A0}')]),
