@@ -12,36 +12,19 @@ use std::process::Abort;
 /// A codec over tables, with the run of a single-byte encoder: its first scalar, its first place and its length.
 #[derive(Clone, Copy)]
 pub(crate) struct Over<'a> {
-    codec: Codec,
-    tables: &'a Tables<'a>,
-    single_byte: &'a SingleByteTable,
+    pub(crate) codec: Codec,
+    pub(crate) tables: &'a Tables<'a>,
+    pub(crate) single_byte: &'a SingleByteTable,
     run: (u16, u8, u8),
 }
 
 impl<'a> Over<'a> {
-    pub(crate) fn decoder(self, rt: &impl Abort) -> AnyDecoder<'a> {
-        match AnyDecoder::new(self.codec, self.tables, Some(self.single_byte)) {
-            Some(decoder) => decoder,
-            None => panic!(rt; "no decoder"),
-        }
-    }
-
     /// Returns the single-byte encoder with the run.
-    fn single_byte_encoder(self, rt: &impl Abort) -> AnyEncoder<'a> {
+    pub(crate) fn single_byte_encoder(self, rt: &impl Abort) -> AnyEncoder<'a> {
         let (scalar, start, count) = self.run;
         match SingleByteEncoder::new(self.single_byte, scalar, start, count) {
             Ok(encoder) => AnyEncoder::SingleByte(encoder),
             Err(fault) => panic!(rt; "{fault}"),
-        }
-    }
-
-    pub(crate) fn encoder(self, rt: &impl Abort) -> AnyEncoder<'a> {
-        if self.codec == Codec::SingleByte {
-            return self.single_byte_encoder(rt);
-        }
-        match AnyEncoder::new(self.codec, self.tables, None) {
-            Some(encoder) => encoder,
-            None => panic!(rt; "no encoder"),
         }
     }
 }

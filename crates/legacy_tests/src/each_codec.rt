@@ -1,5 +1,5 @@
 //! The rows of each codec, followed.
-// The promise of a call grows with the square of the rows that its arguments have: each table of rows has its own call.
+// The proof of a call grows with the square of the constants in its arguments, so each table of rows has its own call.
 use crate::big5::encoder::{FIRST, FIRST_POINTERS, TWICE};
 use crate::codecs::follow_rows;
 use crate::decoder_runs::encoders;

@@ -9,6 +9,7 @@ use crate::source_texts::{Text, TextPieces};
 use legacy_base::{EncodeEvent, EncoderResult, RawEncoder};
 use legacy_codecs::RunError;
 use legacy_encodings::AnyEncoder;
+use legacy_index_files::Codec;
 use std::process::Abort;
 
 /// A call, a query or a run of an encoder, with its wanted result.
@@ -66,7 +67,13 @@ impl<'a> TestedEncoder for AnyEncoder<'a> {
     type Of = Over<'a>;
 
     fn made(rt: &impl Abort, of: Over<'a>) -> AnyEncoder<'a> {
-        of.encoder(rt)
+        if of.codec == Codec::SingleByte {
+            return of.single_byte_encoder(rt);
+        }
+        match AnyEncoder::new(of.codec, of.tables, None) {
+            Some(encoder) => encoder,
+            None => panic!(rt; "no encoder"),
+        }
     }
 
     fn pending(&self) -> Option<bool> {

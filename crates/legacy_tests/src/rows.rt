@@ -109,7 +109,10 @@ impl<'a> TestedDecoder for AnyDecoder<'a> {
     type Of = Over<'a>;
 
     fn made(rt: &impl Abort, of: Over<'a>) -> AnyDecoder<'a> {
-        of.decoder(rt)
+        match AnyDecoder::new(of.codec, of.tables, Some(of.single_byte)) {
+            Some(decoder) => decoder,
+            None => panic!(rt; "no decoder"),
+        }
     }
 
     fn neutral(&self) -> Option<bool> {
