@@ -1,16 +1,14 @@
 //! Big5.
 pub(crate) mod encoder;
 
-use crate::codecs::DecoderCase;
-use crate::indexes::{EMPTY, Flat, flat};
+use crate::indexes::{Flat, flat};
 use crate::rows::Row;
 use crate::rows::Row::{
     Cut, Decoder, Events, FullUtf16, HeldBack, Lengths, Lone, Neutral, ToUtf8, ToUtf16, Utf16Length,
 };
 use legacy_base::DecoderResult::{InputEmpty, Malformed, OutputFull};
-use legacy_index_files::Codec;
 
-const WITHOUT_ENTRIES: &[Row] = &[
+pub(crate) const WITHOUT_ENTRIES: &[Row] = &[
     Decoder("pointers 1133, 1135, 1164 and 1166 are a letter and a mark"),
     ToUtf8(b"\x88\x62", 16, true, InputEmpty, 2, "\u{CA}\u{304}"),
     FullUtf16(b"\x88\x62", 1),
@@ -60,7 +58,7 @@ const WITHOUT_ENTRIES: &[Row] = &[
     ToUtf16(b"\x61\x88", 2, true, OutputFull, 1, &[0x61]),
 ];
 
-const THE_LAST_POINTER: &[Row] = &[
+pub(crate) const THE_LAST_POINTER: &[Row] = &[
     Decoder("the last pointer's scalar is past U+FFFF"),
     ToUtf8(b"\xFE\xFD", 16, true, InputEmpty, 2, "\u{2910D}"),
     ToUtf16(b"\xFE\xFD", 2, true, InputEmpty, 2, &[0xD864, 0xDD0D]),
@@ -72,9 +70,4 @@ const THE_LAST_POINTER: &[Row] = &[
 ];
 
 /// U+2910D at the last pointer, 19780.
-const LAST: &Flat = &flat!(big5: (19781, &[(19780, 0x2_910D)]));
-
-pub(crate) const CASES: &[DecoderCase] = &[
-    (Codec::Big5, EMPTY, WITHOUT_ENTRIES),
-    (Codec::Big5, LAST, THE_LAST_POINTER),
-];
+pub(crate) const LAST: &Flat = &flat!(big5: (19781, &[(19780, 0x2_910D)]));

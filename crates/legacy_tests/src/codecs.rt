@@ -1,4 +1,4 @@
-//! The coders of all codecs, and cases of rows that are followed with them.
+//! The coders of all codecs, and rows that are followed with them.
 use crate::encoder_rows::{EncoderRow, follow_encoder};
 use crate::indexes::{
     Filled, Flat, byte_table_of, entries_of, packed_of, packed_tables_of, tables_of,
@@ -12,36 +12,19 @@ use std::process::Abort;
 /// A codec over tables, with the run of a single-byte encoder: its first scalar, its first place and its length.
 #[derive(Clone, Copy)]
 pub(crate) struct Over<'a> {
-    codec: Codec,
-    tables: &'a Tables<'a>,
-    single_byte: &'a SingleByteTable,
+    pub(crate) codec: Codec,
+    pub(crate) tables: &'a Tables<'a>,
+    pub(crate) single_byte: &'a SingleByteTable,
     run: (u16, u8, u8),
 }
 
 impl<'a> Over<'a> {
-    pub(crate) fn decoder(self, rt: &impl Abort) -> AnyDecoder<'a> {
-        match AnyDecoder::new(self.codec, self.tables, Some(self.single_byte)) {
-            Some(decoder) => decoder,
-            None => panic!(rt; "no decoder"),
-        }
-    }
-
     /// Returns the single-byte encoder with the run.
-    fn single_byte_encoder(self, rt: &impl Abort) -> AnyEncoder<'a> {
+    pub(crate) fn single_byte_encoder(self, rt: &impl Abort) -> AnyEncoder<'a> {
         let (scalar, start, count) = self.run;
         match SingleByteEncoder::new(self.single_byte, scalar, start, count) {
             Ok(encoder) => AnyEncoder::SingleByte(encoder),
             Err(fault) => panic!(rt; "{fault}"),
-        }
-    }
-
-    pub(crate) fn encoder(self, rt: &impl Abort) -> AnyEncoder<'a> {
-        if self.codec == Codec::SingleByte {
-            return self.single_byte_encoder(rt);
-        }
-        match AnyEncoder::new(self.codec, self.tables, None) {
-            Some(encoder) => encoder,
-            None => panic!(rt; "no encoder"),
         }
     }
 }
@@ -54,7 +37,7 @@ pub(crate) trait Followed {
 
 impl Followed for Row<'_> {
     fn follow(rt: &(impl AllocGlobal + Abort), over: Over, rows: &[Self]) {
-        follow(rt, over, rows);
+        follow::<AnyDecoder>(rt, over, rows);
     }
 }
 
@@ -64,24 +47,17 @@ impl Followed for EncoderRow<'_> {
     }
 }
 
-/// A codec, the indexes of its tables, and rows.
-pub(crate) type Case<'a, R> = (Codec, &'a Flat<'a>, &'a [R]);
-
-/// A case with rows of a decoder.
-pub(crate) type DecoderCase<'a> = Case<'a, Row<'a>>;
-
-/// A case with rows of an encoder.
-pub(crate) type EncoderCase<'a> = Case<'a, EncoderRow<'a>>;
-
-/// Follows the rows of a case over these tables.
-fn follow_case<R: Followed>(
+/// Follows the rows with a codec over these tables.
+fn follow_over<R: Followed>(
     rt: &(impl AllocGlobal + Abort),
-    (codec, flat, rows): &Case<R>,
+    codec: Codec,
+    flat: &Flat,
     tables: &Tables,
+    rows: &[R],
 ) {
     let single_byte = byte_table_of(rt, &entries_of(flat.single_byte));
     let over = Over {
-        codec: *codec,
+        codec,
         tables,
         single_byte: &single_byte,
         run: flat.run,
@@ -89,13 +65,20 @@ fn follow_case<R: Followed>(
     R::follow(rt, over, rows);
 }
 
-/// Follows the rows of each case over flat tables of its indexes, and over packed ones.
-pub(crate) fn follow_each<R: Followed>(rt: &(impl AllocGlobal + Abort), cases: &[Case<R>]) {
-    for case in cases {
-        let filled = Filled::of(case.1);
-        let indexes = filled.indexes(case.1);
-        follow_case(rt, case, &tables_of(rt, &indexes));
-        let packed = packed_of(rt, &indexes);
-        follow_case(rt, case, &packed_tables_of(rt, &indexes, &packed.packed()));
+/// Follows the rows with each codec, over flat tables of these indexes and over packed ones.
+pub(crate) fn follow_rows<'a, R: Followed>(
+    rt: &(impl AllocGlobal + Abort),
+    codecs: &[Codec],
+    flat: &'a Flat<'a>,
+    rows: &[R],
+) {
+    let filled = Filled::of(flat);
+    let indexes = filled.indexes(flat);
+    let tables = tables_of(rt, &indexes);
+    let packed = packed_of(rt, &indexes);
+    let packed_tables = packed_tables_of(rt, &indexes, &packed.packed());
+    for codec in codecs {
+        follow_over(rt, *codec, flat, &tables, rows);
+        follow_over(rt, *codec, flat, &packed_tables, rows);
     }
 }

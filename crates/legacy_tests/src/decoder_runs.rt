@@ -1,10 +1,9 @@
 //! Runs of decoders over pieces, and buffers of scalars.
 pub(crate) mod encoders;
 
-use crate::codecs::DecoderCase;
 use crate::compared::prints;
 use crate::events::bad;
-use crate::indexes::EMPTY;
+use crate::rows::Row;
 use crate::rows::Row::{Decoder, RefusedRuns, RunTo, ToUtf8};
 use crate::units::Form::{Utf8, Utf16};
 use legacy_base::DecodeEvent::Scalar;
@@ -12,61 +11,49 @@ use legacy_base::DecoderResult::{InputEmpty, OutputFull};
 use legacy_base::{DecoderResult, Destination, RawDecoder};
 use legacy_codecs::{OutputForm, RunError, ScalarBuffer, Utf8Form, Utf16Form};
 use legacy_decoders::UserDefinedDecoder;
-use legacy_index_files::Codec;
 use std::process::Abort;
 
-/// Runs with small outputs, refused runs, and runs without pieces or lengths.
-pub(crate) const CASES: &[DecoderCase] = &[
-    (
-        Codec::Big5,
-        EMPTY,
-        &[
-            Decoder("three bytes are no room for two scalars"),
-            RunTo(Utf8, &[b"\x88\x62\x88"], &[3, 3, 3, 3, 3], &[], 5, false),
-            Decoder("a run that is refused leaves the lead that is held back"),
-            ToUtf8(b"\x88", 8, false, InputEmpty, 1, ""),
-            RefusedRuns(b"\x62", usize::MAX - 1, &RunError::Memory),
-            RefusedRuns(b"\x62", usize::MAX, &RunError::TooLong),
-            ToUtf8(b"\x62", 8, true, InputEmpty, 1, "\u{CA}\u{304}"),
-        ],
+/// Runs with small outputs, and refused runs.
+pub(crate) const OF_BIG5: &[Row] = &[
+    Decoder("three bytes are no room for two scalars"),
+    RunTo(Utf8, &[b"\x88\x62\x88"], &[3, 3, 3, 3, 3], &[], 5, false),
+    Decoder("a run that is refused leaves the lead that is held back"),
+    ToUtf8(b"\x88", 8, false, InputEmpty, 1, ""),
+    RefusedRuns(b"\x62", usize::MAX - 1, &RunError::Memory),
+    RefusedRuns(b"\x62", usize::MAX, &RunError::TooLong),
+    ToUtf8(b"\x62", 8, true, InputEmpty, 1, "\u{CA}\u{304}"),
+];
+
+pub(crate) const OF_UTF_16LE: &[Row] = &[
+    Decoder("an unpaired high surrogate at a piece's end is malformed at its place"),
+    RunTo(
+        Utf16,
+        &[b"\x41\x00\x3D\xD8", b"\x42\x00"],
+        &[8, 8, 8],
+        &[Scalar('A'), bad!(2, 2), Scalar('B')],
+        3,
+        true,
     ),
-    (
-        Codec::Utf16Le,
-        EMPTY,
-        &[
-            Decoder("an unpaired high surrogate at a piece's end is malformed at its place"),
-            RunTo(
-                Utf16,
-                &[b"\x41\x00\x3D\xD8", b"\x42\x00"],
-                &[8, 8, 8],
-                &[Scalar('A'), bad!(2, 2), Scalar('B')],
-                3,
-                true,
-            ),
-        ],
-    ),
-    (
-        Codec::UserDefined,
-        EMPTY,
-        &[
-            Decoder("a small output is followed by the next"),
-            RunTo(Utf8, &[b"\x80"], &[2, 3], &[Scalar('\u{F780}')], 2, true),
-            Decoder("a small output of UTF-16 is followed by the next"),
-            RunTo(Utf16, &[b"\x80"], &[0, 1], &[Scalar('\u{F780}')], 2, true),
-            Decoder("without room the run is not finished"),
-            RunTo(Utf8, &[b"\x80"], &[2], &[], 1, false),
-            Decoder("without room in UTF-16 the run is not finished"),
-            RunTo(Utf16, &[b"\x80"], &[0], &[], 1, false),
-            Decoder("no pieces are one empty piece"),
-            RunTo(Utf8, &[], &[0], &[], 1, true),
-            Decoder("no pieces are one empty piece in UTF-16 too"),
-            RunTo(Utf16, &[], &[0], &[], 1, true),
-            Decoder("without lengths there is no call"),
-            RunTo(Utf8, &[b"a"], &[], &[], 0, false),
-            Decoder("lengths that have no sum are refused"),
-            RefusedRuns(b"\x80", usize::MAX, &RunError::TooLong),
-        ],
-    ),
+];
+
+/// Runs with small outputs, a refused run, and runs without pieces or lengths.
+pub(crate) const OF_USER_DEFINED: &[Row] = &[
+    Decoder("a small output is followed by the next"),
+    RunTo(Utf8, &[b"\x80"], &[2, 3], &[Scalar('\u{F780}')], 2, true),
+    Decoder("a small output of UTF-16 is followed by the next"),
+    RunTo(Utf16, &[b"\x80"], &[0, 1], &[Scalar('\u{F780}')], 2, true),
+    Decoder("without room the run is not finished"),
+    RunTo(Utf8, &[b"\x80"], &[2], &[], 1, false),
+    Decoder("without room in UTF-16 the run is not finished"),
+    RunTo(Utf16, &[b"\x80"], &[0], &[], 1, false),
+    Decoder("no pieces are one empty piece"),
+    RunTo(Utf8, &[], &[0], &[], 1, true),
+    Decoder("no pieces are one empty piece in UTF-16 too"),
+    RunTo(Utf16, &[], &[0], &[], 1, true),
+    Decoder("without lengths there is no call"),
+    RunTo(Utf8, &[b"a"], &[], &[], 0, false),
+    Decoder("lengths that have no sum are refused"),
+    RefusedRuns(b"\x80", usize::MAX, &RunError::TooLong),
 ];
 
 #[test]

@@ -9,10 +9,11 @@ use crate::source_texts::{Text, TextPieces};
 use legacy_base::{EncodeEvent, EncoderResult, RawEncoder};
 use legacy_codecs::RunError;
 use legacy_encodings::AnyEncoder;
+use legacy_index_files::Codec;
 use std::process::Abort;
 
 /// A call, a query or a run of an encoder, with its wanted result.
-#[derive(Clone, Copy)]
+#[derive(Drop)]
 pub(crate) enum EncoderRow<'a> {
     /// A new encoder, and the name of the case that begins with it.
     Encoder(&'a str),
@@ -66,7 +67,13 @@ impl<'a> TestedEncoder for AnyEncoder<'a> {
     type Of = Over<'a>;
 
     fn made(rt: &impl Abort, of: Over<'a>) -> AnyEncoder<'a> {
-        of.encoder(rt)
+        if of.codec == Codec::SingleByte {
+            return of.single_byte_encoder(rt);
+        }
+        match AnyEncoder::new(of.codec, of.tables, None) {
+            Some(encoder) => encoder,
+            None => panic!(rt; "no encoder"),
+        }
     }
 
     fn pending(&self) -> Option<bool> {
@@ -128,31 +135,6 @@ fn runs<E: TestedEncoder>(
     goes(rt, place, &mut E::made(rt, of), input, wanted);
 }
 
-/// Makes a run over these pieces with small outputs, and one with an empty piece after each.
-fn encodes_in_both<E: TestedEncoder>(
-    rt: &(impl AllocGlobal + Abort),
-    place: Place,
-    of: E::Of,
-    pieces: TextPieces,
-    wanted: &[EncodeEvent],
-) {
-    let lengths = small_lengths();
-    let ends = (wanted, None, true);
-    runs::<E>(rt, place, of, (pieces, &lengths), ends);
-    match pieces {
-        TextPieces::Utf8(texts) => {
-            let all = spaced(texts, "");
-            let pieces = TextPieces::Utf8(all.as_slice());
-            runs::<E>(rt, place, of, (pieces, &lengths), ends);
-        }
-        TextPieces::Utf16(texts) => {
-            let all = spaced(texts, &[]);
-            let pieces = TextPieces::Utf16(all.as_slice());
-            runs::<E>(rt, place, of, (pieces, &lengths), ends);
-        }
-    }
-}
-
 /// Returns the first 96 code units of the text, and their number.
 fn units_of(text: &str) -> ([u16; 96], usize) {
     let mut units = [0u16; 96];
@@ -166,18 +148,34 @@ fn units_of(text: &str) -> ([u16; 96], usize) {
     (units, count)
 }
 
-/// Makes the runs over a text: whole and scalar by scalar, with outputs that are large, small or 0.
-fn encodes_in_cuts<E: TestedEncoder>(
+/// Makes a run over these pieces with outputs of 0 to 4 bytes.
+fn encodes_pieces<E: TestedEncoder>(
     rt: &(impl AllocGlobal + Abort),
     place: Place,
     of: E::Of,
-    (whole, scalars): (TextPieces, TextPieces),
+    pieces: TextPieces,
     wanted: &[EncodeEvent],
 ) {
-    runs::<E>(rt, place, of, (whole, &[48; 8]), (wanted, None, true));
-    runs::<E>(rt, place, of, (whole, &[0; 5]), (&[], Some(5), false));
-    encodes_in_both::<E>(rt, place, of, whole, wanted);
-    encodes_in_both::<E>(rt, place, of, scalars, wanted);
+    let lengths = small_lengths();
+    runs::<E>(rt, place, of, (pieces, &lengths), (wanted, None, true));
+}
+
+/// Makes runs over these pieces of a text in either form, and over these with an empty one after each.
+fn encodes_in_both<E: TestedEncoder>(
+    rt: &(impl AllocGlobal + Abort),
+    place: Place,
+    of: E::Of,
+    (texts, units): (&[&str], &[&[u16]]),
+    wanted: &[EncodeEvent],
+) {
+    encodes_pieces::<E>(rt, place, of, TextPieces::Utf8(texts), wanted);
+    encodes_pieces::<E>(rt, place, of, TextPieces::Utf16(units), wanted);
+    let all = spaced(texts, "");
+    let pieces = TextPieces::Utf8(all.as_slice());
+    encodes_pieces::<E>(rt, place, of, pieces, wanted);
+    let all = spaced(units, &[]);
+    let pieces = TextPieces::Utf16(all.as_slice());
+    encodes_pieces::<E>(rt, place, of, pieces, wanted);
 }
 
 /// Makes a run that must be refused, and compares the error with the wanted one.
@@ -279,21 +277,25 @@ fn follow_replaced<E: TestedEncoder>(rt: &impl Abort, place: Place, of: E::Of, r
     );
 }
 
-/// Makes the runs over a text in these code units of UTF-16.
-fn encodes_units<E: TestedEncoder>(
+/// Makes the runs over a text, and over the same in code units of UTF-16: whole, and scalar by scalar.
+fn encodes_in_cuts<E: TestedEncoder>(
     rt: &(impl AllocGlobal + Abort),
     place: Place,
     of: E::Of,
     (text, units): (&str, &[u16]),
     wanted: &[EncodeEvent],
 ) {
-    let whole = [units];
-    let scalars = unit_pieces(text, units);
-    let cuts = (
-        TextPieces::Utf16(&whole),
-        TextPieces::Utf16(scalars.as_slice()),
-    );
-    encodes_in_cuts::<E>(rt, place, of, cuts, wanted);
+    let (texts, whole) = ([text], [units]);
+    let (utf8, utf16) = (TextPieces::Utf8(&texts), TextPieces::Utf16(&whole));
+    runs::<E>(rt, place, of, (utf8, &[48; 8]), (wanted, None, true));
+    runs::<E>(rt, place, of, (utf16, &[48; 8]), (wanted, None, true));
+    runs::<E>(rt, place, of, (utf8, &[0; 5]), (&[], Some(5), false));
+    runs::<E>(rt, place, of, (utf16, &[0; 5]), (&[], Some(5), false));
+    encodes_in_both::<E>(rt, place, of, (&texts, &whole), wanted);
+    let texts = text_pieces(text);
+    let units = unit_pieces(text, units);
+    let scalars = (texts.as_slice(), units.as_slice());
+    encodes_in_both::<E>(rt, place, of, scalars, wanted);
 }
 
 /// Follows the row of a text in all cuts.
@@ -305,15 +307,9 @@ fn follow_text<E: TestedEncoder>(
 ) {
     if let EncoderRow::Encodes(text, wanted) = row {
         let wanted = events_of(wanted);
-        let (whole, scalars) = ([*text], text_pieces(text));
-        let cuts = (
-            TextPieces::Utf8(&whole),
-            TextPieces::Utf8(scalars.as_slice()),
-        );
-        encodes_in_cuts::<E>(rt, place, of, cuts, wanted.as_slice());
         let (units, count) = units_of(text);
         let input = (*text, &units[..count.min(96)]);
-        encodes_units::<E>(rt, place, of, input, wanted.as_slice());
+        encodes_in_cuts::<E>(rt, place, of, input, wanted.as_slice());
     }
 }
 

@@ -1,17 +1,15 @@
 //! EUC-JP.
 pub(crate) mod encoder;
 
-use crate::codecs::DecoderCase;
-use crate::indexes::{EMPTY, Flat, flat};
+use crate::indexes::{Flat, flat};
 use crate::rows::Row;
 use crate::rows::Row::{
     BareLength, Cut, Decoder, Events, FullUtf8, Lengths, Neutral, ToUtf8, ToUtf16, Utf8Length,
     Utf16Length,
 };
 use legacy_base::DecoderResult::{InputEmpty, Malformed, OutputFull};
-use legacy_index_files::Codec;
 
-const WITHOUT_ENTRIES: &[Row] = &[
+pub(crate) const WITHOUT_ENTRIES: &[Row] = &[
     Decoder("an ASCII byte behind 8F and a lead is read again"),
     ToUtf8(b"\x8F\xA2\x41", 8, true, Malformed(2, 0), 2, ""),
     Neutral(true),
@@ -54,7 +52,7 @@ const WITHOUT_ENTRIES: &[Row] = &[
     ToUtf8(b"", 3, true, Malformed(1, 0), 0, ""),
 ];
 
-const PAIRS: &[Row] = &[
+pub(crate) const PAIRS: &[Row] = &[
     Decoder("pairs go by index jis0208, and behind 8F by index jis0212"),
     ToUtf16(
         b"\xA1\xA1\xA1\xDD\x8F\xA2\xAF\x8E\xDF",
@@ -73,10 +71,5 @@ const PAIRS: &[Row] = &[
 ];
 
 /// U+3000 and U+FF0D in index jis0208, and U+02D8 in index jis0212.
-const ENTRIES: &Flat =
+pub(crate) const ENTRIES: &Flat =
     &flat!(jis0208: (109, &[(0, 0x3000), (60, 0xFF0D)]), jis0212: (109, &[(108, 0x02D8)]));
-
-pub(crate) const CASES: &[DecoderCase] = &[
-    (Codec::EucJp, EMPTY, WITHOUT_ENTRIES),
-    (Codec::EucJp, ENTRIES, PAIRS),
-];

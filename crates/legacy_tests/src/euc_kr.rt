@@ -1,7 +1,6 @@
 //! EUC-KR.
 pub(crate) mod encoder;
 
-use crate::codecs::DecoderCase;
 use crate::indexes::{Flat, flat};
 use crate::rows::Row;
 use crate::rows::Row::{
@@ -9,10 +8,9 @@ use crate::rows::Row::{
     Utf8Length, Utf16Length,
 };
 use legacy_base::DecoderResult::{InputEmpty, Malformed, OutputFull};
-use legacy_index_files::Codec;
 
 /// The rows with U+AC02 at pointer 0, and no other scalar.
-const ROWS: &[Row] = &[
+pub(crate) const ROWS: &[Row] = &[
     Decoder("a lead and a byte past ASCII without a scalar are malformed together"),
     OneMalformed(b"\x81\xFF"),
     Decoder("a lead before an ASCII byte without a scalar is malformed alone"),
@@ -52,5 +50,3 @@ const ROWS: &[Row] = &[
 
 /// U+AC02 at pointer 0, and no other entry.
 pub(crate) const ONE_ENTRY: &Flat = &flat!(euc_kr: (1, &[(0, 0xAC02)]));
-
-pub(crate) const CASES: &[DecoderCase] = &[(Codec::EucKr, ONE_ENTRY, ROWS)];

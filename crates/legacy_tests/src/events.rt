@@ -38,6 +38,28 @@ impl Found {
         }
     }
 
+    /// Adds the scalars of a text in UTF-8.
+    pub(crate) fn push_utf8(&mut self, bytes: &[u8]) {
+        for scalar in str::from_utf8(bytes).unwrap_or("").chars() {
+            self.push(Scalar(scalar));
+        }
+    }
+
+    /// Adds the scalars of a text in UTF-16, and each unpaired surrogate as a malformed sequence of two bytes.
+    ///
+    /// Rust's own decoder finds them. Places are counted in bytes from the first unit.
+    pub(crate) fn push_utf16(&mut self, units: &[u16]) {
+        let mut place = 0usize;
+        for unit in char::decode_utf16(units.iter().copied()) {
+            let (event, length) = match unit {
+                Ok(scalar) => (Scalar(scalar), 2 * scalar.len_utf16()),
+                Err(_) => (bad!(place, 2), 2),
+            };
+            self.push(event);
+            place = place.saturating_add(length);
+        }
+    }
+
     pub(crate) fn as_slice(&self) -> &[DecodeEvent] {
         &self.events[..self.count.min(160)]
     }

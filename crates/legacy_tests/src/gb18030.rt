@@ -1,18 +1,15 @@
 //! gb18030.
 pub(crate) mod encoder;
 
-use crate::codecs::DecoderCase;
-use crate::gb18030::encoder::ROW_AND_ENTRY;
-use crate::indexes::{EMPTY, Flat, flat};
+use crate::indexes::{Flat, flat};
 use crate::rows::Row;
 use crate::rows::Row::{
     Cut, Decoder, Events, FullUtf8, FullUtf16, Lengths, Neutral, Replaced, ToUtf8, ToUtf16,
     Utf8Length, Utf16Length,
 };
 use legacy_base::DecoderResult::{InputEmpty, Malformed, OutputFull};
-use legacy_index_files::Codec;
 
-const WITHOUT_ENTRIES: &[Row] = &[
+pub(crate) const WITHOUT_ENTRIES: &[Row] = &[
     Decoder("a bad fourth byte gives the second and third back"),
     ToUtf8(b"\xE3\x32\x9A\x00", 8, true, Malformed(1, 2), 3, ""),
     Neutral(false),
@@ -58,6 +55,10 @@ const WITHOUT_ENTRIES: &[Row] = &[
     ToUtf8(b"\xE3\x32\x9A\x36", 4, true, Malformed(4, 0), 4, ""),
     Decoder("pointer 7457 is U+E7C7 whatever the ranges"),
     ToUtf16(b"\x81\x35\xF4\x37", 2, true, InputEmpty, 4, &[0xE7C7]),
+];
+
+/// Also without entries: lengths, rooms, and malformed forms.
+pub(crate) const LENGTHS_AND_FORMS: &[Row] = &[
     Decoder("each byte that is held back counts in the lengths"),
     Utf8Length(4, Some(13)),
     Utf16Length(usize::MAX, None),
@@ -114,7 +115,7 @@ const WITHOUT_ENTRIES: &[Row] = &[
     Replaced(b"\xFF\x32\x9A\x33\0", "\u{FFFD}2\u{FFFD}3\0"),
 ];
 
-const PAIRS: &[Row] = &[
+pub(crate) const PAIRS: &[Row] = &[
     Decoder("trails are 40 to 7E and 80 to FE, and 80 alone is U+20AC"),
     ToUtf16(
         b"\x81\x40\x81\x7E\x81\x80\x81\xFE\x82\x40\x80",
@@ -127,7 +128,7 @@ const PAIRS: &[Row] = &[
 ];
 
 /// The rows with the ranges from pointer 0 and U+0080, and from pointer 36 and U+00A5.
-const RANGES: &[Row] = &[
+pub(crate) const RANGES: &[Row] = &[
     Decoder("forms of four bytes go by the ranges"),
     Events(b"\x81\x30\x81\x30\x94\x39\xDA\x33", "\u{80}\u{1F4A9}", &[]),
     Decoder(
@@ -163,20 +164,13 @@ const RANGES: &[Row] = &[
 ];
 
 /// Scalars at pointers whose trails are on both sides of 7F.
-const BESIDE_7F: &Flat =
+pub(crate) const BESIDE_7F: &Flat =
     &flat!(gb18030: (192, &[(0, 0x4E02), (62, 0x4E79), (63, 0x4E85), (189, 0x4F22), (190, 0x4F23)]));
 
-const TWO_RANGES: &Flat = &flat!(ranges: &[(0, 0x0080), (36, 0x00A5)]);
+pub(crate) const TWO_RANGES: &Flat = &flat!(ranges: &[(0, 0x0080), (36, 0x00A5)]);
 
 /// The rows with U+9FB4 at pointer 23775.
-const DECODED: &[Row] = &[
+pub(crate) const DECODED: &[Row] = &[
     Decoder("the bytes of a row decode to the scalar that the index has there"),
     ToUtf8(b"\xFE\x59", 16, true, InputEmpty, 2, "\u{9FB4}"),
-];
-
-pub(crate) const CASES: &[DecoderCase] = &[
-    (Codec::Gb18030, EMPTY, WITHOUT_ENTRIES),
-    (Codec::Gb18030, BESIDE_7F, PAIRS),
-    (Codec::Gb18030, TWO_RANGES, RANGES),
-    (Codec::Gb18030, ROW_AND_ENTRY, DECODED),
 ];

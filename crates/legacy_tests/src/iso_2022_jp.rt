@@ -1,17 +1,15 @@
 //! ISO-2022-JP.
 pub(crate) mod encoder;
 
-use crate::codecs::DecoderCase;
-use crate::indexes::{EMPTY, Flat, flat};
+use crate::indexes::{Flat, flat};
 use crate::rows::Row;
 use crate::rows::Row::{
     Cut, Decoder, Events, FullUtf8, HeldBack, Lengths, Neutral, Replaced, ReplacedToUtf16, Text,
     ToUtf8, ToUtf16, Utf8Length, Utf16Length,
 };
 use legacy_base::DecoderResult::{InputEmpty, Malformed};
-use legacy_index_files::Codec;
 
-const WITHOUT_ENTRIES: &[Row] = &[
+pub(crate) const WITHOUT_ENTRIES: &[Row] = &[
     Decoder("an escape directly behind an escape makes the first one malformed"),
     ToUtf8(b"\x1B(B\x1B(J", 16, true, Malformed(3, 3), 6, ""),
     ToUtf8(b"", 16, true, InputEmpty, 0, ""),
@@ -56,6 +54,10 @@ const WITHOUT_ENTRIES: &[Row] = &[
     ToUtf8(b"\x1B(B", 16, true, InputEmpty, 3, ""),
     Neutral(false),
     Events(b"\x1B(B", "", &[]),
+];
+
+/// Also without entries: the end of an input, lengths, and small outputs.
+pub(crate) const ENDS_AND_LENGTHS: &[Row] = &[
     Decoder("an escape byte alone at the end takes the escape before it away"),
     ToUtf8(b"\x1B(B\x1B", 16, true, Malformed(1, 0), 4, ""),
     Neutral(true),
@@ -99,7 +101,7 @@ const WITHOUT_ENTRIES: &[Row] = &[
 ];
 
 /// The rows with pointers 0, 95, 671 and 4861 of index jis0208.
-const PAIRS: &[Row] = &[
+pub(crate) const PAIRS: &[Row] = &[
     Decoder("in two-byte mode the byte after a single 1B is a lead"),
     ToUtf8(b"\x1B$B\x1B(.", 16, true, Malformed(1, 1), 5, ""),
     ToUtf8(b".", 16, true, InputEmpty, 1, "\u{250F}"),
@@ -157,10 +159,5 @@ const PAIRS: &[Row] = &[
 ];
 
 /// Scalars at pointers 0, 95, 671 and 4861 of index jis0208.
-const ENTRIES: &Flat =
+pub(crate) const ENTRIES: &Flat =
     &flat!(jis0208: (4862, &[(0, 0x3000), (95, 0x2225), (671, 0x250F), (4861, 0x58FA)]));
-
-pub(crate) const CASES: &[DecoderCase] = &[
-    (Codec::Iso2022Jp, EMPTY, WITHOUT_ENTRIES),
-    (Codec::Iso2022Jp, ENTRIES, PAIRS),
-];

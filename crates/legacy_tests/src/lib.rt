@@ -4,8 +4,8 @@
 //! these do not need it.
 //!
 //! Each codec has one file for its decoder and, in its folder, one for its encoder, with rows of
-//! calls and their wanted results. `rows` and `encoder_rows` follow the rows. `codecs` follows
-//! those of each case with its codec over flat tables and packed ones, and `each_codec` all cases.
+//! calls and their wanted results. `rows` and `encoder_rows` follow the rows. `codecs` follows a
+//! table of them with its codec over flat tables and packed ones, and `each_codec` all tables.
 //! If a row does not hold, its result is printed beside the wanted one.
 #![tactic(auto)]
 

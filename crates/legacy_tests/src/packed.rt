@@ -31,36 +31,29 @@ const NO_PARTS: Packed = Packed {
     gb18030_order: &[],
 };
 
-/// Indexes flat, and packed parts.
-#[derive(Drop)]
-struct Both<'a> {
-    flat: Flat<'a>,
-    packed: Packed<'a>,
-}
+/// Packed parts, and the fault of indexes with them.
+type Faulty<'a> = (Packed<'a>, Option<TableError>);
 
-/// Indexes with their packed parts, and the fault of the parts.
-type Faulty<'a> = (Both<'a>, Option<TableError>);
-
-/// Compares the fault of the indexes and parts of each row with the wanted one.
-fn have_faults(rt: &impl Abort, case: &str, rows: &[Faulty]) {
-    for (at, (both, wanted)) in rows.iter().enumerate() {
-        let filled = Filled::of(&both.flat);
-        let indexes = filled.indexes(&both.flat);
-        let came = Tables::packed_of(&indexes, &both.packed).err();
+/// Compares the fault of the indexes with the parts of each row with the wanted one.
+fn have_faults<'a>(rt: &impl Abort, case: &str, flat: &'a Flat<'a>, rows: &'a [Faulty<'a>]) {
+    let filled = Filled::of(flat);
+    let indexes = filled.indexes(flat);
+    for (at, (packed, wanted)) in rows.iter().enumerate() {
+        let came = Tables::packed_of(&indexes, packed).err();
         is_fault(rt, (case, at), &came, wanted);
     }
 }
 
-/// Index EUC-KR with U+AC02, U+AC03, none and U+AC05, and these runs.
+/// Index EUC-KR with U+AC02, U+AC03, none and U+AC05.
+const FOUR_ENTRIES: &Flat = &flat!(euc_kr: (4, &[(0, 0xAC02), (1, 0xAC03), (3, 0xAC05)]));
+
+/// These runs of that index, and its order.
 macro_rules! of_euc_kr {
     ($runs:expr) => {
-        Both {
-            flat: flat!(euc_kr: (4, &[(0, 0xAC02), (1, 0xAC03), (3, 0xAC05)])),
-            packed: Packed {
-                euc_kr: $runs,
-                euc_kr_order: &[0, 1, 3],
-                ..NO_PARTS
-            },
+        Packed {
+            euc_kr: $runs,
+            euc_kr_order: &[0, 1, 3],
+            ..NO_PARTS
         }
     };
 }
@@ -106,47 +99,35 @@ const RUNS: &[Faulty] = &[
     ),
 ];
 
-/// Two parts with a fault each, and such parts beside an index with a fault.
-const OF_TWO_PARTS: &[Faulty] = &[
-    (
-        Both {
-            flat: flat!(euc_kr: (4, &[(0, 0xAC02), (1, 0xAC03), (3, 0xAC05)])),
-            packed: Packed {
-                euc_kr: &[run!(0, 0xAC02, 2)],
-                jis0208: &[run!(0, 0x3000, 0)],
-                ..NO_PARTS
-            },
-        },
-        Some(PackedDiffers(PackedPart::EucKr, 3)),
-    ),
-    (
-        Both {
-            flat: Flat {
-                euc_kr: (4, &[(0, 0xAC02), (1, 0xAC03), (3, 0xAC05)]),
-                gb18030: (1, &[(0, 0x7F)]),
-                ..NO_ENTRIES
-            },
-            packed: Packed {
-                euc_kr: &[run!(0, 0xAC02, 2)],
-                jis0208: &[run!(0, 0x3000, 0)],
-                ..NO_PARTS
-            },
-        },
-        Some(BadEntry(Gb18030, 0)),
-    ),
-];
+/// Two parts with a fault each.
+const TWO_PARTS: Packed = Packed {
+    euc_kr: &[run!(0, 0xAC02, 2)],
+    jis0208: &[run!(0, 0x3000, 0)],
+    ..NO_PARTS
+};
 
-/// U+FF02 at two pointers of index jis0208, and these orders of Shift_JIS and of EUC-JP.
+const OF_TWO_PARTS: &[Faulty] = &[(TWO_PARTS, Some(PackedDiffers(PackedPart::EucKr, 3)))];
+
+/// The same index beside one with a fault.
+const BAD_ENTRY: &Flat = &Flat {
+    euc_kr: (4, &[(0, 0xAC02), (1, 0xAC03), (3, 0xAC05)]),
+    gb18030: (1, &[(0, 0x7F)]),
+    ..NO_ENTRIES
+};
+
+const OF_BAD_ENTRY: &[Faulty] = &[(TWO_PARTS, Some(BadEntry(Gb18030, 0)))];
+
+/// U+FF02 at two pointers of index jis0208.
+const FF02: &Flat = &flat!(jis0208: (10740, &[(8647, 0xFF02), (10739, 0xFF02)]));
+
+/// Runs of that index, and these orders of Shift_JIS and of EUC-JP.
 macro_rules! of_ff02 {
     ($shift_jis:expr, $euc_jp:expr) => {
-        Both {
-            flat: flat!(jis0208: (10740, &[(8647, 0xFF02), (10739, 0xFF02)])),
-            packed: Packed {
-                jis0208: &[run!(8647, 0xFF02, 1), run!(10739, 0xFF02, 1)],
-                shift_jis_order: $shift_jis,
-                euc_jp_order: $euc_jp,
-                ..NO_PARTS
-            },
+        Packed {
+            jis0208: &[run!(8647, 0xFF02, 1), run!(10739, 0xFF02, 1)],
+            shift_jis_order: $shift_jis,
+            euc_jp_order: $euc_jp,
+            ..NO_PARTS
         }
     };
 }
@@ -167,23 +148,25 @@ const ORDERS: &[Faulty] = &[
         of_ff02!(&[10739], &[10739]),
         Some(PackedOrder(PackedPart::EucJpOrder, 0)),
     ),
-    // Big5's encoder uses the last pointer of six scalars.
-    (
-        Both {
-            flat: flat!(big5: (18992, &[(5247, 0x2550), (18991, 0x2550)])),
-            packed: Packed {
-                big5: &[run!(5247, 0x2550, 1), run!(18991, 0x2550, 1)],
-                big5_order: &[5247],
-                ..NO_PARTS
-            },
-        },
-        Some(PackedDiffers(PackedPart::Big5Order, 5247)),
-    ),
 ];
+
+const U_2550: &Flat = &flat!(big5: (18992, &[(5247, 0x2550), (18991, 0x2550)]));
+
+// Big5's encoder uses the last pointer of six scalars.
+const ORDER_OF_BIG5: &[Faulty] = &[(
+    Packed {
+        big5: &[run!(5247, 0x2550, 1), run!(18991, 0x2550, 1)],
+        big5_order: &[5247],
+        ..NO_PARTS
+    },
+    Some(PackedDiffers(PackedPart::Big5Order, 5247)),
+)];
 
 #[test]
 fn indexes_come_first_and_then_the_parts_in_their_order(rt: HostRuntime) {
-    have_faults(&rt, "runs", RUNS);
-    have_faults(&rt, "of two parts", OF_TWO_PARTS);
-    have_faults(&rt, "orders", ORDERS);
+    have_faults(&rt, "runs", FOUR_ENTRIES, RUNS);
+    have_faults(&rt, "two parts", FOUR_ENTRIES, OF_TWO_PARTS);
+    have_faults(&rt, "two parts beside a bad entry", BAD_ENTRY, OF_BAD_ENTRY);
+    have_faults(&rt, "orders of jis0208", FF02, ORDERS);
+    have_faults(&rt, "an order of Big5", U_2550, ORDER_OF_BIG5);
 }

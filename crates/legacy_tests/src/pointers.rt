@@ -1,6 +1,6 @@
 //! Look-ups of the scalars of pointers, and of the pointers and bytes that encoders use.
-use self::Row::{Pointer, Range, Scalar};
-use crate::compared::{is_pointer, is_scalar};
+use self::Row::{Pointer, PrivateUse, Range, Scalar};
+use crate::compared::{is_answer, is_pointer, is_scalar};
 use crate::gb18030::encoder::{LAST_RANGE, RANGE_FROM_7457};
 use crate::indexes::{EMPTY, Filled, Flat, flat, packed_of, packed_tables_of, tables_of};
 use legacy_base::IndexName::{Big5, EucKr, Gb18030, Jis0208, Jis0212, Katakana};
@@ -31,7 +31,7 @@ fn pointer_of(tables: &Tables, look_up: LookUp, scalar: char) -> Option<usize> {
 }
 
 /// A look-up, and its wanted result.
-#[derive(Clone, Copy)]
+#[derive(Drop)]
 enum Row {
     /// An index, a pointer, and its scalar.
     Scalar(IndexName, usize, Option<char>),
@@ -39,6 +39,8 @@ enum Row {
     Range(usize, Option<char>),
     /// A scalar, and its pointer.
     Pointer(LookUp, char, Option<usize>),
+    /// A scalar of the private-use rows of GB18030, and its bytes.
+    PrivateUse(char, Option<(u8, u8)>),
 }
 
 /// The name of a case, its indexes, and look-ups in their tables.
@@ -58,19 +60,28 @@ fn answer(rt: &impl Abort, tables: &Tables, case: &str, rows: &[Row]) {
                 let came = pointer_of(tables, *look_up, *scalar);
                 is_pointer(rt, (case, at), came, *wanted);
             }
+            PrivateUse(scalar, wanted) => {
+                let came = tables.gb18030_pua_bytes(*scalar);
+                is_answer(rt, (case, at), "the bytes", came, *wanted);
+            }
         }
     }
 }
 
-/// Looks up in flat tables of the indexes of each case, and in packed ones.
+/// Looks up in flat tables of the indexes, and in packed ones.
+fn answer_in_both(rt: &(impl AllocGlobal + Abort), (case, flat, rows): Case) {
+    let filled = Filled::of(flat);
+    let indexes = filled.indexes(flat);
+    answer(rt, &tables_of(rt, &indexes), case, rows);
+    let packed = packed_of(rt, &indexes);
+    let tables = packed_tables_of(rt, &indexes, &packed.packed());
+    answer(rt, &tables, case, rows);
+}
+
+/// Looks up in the tables of each case.
 fn answer_in_each(rt: &(impl AllocGlobal + Abort), cases: &[Case]) {
-    for (case, flat, rows) in cases {
-        let filled = Filled::of(flat);
-        let indexes = filled.indexes(flat);
-        answer(rt, &tables_of(rt, &indexes), case, rows);
-        let packed = packed_of(rt, &indexes);
-        let tables = packed_tables_of(rt, &indexes, &packed.packed());
-        answer(rt, &tables, case, rows);
+    for case in cases {
+        answer_in_both(rt, *case);
     }
 }
 
@@ -261,10 +272,16 @@ fn four_bytes_go_by_the_ranges(rt: HostRuntime) {
     answer_in_each(&rt, &[BY_PAGES, AROUND_E7C7]);
 }
 
+const PRIVATE_USE: Case = (
+    "private use",
+    EMPTY,
+    &[
+        PrivateUse('\u{E843}', Some((0xFE, 0x7E))),
+        PrivateUse('\u{E844}', None),
+    ],
+);
+
 #[test]
 fn a_private_use_row_gives_its_bytes(rt: HostRuntime) {
-    let filled = Filled::of(EMPTY);
-    let tables = tables_of(&rt, &filled.indexes(EMPTY));
-    assert!(rt; tables.gb18030_pua_bytes('\u{E843}') == Some((0xFE, 0x7E)));
-    assert!(rt; tables.gb18030_pua_bytes('\u{E844}') == None);
+    answer_in_both(&rt, PRIVATE_USE);
 }

@@ -1,12 +1,9 @@
 //! The replacement codec.
-use crate::codecs::DecoderCase;
-use crate::indexes::EMPTY;
+use crate::rows::Row;
 use crate::rows::Row::{Cut, Decoder, Events, FullUtf8, FullUtf16, Lengths, ToUtf8, ToUtf16};
-use crate::rows::{NO_INPUT, Row};
 use legacy_base::DecoderResult::{InputEmpty, Malformed};
-use legacy_index_files::Codec;
 
-const ROWS: &[Row] = &[
+pub(crate) const ROWS: &[Row] = &[
     Decoder("the first byte is malformed, once, and the rest is swallowed"),
     ToUtf8(b"\x41\x42", 16, true, Malformed(1, 0), 1, ""),
     ToUtf8(b"\x42", 16, true, InputEmpty, 1, ""),
@@ -21,9 +18,4 @@ const ROWS: &[Row] = &[
     ToUtf8(b"\x41\x42", 0, true, InputEmpty, 2, ""),
     Decoder("the lengths are those of one U+FFFD"),
     Lengths(usize::MAX, Some(1), Some(3), Some(3)),
-];
-
-pub(crate) const CASES: &[DecoderCase] = &[
-    (Codec::Replacement, EMPTY, NO_INPUT),
-    (Codec::Replacement, EMPTY, ROWS),
 ];

@@ -1,8 +1,7 @@
 //! Calls with replacement, and the functions that follow their rows.
-use crate::codecs::Over;
 use crate::compared::{Place, is_answer};
-use crate::rows::Row;
 use crate::rows::Row::{Pieces, Text};
+use crate::rows::{Row, TestedDecoder};
 use crate::units::{Form, Output, Units};
 use legacy_base::DecoderResult::InputEmpty;
 use legacy_base::RawDecoder;
@@ -30,15 +29,15 @@ fn has_text<D: RawDecoder>(
 }
 
 /// Follows the row of a text: makes calls with small outputs, and compares their text with the wanted one.
-pub(crate) fn follow_text(rt: &impl Abort, place: Place, of: Over, row: &Row) {
+pub(crate) fn follow_text<D: TestedDecoder>(rt: &impl Abort, place: Place, of: D::Of, row: &Row) {
     if let Text(input, text, units) = row {
         for room in 4..16 {
             let wanted = Units::Utf8(text.as_bytes());
-            has_text(rt, place, &mut of.decoder(rt), (input, room), wanted);
+            has_text(rt, place, &mut D::made(rt, of), (input, room), wanted);
         }
         for room in 2..8 {
             let wanted = Units::Utf16(units);
-            has_text(rt, place, &mut of.decoder(rt), (input, room), wanted);
+            has_text(rt, place, &mut D::made(rt, of), (input, room), wanted);
         }
     }
 }

@@ -13,7 +13,7 @@ use legacy_encodings::AnyDecoder;
 use std::process::Abort;
 
 /// A call, a query or a run of a decoder, with its wanted result.
-#[derive(Clone, Copy)]
+#[derive(Drop)]
 pub(crate) enum Row<'a> {
     /// A new decoder, and the name of the case that begins with it.
     Decoder(&'a str),
@@ -91,24 +91,47 @@ pub(crate) const NO_INPUT: &[Row] = &[
     Row::Events(b"", "", &[]),
 ];
 
-/// Returns whether the decoder is in its neutral state, if it has that query.
-fn neutral(decoder: &AnyDecoder) -> Option<bool> {
-    match decoder {
-        AnyDecoder::Gb18030(decoder) => Some(decoder.in_neutral_state()),
-        AnyDecoder::Big5(decoder) => Some(decoder.in_neutral_state()),
-        AnyDecoder::EucJp(decoder) => Some(decoder.in_neutral_state()),
-        AnyDecoder::Iso2022Jp(decoder) => Some(decoder.in_neutral_state()),
-        AnyDecoder::ShiftJis(decoder) => Some(decoder.in_neutral_state()),
-        AnyDecoder::EucKr(decoder) => Some(decoder.in_neutral_state()),
-        _ => None,
-    }
+/// A decoder, the data that it is made of, and two queries that only some decoders have.
+pub(crate) trait TestedDecoder: RawDecoder + Drop {
+    /// The data that the decoder is made of.
+    type Of: Copy;
+
+    fn made(rt: &impl Abort, of: Self::Of) -> Self;
+
+    /// Returns whether the decoder is in its neutral state, if it has that query.
+    fn neutral(&self) -> Option<bool>;
+
+    /// Returns the number that the decoder adds to the lengths, if it has that query.
+    fn additional(&self) -> Option<usize>;
 }
 
-/// Returns the number that the decoder adds to the lengths, if it has that query.
-fn additional(decoder: &AnyDecoder) -> Option<usize> {
-    match decoder {
-        AnyDecoder::Utf16(decoder) => Some(decoder.additional_from_state()),
-        _ => None,
+impl<'a> TestedDecoder for AnyDecoder<'a> {
+    type Of = Over<'a>;
+
+    fn made(rt: &impl Abort, of: Over<'a>) -> AnyDecoder<'a> {
+        match AnyDecoder::new(of.codec, of.tables, Some(of.single_byte)) {
+            Some(decoder) => decoder,
+            None => panic!(rt; "no decoder"),
+        }
+    }
+
+    fn neutral(&self) -> Option<bool> {
+        match self {
+            AnyDecoder::Gb18030(decoder) => Some(decoder.in_neutral_state()),
+            AnyDecoder::Big5(decoder) => Some(decoder.in_neutral_state()),
+            AnyDecoder::EucJp(decoder) => Some(decoder.in_neutral_state()),
+            AnyDecoder::Iso2022Jp(decoder) => Some(decoder.in_neutral_state()),
+            AnyDecoder::ShiftJis(decoder) => Some(decoder.in_neutral_state()),
+            AnyDecoder::EucKr(decoder) => Some(decoder.in_neutral_state()),
+            _ => None,
+        }
+    }
+
+    fn additional(&self) -> Option<usize> {
+        match self {
+            AnyDecoder::Utf16(decoder) => Some(decoder.additional_from_state()),
+            _ => None,
+        }
     }
 }
 
@@ -178,25 +201,31 @@ fn follow_call<D: RawDecoder>(rt: &impl Abort, place: Place, decoder: &mut D, ro
 }
 
 /// Finds the events in calls of limited length, and compares them with the wanted ones.
-fn finds(
+fn finds<D: TestedDecoder>(
     rt: &impl Abort,
     place: Place,
-    of: Over,
+    of: D::Of,
     form: Form,
     limits: (usize, usize),
     (input, wanted): (&[u8], &[DecodeEvent]),
 ) {
-    let found = events(&mut of.decoder(rt), input, form, limits);
+    let found = events(&mut D::made(rt, of), input, form, limits);
     is_answer(rt, place, form.name(), found.as_slice(), wanted);
 }
 
 /// Finds the events in one call and byte by byte, and compares them with the wanted ones.
-fn finds_by_calls(rt: &impl Abort, place: Place, of: Over, input: &[u8], wanted: &[DecodeEvent]) {
+fn finds_by_calls<D: TestedDecoder>(
+    rt: &impl Abort,
+    place: Place,
+    of: D::Of,
+    input: &[u8],
+    wanted: &[DecodeEvent],
+) {
     let length = input.len();
-    finds(rt, place, of, Form::Utf8, (length, 48), (input, wanted));
-    finds(rt, place, of, Form::Utf16, (length, 96), (input, wanted));
-    finds(rt, place, of, Form::Utf8, (1, 4), (input, wanted));
-    finds(rt, place, of, Form::Utf16, (1, 2), (input, wanted));
+    finds::<D>(rt, place, of, Form::Utf8, (length, 48), (input, wanted));
+    finds::<D>(rt, place, of, Form::Utf16, (length, 96), (input, wanted));
+    finds::<D>(rt, place, of, Form::Utf8, (1, 4), (input, wanted));
+    finds::<D>(rt, place, of, Form::Utf16, (1, 2), (input, wanted));
 }
 
 /// The wanted result of a run.
@@ -223,45 +252,45 @@ fn runs<D: RawDecoder>(
 }
 
 /// Makes a run of a new decoder into UTF-8 and one into UTF-16, and compares their results.
-fn runs_in_both(
+fn runs_in_both<D: TestedDecoder>(
     rt: &(impl AllocGlobal + Abort),
     place: Place,
-    of: Over,
+    of: D::Of,
     input: (&[&[u8]], &[usize]),
     wanted: Wanted,
 ) {
     for form in [Form::Utf8, Form::Utf16] {
-        runs(rt, place, &mut of.decoder(rt), form, input, wanted);
+        runs(rt, place, &mut D::made(rt, of), form, input, wanted);
     }
 }
 
 /// Makes runs over these pieces with small outputs, and over these with an empty one after each.
-fn finds_in_both(
+fn finds_in_both<D: TestedDecoder>(
     rt: &(impl AllocGlobal + Abort),
     place: Place,
-    of: Over,
+    of: D::Of,
     pieces: &[&[u8]],
     wanted: &[DecodeEvent],
 ) {
     let (lengths, ends) = (small_lengths(), (wanted, None, true));
-    runs_in_both(rt, place, of, (pieces, &lengths), ends);
+    runs_in_both::<D>(rt, place, of, (pieces, &lengths), ends);
     let all = spaced(pieces, b"");
-    runs_in_both(rt, place, of, (all.as_slice(), &lengths), ends);
+    runs_in_both::<D>(rt, place, of, (all.as_slice(), &lengths), ends);
 }
 
 /// Makes runs over the input in all cuts, and compares their results.
-fn finds_in_cuts(
+fn finds_in_cuts<D: TestedDecoder>(
     rt: &(impl AllocGlobal + Abort),
     place: Place,
-    of: Over,
+    of: D::Of,
     input: &[u8],
     wanted: &[DecodeEvent],
 ) {
     let whole = [input];
-    finds_in_both(rt, place, of, &whole, wanted);
-    runs_in_both(rt, place, of, (&whole, &[0; 5]), (&[], Some(5), false));
+    finds_in_both::<D>(rt, place, of, &whole, wanted);
+    runs_in_both::<D>(rt, place, of, (&whole, &[0; 5]), (&[], Some(5), false));
     let bytes = byte_pieces(input);
-    finds_in_both(rt, place, of, bytes.as_slice(), wanted);
+    finds_in_both::<D>(rt, place, of, bytes.as_slice(), wanted);
 }
 
 /// Makes runs that must be refused, in either form, and compares the error with the wanted one.
@@ -309,47 +338,63 @@ fn is_length(
 }
 
 /// Follows the row of another query, which only some decoders have or where few bytes count.
-fn follow_query(rt: &impl Abort, place: Place, decoder: &AnyDecoder, row: &Row) {
+fn follow_query<D: TestedDecoder>(rt: &impl Abort, place: Place, decoder: &D, row: &Row) {
     match row {
         Row::Lone(bytes, count) => {
             let came = decoder.malformed_bytes(bytes);
             is_answer(rt, place, "malformed_bytes", came, *count);
         }
         Row::Neutral(is_neutral) => {
-            let came = neutral(decoder);
+            let came = decoder.neutral();
             is_answer(rt, place, "in_neutral_state", came, Some(*is_neutral));
         }
         Row::Additional(more) => {
-            let came = additional(decoder);
+            let came = decoder.additional();
             is_answer(rt, place, "additional_from_state", came, Some(*more));
         }
         _ => {}
     }
 }
 
-/// Follows the row of events or of a run, and compares what is found with what is wanted.
-fn follow_run(
+/// Follows the row of a text's events, and compares what is found with what is wanted.
+fn follow_events<D: TestedDecoder>(
     rt: &(impl AllocGlobal + Abort),
     place: Place,
-    of: Over,
-    decoder: &mut AnyDecoder,
+    of: D::Of,
+    row: &Row,
+) {
+    let (input, text, places, is_cut) = match row {
+        Row::Events(input, text, places) => (*input, *text, *places, false),
+        Row::Cut(input, text, places) => (*input, *text, *places, true),
+        _ => return,
+    };
+    let events = events_of(text, places);
+    finds_by_calls::<D>(rt, place, of, input, events.as_slice());
+    if is_cut {
+        finds_in_cuts::<D>(rt, place, of, input, events.as_slice());
+    }
+}
+
+/// Follows the row of listed events, and compares what is found with what is wanted.
+fn follow_list<D: TestedDecoder>(rt: &impl Abort, place: Place, of: D::Of, row: &Row) {
+    match row {
+        Row::EventList(input, events) => finds_by_calls::<D>(rt, place, of, input, events),
+        Row::OneMalformed(input) => {
+            let events = [bad!(0, input.len())];
+            finds_by_calls::<D>(rt, place, of, input, &events);
+        }
+        _ => {}
+    }
+}
+
+/// Follows the row of a run, and compares its result with the wanted one.
+fn follow_run<D: RawDecoder>(
+    rt: &(impl AllocGlobal + Abort),
+    place: Place,
+    decoder: &mut D,
     row: &Row,
 ) {
     match row {
-        Row::EventList(input, events) => finds_by_calls(rt, place, of, input, events),
-        Row::OneMalformed(input) => {
-            let events = [bad!(0, input.len())];
-            finds_by_calls(rt, place, of, input, &events);
-        }
-        Row::Events(input, text, places) => {
-            let events = events_of(text, places);
-            finds_by_calls(rt, place, of, input, events.as_slice());
-        }
-        Row::Cut(input, text, places) => {
-            let events = events_of(text, places);
-            finds_by_calls(rt, place, of, input, events.as_slice());
-            finds_in_cuts(rt, place, of, input, events.as_slice());
-        }
         Row::RunTo(form, pieces, lengths, events, calls, finished) => {
             let wanted = (*events, Some(*calls), *finished);
             runs(rt, place, decoder, *form, (pieces, lengths), wanted);
@@ -362,30 +407,32 @@ fn follow_run(
 }
 
 /// Follows one row, in one of these ways.
-fn follow_row(
+fn follow_row<D: TestedDecoder>(
     rt: &(impl AllocGlobal + Abort),
     place: Place,
-    of: Over,
-    decoder: &mut AnyDecoder,
+    of: D::Of,
+    decoder: &mut D,
     row: &Row,
 ) {
     follow_call(rt, place, decoder, row);
-    follow_run(rt, place, of, decoder, row);
+    follow_events::<D>(rt, place, of, row);
+    follow_list::<D>(rt, place, of, row);
+    follow_run(rt, place, decoder, row);
     follow_lengths(rt, place, decoder, row);
     follow_query(rt, place, decoder, row);
     follow_pieces(rt, place, decoder, row);
-    follow_text(rt, place, of, row);
+    follow_text::<D>(rt, place, of, row);
 }
 
 /// Follows the rows in turn.
-pub(crate) fn follow(rt: &(impl AllocGlobal + Abort), of: Over, rows: &[Row]) {
+pub(crate) fn follow<D: TestedDecoder>(rt: &(impl AllocGlobal + Abort), of: D::Of, rows: &[Row]) {
     let mut case = "";
-    let mut decoder = of.decoder(rt);
+    let mut decoder = D::made(rt, of);
     for (at, row) in rows.iter().enumerate() {
         if let Row::Decoder(name) = row {
             case = name;
-            decoder = of.decoder(rt);
+            decoder = D::made(rt, of);
         }
-        follow_row(rt, (case, at), of, &mut decoder, row);
+        follow_row::<D>(rt, (case, at), of, &mut decoder, row);
     }
 }

@@ -1,16 +1,13 @@
 //! Shift_JIS.
 pub(crate) mod encoder;
 
-use crate::codecs::DecoderCase;
-use crate::indexes::EMPTY;
 use crate::rows::Row;
 use crate::rows::Row::{
     Cut, Decoder, Events, HeldBack, Lengths, Neutral, OneMalformed, ToUtf8, Utf16Length,
 };
 use legacy_base::DecoderResult::{InputEmpty, Malformed, OutputFull};
-use legacy_index_files::Codec;
 
-const WITHOUT_ENTRIES: &[Row] = &[
+pub(crate) const WITHOUT_ENTRIES: &[Row] = &[
     Decoder("pointers 8836 to 10715 are U+E000 to U+E757"),
     ToUtf8(b"\xF0\x40", 16, true, InputEmpty, 2, "\u{E000}"),
     ToUtf8(b"\xF9\xFC", 16, true, InputEmpty, 2, "\u{E757}"),
@@ -43,5 +40,3 @@ const WITHOUT_ENTRIES: &[Row] = &[
     Lengths(5, Some(6), Some(18), Some(18)),
     Utf16Length(usize::MAX, None),
 ];
-
-pub(crate) const CASES: &[DecoderCase] = &[(Codec::ShiftJis, EMPTY, WITHOUT_ENTRIES)];

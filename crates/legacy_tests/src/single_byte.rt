@@ -1,10 +1,10 @@
 //! The single-byte codecs.
 pub(crate) mod encoder;
 
-use crate::codecs::{DecoderCase, follow_each};
+use crate::codecs::follow_rows;
 use crate::compared::is_answer;
 use crate::events::Found;
-use crate::indexes::{EMPTY, Flat, byte_table_of, entries_of, flat};
+use crate::indexes::{Flat, byte_table_of, entries_of, flat};
 use crate::rows::Row;
 use crate::rows::Row::{
     BareLength, Cut, Decoder, EventList, Events, FullUtf8, ToUtf8, Utf8Length, Utf16Length,
@@ -15,7 +15,7 @@ use legacy_base::DecoderResult::{InputEmpty, Malformed};
 use legacy_decoders::SingleByteDecoder;
 use legacy_index_files::Codec;
 
-const WITHOUT_ENTRIES: &[Row] = &[
+pub(crate) const WITHOUT_ENTRIES: &[Row] = &[
     Decoder("an ASCII byte needs one byte, any other three"),
     ToUtf8(b"\x41", 1, true, InputEmpty, 1, "A"),
     FullUtf8(b"\x80", 2),
@@ -27,7 +27,7 @@ const WITHOUT_ENTRIES: &[Row] = &[
     BareLength(7, Some(21)),
 ];
 
-const GREEK: &[Row] = &[
+pub(crate) const GREEK: &[Row] = &[
     Decoder("a byte without an entry is malformed"),
     ToUtf8(
         b"\xC1\xF5\xD2\xF4\xFC",
@@ -46,13 +46,8 @@ const GREEK: &[Row] = &[
 ];
 
 /// Four letters at their places in ISO-8859-7.
-const LETTERS: &Flat =
+pub(crate) const LETTERS: &Flat =
     &flat!(single_byte: &[(65, 0x391), (117, 0x3C5), (116, 0x3C4), (124, 0x3CC)]);
-
-pub(crate) const CASES: &[DecoderCase] = &[
-    (Codec::SingleByte, EMPTY, WITHOUT_ENTRIES),
-    (Codec::SingleByte, LETTERS, GREEK),
-];
 
 /// The entry of byte 85, bytes, and the number of bytes before the first that is another scalar.
 const FRONTS: &[(u16, &[u8], usize)] = &[
@@ -106,8 +101,6 @@ fn decodes_words_of_letters_and_ascii(rt: HostRuntime) {
     }
     let letters = letters();
     let rows = [EventList(input, events.as_slice())];
-    follow_each(
-        &rt,
-        &[(Codec::SingleByte, &flat!(single_byte: &letters), &rows)],
-    );
+    let flat = flat!(single_byte: &letters);
+    follow_rows(&rt, &[Codec::SingleByte], &flat, &rows);
 }

@@ -2,7 +2,6 @@
 // The promises of a call stay inside these functions: their callers do not state them, and are fast to prove.
 use crate::called::{raw, replacing};
 use crate::events::Found;
-use legacy_base::DecodeEvent::Scalar;
 use legacy_base::DecoderResult::{InputEmpty, OutputFull};
 use legacy_base::{DecoderResult, RawDecoder};
 use legacy_codecs::{
@@ -122,18 +121,8 @@ impl Output {
     /// Adds the scalars of the written code units to what was found.
     pub(crate) fn push_scalars(&self, found: &mut Found) {
         match self.written() {
-            Units::Utf8(bytes) => {
-                for scalar in str::from_utf8(bytes).unwrap_or("").chars() {
-                    found.push(Scalar(scalar));
-                }
-            }
-            Units::Utf16(units) => {
-                for unit in char::decode_utf16(units.iter().copied()) {
-                    if let Ok(scalar) = unit {
-                        found.push(Scalar(scalar));
-                    }
-                }
-            }
+            Units::Utf8(bytes) => found.push_utf8(bytes),
+            Units::Utf16(units) => found.push_utf16(units),
         }
     }
 }

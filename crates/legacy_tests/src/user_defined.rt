@@ -1,14 +1,11 @@
 //! x-user-defined.
 pub(crate) mod encoder;
 
-use crate::codecs::DecoderCase;
-use crate::indexes::EMPTY;
+use crate::rows::Row;
 use crate::rows::Row::{Cut, Decoder, Events, FullUtf8, Lengths, ToUtf8, ToUtf16, Utf8Length};
-use crate::rows::{NO_INPUT, Row};
 use legacy_base::DecoderResult::{InputEmpty, OutputFull};
-use legacy_index_files::Codec;
 
-const ROWS: &[Row] = &[
+pub(crate) const ROWS: &[Row] = &[
     Decoder("80 to FF are U+F780 to U+F7FF"),
     ToUtf8(
         b"\x61\x80\xFF",
@@ -74,9 +71,4 @@ const ROWS: &[Row] = &[
             0xF7F7, 0xF7F8, 0xF7BF, 0xF7C0, 0x30, 0x31, 0x32, 0xF7D7, 0xF7D8, 0xF780, 0xF7FF,
         ],
     ),
-];
-
-pub(crate) const CASES: &[DecoderCase] = &[
-    (Codec::UserDefined, EMPTY, NO_INPUT),
-    (Codec::UserDefined, EMPTY, ROWS),
 ];

@@ -1,5 +1,5 @@
 //! UTF-16.
-use crate::codecs::{DecoderCase, follow_each};
+use crate::codecs::follow_rows;
 use crate::events::{Found, bad};
 use crate::indexes::{EMPTY, fill};
 use crate::rows::Row;
@@ -13,7 +13,7 @@ use legacy_base::DecoderResult::{InputEmpty, Malformed, OutputFull};
 use legacy_index_files::Codec;
 use std::process::Abort;
 
-const LITTLE_ENDIAN: &[Row] = &[
+pub(crate) const LITTLE_ENDIAN: &[Row] = &[
     Decoder("the unit after an unpaired high surrogate is held back"),
     HeldBack(b"\x00\xD8"),
     ToUtf8(
@@ -54,6 +54,10 @@ const LITTLE_ENDIAN: &[Row] = &[
     OneMalformed(b"\x3D\xD8\xA9"),
     Decoder("a high and a low surrogate are one scalar"),
     ToUtf8(b"\x3D\xD8\xA9\xDC", 16, true, InputEmpty, 4, "\u{1F4A9}"),
+];
+
+/// Also little-endian: units that are cut, and malformed ones.
+pub(crate) const CUT_UNITS: &[Row] = &[
     Decoder("an odd byte adds one to the lengths, a unit held back two"),
     Additional(1),
     HeldBack(b"\x3D"),
@@ -100,7 +104,7 @@ const LITTLE_ENDIAN: &[Row] = &[
     Replaced(b"\xFF", "\u{FFFD}"),
 ];
 
-const BIG_ENDIAN: &[Row] = &[
+pub(crate) const BIG_ENDIAN: &[Row] = &[
     Decoder("a high and a low surrogate are one scalar"),
     ToUtf8(b"\xD8\x3D\xDC\xA9", 16, true, InputEmpty, 4, "\u{1F4A9}"),
     Events(
@@ -115,11 +119,6 @@ const BIG_ENDIAN: &[Row] = &[
     Pieces(b"\x00\x61\x00\xE4\x26\x03\xD8\x3D\xDC\xA9", 1),
     Decoder("so do three bytes at a time"),
     Pieces(b"\x00\xE4\x26\x03\xD8\x3D\xDC\xA9\x00\x61\x00\xE4", 3),
-];
-
-pub(crate) const CASES: &[DecoderCase] = &[
-    (Codec::Utf16Le, EMPTY, LITTLE_ENDIAN),
-    (Codec::Utf16Be, EMPTY, BIG_ENDIAN),
 ];
 
 /// Compares the events of these units, and of an odd byte if there is one, in either byte order.
@@ -145,7 +144,7 @@ fn in_either_order(
         } else {
             Codec::Utf16Le
         };
-        follow_each(rt, &[(codec, EMPTY, &[EventList(&bytes, events)])]);
+        follow_rows(rt, &[codec], EMPTY, &[EventList(&bytes, events)]);
     }
 }
 
@@ -197,29 +196,13 @@ const UNITS: &[u16] = &[
     0xE9, 0x4E00, 0x41, 0xE9, 0x4E00, 0x41, 0xE9, 0x4E00, 0x41, 0xE9, 0x4E00, 0xD83D,
 ];
 
-/// Returns the scalars of the units, and the places of unpaired surrogates, by Rust's own decoder.
-fn events_of(units: &[u16]) -> Found {
-    let mut found = Found::new();
-    let mut place = 0usize;
-    for unit in char::decode_utf16(units.iter().copied()) {
-        match unit {
-            Ok(scalar) => {
-                found.push(Scalar(scalar));
-                place = place.saturating_add(2 * scalar.len_utf16());
-            }
-            Err(_) => {
-                found.push(bad!(place, 2));
-                place = place.saturating_add(2);
-            }
-        }
-    }
-    found
-}
-
 #[test]
 fn decodes_units_of_any_length_in_either_order(rt: HostRuntime) {
-    let mut events = events_of(RUNS);
+    let mut events = Found::new();
+    events.push_utf16(RUNS);
     events.push(bad!(48, 1));
     in_either_order(&rt, RUNS, b"\x41", events.as_slice());
-    in_either_order(&rt, UNITS, b"", events_of(UNITS).as_slice());
+    let mut events = Found::new();
+    events.push_utf16(UNITS);
+    in_either_order(&rt, UNITS, b"", events.as_slice());
 }

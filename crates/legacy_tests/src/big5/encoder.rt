@@ -1,13 +1,10 @@
 //! The encoder of Big5.
-use crate::codecs::EncoderCase;
 use crate::encode_events::Wanted::{Bytes, Report};
 use crate::encoder_rows::EncoderRow;
 use crate::encoder_rows::EncoderRow::{Encoder, Encodes};
-use crate::indexes::{EMPTY, Flat, flat};
-use crate::pairs;
-use legacy_index_files::Codec;
+use crate::indexes::{Flat, flat};
 
-const WITH_ENTRIES: &[EncoderRow] = &[
+pub(crate) const WITH_ENTRIES: &[EncoderRow] = &[
     Encoder("of U+2550 the last pointer is taken, and of U+2551 the first"),
     Encodes("\u{2550}", &[Bytes(b"\xF9\xF9")]),
     Encodes("\u{2551}", &[Bytes(b"\xA1\x40")]),
@@ -15,7 +12,7 @@ const WITH_ENTRIES: &[EncoderRow] = &[
     Encodes("\u{3001}", &[Report('\u{3001}')]),
 ];
 
-const FIRST_POINTERS: &[EncoderRow] = &[
+pub(crate) const FIRST_POINTERS: &[EncoderRow] = &[
     Encoder("the first pointer that is written is A1 40"),
     Encodes(
         "\u{3000}\u{3001}",
@@ -24,14 +21,8 @@ const FIRST_POINTERS: &[EncoderRow] = &[
 ];
 
 /// U+2550 and U+2551 at two used pointers each, and U+3001 at a pointer that is never used.
-const TWICE: &Flat =
+pub(crate) const TWICE: &Flat =
     &flat!(big5: (18992, &[(5023, 0x3001), (5024, 0x2551), (5247, 0x2550), (18990, 0x2551), (18991, 0x2550)]));
 
 /// U+3000 at the first pointer that is used, and U+3001 at the one before.
-const FIRST: &Flat = &flat!(big5: (5025, &[(5023, 0x3001), (5024, 0x3000)]));
-
-pub(crate) const CASES: &[EncoderCase] = &[
-    (Codec::Big5, EMPTY, pairs::WITHOUT_ENTRIES),
-    (Codec::Big5, TWICE, WITH_ENTRIES),
-    (Codec::Big5, FIRST, FIRST_POINTERS),
-];
+pub(crate) const FIRST: &Flat = &flat!(big5: (5025, &[(5023, 0x3001), (5024, 0x3000)]));

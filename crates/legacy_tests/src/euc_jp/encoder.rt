@@ -1,19 +1,16 @@
 //! The encoder of EUC-JP.
-use crate::codecs::EncoderCase;
 use crate::encode_events::Wanted::{Bytes, Report};
 use crate::encoder_rows::EncoderRow;
 use crate::encoder_rows::EncoderRow::{Encoder, Encodes};
-use crate::indexes::{EMPTY, Flat, flat};
-use crate::pairs;
-use legacy_index_files::Codec;
+use crate::indexes::{Flat, flat};
 
-const WITHOUT_ENTRIES: &[EncoderRow] = &[
+pub(crate) const WITHOUT_ENTRIES: &[EncoderRow] = &[
     Encoder("half-width katakana have two bytes, the yen sign and the overline one"),
     Encodes("\u{FF61}\u{203E}", &[Bytes(b"\x8E\xA1\x7E")]),
     Encodes("\u{A5}\u{FF9F}", &[Bytes(b"\x5C\x8E\xDF")]),
 ];
 
-const WITH_ENTRIES: &[EncoderRow] = &[
+pub(crate) const WITH_ENTRIES: &[EncoderRow] = &[
     Encoder("the minus sign is written as U+FF0D"),
     Encodes("\u{2212}", &[Bytes(b"\xA1\xDD")]),
     Encoder("of two pointers the first is written"),
@@ -23,12 +20,5 @@ const WITH_ENTRIES: &[EncoderRow] = &[
 ];
 
 /// U+FF0D, U+FF02 at two pointers of which the first is used, and U+3001 at one that never is.
-const ENTRIES: &Flat =
+pub(crate) const FIRST_OF_TWO: &Flat =
     &flat!(jis0208: (10740, &[(60, 0xFF0D), (8647, 0xFF02), (10738, 0x3001), (10739, 0xFF02)]));
-
-pub(crate) const CASES: &[EncoderCase] = &[
-    (Codec::EucJp, EMPTY, pairs::WITHOUT_ENTRIES),
-    (Codec::EucJp, EMPTY, pairs::JAPANESE),
-    (Codec::EucJp, EMPTY, WITHOUT_ENTRIES),
-    (Codec::EucJp, ENTRIES, WITH_ENTRIES),
-];

@@ -1,20 +1,16 @@
 //! The encoder of EUC-KR.
 use crate::ahead::{encode_ahead, pair_room};
-use crate::codecs::EncoderCase;
 use crate::encode_events::Wanted::{Bytes, Report};
 use crate::encoder_rows::EncoderRow;
 use crate::encoder_rows::EncoderRow::{Encoder, Encodes, FromUtf8, FromUtf16, Full, Replaced};
-use crate::euc_kr::ONE_ENTRY;
-use crate::indexes::{EMPTY, Filled, Flat, flat, tables_of};
-use crate::pairs;
+use crate::indexes::{Filled, Flat, flat, tables_of};
 use crate::source_texts::Text;
 use legacy_base::EncoderResult::{InputEmpty, OutputFull, Unmappable};
 use legacy_encoders::EucKrEncoder;
-use legacy_index_files::Codec;
 use std::process::Abort;
 
 /// The rows with U+AC02 at pointer 0, and no other scalar.
-const ROWS: &[EncoderRow] = &[
+pub(crate) const ROWS: &[EncoderRow] = &[
     Encoder("a scalar of the index is a lead and a trail"),
     Encodes("\u{AC02}", &[Bytes(b"\x81\x41")]),
     Encodes(
@@ -33,20 +29,14 @@ const ROWS: &[EncoderRow] = &[
     Replaced(Text::Utf16(&[0xDC00, 0xDEDE]), b"&#65533;&#65533;"),
 ];
 
-const LAST: &[EncoderRow] = &[
+pub(crate) const LAST: &[EncoderRow] = &[
     Encoder("the last pointer is FE FE"),
     Encodes("\u{8A70}", &[Bytes(b"\xFE\xFE")]),
     FromUtf16(&[0x8A70], 2, true, InputEmpty, 1, b"\xFE\xFE"),
 ];
 
 /// U+8A70 at the last pointer, 23939.
-const LAST_ENTRY: &Flat = &flat!(euc_kr: (23940, &[(23939, 0x8A70)]));
-
-pub(crate) const CASES: &[EncoderCase] = &[
-    (Codec::EucKr, EMPTY, pairs::WITHOUT_ENTRIES),
-    (Codec::EucKr, ONE_ENTRY, ROWS),
-    (Codec::EucKr, LAST_ENTRY, LAST),
-];
+pub(crate) const LAST_ENTRY: &Flat = &flat!(euc_kr: (23940, &[(23939, 0x8A70)]));
 
 /// The first sixteen scalars of the Standard's index.
 const SIXTEEN: &Flat =

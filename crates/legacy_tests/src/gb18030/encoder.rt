@@ -1,6 +1,5 @@
 //! The encoders of gb18030 and GBK.
 use crate::ahead::{encode_ahead, pair_room};
-use crate::codecs::EncoderCase;
 use crate::encode_events::Wanted::{Bytes, Report};
 use crate::encoder_rows::EncoderRow;
 use crate::encoder_rows::EncoderRow::{
@@ -9,11 +8,10 @@ use crate::encoder_rows::EncoderRow::{
 use crate::indexes::{EMPTY, Filled, Flat, flat, tables_of};
 use legacy_base::EncoderResult::{InputEmpty, OutputFull, Unmappable};
 use legacy_encoders::Gb18030Encoder;
-use legacy_index_files::Codec;
 use std::process::Abort;
 
 /// The rows of gb18030 without entries, but with the private-use rows of the Standard.
-const WITHOUT_ENTRIES: &[EncoderRow] = &[
+pub(crate) const WITHOUT_ENTRIES: &[EncoderRow] = &[
     Encoder("the scalars from U+10000 on have four bytes without an index"),
     Encodes("\u{10000}", &[Bytes(b"\x90\x30\x81\x30")]),
     Encodes("\u{10FFFF}", &[Bytes(b"\xE3\x32\x9A\x35")]),
@@ -36,7 +34,7 @@ const WITHOUT_ENTRIES: &[EncoderRow] = &[
 ];
 
 /// The rows of GBK with the same tables.
-const GBK_WITHOUT_ENTRIES: &[EncoderRow] = &[
+pub(crate) const GBK_WITHOUT_ENTRIES: &[EncoderRow] = &[
     Encoder("the euro sign is 80, and nothing has four bytes"),
     Encodes("\u{20AC}", &[Bytes(b"\x80")]),
     Encodes(
@@ -78,7 +76,7 @@ fn takes_no_room_that_is_too_small(rt: HostRuntime) {
     assert!(rt; !encode_in(&rt, &mut [0; 8]));
 }
 
-const WITH_RANGE: &[EncoderRow] = &[
+pub(crate) const WITH_RANGE: &[EncoderRow] = &[
     Encoder("an unpaired surrogate is U+FFFD, which the range has"),
     FromUtf16(&[0xDC00], 16, true, InputEmpty, 1, b"\x84\x31\xA4\x37"),
     FromUtf16(
@@ -91,12 +89,12 @@ const WITH_RANGE: &[EncoderRow] = &[
     ),
 ];
 
-const GBK_WITH_RANGE: &[EncoderRow] = &[
+pub(crate) const GBK_WITH_RANGE: &[EncoderRow] = &[
     Encoder("in GBK a scalar of the ranges has no bytes"),
     FromUtf16(&[0xDC00], 16, true, Unmappable('\u{FFFD}'), 1, b""),
 ];
 
-const BESIDE_7457: &[EncoderRow] = &[
+pub(crate) const BESIDE_7457: &[EncoderRow] = &[
     Encoder("pointer 7457 is that of U+E7C7 alone"),
     Encodes("\u{3000}", &[Report('\u{3000}')]),
     Encodes(
@@ -105,22 +103,22 @@ const BESIDE_7457: &[EncoderRow] = &[
     ),
 ];
 
-const OTHER_ROW: &[EncoderRow] = &[
+pub(crate) const OTHER_ROW: &[EncoderRow] = &[
     Encoder("a row that is handed in gives its bytes"),
     Encodes("\u{E000}", &[Bytes(b"\xA6\xD9")]),
 ];
 
-const NO_ROWS: &[EncoderRow] = &[
+pub(crate) const NO_ROWS: &[EncoderRow] = &[
     Encoder("without rows such a scalar has no bytes, where no index has it"),
     Encodes("\u{E78D}", &[Report('\u{E78D}')]),
 ];
 
-const IN_THE_INDEX: &[EncoderRow] = &[
+pub(crate) const IN_THE_INDEX: &[EncoderRow] = &[
     Encoder("without rows such a scalar has the pointer of the index"),
     Encodes("\u{E81E}", &[Bytes(b"\xFE\x59")]),
 ];
 
-const BOTH: &[EncoderRow] = &[
+pub(crate) const BOTH: &[EncoderRow] = &[
     Encoder("a scalar of a row and the scalar that the index has there have the same bytes"),
     Encodes("\u{E81E}\u{9FB4}", &[Bytes(b"\xFE\x59\xFE\x59")]),
 ];
@@ -132,25 +130,13 @@ pub(crate) const LAST_RANGE: &Flat = &flat!(ranges: &[(39394, 0xFFE6)]);
 pub(crate) const RANGE_FROM_7457: &Flat = &flat!(ranges: &[(7457, 0x3000)]);
 
 /// A private-use row that the Standard does not have.
-const ROW_OF_E000: &Flat = &flat!(gb18030_pua: &[(0xE000, 0xA6, 0xD9)]);
+pub(crate) const ROW_OF_E000: &Flat = &flat!(gb18030_pua: &[(0xE000, 0xA6, 0xD9)]);
 
-const WITHOUT_ROWS: &Flat = &flat!(gb18030_pua: &[]);
+pub(crate) const WITHOUT_ROWS: &Flat = &flat!(gb18030_pua: &[]);
 
 /// U+E81E in the index, without private-use rows.
-const PRIVATE_USE: &Flat = &flat!(gb18030: (23776, &[(23775, 0xE81E)]), gb18030_pua: &[]);
+pub(crate) const PRIVATE_USE: &Flat =
+    &flat!(gb18030: (23776, &[(23775, 0xE81E)]), gb18030_pua: &[]);
 
 /// U+9FB4 in the index, at the pointer whose bytes a private-use row has.
 pub(crate) const ROW_AND_ENTRY: &Flat = &flat!(gb18030: (23776, &[(23775, 0x9FB4)]));
-
-pub(crate) const CASES: &[EncoderCase] = &[
-    (Codec::Gb18030, EMPTY, WITHOUT_ENTRIES),
-    (Codec::Gbk, EMPTY, GBK_WITHOUT_ENTRIES),
-    (Codec::Gb18030, LAST_RANGE, WITH_RANGE),
-    (Codec::Gbk, LAST_RANGE, GBK_WITH_RANGE),
-    (Codec::Gb18030, RANGE_FROM_7457, BESIDE_7457),
-    (Codec::Gb18030, ROW_OF_E000, OTHER_ROW),
-    (Codec::Gbk, ROW_OF_E000, OTHER_ROW),
-    (Codec::Gb18030, WITHOUT_ROWS, NO_ROWS),
-    (Codec::Gb18030, PRIVATE_USE, IN_THE_INDEX),
-    (Codec::Gb18030, ROW_AND_ENTRY, BOTH),
-];

@@ -1,6 +1,6 @@
 //! The encoder of ISO-2022-JP.
 use crate::ahead::pair_room;
-use crate::codecs::{EncoderCase, follow_each};
+use crate::codecs::follow_rows;
 use crate::encode_events::Wanted::{Bytes, Report};
 use crate::encoder_rows::EncoderRow::{
     Encoder, Encodes, FromUtf8, FromUtf16, Full, Pending, Replaced, ReplacedFromUtf8, Utf8Length,
@@ -26,9 +26,14 @@ impl<'a, 'b> TestedEncoder for CachedIso2022JpEncoder<'a, 'b> {
     }
 }
 
-/// Follows the rows of a case over packed tables, with an encoder that lists pairs in `room`.
+/// Follows the rows over packed tables, with an encoder that lists pairs in `room`.
 // Over flat tables, filling the cache would search the index for 65,536 scalars.
-fn encode_ahead(rt: &(impl AllocGlobal + Abort), room: &mut [u16], (_, flat, rows): &EncoderCase) {
+fn encode_ahead<'a>(
+    rt: &(impl AllocGlobal + Abort),
+    room: &mut [u16],
+    flat: &'a Flat<'a>,
+    rows: &[EncoderRow],
+) {
     let filled = Filled::of(flat);
     let indexes = filled.indexes(flat);
     let packed = packed_of(rt, &indexes);
@@ -40,11 +45,15 @@ fn encode_ahead(rt: &(impl AllocGlobal + Abort), room: &mut [u16], (_, flat, row
     }
 }
 
-/// Follows the rows of a case over flat tables, over packed ones, and over these with cached pairs.
-fn encode_in_all_ways(rt: &(impl AllocGlobal + Abort), case: EncoderCase) {
-    follow_each(rt, &[case]);
+/// Follows the rows over flat tables, over packed ones, and over these with cached pairs.
+fn encode_in_all_ways<'a>(
+    rt: &(impl AllocGlobal + Abort),
+    flat: &'a Flat<'a>,
+    rows: &[EncoderRow],
+) {
+    follow_rows(rt, &[Codec::Iso2022Jp], flat, rows);
     let mut room = pair_room(rt, 0xFFFF);
-    encode_ahead(rt, room.as_mut_slice(), &case);
+    encode_ahead(rt, room.as_mut_slice(), flat, rows);
 }
 
 #[test]
@@ -111,7 +120,7 @@ const WITHOUT_ENTRIES: &[EncoderRow] = &[
 
 #[test]
 fn encodes_without_entries(rt: HostRuntime) {
-    encode_in_all_ways(&rt, (Codec::Iso2022Jp, EMPTY, WITHOUT_ENTRIES));
+    encode_in_all_ways(&rt, EMPTY, WITHOUT_ENTRIES);
 }
 
 /// The rows with U+58FA at pointer 4861.
@@ -190,7 +199,7 @@ pub(crate) const ONE_PAIR: &Flat = &flat!(jis0208: (4862, &[(4861, 0x58FA)]));
 
 #[test]
 fn encodes_pairs(rt: HostRuntime) {
-    encode_in_all_ways(&rt, (Codec::Iso2022Jp, ONE_PAIR, PAIRS));
+    encode_in_all_ways(&rt, ONE_PAIR, PAIRS);
 }
 
 const KATAKANA: &[EncoderRow] = &[
@@ -218,5 +227,5 @@ const TWO_KATAKANA: &Flat =
 
 #[test]
 fn encodes_katakana(rt: HostRuntime) {
-    encode_in_all_ways(&rt, (Codec::Iso2022Jp, TWO_KATAKANA, KATAKANA));
+    encode_in_all_ways(&rt, TWO_KATAKANA, KATAKANA);
 }

@@ -1,14 +1,11 @@
 //! The encoder of Shift_JIS.
-use crate::codecs::EncoderCase;
 use crate::encode_events::Wanted::{Bytes, Report};
 use crate::encoder_rows::EncoderRow;
 use crate::encoder_rows::EncoderRow::{Encoder, Encodes, FromUtf8, Full};
-use crate::indexes::{EMPTY, Flat, flat};
-use crate::pairs;
+use crate::indexes::{Flat, flat};
 use legacy_base::EncoderResult::InputEmpty;
-use legacy_index_files::Codec;
 
-const WITHOUT_ENTRIES: &[EncoderRow] = &[
+pub(crate) const WITHOUT_ENTRIES: &[EncoderRow] = &[
     Encoder("U+0080, the yen sign, the overline and half-width katakana are one byte"),
     Encodes("\u{80}\u{FF9F}", &[Bytes(b"\x80\xDF")]),
     Encodes("\u{A5}\u{203E}\u{FF61}", &[Bytes(b"\x5C\x7E\xA1")]),
@@ -17,27 +14,20 @@ const WITHOUT_ENTRIES: &[EncoderRow] = &[
     FromUtf8("\u{80}", 2, true, InputEmpty, 2, b"\x80"),
 ];
 
-const WITH_ENTRIES: &[EncoderRow] = &[
+pub(crate) const WITH_ENTRIES: &[EncoderRow] = &[
     Encoder("the minus sign is written as U+FF0D"),
     Encodes("\u{2212}\u{FF0D}", &[Bytes(b"\x81\x7C\x81\x7C")]),
     Encoder("a pointer of the range that has duplicates is not written"),
     Encodes("\u{FF02}", &[Bytes(b"\xFA\x57")]),
 ];
 
-const ONLY_THERE: &[EncoderRow] = &[
+pub(crate) const ONLY_THERE: &[EncoderRow] = &[
     Encoder("a scalar that has no other pointer has no bytes"),
     Encodes("\u{FF02}", &[Report('\u{FF02}')]),
 ];
 
 /// U+FF0D, and U+FF02 at two pointers of which the second is used.
-const ENTRIES: &Flat = &flat!(jis0208: (11280, &[(60, 0xFF0D), (8647, 0xFF02), (10739, 0xFF02)]));
+pub(crate) const SECOND_OF_TWO: &Flat =
+    &flat!(jis0208: (11280, &[(60, 0xFF0D), (8647, 0xFF02), (10739, 0xFF02)]));
 
-const A_DUPLICATE: &Flat = &flat!(jis0208: (11280, &[(8647, 0xFF02)]));
-
-pub(crate) const CASES: &[EncoderCase] = &[
-    (Codec::ShiftJis, EMPTY, pairs::WITHOUT_ENTRIES),
-    (Codec::ShiftJis, EMPTY, pairs::JAPANESE),
-    (Codec::ShiftJis, EMPTY, WITHOUT_ENTRIES),
-    (Codec::ShiftJis, ENTRIES, WITH_ENTRIES),
-    (Codec::ShiftJis, A_DUPLICATE, ONLY_THERE),
-];
+pub(crate) const A_DUPLICATE: &Flat = &flat!(jis0208: (11280, &[(8647, 0xFF02)]));

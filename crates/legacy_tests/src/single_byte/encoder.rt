@@ -1,5 +1,4 @@
 //! The encoders of the single-byte codecs.
-use crate::codecs::EncoderCase;
 use crate::compared::{is_answer, prints};
 use crate::encode_events::Wanted::{Bytes, Report};
 use crate::encoder_rows::EncoderRow;
@@ -11,9 +10,8 @@ use crate::source_texts::Text;
 use legacy_base::EncoderResult::{InputEmpty, OutputFull, Unmappable};
 use legacy_encoders::SingleByteRunError::{RunMismatch, RunPastEnd, RunStart};
 use legacy_encoders::{SingleByteEncoder, SingleByteRunError};
-use legacy_index_files::Codec;
 
-const GREEK: &[EncoderRow] = &[
+pub(crate) const GREEK: &[EncoderRow] = &[
     Encoder("a scalar is the byte of its place, and a pair of surrogates is one scalar"),
     FromUtf16(
         &[0x391, 0xD83D, 0xDCA9, 0x3C4],
@@ -41,12 +39,13 @@ const GREEK: &[EncoderRow] = &[
     Encoder("a pair is not parted where the output ends"),
     FromUtf16(&[0x391, 0xD83D, 0xDCA9], 1, true, OutputFull, 1, b"\xC1"),
     FromUtf16(&[0xD83D, 0xDCA9], 1, true, Unmappable('\u{1F4A9}'), 2, b""),
-    Encoder("U+0000 is the byte 00, though entries without a scalar are 0"),
-    Encodes("\0a\u{391}", &[Bytes(b"\0a\xC1")]),
+    Encoder("a scalar that the table lacks is reported"),
     Encodes(
         "\u{391}\u{392}\u{3C4}",
         &[Bytes(b"\xC1"), Report('\u{392}'), Bytes(b"\xF4")],
     ),
+    Encoder("U+0000 is the byte 00, though entries without a scalar are 0"),
+    Encodes("\0a\u{391}", &[Bytes(b"\0a\xC1")]),
     Encoder("each scalar needs one byte"),
     FromUtf8("a\u{391}", 1, true, OutputFull, 1, b"a"),
     FromUtf8("\u{391}", 1, true, InputEmpty, 2, b"\xC1"),
@@ -81,7 +80,7 @@ const GREEK: &[EncoderRow] = &[
     Replaced(Text::Utf16(&[0x391, 0x3C4, 0xD83D]), b"\xC1\xF4&#65533;"),
 ];
 
-const WITHOUT_ENTRIES: &[EncoderRow] = &[
+pub(crate) const WITHOUT_SCALARS: &[EncoderRow] = &[
     Encoder("a run over places without a scalar leaves U+0000 the byte 00"),
     Encodes("\0a", &[Bytes(b"\0a")]),
     Encodes("\u{A0}", &[Report('\u{A0}')]),
@@ -93,11 +92,10 @@ pub(crate) const TWO_LETTERS: &[(usize, u16)] = &[(65, 0x391), (116, 0x3C4)];
 /// The same, with a run of the first letter.
 pub(crate) const WITH_RUN: &Flat = &flat!(single_byte: TWO_LETTERS, run: (0x391, 65, 1));
 
-pub(crate) const CASES: &[EncoderCase] = &[
-    (Codec::SingleByte, WITH_RUN, GREEK),
-    (Codec::SingleByte, &flat!(single_byte: TWO_LETTERS), GREEK),
-    (Codec::SingleByte, &flat!(run: (0, 32, 1)), WITHOUT_ENTRIES),
-];
+pub(crate) const WITHOUT_RUN: &Flat = &flat!(single_byte: TWO_LETTERS);
+
+/// A run over a place without a scalar.
+pub(crate) const RUN_ALONE: &Flat = &flat!(run: (0, 32, 1));
 
 /// Runs by their first scalar, first place and length, and their errors.
 ///

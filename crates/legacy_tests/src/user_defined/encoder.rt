@@ -1,16 +1,13 @@
 //! The encoder of x-user-defined.
-use crate::codecs::EncoderCase;
 use crate::encode_events::Wanted::{Bytes, Report};
 use crate::encoder_rows::EncoderRow;
 use crate::encoder_rows::EncoderRow::{
     Encoder, Encodes, FromUtf8, FromUtf16, Full, Replaced, Utf8Length, Utf16Length,
 };
-use crate::indexes::EMPTY;
 use crate::source_texts::Text;
 use legacy_base::EncoderResult::{InputEmpty, OutputFull, Unmappable};
-use legacy_index_files::Codec;
 
-const ROWS: &[EncoderRow] = &[
+pub(crate) const ROWS: &[EncoderRow] = &[
     Encoder("U+F780 to U+F7FF are 80 to FF, and no other scalar past ASCII has a byte"),
     FromUtf8(
         "\u{F780}\u{F7FF}\u{F77F}",
@@ -50,5 +47,3 @@ const ROWS: &[EncoderRow] = &[
     Replaced(Text::Utf8("\u{F77F}\u{F800}"), b"&#63359;&#63488;"),
     Replaced(Text::Utf16(&[0xF77F, 0xF800]), b"&#63359;&#63488;"),
 ];
-
-pub(crate) const CASES: &[EncoderCase] = &[(Codec::UserDefined, EMPTY, ROWS)];
