@@ -1,9 +1,10 @@
 //! Calls each caller once, for EUC-KR with U+AC02 at pointer 0 and no other scalar.
+use crate::tests::compared::holds;
 use crate::tests::packing::no_entries;
 use legacy_codecs::{
-    CachedEncoder, EucKrDecoder, EucKrEncoder, MalformedSequence, PAIR_ROOM, RawDecoder,
-    SingleByteRun, SingleByteTable, Tables, UserDefinedEncoder, decode_piece, decode_whole,
-    encode_whole, malformed_sequences, transcode,
+    CachedEncoder, EncodesPairs, EucKrDecoder, EucKrEncoder, MalformedSequence, PAIR_ROOM,
+    RawDecoder, RawEncoder, SingleByteRun, SingleByteTable, Tables, UserDefinedEncoder,
+    decode_piece, decode_whole, encode_whole, malformed_sequences, transcode,
 };
 use legacy_encodings::{Coders, Registry, RegistryError};
 use legacy_index_files::{Encoding, FileIndex};
@@ -25,12 +26,20 @@ pub(crate) fn tables_of<'a>(rt: &impl Abort) -> Tables<'a> {
     }
 }
 
+// The functions that call a caller and return a flag have no clauses: the prover would search the clauses of the call at
+// each later statement.
+
+/// Checks whether the input is decoded to the text.
+fn is_decoded(alloc: Global, decoder: &mut impl RawDecoder, input: &[u8], text: &str) -> bool {
+    decode_whole(alloc, decoder, input).as_deref() == Ok(text)
+}
+
 #[test]
 fn a_whole_input_is_decoded(rt: HostRuntime) {
     let tables = tables_of(&rt);
     let mut decoder = EucKrDecoder::new(&tables);
-    let text = decode_whole(rt.alloc(), &mut decoder, b"a\x81\x41\xFF");
-    assert_eq!(rt; text.as_deref(), Ok("a\u{AC02}\u{FFFD}"));
+    let input = b"a\x81\x41\xFF";
+    assert!(rt; is_decoded(rt.alloc(), &mut decoder, input, "a\u{AC02}\u{FFFD}"));
 }
 
 /// Checks whether the next piece, in a buffer of the queried length, gives these bytes.
@@ -68,22 +77,45 @@ fn a_sequence_that_a_piece_cuts_is_whole(rt: HostRuntime) {
     assert!(rt; second);
 }
 
+/// Checks whether these are the malformed sequences of the input.
+fn are_malformed(
+    alloc: Global,
+    decoder: &mut impl RawDecoder,
+    input: &[u8],
+    wanted: &[MalformedSequence],
+) -> bool {
+    malformed_sequences(alloc, decoder, input).as_deref() == Ok(wanted)
+}
+
+/// The malformed sequences of the input below: the byte FF, and a lead at the end.
+const MALFORMED: &[MalformedSequence] = &[
+    MalformedSequence {
+        place: 1,
+        length: 1,
+    },
+    MalformedSequence {
+        place: 4,
+        length: 1,
+    },
+];
+
 #[test]
 fn malformed_sequences_have_their_places(rt: HostRuntime) {
     let tables = tables_of(&rt);
     let mut decoder = EucKrDecoder::new(&tables);
-    let found = malformed_sequences(rt.alloc(), &mut decoder, b"a\xFF\x81\x41\x81");
-    let wanted: &[MalformedSequence] = &[
-        MalformedSequence {
-            place: 1,
-            length: 1,
-        },
-        MalformedSequence {
-            place: 4,
-            length: 1,
-        },
-    ];
-    assert_eq!(rt; found.as_deref(), Ok(wanted));
+    let input = b"a\xFF\x81\x41\x81";
+    assert!(rt; are_malformed(rt.alloc(), &mut decoder, input, MALFORMED));
+}
+
+/// Checks whether the input is transcoded to these bytes.
+fn is_transcoded(
+    alloc: Global,
+    decoder: &mut impl RawDecoder,
+    encoder: &mut impl RawEncoder,
+    input: &[u8],
+    wanted: &[u8],
+) -> bool {
+    transcode(alloc, decoder, encoder, input).as_deref() == Ok(wanted)
 }
 
 #[test]
@@ -91,35 +123,48 @@ fn references_stand_for_what_is_lacking(rt: HostRuntime) {
     let tables = tables_of(&rt);
     let mut decoder = EucKrDecoder::new(&tables);
     let mut encoder = UserDefinedEncoder::new();
-    let bytes = transcode(rt.alloc(), &mut decoder, &mut encoder, b"a\x81\x41\xFFb");
-    assert_eq!(rt; bytes.as_deref(), Ok(b"a&#44034;&#65533;b".as_slice()));
+    let (input, wanted) = (b"a\x81\x41\xFFb", b"a&#44034;&#65533;b");
+    assert!(rt; is_transcoded(rt.alloc(), &mut decoder, &mut encoder, input, wanted));
 }
 
-/// Returns room for pairs.
-// It has no clause, because no test needs to know its entries.
-fn pair_room(rt: &(impl AllocGlobal + Abort)) -> Vec<u16> {
-    match vec![in rt.alloc(); 0xFFFF; PAIR_ROOM] {
-        Ok(room) => room,
-        Err(_) => panic!(rt; "memory"),
-    }
+/// Checks whether the text is encoded to these bytes, with pairs looked up ahead.
+fn is_encoded_ahead(
+    rt: &(impl AllocGlobal + Abort),
+    encoder: &impl EncodesPairs,
+    text: &str,
+    wanted: &[u8],
+) -> bool {
+    let Ok(mut room) = vec![in rt.alloc(); 0xFFFF; PAIR_ROOM] else {
+        panic!(rt; "memory");
+    };
+    let Some(mut cached) = CachedEncoder::new(encoder, room.as_mut_slice()) else {
+        panic!(rt; "room");
+    };
+    encode_whole(rt.alloc(), &mut cached, text).as_deref() == Ok(wanted)
 }
 
 #[test]
 fn a_long_text_is_encoded_with_its_pairs_looked_up_ahead(rt: HostRuntime) {
     let tables = tables_of(&rt);
     let encoder = EucKrEncoder::new(&tables);
-    let mut room = pair_room(&rt);
-    let Some(mut cached) = CachedEncoder::new(&encoder, room.as_mut_slice()) else {
-        panic!(rt; "room");
-    };
-    let bytes = encode_whole(rt.alloc(), &mut cached, "a\u{AC02}\u{1F4A9}b");
-    assert_eq!(rt; bytes.as_deref(), Ok(b"a\x81\x41&#128169;b".as_slice()));
+    let (text, wanted) = ("a\u{AC02}\u{1F4A9}b", b"a\x81\x41&#128169;b");
+    assert!(rt; is_encoded_ahead(&rt, &encoder, text, wanted));
+}
+
+/// Checks whether the input is decoded to the text by an index file of EUC-KR.
+fn is_decoded_by_file(alloc: Global, file: &[u8], input: &[u8], text: &str) -> bool {
+    decode_by_file(alloc, file, input).as_deref() == Ok(text)
 }
 
 #[test]
 fn an_index_file_is_decoded_by(rt: HostRuntime) {
-    let text = decode_by_file(rt.alloc(), b"0\t0xAC02\n", b"a\x81\x41\xFF");
-    assert_eq!(rt; text.as_deref(), Ok("a\u{AC02}\u{FFFD}"));
+    let (file, input) = (b"0\t0xAC02\n", b"a\x81\x41\xFF");
+    assert!(rt; is_decoded_by_file(rt.alloc(), file, input, "a\u{AC02}\u{FFFD}"));
+}
+
+/// Decodes two inputs by two files.
+fn texts_of(alloc: Global, files: &TwoFiles, inputs: (&[u8], &[u8])) -> Option<(String, String)> {
+    decode_two(alloc, files, inputs.0, inputs.1).ok()
 }
 
 #[test]
@@ -128,12 +173,22 @@ fn two_encodings_are_decoded_by_their_files(rt: HostRuntime) {
         euc_kr: b"0\t0xAC02\n",
         windows_1252: b"0\t0x20AC\n",
     };
-    let texts = decode_two(rt.alloc(), &files, b"a\x81\x41\xFF", b"a\x80\x81");
-    let Ok((korean, western)) = texts else {
+    let texts = texts_of(rt.alloc(), &files, (b"a\x81\x41\xFF", b"a\x80\x81"));
+    let Some((korean, western)) = texts else {
         panic!(rt; "two files");
     };
     assert_eq!(rt; korean.as_str(), "a\u{AC02}\u{FFFD}");
     assert_eq!(rt; western.as_str(), "a\u{20AC}\u{FFFD}");
+}
+
+/// Reads a file of an index into the indexes of a registry.
+fn read(
+    registry: &mut Registry,
+    alloc: Global,
+    index: FileIndex,
+    file: &[u8],
+) -> Result<(), RegistryError> {
+    Ok(registry.indexes.read(alloc, index, file)?)
 }
 
 /// Returns a registry with the first line of index EUC-KR and with windows-1252.
@@ -141,18 +196,20 @@ fn two_encodings_are_decoded_by_their_files(rt: HostRuntime) {
 /// The table of windows-1252 has the euro sign at pointer 0.
 fn registry_of(alloc: Global) -> Result<Registry, RegistryError> {
     let mut registry = Registry::new(alloc);
-    registry
-        .indexes
-        .read(alloc, FileIndex::EucKr, b"0\t0xAC02\n")?;
+    read(&mut registry, alloc, FileIndex::EucKr, b"0\t0xAC02\n")?;
     registry.read_single_byte(alloc, Encoding::Windows1252, b"0\t0x20AC\n")?;
     Ok(registry)
+}
+
+/// Checks whether the text is encoded to the bytes.
+fn is_encoded(alloc: Global, coders: &Coders, name: &str, text: &str, bytes: &[u8]) -> bool {
+    coders.encode(alloc, name, text).as_deref() == Ok(bytes)
 }
 
 /// Checks whether the bytes are decoded to the text, and the text encoded to the bytes.
 fn goes_both_ways(alloc: Global, coders: &Coders, name: &str, bytes: &[u8], text: &str) -> bool {
     let decoded = coders.decode(alloc, name, bytes);
-    let encoded = coders.encode(alloc, name, text);
-    decoded.as_deref() == Ok(text) && encoded.as_deref() == Ok(bytes)
+    decoded.as_deref() == Ok(text) && is_encoded(alloc, coders, name, text, bytes)
 }
 
 /// Returns the error of decoding no bytes by this name, if there is one.
@@ -160,29 +217,27 @@ fn refusal(alloc: Global, coders: &Coders, name: &str) -> Option<RegistryError> 
     coders.decode(alloc, name, b"").err()
 }
 
+/// The name of an encoding, bytes in it, and their text.
+type Both<'a> = (&'a str, &'a [u8], &'a str);
+
+const BOTH: &[Both] = &[
+    ("EUC-KR", b"a\x81\x41", "a\u{AC02}"),
+    ("windows-1252", b"a\x80", "a\u{20AC}"),
+    ("x-user-defined", b"a\x80", "a\u{F780}"),
+];
+
 #[test]
 fn a_registry_goes_by_names(rt: HostRuntime) {
     let registry = registry_of(rt.alloc()).expect(&rt, "registry");
     let coders = registry.coders().expect(&rt, "coders");
-    let rows: [(&str, &[u8], &str); 3] = [
-        ("EUC-KR", b"a\x81\x41", "a\u{AC02}"),
-        ("windows-1252", b"a\x80", "a\u{20AC}"),
-        ("x-user-defined", b"a\x80", "a\u{F780}"),
-    ];
-    for (name, bytes, text) in rows {
-        assert!(rt;
-            goes_both_ways(rt.alloc(), &coders, name, bytes, text),
-            "{name}"
-        );
+    for (name, bytes, text) in BOTH {
+        let is_so = goes_both_ways(rt.alloc(), &coders, *name, *bytes, *text);
+        holds(&rt, *name, is_so);
     }
-    assert_eq!(rt;
-        refusal(rt.alloc(), &coders, "latin"),
-        Some(RegistryError::Unknown)
-    );
-    assert_eq!(rt;
-        refusal(rt.alloc(), &coders, "windows-1251"),
-        Some(RegistryError::NoIndex)
-    );
+    let unknown = refusal(rt.alloc(), &coders, "latin");
+    holds(&rt, "latin", unknown == Some(RegistryError::Unknown));
+    let lacking = refusal(rt.alloc(), &coders, "windows-1251");
+    holds(&rt, "windows-1251", lacking == Some(RegistryError::NoIndex));
 }
 
 #[test]
@@ -221,9 +276,7 @@ fn runs(entries: &[u16; 128], scalar: u16, start: u8, count: u8) -> bool {
 /// an entry: the full stop, and the corner bracket, which index jis0208 lacks.
 fn japanese(alloc: Global) -> Result<Registry, RegistryError> {
     let mut registry = Registry::new(alloc);
-    registry
-        .indexes
-        .read(alloc, FileIndex::Jis0208, b"2 0x3002\n")?;
+    read(&mut registry, alloc, FileIndex::Jis0208, b"2 0x3002\n")?;
     registry
         .indexes
         .read_katakana(alloc, b"0 0x3002\n1 0x300C\n62 0x0\n")?;
@@ -234,8 +287,27 @@ fn japanese(alloc: Global) -> Result<Registry, RegistryError> {
 fn half_width_katakana_are_written_by_their_file(rt: HostRuntime) {
     let registry = japanese(rt.alloc()).expect(&rt, "registry");
     let coders = registry.coders().expect(&rt, "coders");
-    let bytes = coders.encode(rt.alloc(), "ISO-2022-JP", "\u{FF61}\u{FF62}");
-    assert_eq!(rt; bytes.as_deref(), Ok(b"\x1B$B!#\x1B(B&#65378;".as_slice()));
+    let bytes = b"\x1B$B!#\x1B(B&#65378;";
+    assert!(rt;
+        is_encoded(
+            rt.alloc(),
+            &coders,
+            "ISO-2022-JP",
+            "\u{FF61}\u{FF62}",
+            bytes
+        )
+    );
+}
+
+/// Checks whether the next piece makes the page this one.
+fn page_is(
+    decoder: &mut impl RawDecoder,
+    piece: &[u8],
+    last: bool,
+    page: &mut Vec<u8>,
+    wanted: &[u8],
+) -> bool {
+    show_piece(decoder, piece, last, page) == Ok(()) && page.as_slice() == wanted
 }
 
 #[test]
@@ -243,10 +315,11 @@ fn a_page_grows_by_its_pieces(rt: HostRuntime) {
     let tables = tables_of(&rt);
     let mut decoder = EucKrDecoder::new(&tables);
     let mut page = Vec::new(rt.alloc());
-    let first = show_piece(&mut decoder, b"a\x81", false, &mut page);
-    assert!(rt; first == Ok(()) && page.as_slice() == b"a".as_slice());
-    let last = show_piece(&mut decoder, b"\x41\xFF", true, &mut page);
-    assert!(rt; last == Ok(()) && page.as_slice() == "a\u{AC02}\u{FFFD}".as_bytes());
+    let first = page_is(&mut decoder, b"a\x81", false, &mut page, b"a");
+    assert!(rt; first);
+    let whole = "a\u{AC02}\u{FFFD}".as_bytes();
+    let last = page_is(&mut decoder, b"\x41\xFF", true, &mut page, whole);
+    assert!(rt; last);
 }
 
 /// Returns the number of malformed sequences in a message, and whether it is well-formed.
@@ -270,31 +343,29 @@ fn transcodes(
     file.as_deref() == Ok(wanted) && bytes.as_deref() == Ok(wanted)
 }
 
+/// The names of two encodings, bytes in the first one, and bytes in the second one.
+type Transcoded<'a> = (&'a str, &'a str, &'a [u8], &'a [u8]);
+
+const TRANSCODED: &[Transcoded] = &[
+    ("windows-1252", "EUC-KR", b"a\x80", b"a&#8364;"),
+    (
+        "EUC-KR",
+        "x-user-defined",
+        b"\x81\x41\xFF",
+        b"&#44034;&#65533;",
+    ),
+    // Of UTF-16LE the encoder is that of UTF-8.
+    ("x-user-defined", "UTF-16LE", b"a\x80", b"a\xEF\x9E\x80"),
+];
+
 #[test]
 fn messages_are_checked_and_files_transcoded(rt: HostRuntime) {
     let registry = registry_of(rt.alloc()).expect(&rt, "registry");
     let coders = registry.coders().expect(&rt, "coders");
     assert!(rt; places(rt.alloc(), &coders, b"a\x81\x41") == Some((0, true)));
     assert!(rt; places(rt.alloc(), &coders, b"a\xFF\x81") == Some((2, false)));
-    let rows: [(&str, &str, &[u8], &[u8]); 3] = [
-        ("windows-1252", "EUC-KR", b"a\x80", b"a&#8364;"),
-        (
-            "EUC-KR",
-            "x-user-defined",
-            b"\x81\x41\xFF",
-            b"&#44034;&#65533;",
-        ),
-        (
-            "x-user-defined",
-            "UTF-16LE",
-            b"a\x80",
-            "a\u{F780}".as_bytes(),
-        ),
-    ];
-    for (from, to, bytes, wanted) in rows {
-        assert!(rt;
-            transcodes(rt.alloc(), &coders, from, to, bytes, wanted),
-            "{from} {to}"
-        );
+    for (from, to, bytes, wanted) in TRANSCODED {
+        let is_so = transcodes(rt.alloc(), &coders, *from, *to, *bytes, *wanted);
+        holds(&rt, *from, is_so);
     }
 }

@@ -7,6 +7,8 @@ use legacy_codecs::{
 };
 use std::process::Abort;
 
+const TEXT: &str = "a\u{AC02}b\u{AC03}";
+
 /// Encodes at most `most` characters of a text into `free` bytes, as a last call.
 ///
 /// Compares the result, the number of bytes read and the written bytes with the wanted ones.
@@ -24,28 +26,29 @@ fn beginning_is(
     assert!(rt; (answer, read) == wanted && &output[..written.min(8)] == bytes);
 }
 
+const READ: EncoderResult = EncoderResult::InputEmpty;
+
+const LACKING: EncoderResult = EncoderResult::Unmappable('\u{AC03}');
+
+/// The greatest number of characters and the free bytes, the result and the number of bytes read, and the bytes.
+type Begun<'a> = ((usize, usize), (EncoderResult, usize), &'a [u8]);
+
+/// Beginnings of the text of U+0061, U+AC02, U+0062 and U+AC03.
+const BEGUN: &[Begun] = &[
+    ((0, 8), (READ, 0), b""),
+    ((1, 8), (READ, 1), b"a"),
+    ((2, 8), (READ, 4), b"a\x81\x41"),
+    ((3, 8), (READ, 5), b"a\x81\x41b"),
+    ((4, 8), (LACKING, 8), b"a\x81\x41b"),
+    ((9, 8), (LACKING, 8), b"a\x81\x41b"),
+    ((2, 2), (EncoderResult::OutputFull, 1), b"a"),
+];
+
 #[test]
 fn the_beginning_of_a_text_is_encoded(rt: HostRuntime) {
-    let text = "a\u{AC02}b\u{AC03}";
-    let rt = &rt;
-    beginning_is(rt, (text, 0, 8), (EncoderResult::InputEmpty, 0), b"");
-    beginning_is(rt, (text, 1, 8), (EncoderResult::InputEmpty, 1), b"a");
-    beginning_is(
-        rt,
-        (text, 2, 8),
-        (EncoderResult::InputEmpty, 4),
-        b"a\x81\x41",
-    );
-    beginning_is(
-        rt,
-        (text, 3, 8),
-        (EncoderResult::InputEmpty, 5),
-        b"a\x81\x41b",
-    );
-    let unmappable = EncoderResult::Unmappable('\u{AC03}');
-    beginning_is(rt, (text, 4, 8), (unmappable, 8), b"a\x81\x41b");
-    beginning_is(rt, (text, 9, 8), (unmappable, 8), b"a\x81\x41b");
-    beginning_is(rt, (text, 2, 2), (EncoderResult::OutputFull, 1), b"a");
+    for ((most, free), wanted, bytes) in BEGUN {
+        beginning_is(&rt, (TEXT, *most, *free), *wanted, *bytes);
+    }
 }
 
 /// Decodes bytes into a list with this number of places, as a last call.

@@ -41,7 +41,7 @@ pub(crate) type Failure<'a> = (&'a str, usize, (usize, bool), usize, u8, &'a [u8
 type Given<'a> = (&'a str, &'a [Option<&'a [u8]>], &'a [u8]);
 
 /// The limits after which the streams of a run fail.
-#[derive(Clone, Copy)]
+#[derive(Drop)]
 struct Streams {
     /// The greatest number of bytes of a read, and the number of reads.
     read: (usize, usize),
