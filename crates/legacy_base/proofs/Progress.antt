@@ -10,12 +10,12 @@ no_end f = cc
 
 -- a decoder that does nothing makes progress by 0 bytes
 pub stay : (ended : Bool) (s : DecoderState) (source : List ℕ) → Progress ended s source 0 s source []
-stay ended s source = record { counts = omega arith; rest = refl; events = λ more h. sym (shift-zero _) }
+stay ended s source = record { counts = omega arith; rest = refl; codec = refl; events = λ more h. sym (shift-zero _) }
 
 -- if `a` implies `b`, progress with the exception `a` implies progress with the exception `b`
 pub at_less : (a b : Bool) → (IsTrue a → IsTrue b) → (s : DecoderState) (xs : List ℕ) (n : ℕ) (t : DecoderState) (ys : List ℕ) (out : List DecodeEvent) →
     Progress a s xs n t ys out → Progress b s xs n t ys out
-at_less a b i s xs n t ys out h = record { counts = h.counts; rest = h.rest; events = λ more e. h.events more (λ l. e (i l)) }
+at_less a b i s xs n t ys out h = record { counts = h.counts; rest = h.rest; codec = h.codec; events = λ more e. h.events more (λ l. e (i l)) }
 
 -- progress without the exception implies progress with it
 pub at_last : (ended : Bool) (s : DecoderState) (xs : List ℕ) (n : ℕ) (t : DecoderState) (ys : List ℕ) (out : List DecodeEvent) →
@@ -41,6 +41,7 @@ pub after_that : (ended : Bool) (s : DecoderState) (xs : List ℕ) (m : ℕ) (t 
     Progress ended s xs m t ys one → Progress ended t ys n u zs two → Progress ended s xs (m + n) u zs (one ++ shift m two)
 after_that ended s xs m t ys one n u zs two a b = record {
   counts = omega (arith, a.counts, b.counts);
+  codec = b.codec ∙ a.codec;
   rest = sym (drop-drop n m (s.held ++ xs)) ∙ ap (drop n) a.rest ∙ b.rest;
   events = λ more h.
       let all = events_of s.grammar (s.held ++ (xs ++ more)) in

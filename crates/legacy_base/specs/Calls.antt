@@ -9,7 +9,7 @@ use Rattle.legacy_text.specs.EncodingForm.{EncodingForm, all_code_units, total_u
 use Rattle.legacy_base.specs.Events.{shift}
 use Rattle.legacy_base.specs.Beginnings.{BeginsWith}
 use Rattle.legacy_base.specs.Profile.{is_empty}
-use Rattle.legacy_base.specs.Grammar.{events_of}
+use Rattle.legacy_base.specs.Grammar.{as_new, events_of}
 use Rattle.legacy_base.specs.States.{DecoderState, may_hold, rests}
 use Rattle.legacy_base.specs.DecoderActs.{LacksRoom, HadRooms, malformed_room, full_room_in}
 use Rattle.legacy_base.specs.Lengths.{LengthQuery, query_form, query_answer, answer_units, room}
@@ -36,12 +36,14 @@ may_report_end last (Malformed length back) left = last && is_empty left
 -- done with `passed` of the held-back bytes and the source. The rest is held back or left. All events are `out` and
 -- then the events of the rest, whatever bytes follow, also after a last call. The exception is a report at the end
 -- (`ended`), because the bytes that follow can change what was reported. Then this holds if no bytes follow, or if the
--- events with the bytes that follow still begin with `out`.
+-- events with the bytes that follow still begin with `out`. Also then the codec, its lists and its byte order stay.
 pub record Progress (ended : Bool) (before : DecoderState) (source : List ℕ) (passed : ℕ) (after : DecoderState) (left : List ℕ) (out : List DecodeEvent) : Type 0 where
   -- the bytes done with, held back and left are as many as were held back and in the source
   pub counts : passed + (length after.held + length left) ≡ length before.held + length source
   -- the bytes held back and left are the rest, byte for byte
   pub rest : drop passed (before.held ++ source) ≡ after.held ++ left
+  -- the codec, its lists and its byte order stay
+  pub codec : as_new after.grammar ≡ as_new before.grammar
   -- all events are `out`, and then those of the rest, whatever bytes follow
   pub events : (more : List ℕ) →
       (IsTrue ended → (more ≡ []) ⊎ BeginsWith (events_of before.grammar (before.held ++ (source ++ more))) out) →

@@ -1,5 +1,5 @@
 -- The events of each decoder for a whole list of bytes.
-use Rattle.std.specs.Prelude.{ℕ, List, Bool, Option}
+use Rattle.std.specs.Prelude.{ℕ, List, Bool, false, Option}
 use Rattle.legacy_base.specs.declared.results.DecodeEvent.{DecodeEvent}
 use Rattle.legacy_base.specs.Profile.{Profile}
 use Rattle.legacy_base.specs.SingleByte.{single_byte_profile}
@@ -9,7 +9,7 @@ use Rattle.legacy_base.specs.LeadForms.{plain_profile}
 use Rattle.legacy_base.specs.ShiftJis.{shift_jis_profile}
 use Rattle.legacy_base.specs.EucJp.{euc_jp_profile}
 use Rattle.legacy_base.specs.Gb18030.{gb18030_profile}
-use Rattle.legacy_base.specs.Iso2022Jp.{Mode, iso_2022_jp_profile}
+use Rattle.legacy_base.specs.Iso2022Jp.{Mode, ascii, iso_2022_jp_profile}
 use Rattle.legacy_base.specs.Utf16.{utf16_profile}
 use Rattle.legacy_base.specs.Replacement.{replacement_profile}
 
@@ -40,6 +40,12 @@ profile (shift_jis jis0208) = shift_jis_profile jis0208
 profile (euc_jp jis0208 jis0212) = euc_jp_profile jis0208 jis0212
 profile (gb18030 index ranges) = gb18030_profile index ranges
 profile (iso_2022_jp jis0208 mode) = iso_2022_jp_profile jis0208 mode
+
+-- The same decoder as it was made. Only the mode in ISO-2022-JP and the report of the replacement decoder change.
+abbrev pub as_new : Grammar → Grammar
+as_new (replacement reported) = replacement false
+as_new (iso_2022_jp jis0208 mode) = iso_2022_jp jis0208 ascii
+as_new grammar = grammar
 
 -- the events of a list of bytes
 unfoldable pub events_of : Grammar → List ℕ → List DecodeEvent

@@ -61,6 +61,7 @@ module _ {D : Type 0} {T : Ghosts D} where
         progress = record {
           counts = omega (arith, reads.within, length-drop r source, ap length none, ap length none');
           rest = ap (λ k. drop r (k ++ source)) none ∙ ap (λ k. k ++ drop r source) (sym none');
+          codec = reads.rooms.codec;
           events = λ more l.
               let split = append_assoc (take r source) (drop r source) more in
               rw (none, none') (cc (take-append-drop r source, runs.events (drop r source ++ more)));

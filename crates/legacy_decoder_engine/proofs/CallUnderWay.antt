@@ -17,7 +17,7 @@ use Rattle.legacy_decoder_engine.specs.{declared.moves.Fed.TheVariants.{Nothing,
 use Rattle.legacy_decoder_engine.specs.{Moves.{IsCovered, HoldsBytes, RevealsMalformed, read_room, fed_scalars, unread_byte}, declared.moves.Fed.Fed}
 
 pub same_rooms : (g : Grammar) → SameRooms g g
-same_rooms g = record { full = λ form. refl; report = λ form. refl; wants = λ p c. refl }
+same_rooms g = record { codec = refl; full = λ form. refl; report = λ form. refl; wants = λ p c. refl }
 
 pub both_rooms : (g h k : Grammar) → SameRooms g h → SameRooms h k → SameRooms g k
 both_rooms g h k a b = grind arith

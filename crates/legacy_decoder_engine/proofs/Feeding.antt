@@ -67,6 +67,7 @@ module _ {g : Grammar} {m : DecoderMachine} (shown : IsShown g m) (held : List �
       progress = record {
         counts = omega (arith, (meets s e).counts);
         rest = grind (arith, drop-append-le, meets s e, length-drop, append-nil);
+        codec = (shown.same_rooms held b).codec;
         events = λ more l. grind (arith, (meets s e).goes_on more, settled s e);
       };
       holds = grind (arith, settled s e, all_dropped, rests-none, meets s e);
@@ -104,6 +105,7 @@ module _ {g : Grammar} {m : DecoderMachine} (shown : IsShown g m) (held : List �
           progress = record {
             counts = omega arith;
             rest = grind (arith, drop-length);
+            codec = refl;
             events = λ more l. grind (arith, l refl, shown.meets.reports (x ∷ xs) more m r', append-nil (x ∷ xs));
           };
           holds = grind (arith, shown.meets.few (x ∷ xs) m);

@@ -4,7 +4,7 @@ use Rattle.std.specs.{Prelude.if◌then◌else◌, Char.IsScalar}
 use Rattle.legacy_base.specs.{declared.results.DecoderResult.TheVariants.{InputEmpty, OutputFull, Malformed}, States.{DecoderState, may_hold, rests}}
 use Rattle.legacy_base.specs.{DecoderActs.{act_room, full_room_in, release_room_in, room_needed, wants_full_room, HadRoom}, Lengths.{LengthQuery, query_form}}
 use Rattle.legacy_base.specs.{Lengths.{replacement_units, room}, declared.results.DecodeEvent.DecodeEvent, declared.results.DecodeEvent.TheVariants.Scalar}
-use Rattle.legacy_base.specs.{declared.results.DecodeEvent.TheVariants.Bad, declared.results.DecoderResult.DecoderResult, Grammar.{Grammar, events_of}}
+use Rattle.legacy_base.specs.{declared.results.DecodeEvent.TheVariants.Bad, declared.results.DecoderResult.DecoderResult, Grammar.{Grammar, as_new, events_of}}
 use Rattle.legacy_base.specs.Calls.{Progress, IsMalformedSequence}
 use Rattle.legacy_text.specs.EncodingForm.{EncodingForm, unit_count, all_code_units, total_unit_count, bmp_room, wide_room}
 use Rattle.legacy_text.specs.declared.destination.Destination.{Ghosts}
@@ -61,8 +61,9 @@ abbrev pub RevealsMalformed : Fed → Type 0
 RevealsMalformed (MalformedSequence sequence back unread) = Unit {0}
 RevealsMalformed fed = ⊥
 
--- two grammars need the same room for the same scalars
+-- two grammars are of the same codec, and need the same room for the same scalars
 pub record SameRooms (before after : Grammar) : Type 0 where
+  pub codec : as_new after ≡ as_new before
   pub full : (form : EncodingForm) → full_room_in form after ≡ full_room_in form before
   pub report : (form : EncodingForm) → release_room_in form after ≡ release_room_in form before
   pub wants : (previous : Option ℕ) (c : ℕ) → wants_full_room after previous c ≡ wants_full_room before previous c

@@ -136,6 +136,7 @@ module _ (jis0208 : List ℕ) where
           progress = record {
             counts = omega arith;
             rest = rw (append-nil (bytes_of held), append-nil (bytes_of o.1)) sound.suffix;
+            codec = refl;
             events = λ more h. law more (h refl);
           };
           holds = record { some = omega arith; few = omega arith; near = sound.short; held = refl; within = omega arith };

@@ -36,6 +36,7 @@ module _ (jis0208 : List ℕ) (mode : Mode) (held : Held) (byte : ℕ) (o : Outc
         progress = record {
           counts = omega arith;
           rest = grind (arith, sound.suffix []);
+          codec = refl;
           events = λ more never. grind (arith, law more);
         };
         holds = grind (arith, held_rests);

@@ -28,7 +28,7 @@ held_weight jis0208 mode held = grind arith
 
 -- all modes need the same room
 pub same_rooms : (jis0208 : List ℕ) (before after : Mode) → SameRooms (iso_2022_jp jis0208 (mode_meaning before)) (iso_2022_jp jis0208 (mode_meaning after))
-same_rooms jis0208 before after = record { full = λ form. refl; report = λ form. refl; wants = λ previous c. refl }
+same_rooms jis0208 before after = record { codec = refl; full = λ form. refl; report = λ form. refl; wants = λ previous c. refl }
 
 -- each byte needs the room of a scalar up to U+FFFF
 pub read_room-is : (form : EncodingForm) (jis0208 : List ℕ) (mode : Mode) (held : Held) (byte : ℕ) →
