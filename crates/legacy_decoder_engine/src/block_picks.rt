@@ -11,8 +11,10 @@ use std::simd::prelude::*;
 /// Stores the codes of the forms in a block with many bytes past ASCII, from place `count` of a list on.
 ///
 /// Leaves out long ASCII at the end. Returns the place after the codes, and the number of bytes of the forms, which is at
-/// most `limit`. It is 0 if few of the first `limit` bytes are past ASCII.
-// Half as many as at the beginning of a run are enough.
+/// most `limit`. It is 0 if few of the first `limit` bytes are past ASCII, if forms of one byte past ASCII are among them,
+/// if the starts are not those of pairs, or if a longer form is first.
+// Half as many as at the beginning of a run are enough. Eight bytes after the block are read too, because the codes of its
+// last eight bytes are picked from sixteen.
 #[inline(always)]
 #[tactic(auto, using(crate::proofs::FormStarts::front_chunk))]
 fn pick_block<C: LaneCodec>(

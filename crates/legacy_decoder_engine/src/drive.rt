@@ -21,6 +21,7 @@ fn has_room<T: Destination>(dst: &T, room: Room) -> bool
     }
 }
 
+/// Writes the scalars of a result of reading a byte, if it has any.
 #[inline(always)]
 fn put_fed<T: Destination>(dst: &mut T, fed: Fed)
     requires { total_unit_count T.form (fed_scalars fed) ≤ T.room dst.old }
@@ -141,7 +142,8 @@ pub fn drive_decoder<D: DecoderMoves, T: Destination>(
     let mut read = 0;
     loop {
         read += read_ahead(decoder, &src[read..], dst);
-        // What the turn below does, for a byte of which the compiler knows that it is malformed: that code is shorter.
+        // A copy of the turn below without `hold_back`, for a byte that is known to be malformed. The compiler drops all
+        // other cases of `feed` from it.
         if begins_malformed(decoder, &src[read..]) {
             if let Some((result, count)) = read_byte(decoder, src[read], dst) {
                 return (result, read + count);

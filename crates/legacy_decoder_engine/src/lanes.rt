@@ -164,7 +164,9 @@ pub trait LaneCodec {
     }
 }
 
-/// Returns what is kept of eight codes, and their places in an index whose last place is `last`.
+/// Returns what is kept of each of eight codes, and its place in an index whose last place is `last`.
+///
+/// Kept is its first byte, or 0 if that is past ASCII and the index has no such place. The place is at most `last`.
 #[inline(always)]
 pub(crate) fn kept_and_places<C: LaneCodec>(codes: u16x8, last: u16) -> (u16x8, u16x8)
     requires { last < C.pointers }

@@ -56,7 +56,7 @@ fn read_without_lanes<C: LaneCodec, T: Destination>(
 /// Reads common forms of a codec from the front, but nothing at an uncommon byte, and one form if such a byte follows it.
 ///
 /// Returns the number of bytes read, which may be 0. If it reads any, three code units stay free. `without_lanes` is the
-/// number of bytes that are to be read without lanes. It falls by what is read so, and to 0 if nothing can be.
+/// number of bytes that are still to be read without lanes. It falls by the number that is read so, and becomes 0 if none is.
 // Malformed sequences often follow one another, or have a single form between them. Neither costs a call.
 #[inline(always)]
 #[tactic(auto, using(crate::proofs::WrittenRuns::no_bytes))]

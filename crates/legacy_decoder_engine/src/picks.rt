@@ -59,7 +59,7 @@ fn codes_at(bytes: u8x16, starts: u8) -> u16x8
 /// Codes without meaning fill the rest of the eight. Returns the place after the codes at starts.
 #[inline(always)]
 #[tactic(auto, using(crate::proofs::Picking::codes_stored))]
-fn put_codes(block: &[u8], from: usize, starts: u8, codes: &mut [u16], at: usize) -> usize
+fn store_codes(block: &[u8], from: usize, starts: u8, codes: &mut [u16], at: usize) -> usize
     requires read { from + 16 ≤ length block.now }
     requires room { at + 8 ≤ length codes.old }
     ensures most { result ≤ at + 8 }
@@ -85,7 +85,7 @@ pub fn pick(block: &[u8], starts: u64, codes: &mut [u16], count: usize) -> usize
     let mut left = starts;
     let mut group = 0;
     while group < 8 {
-        at = put_codes(block, 8 * group, (left % 256) as u8, codes, at);
+        at = store_codes(block, 8 * group, (left % 256) as u8, codes, at);
         left /= 256;
         group += 1;
     }

@@ -9,6 +9,6 @@ loop-group-preserved c =
     record {
       within = omega arith;
       counted = omega arith;
-      picked = next_eight (code_at c.args.block.now) l.group l.left l.at c.put_codes-at.result l.codes c.put_codes-at.new.codes _
-          (omega arith) l.invariant.picked c.put_codes-at.ensures.written;
+      picked = next_eight (code_at c.args.block.now) l.group l.left l.at c.store_codes-at.result l.codes c.store_codes-at.new.codes _
+          (omega arith) l.invariant.picked c.store_codes-at.ensures.written;
     }
