@@ -4,7 +4,6 @@ pub mod EucJpHeld
 pub mod EucJpDecoder
 pub mod EucJpMachine
 pub mod Iso2022JpMachine
-pub mod Iso2022JpMoves
 pub mod Iso2022JpDecoder
 pub mod Iso2022JpRuns
 pub mod Iso2022JpEncoder

@@ -6,8 +6,8 @@ ghost use Rattle.std.specs.Prelude.{◌≡◌, ◌≤◌, IfSome, length, true};
 ghost use Rattle.legacy_japanese.specs.Iso2022JpRuns.{ArePlain, HasEscape, IsPlain, ReadsModes, ReadsPlain, pairs_grammar};
 
 use super::places::{LEADS, TRAILS};
-use super::steps::{DOLLAR, ESCAPE, Escape, Mode, PAREN, Start, completed, entry};
-use legacy_base::{Destination, Tables};
+use super::steps::{DOLLAR, ESCAPE, Escape, Mode, PAREN, Start, completed};
+use legacy_base::{Destination, IndexName, Tables};
 use legacy_decoder_engine::common_forms::{CommonForm, CommonForms, read_forms};
 use legacy_decoder_engine::past_ascii::{ascii_front, past_ascii};
 use legacy_decoder_engine::places::pair_pointer;
@@ -27,7 +27,8 @@ impl CommonForms for Jis0208Pairs<'_, '_> {
 
     #[inline(always)]
     fn form(&self, first: u8, second: u8) -> CommonForm {
-        match entry(self.tables, pair_pointer(&LEADS, &TRAILS, first, second)) {
+        let pointer = pair_pointer(&LEADS, &TRAILS, first, second);
+        match self.tables.idx(IndexName::Jis0208, pointer) {
             Some(scalar) => CommonForm::Pair(scalar),
             None => CommonForm::Other,
         }
