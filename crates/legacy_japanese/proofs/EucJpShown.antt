@@ -1,12 +1,12 @@
 -- The steps of EUC-JP agree with its grammar. The decoder holds back only what its machine may, and its moves are the machine's.
-use Rattle.std.proofs.Common.{◌≡◌, ℕ, ◌+◌, ◌-◌, ◌*◌, ◌≤◌, List, [], ◌∷◌, length, true, false, cond, refl, inl, ◌∙◌, arith, ◌≢◌, ◌/◌, ◌%◌, get_or}
+use Rattle.std.proofs.Common.{◌≡◌, ℕ, ◌+◌, ◌-◌, ◌*◌, ◌≤◌, List, [], ◌∷◌, length, true, cond, refl, inl, ◌∙◌, arith, ◌≢◌, ◌/◌, ◌%◌, get_or}
 use Rattle.std.{proofs.lemmas.{Bool.{false≢true, ltb-true, Decides.nat_tests}, List.Elements.{All-nil, All-cons}}, specs.Char.{is_ascii, IsScalar}}
 use Rattle.std.specs.Int.{is_in_range}
 use Rattle.legacy_base.specs.{EucJp.{euc_jp_front, euc_jp_katakana, euc_jp_second, euc_jp_third, euc_jp_pair, euc_jp_scalars, euc_jp_weight}, Fronts.Front}
 use Rattle.legacy_base.specs.{Fronts.{cut, malformed}, Grammar.{Grammar, euc_jp, events_of}, DecoderActs.{act_room, takes}, States.{euc_jp_may_hold, state_of}}
 use Rattle.legacy_base.{specs.{States.is_euc_jp_lead, Calls.IsMalformedByte}, proofs.{Cuts.cut-nil, FrontLaws.euc_jp_front-of}}
 use Rattle.legacy_decoder_engine.specs.{Steps.{DecoderMachine, end_events, Meets, finish}, StepUnits.{units, IsWidth, IsNarrowIndex, Cost}}
-use Rattle.legacy_decoder_engine.specs.{StatesAfterSteps.{IsOneOrMarked, Settles}, Shown.IsShown, Moves.{IsCovered, Feeds, Reports}, Feeding.Took}
+use Rattle.legacy_decoder_engine.specs.{StatesAfterSteps.{Settles}, Shown.IsShown, Moves.{IsCovered, Feeds, Reports}, Feeding.Took}
 use Rattle.legacy_decoder_engine.specs.{ReadAhead.{HasAscii, IsPair}, LaneCodes.ArePairs, LanePlaces.row_place, declared.moves.Fed.Fed}
 use Rattle.legacy_decoder_engine.proofs.{FrontMoves.{Fits, fits_test, fits_trail, fits_meets, end_meets, report_meets}, SettledSteps.{one_test, one_option}}
 use Rattle.legacy_decoder_engine.proofs.{SettledSteps.{settles_test, trail_settles}, RoomMoves.{first_room, held_room_is, HasCosts, sloped_rooms}}
@@ -17,9 +17,6 @@ use Rattle.legacy_japanese.specs.EucJpHeld.{held_bytes}
 use Rattle.legacy_tables.{specs.{AcceptedTables.AcceptedIndexes, Unicode.{IsByte, AreBytes}}, proofs.Accepted.{jis0208-below, jis0212-below, jis0208-scalars}}
 use Rattle.legacy_tables.proofs.Accepted.{length-jis0208}
 use Rattle.legacy_decoder_engine.proofs.Feeding as moves
-
-pair_one : (index : List ℕ) (lead b : ℕ) → IsOneOrMarked false (euc_jp_scalars index lead b)
-pair_one index lead b = grind (arith, one_test, one_option)
 
 module _ (jis0208 jis0212 : List ℕ) where
   abbrev g : Grammar
@@ -41,7 +38,7 @@ module _ (jis0208 jis0212 : List ℕ) where
   fits (first ∷ lead ∷ c ∷ held) b h = absurd (false≢true h)
 
   settles : (held : List ℕ) (b : ℕ) → euc_jp_may_hold held ≡ true → Settles g held b (machine.step held b)
-  settles held b h = grind (arith, settles_test, trail_settles, pair_one, false≢true)
+  settles held b h = grind (arith, settles_test, trail_settles, one_test, one_option, false≢true)
 
   -- ---- the end of input
 

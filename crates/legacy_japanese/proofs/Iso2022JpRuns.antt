@@ -58,7 +58,7 @@ placed_scalar tables a b c is =
 
 -- a front of a front
 pub plain_front : (source : List ℕ) (n count : ℕ) → count ≤ length (take n source) → ArePlain (take n source) count →
-    (count ≤ length source) × (count ≤ n) × ArePlain source count
+    (count ≤ length source) × ArePlain source count
 plain_front source n count within plain = grind (arith, length-take, get_or-take)
 
 plain_all : (source : List ℕ) (count : ℕ) → count ≤ length source → ArePlain source count → All IsPlain (take count source)

@@ -1,23 +1,20 @@
 -- The law that each step of the machine must meet. Each step meets it, and leaves only what may be held back.
-use Rattle.std.proofs.Common.{◌≡◌, ◌≢◌, ℕ, ◌+◌, ◌-◌, ◌≤◌, true, Option, Some, None, List, [], ◌∷◌, ◌++◌, length, map, drop, ◌⊎◌, suc, false, cond, leb, refl, arith}
+use Rattle.std.proofs.Common.{◌≡◌, ◌≢◌, ℕ, ◌+◌, ◌-◌, ◌≤◌, true, Option, Some, None, List, [], ◌∷◌, ◌++◌, length, map, drop, ◌⊎◌, suc, false, cond, leb, arith}
 use Rattle.std.{proofs.lemmas.Bool.{eqb-true, ne_eqb, leb-true, and_parts, cond_both, Decides.nat_tests}, specs.Prelude.{◌==◌, is_some}}
 use Rattle.std.specs.Int.{is_in_range}
-use Rattle.legacy_base.specs.{Beginnings.BeginsWith, Events.shift, Fronts.{Front, reads, malformed}, Iso2022Jp.{iso_2022_jp_front, iso_2022_jp_events, esc}}
+use Rattle.legacy_base.specs.{Beginnings.BeginsWith, Events.shift, Iso2022Jp.{iso_2022_jp_front, iso_2022_jp_events, esc}}
 use Rattle.legacy_base.specs.{Iso2022Jp.{escape_mode, part_mode}, declared.results.DecodeEvent.{DecodeEvent, TheVariants.{Scalar, Bad}}, States.is_two_byte_mode}
 use Rattle.legacy_base.proofs.{Iso2022JpFronts.{step_one, step_two, step_no_escape, step_escape}, Shifts.{shift-append, shift-shift, shift-zero}}
 use Rattle.legacy_base.proofs.Iso2022JpParts.{no_escape}
 use Rattle.legacy_decoder_engine.specs.{Moves.{fed_scalars, fed_malformed, unread_byte, FedHolds}, declared.moves.Fed.Fed}
 use Rattle.legacy_japanese.specs.declared.iso_2022_jp.steps.{Mode.{Mode, TheVariants.TwoByte}, Escape.Escape, Start.{TheVariants.{Nothing, EscapeByte}, Start}}
 use Rattle.legacy_japanese.specs.declared.iso_2022_jp.steps.Held.{Held, TheVariants.{Begun, Byte}}
-use Rattle.legacy_japanese.specs.Iso2022JpMachine.{mode_meaning, bytes_of, is_held, is_resting, mode_of, read, read_plain, read_single, state_in, weight_of}
-use Rattle.legacy_japanese.specs.Iso2022JpMachine.{read_start, read_trail, second_of, single, start_bytes, third_of}
+use Rattle.legacy_japanese.specs.Iso2022JpMachine.{mode_meaning, bytes_of, is_held, is_resting, mode_of, read, read_plain, state_in, weight_of}
+use Rattle.legacy_japanese.specs.Iso2022JpMachine.{read_start, read_trail, second_of, start_bytes, third_of}
 
 -- the definitions at the modes of the code
 abbrev pub events_in : List ℕ → Mode → List ℕ → List DecodeEvent
 events_in jis0208 mode bytes = iso_2022_jp_events jis0208 (mode_meaning mode) bytes
-
-abbrev pub front_in : List ℕ → Mode → ℕ → List ℕ → Front
-front_in jis0208 mode b rest = iso_2022_jp_front jis0208 (mode_meaning mode) b rest
 
 -- ---- the law
 
@@ -66,11 +63,6 @@ in_range_plain b h = let low = leb-true 0x21 b (and_parts (leb 0x21 b) (leb b 0x
 shift-none : (k : ℕ) (items : List DecodeEvent) → k ≡ 0 → shift k items ≡ items
 shift-none k items e = rw (e, shift-zero)
 
--- the front of a byte that has this scalar, or none
-abbrev front_of : Option ℕ → Front
-front_of (Some c) = reads 1 (c ∷ [])
-front_of None = malformed 1
-
 module _ (jis0208 : List ℕ) where
   -- a step meets its law, and what it leaves is sound
   pub record IsStep (mode : Mode) (held : Held) (b : ℕ) (o : Fed × Mode × Held) : Type 0 where
@@ -103,21 +95,12 @@ module _ (jis0208 : List ℕ) where
 
   -- ---- less than a whole escape
 
-  front-single : (mode : Mode) (b : ℕ) (rest : List ℕ) → is_two_byte_mode (mode_meaning mode) ≡ false →
-      front_in jis0208 mode b rest ≡ front_of (single mode b)
-  unfolding iso_2022_jp_front
-  front-single mode b rest h = grind arith
-
-  single_step : (mode : Mode) (b : ℕ) (c : Option ℕ) → (b == esc) ≡ false → ((rest : List ℕ) → front_in jis0208 mode b rest ≡ front_of c)
-      → IsStep mode (Begun None Nothing) b (read_single mode c)
-  single_step mode b c plain is = grind (arith, step_one, is)
-
   plain_step : (mode : Mode) (b : ℕ) → (b == esc) ≡ false → IsStep mode (Begun None Nothing) b (read_plain mode b)
   unfolding iso_2022_jp_front
   plain_step TwoByte b plain = cond_both (is_in_range 0x21 0x7E b) _ _ (IsStep TwoByte (Begun None Nothing) b)
       (λ h. grind (arith, shift-none))
       (λ h. grind (arith, step_one))
-  plain_step mode b plain = single_step mode b (single mode b) plain (λ rest. front-single mode b rest refl)
+  plain_step mode b plain = grind (arith, step_one)
 
   lead_step : (mode : Mode) (l b : ℕ) → is_held mode (Byte l) ≡ true → is_two_byte_mode (mode_meaning mode) ≡ true →
       IsStep mode (Byte l) b (read_trail jis0208 l b)

@@ -123,18 +123,6 @@ fn read_pairs<T: Destination>(tables: &Tables, src: &[u8], dst: &mut T) -> usize
     }
 }
 
-/// Reads a run of the mode from the front. Returns the number of bytes read, which may be 0.
-#[inline(always)]
-fn read_mode<T: Destination>(tables: &Tables, mode: Mode, src: &[u8], dst: &mut T) -> usize
-    ensures { ReadsModes T.Destination tables.now.flat.jis0208 mode mode src.now result dst.old dst.new }
-{
-    match mode {
-        Mode::Ascii => read_plain(src, dst),
-        Mode::TwoByte => read_pairs(tables, src, dst),
-        Mode::Roman | Mode::Katakana => 0,
-    }
-}
-
 /// Checks whether the second byte is malformed in every mode.
 #[inline(always)]
 fn is_byte_alone(src: &[u8]) -> bool {
@@ -164,7 +152,11 @@ fn read_begun<T: Destination>(tables: &Tables, mode: Mode, src: &[u8], dst: &mut
     if !may_begin(mode, src) {
         return 0;
     }
-    read_mode(tables, mode, src, dst)
+    match mode {
+        Mode::Ascii => read_plain(src, dst),
+        Mode::TwoByte => read_pairs(tables, src, dst),
+        Mode::Roman | Mode::Katakana => 0,
+    }
 }
 
 /// Returns the valid escape at the front, if a byte follows that is not the escape byte.
@@ -175,12 +167,10 @@ pub fn escape_at(src: &[u8]) -> Option<Escape>
     if src.len() < 4 || src[0] != ESCAPE || src[3] == ESCAPE {
         return None;
     }
-    if src[1] == DOLLAR {
-        completed(Start::Dollar, src[2])
-    } else if src[1] == PAREN {
-        completed(Start::Paren, src[2])
-    } else {
-        None
+    match src[1] {
+        DOLLAR => completed(Start::Dollar, src[2]),
+        PAREN => completed(Start::Paren, src[2]),
+        _ => None,
     }
 }
 

@@ -72,8 +72,7 @@ impl Escape {
             Escape::ToAscii => Mode::Ascii,
             Escape::ToRoman => Mode::Roman,
             Escape::ToKatakana => Mode::Katakana,
-            Escape::ToJis1978 => Mode::TwoByte,
-            Escape::ToJis1983 => Mode::TwoByte,
+            Escape::ToJis1978 | Escape::ToJis1983 => Mode::TwoByte,
         }
     }
 }
@@ -88,8 +87,7 @@ impl Start {
         match self {
             Start::Nothing => 0,
             Start::EscapeByte => 1,
-            Start::Dollar => 2,
-            Start::Paren => 2,
+            Start::Dollar | Start::Paren => 2,
         }
     }
 }
@@ -181,15 +179,11 @@ fn single_scalar(mode: Mode, byte: u8) -> Option<char>
 {
     match mode {
         Mode::Ascii => ascii_scalar(byte),
-        Mode::Roman => {
-            if byte == 0x5C {
-                Some('\u{A5}')
-            } else if byte == 0x7E {
-                Some('\u{203E}')
-            } else {
-                ascii_scalar(byte)
-            }
-        }
+        Mode::Roman => match byte {
+            0x5C => Some('\u{A5}'),
+            0x7E => Some('\u{203E}'),
+            _ => ascii_scalar(byte),
+        },
         Mode::Katakana => {
             if byte >= 0x21 && byte <= 0x5F {
                 char::from_u32(0xFF61 + u32::from(byte - 0x21))
@@ -207,28 +201,18 @@ pub fn completed(start: Start, byte: u8) -> Option<Escape>
     ensures { result ≡ machine.completes start byte }
 {
     match start {
-        Start::Nothing => None,
-        Start::EscapeByte => None,
-        Start::Dollar => {
-            if byte == 0x40 {
-                Some(Escape::ToJis1978)
-            } else if byte == 0x42 {
-                Some(Escape::ToJis1983)
-            } else {
-                None
-            }
-        }
-        Start::Paren => {
-            if byte == 0x42 {
-                Some(Escape::ToAscii)
-            } else if byte == 0x4A {
-                Some(Escape::ToRoman)
-            } else if byte == 0x49 {
-                Some(Escape::ToKatakana)
-            } else {
-                None
-            }
-        }
+        Start::Nothing | Start::EscapeByte => None,
+        Start::Dollar => match byte {
+            0x40 => Some(Escape::ToJis1978),
+            0x42 => Some(Escape::ToJis1983),
+            _ => None,
+        },
+        Start::Paren => match byte {
+            0x42 => Some(Escape::ToAscii),
+            0x4A => Some(Escape::ToRoman),
+            0x49 => Some(Escape::ToKatakana),
+            _ => None,
+        },
     }
 }
 
@@ -301,15 +285,11 @@ fn read_start(mode: Mode, escape: Option<Escape>, start: Start, byte: u8) -> Out
                 read_plain(new_mode, byte)
             }
         }
-        Start::EscapeByte => {
-            if byte == DOLLAR {
-                (Fed::Nothing, mode, Held::Begun(escape, Start::Dollar))
-            } else if byte == PAREN {
-                (Fed::Nothing, mode, Held::Begun(escape, Start::Paren))
-            } else {
-                malformed(1, true, new_mode, NOTHING)
-            }
-        }
+        Start::EscapeByte => match byte {
+            DOLLAR => (Fed::Nothing, mode, Held::Begun(escape, Start::Dollar)),
+            PAREN => (Fed::Nothing, mode, Held::Begun(escape, Start::Paren)),
+            _ => malformed(1, true, new_mode, NOTHING),
+        },
         Start::Dollar => read_third(new_mode, escape, DOLLAR, completed(start, byte)),
         Start::Paren => read_third(new_mode, escape, PAREN, completed(start, byte)),
     }

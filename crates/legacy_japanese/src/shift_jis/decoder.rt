@@ -56,7 +56,7 @@ fn first_byte(byte: u8) -> (Fed, Option<ShiftJisLead>)
 
 /// Returns the half-width katakana of a byte from A1 to DF.
 #[inline]
-fn katakana(byte: u8) -> char
+pub(crate) fn katakana(byte: u8) -> char
     requires low { 0xA1 ≤ byte }
     requires high { byte ≤ 0xDF }
     ensures { result ≡ katakana_of byte }

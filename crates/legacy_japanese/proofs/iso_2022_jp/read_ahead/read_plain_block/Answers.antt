@@ -6,12 +6,12 @@ pub put_block-requires-clause-ascii : goal.put_block-requires-clause-ascii
 put_block-requires-clause-ascii g c =
     let e = c.plain_count-count.ensures in
     let front = plain_front c.args.src.now 64 c.plain_count-count.result (omega (arith, e.most, c.requires.block, length-take {A = ℕ})) e.plain in
-    plain_ascii c.args.src.now c.plain_count-count.result front.0 front.2
+    plain_ascii c.args.src.now c.plain_count-count.result front.0 front.1
 
 pub returns-clause-ahead : goal.returns-clause-ahead
 returns-clause-ahead g c jis0208 =
     let e = c.plain_count-count.ensures in
     let front = plain_front c.args.src.now 64 c.plain_count-count.result (omega (arith, e.most, c.requires.block, length-take {A = ℕ})) e.plain in
     let put = c.put_block.ensures in
-    reads_plain g.T.Destination jis0208 c.args.src.now c.args.dst.now c.put_block.new.self c.plain_count-count.result front.0 front.2 put.contents put.room
+    reads_plain g.T.Destination jis0208 c.args.src.now c.args.dst.now c.put_block.new.self c.plain_count-count.result front.0 front.1 put.contents put.room
     put.loan (λ h. omega (arith, c.requires.room, e.most))
