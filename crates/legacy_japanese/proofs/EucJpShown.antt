@@ -13,7 +13,7 @@ use Rattle.legacy_decoder_engine.proofs.{SettledSteps.{settles_test, trail_settl
 use Rattle.legacy_decoder_engine.proofs.{CallUnderWay.same_rooms, Widths.{narrow_idx_units, idx_below}, TwoByteCosts.{cost_test, units_test, katakana_below}}
 use Rattle.legacy_decoder_engine.proofs.{RunForms.{pair_runs, has_ascii, ascii_is}, LanePlaces.entry_is}
 use Rattle.legacy_japanese.specs.{EucJpMachine.{euc_jp_machine, euc_jp_first, euc_jp_step}, declared.euc_jp.decoder.Held.{TheVariants.Nothing, Held}}
-use Rattle.legacy_japanese.specs.EucJpHeld.{held_bytes}
+use Rattle.legacy_japanese.specs.EucJpDecoder.{held_bytes}
 use Rattle.legacy_tables.{specs.{AcceptedTables.AcceptedIndexes, Unicode.{IsByte, AreBytes}}, proofs.Accepted.{jis0208-below, jis0212-below, jis0208-scalars}}
 use Rattle.legacy_tables.proofs.Accepted.{length-jis0208}
 use Rattle.legacy_decoder_engine.proofs.Feeding as moves

@@ -11,8 +11,8 @@ use Rattle.legacy_base.specs.{Iso2022Jp.{ascii, two_byte, iso_2022_jp_front, esc
 use Rattle.legacy_base.proofs.{Iso2022JpFronts.{step_one, step_two}, Iso2022JpParts.no_escape, Shifts.{shift-append, shift-shift, shift-scalars}}
 use Rattle.legacy_tables.{specs.{AcceptedTables.AcceptedIndexes, Indexes.idx}, proofs.Accepted.length-jis0208}
 use Rattle.legacy_japanese.specs.declared.iso_2022_jp.{steps.{Mode.{TheVariants.Ascii, Mode}, Escape.Escape}, places.TheConstants.{LEADS, TRAILS}}
-use Rattle.legacy_japanese.specs.{Iso2022JpRuns.{ArePlain, IsPlain, run_state, HasEscape}, Jis0208Places.jis_lead_place}
-use Rattle.legacy_japanese.specs.{Jis0208Places.jis_trail_place, Iso2022JpMachine.{mode_meaning, mode_of, second_of, third_of}}
+use Rattle.legacy_japanese.specs.{Iso2022JpRuns.{ArePlain, IsPlain, run_state, HasEscape}, Iso2022JpRuns.jis_lead_place}
+use Rattle.legacy_japanese.specs.{Iso2022JpRuns.jis_trail_place, Iso2022JpMachine.{mode_meaning, mode_of, second_of, third_of}}
 use Rattle.legacy_japanese.proofs.{Iso2022JpRooms.{entry_narrow, one_fits, room-falls, times_one, same_rooms}, Iso2022JpStep.{events_in, escape_alone}}
 use Rattle.legacy_decoder_engine.{specs.{ReadAhead.{Runs, IsPair, ReadsAhead, RunsTo, ReadsTo}, Places.IsTableOf}, proofs.WrittenRuns.{runs_none, runs_more}}
 use Rattle.legacy_decoder_engine.proofs.{WrittenRuns.{all_code_units_ascii, rest_of}, PairPlaces.idx_past, JoinedRuns.{reads_front, reads_then}}

@@ -1,5 +1,6 @@
 -- The runs of the ISO-2022-JP decoder.
-use Rattle.std.specs.Prelude.{None, ◌≡◌, ◌≢◌, ℕ, ◌<◌, List, [], ◌∷◌, length, take, get_or, slice_index}
+use Rattle.std.specs.Prelude.{None, ◌≡◌, ◌≢◌, ℕ, ◌<◌, ◌-◌, ◌*◌, if◌then◌else◌, List, [], ◌∷◌, length, take, get_or, slice_index}
+use Rattle.std.specs.Int.{is_in_range}
 use Rattle.legacy_base.specs.{Grammar.Grammar, Grammar.iso_2022_jp, Iso2022Jp.esc, Iso2022Jp.two_byte, States.DecoderState}
 use Rattle.legacy_text.specs.declared.destination.Destination.{Ghosts}
 use Rattle.legacy_decoder_engine.specs.ReadAhead.{ReadsTo}
@@ -36,3 +37,11 @@ pub record HasEscape (escape : Escape) (bytes : List ℕ) : Type 0 where
 -- the grammar in two-byte mode
 abbrev pub pairs_grammar : List ℕ → Grammar
 pairs_grammar jis0208 = iso_2022_jp jis0208 two_byte
+
+-- The place of a lead's row in the index, and of a trail in a row. A pair's pointer is their sum. A byte that is not a
+-- lead or not a trail has a place past the end of the index.
+unfoldable pub jis_lead_place : ℕ → ℕ
+jis_lead_place lead = if is_in_range 0x21 0x7E lead then (lead - 0x21) * 94 else 65535
+
+unfoldable pub jis_trail_place : ℕ → ℕ
+jis_trail_place trail = if is_in_range 0x21 0x7E trail then trail - 0x21 else 65535

@@ -3,7 +3,7 @@ ghost use Rattle.std.specs.{Prelude.{◌*◌, ◌≡◌, ◌+◌, ◌-◌, ◌�
 ghost use Rattle.legacy_tables.specs.Unicode.{katakana_of};
 ghost use Rattle.legacy_base.specs.{ShiftJis.{is_shift_jis_lead, shift_jis_scalars}, Grammar.shift_jis};
 ghost use Rattle.legacy_japanese.specs.{ShiftJisMachine.{shift_jis_first, shift_jis_pair_scalars}, ShiftJisShown.shift_jis_codec};
-ghost use Rattle.legacy_japanese.specs.ShiftJisLanes.{shift_jis_place};
+ghost use Rattle.legacy_japanese.specs.ShiftJisPlaces.{shift_jis_place};
 ghost use Rattle.legacy_decoder_engine.specs.{Feeding.Took, LeadCodecs.held_bytes};
 
 use super::held_lead::ShiftJisLead;

@@ -1,5 +1,5 @@
 use Rattle.std.proofs.Common.{sym}
-use Rattle.legacy_japanese.{specs.Jis0208Places.{jis_lead_place, jis_trail_place}, proofs.Iso2022JpRuns.{jis_leads_are, jis_trails_are, placed_scalar}}
+use Rattle.legacy_japanese.{specs.Iso2022JpRuns.{jis_lead_place, jis_trail_place}, proofs.Iso2022JpRuns.{jis_leads_are, jis_trails_are, placed_scalar}}
 use Rattle.legacy_japanese.proofs.iso_2022_jp.read_ahead.Jis0208PairsCommonForms.form.Goals as goal
 
 pub returns-in-Some : goal.returns-in-Some
