@@ -2,7 +2,7 @@
 use Rattle.std.proofs.Common.{◌≡◌, ℕ, ◌+◌, ◌*◌, ◌<◌, ◌≤◌, Bool, true, cond, None, Some, List, [], ◌∷◌, length, refl, arith, length-append, ◌&&◌}
 use Rattle.std.{specs.Char.{is_ascii, IsScalar}, proofs.lemmas.{Bool.Decides.nat_tests, Grind.common_steps}}
 use Rattle.legacy_tables.{specs.{Indexes.idx, AcceptedTables.AcceptedIndexes}, proofs.Accepted.{idx-all, jis0208-below, jis0208-scalars}}
-use Rattle.legacy_base.specs.{DecoderActs.{writes, act_at_rest, room_of_act}, Lengths.{LengthQuery, query_form, replacement_units, room, weight}}
+use Rattle.legacy_base.specs.{DecoderActs.{writes, act_at_rest, room_of_act}, Lengths.{LengthQuery, query_form, replacement_units, room}}
 use Rattle.legacy_base.{specs.{Grammar.{iso_2022_jp, events_of}, States.{rests, is_empty, may_hold}}, proofs.Iso2022JpFronts.step_end}
 use Rattle.legacy_text.{specs.EncodingForm.{EncodingForm, bmp_room, wide_room, code_units, total_unit_count}, proofs.CodeUnits.length-code_units-bmp}
 use Rattle.legacy_decoder_engine.{specs.Moves.{IsCovered, SameRooms, read_room}, proofs.RoomMoves.no_short_room}
@@ -20,10 +20,6 @@ held_allowed jis0208 mode held h = grind arith
 pub held_rests : (jis0208 : List ℕ) (mode : Mode) (held : Held) → is_held mode held ≡ true →
     rests (iso_2022_jp jis0208 (mode_meaning mode)) (bytes_of held) ≡ is_resting mode held
 held_rests jis0208 mode held h = grind arith
-
--- their weight
-pub held_weight : (jis0208 : List ℕ) (mode : Mode) (held : Held) → weight (iso_2022_jp jis0208 (mode_meaning mode)) (bytes_of held) ≡ weight_of held
-held_weight jis0208 mode held = grind arith
 
 -- ---- the room of an act
 
@@ -52,7 +48,7 @@ entry_narrow tables p c is = grind (arith, common_steps, idx-all, jis0208-below,
 -- the room of the input bytes and the held-back bytes: for each a scalar up to U+FFFF
 pub room-is : (query : LengthQuery) (jis0208 : List ℕ) (mode : Mode) (held : Held) (n : ℕ) →
     room query (state_in jis0208 mode held) n ≡ bmp_room (query_form query) * (n + weight_of held)
-room-is query jis0208 mode held n = rw (held_weight jis0208 mode held) (grind arith)
+room-is query jis0208 mode held n = grind arith
 
 -- the room decreases by what is written, if the weight decreases by the number of scalars and reports
 pub room-falls : (query : LengthQuery) (jis0208 : List ℕ) (mode new_mode : Mode) (held new_held : Held) (n m r u : ℕ)

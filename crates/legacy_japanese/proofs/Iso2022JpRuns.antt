@@ -2,7 +2,7 @@
 use Rattle.std.proofs.Common.{◌≡◌, ◌≢◌, ◌∙◌, ℕ, suc, ◌+◌, ◌-◌, ◌*◌, ◌%◌, ◌^◌, ◌<◌, ◌≤◌, Bool, false, cond, ltb, Some, List, [], ◌∷◌, ◌++◌, length, map}
 use Rattle.std.proofs.Common.{take, drop, get_or, replicate, w8, w64, IsAscii, refl, sym, ap, arith, append-nil, length-drop}
 use Rattle.std.proofs.lemmas.{Bool.{cases_lt, ne_eqb, Decides.nat_tests}, Nat.Bits.{bit_at-trailing_zeros, bit_at-zero}, Grind.common_steps}
-use Rattle.std.proofs.lemmas.{List.{length-take, length-take-le, length-map, get_or-map, get_or-take, drop-drop, Elements.{All-nil, All-cons, All-from_get_or}}}
+use Rattle.std.proofs.lemmas.{List.{length-take-le, length-map, get_or-map, get_or-take, drop-drop, Elements.{All-nil, All-cons, All-from_get_or}}}
 use Rattle.std.proofs.{lemmas.{Simd.{bit_mask_l, bitmask_splat, mask_l-lt, zip2_splat}, Str.Ascii.IsAscii-from_all}, Math.Seq.{drop-cons, take-add}}
 use Rattle.std.specs.{Prelude.{All}, Char.IsScalar, Int.trailing_zeros}
 use lib.Lanes.{mask_l, zip2, top}
@@ -56,10 +56,10 @@ placed_scalar tables a b c is =
 
 -- ---- a run of plain bytes
 
--- a front of a front
-pub plain_front : (source : List ℕ) (n count : ℕ) → count ≤ length (take n source) → ArePlain (take n source) count →
-    (count ≤ length source) × ArePlain source count
-plain_front source n count within plain = grind (arith, length-take, get_or-take)
+-- a front of a block
+pub plain_front : (source : List ℕ) (count : ℕ) → 64 ≤ length source → count ≤ 64 → ArePlain (take 64 source) count
+    → (count ≤ length source) × ArePlain source count
+plain_front source count block most plain = (omega arith, λ k h. rw (get_or-take 64 source k 0 (omega arith)) at (plain k h))
 
 plain_all : (source : List ℕ) (count : ℕ) → count ≤ length source → ArePlain source count → All IsPlain (take count source)
 plain_all source count within plain =

@@ -3,7 +3,7 @@ use Rattle.std.proofs.Common.{◌≡◌, ◌≢◌, ℕ, ◌+◌, ◌-◌, ◌�
 use Rattle.std.{proofs.lemmas.Bool.{eqb-true, ne_eqb, leb-true, and_parts, cond_both, Decides.nat_tests}, specs.Prelude.{◌==◌, is_some}}
 use Rattle.std.specs.Int.{is_in_range}
 use Rattle.legacy_base.specs.{Beginnings.BeginsWith, Events.shift, Iso2022Jp.{iso_2022_jp_front, iso_2022_jp_events, esc}}
-use Rattle.legacy_base.specs.{Iso2022Jp.{escape_mode, part_mode}, declared.results.DecodeEvent.{DecodeEvent, TheVariants.{Scalar, Bad}}, States.is_two_byte_mode}
+use Rattle.legacy_base.specs.{Iso2022Jp.{part_mode}, declared.results.DecodeEvent.{DecodeEvent, TheVariants.{Scalar, Bad}}, States.is_two_byte_mode}
 use Rattle.legacy_base.proofs.{Iso2022JpFronts.{step_one, step_two, step_no_escape, step_escape}, Shifts.{shift-append, shift-shift, shift-zero}}
 use Rattle.legacy_base.proofs.Iso2022JpParts.{no_escape}
 use Rattle.legacy_decoder_engine.specs.{Moves.{fed_scalars, fed_malformed, unread_byte, FedHolds}, declared.moves.Fed.Fed}
@@ -49,9 +49,6 @@ MeetsEnd jis0208 mode held (Some o) = (more : List ℕ) →
 
 -- ---- lemmas
 
-pub valid : (e : Escape) → escape_mode (second_of e) (third_of e) ≡ Some (mode_meaning (mode_of e))
-valid e = grind arith
-
 -- the second byte of an escape may be held back alone
 pub second_kept : (mode : Mode) → (is_held mode (Byte 0x24) ≡ true) × (is_held mode (Byte 0x28) ≡ true)
 second_kept mode = grind arith
@@ -79,7 +76,7 @@ module _ (jis0208 : List ℕ) where
   -- a whole escape is malformed if a valid escape follows directly, and otherwise has no events; the bytes after it are read in its mode
   pub escaped : (mode : Mode) (e : Escape) (more : List ℕ) → events_in jis0208 mode (esc ∷ second_of e ∷ third_of e ∷ more)
       ≡ cond (is_some (part_mode more)) (Bad 0 3 ∷ []) [] ++ shift 3 (events_in jis0208 (mode_of e) more)
-  escaped mode e more = step_escape jis0208 (mode_meaning mode) (mode_meaning (mode_of e)) (second_of e) (third_of e) more (valid e)
+  escaped mode e more = step_escape jis0208 (mode_meaning mode) (mode_meaning (mode_of e)) (second_of e) (third_of e) more (grind arith)
 
   pub escape_alone : (mode : Mode) (e : Escape) (more : List ℕ) → part_mode more ≡ None
       → events_in jis0208 mode (esc ∷ second_of e ∷ third_of e ∷ more) ≡ shift 3 (events_in jis0208 (mode_of e) more)
@@ -97,10 +94,7 @@ module _ (jis0208 : List ℕ) where
 
   plain_step : (mode : Mode) (b : ℕ) → (b == esc) ≡ false → IsStep mode (Begun None Nothing) b (read_plain mode b)
   unfolding iso_2022_jp_front
-  plain_step TwoByte b plain = cond_both (is_in_range 0x21 0x7E b) _ _ (IsStep TwoByte (Begun None Nothing) b)
-      (λ h. grind (arith, shift-none))
-      (λ h. grind (arith, step_one))
-  plain_step mode b plain = grind (arith, step_one)
+  plain_step mode b plain = grind (arith, nat_tests, step_one, shift-none)
 
   lead_step : (mode : Mode) (l b : ℕ) → is_held mode (Byte l) ≡ true → is_two_byte_mode (mode_meaning mode) ≡ true →
       IsStep mode (Byte l) b (read_trail jis0208 l b)

@@ -1,7 +1,7 @@
 -- The runs of the ISO-2022-JP decoder.
 use Rattle.std.specs.Prelude.{None, ◌≡◌, ◌≢◌, ℕ, ◌<◌, ◌-◌, ◌*◌, if◌then◌else◌, List, [], ◌∷◌, length, take, get_or, slice_index}
 use Rattle.std.specs.Int.{is_in_range}
-use Rattle.legacy_base.specs.{Grammar.Grammar, Grammar.iso_2022_jp, Iso2022Jp.esc, Iso2022Jp.two_byte, States.DecoderState}
+use Rattle.legacy_base.specs.{Iso2022Jp.esc, States.DecoderState}
 use Rattle.legacy_text.specs.declared.destination.Destination.{Ghosts}
 use Rattle.legacy_decoder_engine.specs.ReadAhead.{ReadsTo}
 use Rattle.legacy_japanese.specs.declared.iso_2022_jp.steps.{Escape.Escape, Mode.{Mode, TheVariants.Ascii}}
@@ -33,10 +33,6 @@ pub record HasEscape (escape : Escape) (bytes : List ℕ) : Type 0 where
   pub within : 3 < length bytes
   pub begins : take 3 bytes ≡ esc ∷ second_of escape ∷ third_of escape ∷ []
   pub alone : get_or bytes 3 0 ≢ esc
-
--- the grammar in two-byte mode
-abbrev pub pairs_grammar : List ℕ → Grammar
-pairs_grammar jis0208 = iso_2022_jp jis0208 two_byte
 
 -- The place of a lead's row in the index, and of a trail in a row. A pair's pointer is their sum. A byte that is not a
 -- lead or not a trail has a place past the end of the index.

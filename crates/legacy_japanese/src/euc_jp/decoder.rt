@@ -1,9 +1,8 @@
 //! The decoder of EUC-JP.
-ghost use Rattle.std.specs.{Prelude.{◌*◌, ◌≡◌, ℕ, List, ◌∷◌, [], true, length, option_to_list, IfSome}, Char.IsScalar};
-ghost use Rattle.legacy_text.specs.EncodingForm.{EncodingForm};
-ghost use Rattle.legacy_base.specs.{EucJp.euc_jp_scalars, Grammar.euc_jp, States.{is_neutral, new_state, state_of}, Fronts.malformed};
+ghost use Rattle.std.specs.{Prelude.{◌*◌, ◌≡◌, ◌∷◌, [], true, length, option_to_list, IfSome}, Char.IsScalar};
+ghost use Rattle.legacy_base.specs.{EucJp.euc_jp_scalars, Grammar.euc_jp, States.{is_neutral, new_state}, Fronts.malformed};
 ghost use Rattle.legacy_tables.specs.Tables.{index_list};
-ghost use Rattle.legacy_decoder_engine.specs.{Steps.finish, Moves.{read_room, room_units}, Feeding.Took, LanePlaces.row_place};
+ghost use Rattle.legacy_decoder_engine.specs.{Steps.finish, Feeding.Took, LanePlaces.row_place};
 ghost use Rattle.legacy_japanese.specs.{EucJpMachine.euc_jp_step, EucJpDecoder.{euc_jp_state, held_bytes}};
 
 use super::held_lead::EucJpLead;

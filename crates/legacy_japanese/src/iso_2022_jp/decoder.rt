@@ -1,7 +1,7 @@
 //! The decoder of ISO-2022-JP.
-ghost use Rattle.std.specs.Prelude.{◌≡◌, [], true};
+ghost use Rattle.std.specs.Prelude.{◌≡◌, true};
 ghost use Rattle.legacy_base.specs.{Grammar.iso_2022_jp, Iso2022Jp.ascii, States.{is_neutral, new_state}};
-ghost use Rattle.legacy_japanese.specs.Iso2022JpMachine.{is_held, weight_of};
+ghost use Rattle.legacy_japanese.specs.Iso2022JpMachine.{is_held};
 
 use super::read_ahead::{escape_at, read_modes};
 use super::steps::{Held, Mode, NOTHING, Start, finish, pending, read};

@@ -3,7 +3,8 @@
 // Functions that run for each sequence or block are always inlined, and so are their callers. A call would pass vectors
 // through memory, and keep the destination's place there.
 ghost use Rattle.std.specs.Prelude.{◌≡◌, ◌≤◌, IfSome, length, true};
-ghost use Rattle.legacy_japanese.specs.Iso2022JpRuns.{ArePlain, HasEscape, IsPlain, ReadsModes, ReadsPlain, pairs_grammar};
+ghost use Rattle.legacy_japanese.specs.Iso2022JpRuns.{ArePlain, HasEscape, IsPlain, ReadsModes, ReadsPlain};
+ghost use Rattle.legacy_base.specs.{Grammar.iso_2022_jp, Iso2022Jp.two_byte};
 
 use super::places::{LEADS, TRAILS};
 use super::steps::{DOLLAR, ESCAPE, Escape, Mode, PAREN, Start, completed};
@@ -21,7 +22,7 @@ struct Jis0208Pairs<'a, 'b> {
 }
 
 impl CommonForms for Jis0208Pairs<'_, '_> {
-    ghost grammar = { λ pairs. pairs_grammar pairs.tables.now.flat.jis0208 };
+    ghost grammar = { λ pairs. iso_2022_jp pairs.tables.now.flat.jis0208 two_byte };
 
     const FOUR_AT_LEAST: usize = 8;
 
@@ -123,12 +124,6 @@ fn read_pairs<T: Destination>(tables: &Tables, src: &[u8], dst: &mut T) -> usize
     }
 }
 
-/// Checks whether the second byte is malformed in every mode.
-#[inline(always)]
-fn is_byte_alone(src: &[u8]) -> bool {
-    src.len() > 1 && src[1] >= 0x80
-}
-
 /// Checks whether a run of the mode may begin at the front.
 ///
 /// It is a guess from the first two bytes, and may be wrong either way.
@@ -138,7 +133,8 @@ fn may_begin(mode: Mode, src: &[u8]) -> bool {
         return false;
     }
     match mode {
-        Mode::Ascii => is_plain(src[0]) && !is_byte_alone(src),
+        // A byte from 80 on is malformed in every mode.
+        Mode::Ascii => is_plain(src[0]) && (src.len() == 1 || src[1] < 0x80),
         Mode::TwoByte => src[0] >= 0x21,
         Mode::Roman | Mode::Katakana => false,
     }
