@@ -32,10 +32,7 @@ module _ (jis0208 jis0212 : List ℕ) where
 
   fits : (held : List ℕ) (b : ℕ) → euc_jp_may_hold held ≡ true → Fits front euc_jp_may_hold held b (machine.step held b)
   unfolding euc_jp_front euc_jp_katakana euc_jp_second euc_jp_third euc_jp_pair
-  fits [] b h = grind (arith, nat_tests, fits_test)
-  fits (lead ∷ []) b h = grind (arith, nat_tests, fits_test, fits_trail)
-  fits (first ∷ lead ∷ []) b h = grind (arith, nat_tests, fits_trail)
-  fits (first ∷ lead ∷ c ∷ held) b h = absurd (false≢true h)
+  fits held b h = grind (arith, nat_tests, fits_test, fits_trail, false≢true)
 
   settles : (held : List ℕ) (b : ℕ) → euc_jp_may_hold held ≡ true → Settles g held b (machine.step held b)
   settles held b h = grind (arith, settles_test, trail_settles, one_test, one_option, false≢true)
@@ -52,9 +49,7 @@ module _ (jis0208 jis0212 : List ℕ) where
   all_end : (held : List ℕ) → euc_jp_may_hold held ≡ true → events_of g held ≡ end_events held
   unfolding euc_jp_front euc_jp_katakana euc_jp_second euc_jp_third euc_jp_pair
   all_end [] h = ev_is [] ∙ cut-nil front
-  all_end (b ∷ []) h = end_meets g front ev_is b [] (grind (arith, nat_tests))
-  all_end (first ∷ lead ∷ []) h = end_meets g front ev_is first (lead ∷ []) (grind (arith, nat_tests))
-  all_end (first ∷ lead ∷ c ∷ held) h = absurd (false≢true h)
+  all_end (b ∷ held) h = end_meets g front ev_is b held (grind (arith, nat_tests, false≢true))
 
   -- ---- the room of each step
 
