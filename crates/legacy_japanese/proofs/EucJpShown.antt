@@ -43,9 +43,6 @@ module _ (jis0208 jis0212 : List ℕ) where
   unfolding events_of
   ev_is bytes = refl
 
-  few_held : (held : List ℕ) → euc_jp_may_hold held ≡ true → length held ≤ 3
-  few_held held h = grind arith
-
   all_end : (held : List ℕ) → euc_jp_may_hold held ≡ true → events_of g held ≡ end_events held
   unfolding euc_jp_front euc_jp_katakana euc_jp_second euc_jp_third euc_jp_pair
   all_end [] h = ev_is [] ∙ cut-nil front
@@ -74,11 +71,11 @@ module _ (jis0208 jis0212 : List ℕ) where
   euc_jp_shown n m =
       let meets : Meets g machine = record {
         writes = λ held h. refl;
-        steps = λ held b h r. fits_meets g front ev_is euc_jp_may_hold (λ held'. refl) held b _ (few_held held h) (fits held b h);
+        steps = λ held b h r. fits_meets g front ev_is euc_jp_may_hold (λ held'. refl) held b _ (grind arith) (fits held b h);
         ends = λ held h r. all_end held h;
         reports = λ held more h r. report_meets g front ev_is held more
             (λ b rest e. (euc_jp_front-of {P = ⊥} jis0208 jis0212 (λ n. absurd n) (λ n. absurd n) b rest).some);
-        few = few_held;
+        few = λ held h. grind arith;
       } in
       let costs : HasCosts g machine euc_jp_weight 3 = record {
         to_is = λ held b. refl;
