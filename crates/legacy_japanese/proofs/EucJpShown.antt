@@ -1,25 +1,22 @@
 -- The steps of EUC-JP agree with its grammar. The decoder holds back only what its machine may, and its moves are the machine's.
-use Rattle.std.proofs.Common.{◌≡◌, ℕ, ◌+◌, ◌-◌, ◌*◌, ◌≤◌, List, [], ◌∷◌, length, true, false, cond, refl, inl, ◌∙◌, arith, ◌≢◌, ◌/◌, ◌%◌, get_or}
+use Rattle.std.proofs.Common.{◌≡◌, ℕ, ◌+◌, ◌-◌, ◌*◌, ◌≤◌, List, [], ◌∷◌, length, true, cond, refl, inl, ◌∙◌, arith, ◌≢◌, ◌/◌, ◌%◌, get_or}
 use Rattle.std.{proofs.lemmas.{Bool.{false≢true, ltb-true, Decides.nat_tests}, List.Elements.{All-nil, All-cons}}, specs.Char.{is_ascii, IsScalar}}
 use Rattle.std.specs.Int.{is_in_range}
 use Rattle.legacy_base.specs.{EucJp.{euc_jp_front, euc_jp_katakana, euc_jp_second, euc_jp_third, euc_jp_pair, euc_jp_scalars, euc_jp_weight}, Fronts.Front}
 use Rattle.legacy_base.specs.{Fronts.{cut, malformed}, Grammar.{Grammar, euc_jp, events_of}, DecoderActs.{act_room, takes}, States.{euc_jp_may_hold, state_of}}
 use Rattle.legacy_base.{specs.{States.is_euc_jp_lead, Calls.IsMalformedByte}, proofs.{Cuts.cut-nil, FrontLaws.euc_jp_front-of}}
 use Rattle.legacy_decoder_engine.specs.{Steps.{DecoderMachine, end_events, Meets, finish}, StepUnits.{units, IsWidth, IsNarrowIndex, Cost}}
-use Rattle.legacy_decoder_engine.specs.{StatesAfterSteps.{IsOneOrMarked, Settles}, Shown.IsShown, Moves.{IsCovered, Feeds, Reports}, Feeding.Took}
+use Rattle.legacy_decoder_engine.specs.{StatesAfterSteps.{Settles}, Shown.IsShown, Moves.{IsCovered, Feeds, Reports}, Feeding.Took}
 use Rattle.legacy_decoder_engine.specs.{ReadAhead.{HasAscii, IsPair}, LaneCodes.ArePairs, LanePlaces.row_place, declared.moves.Fed.Fed}
 use Rattle.legacy_decoder_engine.proofs.{FrontMoves.{Fits, fits_test, fits_trail, fits_meets, end_meets, report_meets}, SettledSteps.{one_test, one_option}}
 use Rattle.legacy_decoder_engine.proofs.{SettledSteps.{settles_test, trail_settles}, RoomMoves.{first_room, held_room_is, HasCosts, sloped_rooms}}
 use Rattle.legacy_decoder_engine.proofs.{CallUnderWay.same_rooms, Widths.{narrow_idx_units, idx_below}, TwoByteCosts.{cost_test, units_test, katakana_below}}
 use Rattle.legacy_decoder_engine.proofs.{RunForms.{pair_runs, has_ascii, ascii_is}, LanePlaces.entry_is}
 use Rattle.legacy_japanese.specs.{EucJpMachine.{euc_jp_machine, euc_jp_first, euc_jp_step}, declared.euc_jp.decoder.Held.{TheVariants.Nothing, Held}}
-use Rattle.legacy_japanese.specs.EucJpHeld.{held_bytes}
+use Rattle.legacy_japanese.specs.EucJpDecoder.{held_bytes}
 use Rattle.legacy_tables.{specs.{AcceptedTables.AcceptedIndexes, Unicode.{IsByte, AreBytes}}, proofs.Accepted.{jis0208-below, jis0212-below, jis0208-scalars}}
 use Rattle.legacy_tables.proofs.Accepted.{length-jis0208}
 use Rattle.legacy_decoder_engine.proofs.Feeding as moves
-
-pair_one : (index : List ℕ) (lead b : ℕ) → IsOneOrMarked false (euc_jp_scalars index lead b)
-pair_one index lead b = grind (arith, one_test, one_option)
 
 module _ (jis0208 jis0212 : List ℕ) where
   abbrev g : Grammar
@@ -35,13 +32,10 @@ module _ (jis0208 jis0212 : List ℕ) where
 
   fits : (held : List ℕ) (b : ℕ) → euc_jp_may_hold held ≡ true → Fits front euc_jp_may_hold held b (machine.step held b)
   unfolding euc_jp_front euc_jp_katakana euc_jp_second euc_jp_third euc_jp_pair
-  fits [] b h = grind (arith, nat_tests, fits_test)
-  fits (lead ∷ []) b h = grind (arith, nat_tests, fits_test, fits_trail)
-  fits (first ∷ lead ∷ []) b h = grind (arith, nat_tests, fits_trail)
-  fits (first ∷ lead ∷ c ∷ held) b h = absurd (false≢true h)
+  fits held b h = grind (arith, nat_tests, fits_test, fits_trail, false≢true)
 
   settles : (held : List ℕ) (b : ℕ) → euc_jp_may_hold held ≡ true → Settles g held b (machine.step held b)
-  settles held b h = grind (arith, settles_test, trail_settles, pair_one, false≢true)
+  settles held b h = grind (arith, settles_test, trail_settles, one_test, one_option, false≢true)
 
   -- ---- the end of input
 
@@ -49,15 +43,10 @@ module _ (jis0208 jis0212 : List ℕ) where
   unfolding events_of
   ev_is bytes = refl
 
-  few_held : (held : List ℕ) → euc_jp_may_hold held ≡ true → length held ≤ 3
-  few_held held h = grind arith
-
   all_end : (held : List ℕ) → euc_jp_may_hold held ≡ true → events_of g held ≡ end_events held
   unfolding euc_jp_front euc_jp_katakana euc_jp_second euc_jp_third euc_jp_pair
   all_end [] h = ev_is [] ∙ cut-nil front
-  all_end (b ∷ []) h = end_meets g front ev_is b [] (grind (arith, nat_tests))
-  all_end (first ∷ lead ∷ []) h = end_meets g front ev_is first (lead ∷ []) (grind (arith, nat_tests))
-  all_end (first ∷ lead ∷ c ∷ held) h = absurd (false≢true h)
+  all_end (b ∷ held) h = end_meets g front ev_is b held (grind (arith, nat_tests, false≢true))
 
   -- ---- the room of each step
 
@@ -82,11 +71,11 @@ module _ (jis0208 jis0212 : List ℕ) where
   euc_jp_shown n m =
       let meets : Meets g machine = record {
         writes = λ held h. refl;
-        steps = λ held b h r. fits_meets g front ev_is euc_jp_may_hold (λ held'. refl) held b _ (few_held held h) (fits held b h);
+        steps = λ held b h r. fits_meets g front ev_is euc_jp_may_hold (λ held'. refl) held b _ (grind arith) (fits held b h);
         ends = λ held h r. all_end held h;
         reports = λ held more h r. report_meets g front ev_is held more
             (λ b rest e. (euc_jp_front-of {P = ⊥} jis0208 jis0212 (λ n. absurd n) (λ n. absurd n) b rest).some);
-        few = few_held;
+        few = λ held h. grind arith;
       } in
       let costs : HasCosts g machine euc_jp_weight 3 = record {
         to_is = λ held b. refl;

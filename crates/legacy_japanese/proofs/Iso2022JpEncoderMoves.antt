@@ -1,14 +1,14 @@
 -- The length formulas of the ISO-2022-JP encoder are enough for its scalars and escapes. Its moves, by its tables and by a list of pairs.
-use Rattle.std.proofs.Common.{◌≡◌, ℕ, ◌+◌, ◌-◌, ◌≤◌, List, length, arith, Bool, true, false, [], ◌∷◌, ◌++◌, refl, IsTrue, ◌||◌, Option, Some, eqb, map, ◌⊎◌}
+use Rattle.std.proofs.Common.{◌≡◌, ℕ, ◌+◌, ◌≤◌, List, arith, Bool, true, false, [], ◌∷◌, ◌++◌, refl, IsTrue, ◌||◌, Option, Some, eqb, map, ◌⊎◌}
 use Rattle.std.proofs.{Common.{inl, inr, ◌/◌, ◌%◌}, lemmas.Bool.{Decides.nat_tests, lt-ltb, cases_Bool}}
-use Rattle.legacy_text.specs.EncodingForm.{EncodingForm, Utf8, unit_count}
+use Rattle.legacy_text.specs.EncodingForm.{EncodingForm, Utf8}
 use Rattle.legacy_base.specs.Iso2022Jp.{iso_2022_jp_encoder, iso_2022_jp_code, is_two_byte_scalar, is_roman_scalar, escape_between, iso_2022_jp_reported}
-use Rattle.legacy_base.specs.{Iso2022Jp.mode_behind, EncodeEvents.{code_length, code_events}, EncoderProfile.{EncoderProfile, EncoderMode}}
-use Rattle.legacy_base.specs.{EncoderProfile.{in_ascii, in_two_byte}, Lengths.{number, value}, declared.results.EncodeEvent.EncodeEvent, Beginnings.BeginsWith}
+use Rattle.legacy_base.specs.{Iso2022Jp.mode_behind, EncodeEvents.{code_events}, EncoderProfile.{EncoderProfile, EncoderMode}}
+use Rattle.legacy_base.specs.{EncoderProfile.{in_ascii, in_two_byte}, declared.results.EncodeEvent.EncodeEvent, Beginnings.BeginsWith}
 use Rattle.legacy_base.{specs.Encoders.{encoder_profile, iso_2022_jp, is_pending}, proofs.{SameUnits.some_unit, Iso2022JpEncoding.{mode_by, mode_for-by}}}
 use Rattle.legacy_base.proofs.Iso2022JpEncoding.{code-short, text_events, text_events-here, text_events-escape, text_events-end, text_events-open, mode_for}
 use Rattle.legacy_base.proofs.Iso2022JpEncoding.{mode_for-twice, at_special, at_neutral, IsWritten}
-use Rattle.legacy_encoder_engine.specs.{Moves.{differs, Moves, Finishes, IsCode}, ProfileSuffices.Serves, UnfinishedCall.ReadsByte, UnitTurns.ReadsUnit}
+use Rattle.legacy_encoder_engine.specs.{Moves.{differs, Moves, Finishes, IsCode}, ProfileSuffices.{Serves, mode_room}, UnfinishedCall.ReadsByte, UnitTurns.ReadsUnit}
 use Rattle.legacy_encoder_engine.specs.declared.moves.EncoderMove.{EncoderMove, TheVariants.{One, Two}}
 use Rattle.legacy_encoder_engine.proofs.PlainServes.{two_units, differs-same, here_moves}
 use Rattle.legacy_japanese.specs.{declared.iso_2022_jp.encoder.Mode.Mode, Iso2022JpPairs.IsPairOf, Iso2022JpEncoder.{mode_of, state_in, is_same_mode}}
@@ -20,26 +20,16 @@ module _ (jis0208 katakana_index : List ℕ) where
   abbrev encoder : EncoderProfile
   encoder = iso_2022_jp_encoder jis0208 katakana_index
 
-  -- the room that n more code units still need in a mode
-  abbrev room : EncodingForm → EncoderMode → ℕ → ℕ
-  room form mode n = value (encoder.formula form (number n)) - encoder.surplus form mode n
-
   -- ---- on numbers: a scalar of u code units, t more after it, and `own` bytes for the scalar
-
-  pub end_enough : (mode : EncoderMode) (form : EncodingForm) → length (escape_between mode in_ascii) ≤ room form mode 0
-  end_enough mode form = grind arith
-
-  pub formula_rises : (form : EncodingForm) (m n : ℕ) → m ≤ n → value (encoder.formula form (number m)) ≤ value (encoder.formula form (number n))
-  formula_rises form m n h = grind arith
 
   -- an escape to the mode that the scalar needs, and then the scalar's bytes
   low_by : (pair keeps romans : Bool) (mode : EncoderMode) (form : EncodingForm) (t u own : ℕ) → differs mode (mode_by pair keeps romans mode) ≡ true
       → own ≤ 2 → (pair ≡ false → own ≤ 1) → 1 ≤ u → (form ≡ Utf8 → pair ≡ true → 2 ≤ u) → (form ≡ Utf8 → romans ≡ true → 2 ≤ u)
-      → room form (mode_by pair keeps romans mode) t + (3 + own) ≤ room form mode (u + t)
+      → mode_room encoder form (mode_by pair keeps romans mode) t + (3 + own) ≤ mode_room encoder form mode (u + t)
   low_by pair keeps romans mode form t u own e o n p q r = grind arith
 
   enough_by : (pair keeps romans : Bool) (mode : EncoderMode) (form : EncodingForm) (t u : ℕ) → differs mode (mode_by pair keeps romans mode) ≡ true → 1 ≤ u
-      → (form ≡ Utf8 → pair ≡ true → 2 ≤ u) → (form ≡ Utf8 → romans ≡ true → 2 ≤ u) → 6 ≤ room form mode (u + t)
+      → (form ≡ Utf8 → pair ≡ true → 2 ≤ u) → (form ≡ Utf8 → romans ≡ true → 2 ≤ u) → 6 ≤ mode_room encoder form mode (u + t)
   enough_by pair keeps romans mode form t u e p q r = grind arith
 
   -- ---- on scalars
@@ -51,21 +41,6 @@ module _ (jis0208 katakana_index : List ℕ) where
 
   roman_past : (c : ℕ) → is_roman_scalar c ≡ true → 128 ≤ c
   roman_past c e = grind (arith, nat_tests)
-
-  pub scalar_low : (mode : EncoderMode) (c : ℕ) (form : EncodingForm) (t : ℕ)
-      → room form mode t + code_length (encoder.code c) ≤ room form mode (unit_count form c + t)
-  scalar_low mode c form t = grind (arith, code-short, some_unit)
-
-  pub scalar_enough : (mode : EncoderMode) (c : ℕ) (form : EncodingForm) (t : ℕ) → encoder.scalar_room c ≤ room form mode (unit_count form c + t)
-  scalar_enough mode c form t = grind (arith, some_unit)
-
-  pub escape_low : (mode : EncoderMode) (c : ℕ) → differs mode (encoder.mode_for mode c) ≡ true → (form : EncodingForm) (t : ℕ)
-      → room form (encoder.mode_for mode c) t + (3 + code_length (encoder.code c)) ≤ room form mode (unit_count form c + t)
-  escape_low mode c n form t = grind (arith, mode_for-by, code-short, low_by, some_unit, two_units, pair_past, roman_past)
-
-  pub escape_enough : (mode : EncoderMode) (c : ℕ) → differs mode (encoder.mode_for mode c) ≡ true → (form : EncodingForm) (t : ℕ)
-      → 3 + encoder.scalar_room c ≤ room form mode (unit_count form c + t)
-  escape_enough mode c n form t = grind (arith, enough_by, mode_for-by, some_unit, two_units, pair_past, roman_past)
 
 -- ---- modes
 
@@ -79,13 +54,13 @@ module _ (jis0208 katakana_index : List ℕ) where
   serves = record {
     nothing = text_events-open jis0208 katakana_index;
     settled = λ mode c. rw (mode_for-twice jis0208 katakana_index mode c) (differs-same (mode_for jis0208 katakana_index mode c));
-    low = scalar_low jis0208 katakana_index;
-    enough = scalar_enough jis0208 katakana_index;
-    escape_low = escape_low jis0208 katakana_index;
-    escape_enough = escape_enough jis0208 katakana_index;
-    end = end_enough jis0208 katakana_index;
+    low = λ mode c form t. grind (arith, code-short, some_unit);
+    enough = λ mode c form t. grind (arith, some_unit);
+    escape_low = λ mode c n form t. grind (arith, mode_for-by, code-short, low_by, some_unit, two_units, pair_past, roman_past);
+    escape_enough = λ mode c n form t. grind (arith, enough_by, mode_for-by, some_unit, two_units, pair_past, roman_past);
+    end = λ mode form. grind arith;
     escapes = λ mode e. grind arith;
-    rises = formula_rises jis0208 katakana_index;
+    rises = λ form m n h. grind arith;
   }
 
   -- ---- the moves

@@ -7,12 +7,11 @@ use Rattle.legacy_base.{specs.States.rests, proofs.{Iso2022JpFronts.{step_end, s
 use Rattle.legacy_base.proofs.{Iso2022JpParts.first_part, Beginnings.no_sooner}
 use Rattle.legacy_text.proofs.CodeUnits.{length-code_units-bmp}
 use Rattle.legacy_decoder_engine.specs.Moves.{Releases, Reports}
-use Rattle.legacy_japanese.specs.declared.iso_2022_jp.steps.{Start.{TheVariants.{Nothing, EscapeByte, Dollar, Paren}, Start}, Mode.{Mode, TheVariants.TwoByte}}
-use Rattle.legacy_japanese.specs.{declared.iso_2022_jp.steps.{Escape.Escape, Held.{Held, TheVariants.{Byte, Begun, Whole}}}, Iso2022JpMachine.mode_meaning}
-use Rattle.legacy_japanese.specs.Iso2022JpMachine.{bytes_of, finish, finish_start, is_held, is_resting, mode_of, pending, second_of, single, third_of}
-use Rattle.legacy_japanese.{specs.Iso2022JpMoves.{state_in, weight_of, IsNarrowScalar}, proofs.Iso2022JpStep.{escape_alone, escaped, in_range_plain}}
-use Rattle.legacy_japanese.proofs.{Iso2022JpRooms.{same_rooms, room-falls, replacement_fits, times_one, held_allowed, held_rests}, Iso2022JpStep.MeetsEnd}
-use Rattle.legacy_japanese.proofs.Iso2022JpStep.{second_kept, ended, events_in}
+use Rattle.legacy_japanese.specs.declared.iso_2022_jp.steps.{Start.{TheVariants.{Nothing, EscapeByte, Dollar, Paren}}, Mode.{Mode, TheVariants.TwoByte}}
+use Rattle.legacy_japanese.specs.{declared.iso_2022_jp.steps.{Escape.Escape, Held.{Held, TheVariants.{Byte, Begun}}}, Iso2022JpMachine.mode_meaning}
+use Rattle.legacy_japanese.specs.Iso2022JpMachine.{bytes_of, finish, is_held, is_resting, mode_of, pending, second_of, single, state_in, third_of, weight_of}
+use Rattle.legacy_japanese.proofs.Iso2022JpRooms.{same_rooms, room-falls, replacement_fits, times_one, held_allowed, held_rests, single_narrow}
+use Rattle.legacy_japanese.proofs.Iso2022JpStep.{MeetsEnd, ended, escape_alone, escaped, events_in, in_range_plain, second_kept}
 use Rattle.legacy_base.specs.Iso2022Jp as iso
 
 -- ---- what the end leaves
@@ -48,10 +47,10 @@ module _ (jis0208 : List ℕ) where
       grind (arith, write_law)
 
   -- the law of writing the byte's scalar
-  pub released : (mode : Mode) (held : Held) (c : ℕ) → is_held mode held ≡ true → Some c ≡ pending mode held → IsNarrowScalar c
-      → Releases (state_in jis0208 mode held) (state_in jis0208 mode (Begun Nothing)) c
+  pub released : (mode : Mode) (held : Held) (c : ℕ) → is_held mode held ≡ true → Some c ≡ pending mode held
+      → Releases (state_in jis0208 mode held) (state_in jis0208 mode (Begun None Nothing)) c
   unfolding events_of
-  released mode held c h h1 h2 = grind (arith, write_law, same_rooms, length-code_units-bmp, room-falls, times_one)
+  released mode held c h h1 = grind (arith, write_law, same_rooms, single_narrow, length-code_units-bmp, room-falls, times_one)
 
   -- ---- the end of the input
 
@@ -74,13 +73,6 @@ module _ (jis0208 : List ℕ) where
     | inl z ↦ rw (z, append-nil) none
     | inr g ↦ malformed_escape mode (rest ++ more) g
   ])
-
-  start_end : (mode : Mode) (s : Start) → MeetsEnd jis0208 mode (Begun s) (finish_start mode s)
-  unfolding part_mode
-  start_end mode Nothing = step_end jis0208 (mode_meaning mode)
-  start_end mode EscapeByte = λ more h. escape_end mode [] more refl h
-  start_end mode Dollar = λ more h. escape_end mode (0x24 ∷ []) more refl h
-  start_end mode Paren = λ more h. escape_end mode (0x28 ∷ []) more refl h
 
   -- a lead at the end, or a lead that is reported alone, has no trail
   malformed_lead : (l : ℕ) (more : List ℕ) → is_in_range 0x21 0x7E l ≡ true → (more ≡ []) ⊎ BeginsWith (events_in jis0208 TwoByte (l ∷ more)) (Bad 0 1 ∷ [])
@@ -109,11 +101,14 @@ module _ (jis0208 : List ℕ) where
   end_law : (mode : Mode) (held : Held) → is_held mode held ≡ true → is_resting mode held ≡ true → MeetsEnd jis0208 mode held (finish mode held)
   unfolding part_mode
   end_law mode (Byte l) h r = lead_end mode l h r
-  end_law mode (Begun s) h r = start_end mode s
-  end_law mode (Whole e Nothing) h r = rw (escape_alone jis0208 mode e [] refl, start_end (mode_of e) Nothing)
-  end_law mode (Whole e EscapeByte) h r = λ more g. whole_end mode e [] more refl g
-  end_law mode (Whole e Dollar) h r = λ more g. whole_end mode e (0x24 ∷ []) more refl g
-  end_law mode (Whole e Paren) h r = λ more g. whole_end mode e (0x28 ∷ []) more refl g
+  end_law mode (Begun None Nothing) h r = step_end jis0208 (mode_meaning mode)
+  end_law mode (Begun None EscapeByte) h r = λ more g. escape_end mode [] more refl g
+  end_law mode (Begun None Dollar) h r = λ more g. escape_end mode (0x24 ∷ []) more refl g
+  end_law mode (Begun None Paren) h r = λ more g. escape_end mode (0x28 ∷ []) more refl g
+  end_law mode (Begun (Some e) Nothing) h r = rw (escape_alone jis0208 mode e [] refl, step_end jis0208 (mode_meaning (mode_of e))) refl
+  end_law mode (Begun (Some e) EscapeByte) h r = λ more g. whole_end mode e [] more refl g
+  end_law mode (Begun (Some e) Dollar) h r = λ more g. whole_end mode e (0x24 ∷ []) more refl g
+  end_law mode (Begun (Some e) Paren) h r = λ more g. whole_end mode e (0x28 ∷ []) more refl g
 
   -- the events of the held-back bytes
   abbrev left : Mode → Held → List DecodeEvent

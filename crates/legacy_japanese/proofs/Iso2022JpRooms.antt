@@ -1,12 +1,13 @@
 -- What may be held back, and the room that an ISO-2022-JP decoder needs and how it decreases.
-use Rattle.std.proofs.Common.{◌≡◌, ℕ, ◌+◌, ◌*◌, ◌<◌, ◌≤◌, Bool, true, cond, Some, List, [], ◌∷◌, length, refl, arith, length-append, ◌&&◌}
-use Rattle.std.specs.Char.{is_ascii}
-use Rattle.legacy_base.specs.{DecoderActs.{writes, act_at_rest, room_of_act}, Lengths.{LengthQuery, query_form, replacement_units, room, weight}}
+use Rattle.std.proofs.Common.{◌≡◌, ℕ, ◌+◌, ◌*◌, ◌<◌, ◌≤◌, Bool, true, cond, None, Some, List, [], ◌∷◌, length, refl, arith, length-append, ◌&&◌}
+use Rattle.std.{specs.Char.{is_ascii, IsScalar}, proofs.lemmas.{Bool.Decides.nat_tests, Grind.common_steps}}
+use Rattle.legacy_tables.{specs.{Indexes.idx, AcceptedTables.AcceptedIndexes}, proofs.Accepted.{idx-all, jis0208-below, jis0208-scalars}}
+use Rattle.legacy_base.specs.{DecoderActs.{writes, act_at_rest, room_of_act}, Lengths.{LengthQuery, query_form, replacement_units, room}}
 use Rattle.legacy_base.{specs.{Grammar.{iso_2022_jp, events_of}, States.{rests, is_empty, may_hold}}, proofs.Iso2022JpFronts.step_end}
 use Rattle.legacy_text.{specs.EncodingForm.{EncodingForm, bmp_room, wide_room, code_units, total_unit_count}, proofs.CodeUnits.length-code_units-bmp}
 use Rattle.legacy_decoder_engine.{specs.Moves.{IsCovered, SameRooms, read_room}, proofs.RoomMoves.no_short_room}
 use Rattle.legacy_japanese.specs.declared.iso_2022_jp.steps.{Mode.Mode, Start.TheVariants.Nothing, Held.{Held, TheVariants.Begun}}
-use Rattle.legacy_japanese.specs.{Iso2022JpMachine.{mode_meaning, bytes_of, is_held, is_resting}, Iso2022JpMoves.{state_in, weight_of}}
+use Rattle.legacy_japanese.specs.Iso2022JpMachine.{mode_meaning, bytes_of, is_held, is_resting, single, state_in, weight_of}
 
 -- ---- the held-back bytes
 
@@ -19,10 +20,6 @@ held_allowed jis0208 mode held h = grind arith
 pub held_rests : (jis0208 : List ℕ) (mode : Mode) (held : Held) → is_held mode held ≡ true →
     rests (iso_2022_jp jis0208 (mode_meaning mode)) (bytes_of held) ≡ is_resting mode held
 held_rests jis0208 mode held h = grind arith
-
--- their weight
-pub held_weight : (jis0208 : List ℕ) (mode : Mode) (held : Held) → weight (iso_2022_jp jis0208 (mode_meaning mode)) (bytes_of held) ≡ weight_of held
-held_weight jis0208 mode held = grind arith
 
 -- ---- the room of an act
 
@@ -39,12 +36,19 @@ read_room-is form jis0208 mode held byte = no_short_room (is_ascii byte && is_em
 pub one_fits : (form : EncodingForm) (c : ℕ) → c < 0x1_0000 → total_unit_count form (c ∷ []) ≤ bmp_room form
 one_fits form c h = let l = length-code_units-bmp form c h in let a = length-append (code_units form c) [] in omega arith
 
+-- the scalar of a byte, and of a pointer in the index
+pub single_narrow : (mode : Mode) (b c : ℕ) → single mode b ≡ Some c → (c < 0x1_0000) × IsScalar c
+single_narrow mode b c is = grind (arith, nat_tests)
+
+pub entry_narrow : (tables : AcceptedIndexes) (p c : ℕ) → idx tables.flat.jis0208 p ≡ Some c → (c < 0x1_0000) × IsScalar c
+entry_narrow tables p c is = grind (arith, common_steps, idx-all, jis0208-below, jis0208-scalars)
+
 -- ---- the room of a state
 
 -- the room of the input bytes and the held-back bytes: for each a scalar up to U+FFFF
 pub room-is : (query : LengthQuery) (jis0208 : List ℕ) (mode : Mode) (held : Held) (n : ℕ) →
     room query (state_in jis0208 mode held) n ≡ bmp_room (query_form query) * (n + weight_of held)
-room-is query jis0208 mode held n = rw (held_weight jis0208 mode held) (grind arith)
+room-is query jis0208 mode held n = grind arith
 
 -- the room decreases by what is written, if the weight decreases by the number of scalars and reports
 pub room-falls : (query : LengthQuery) (jis0208 : List ℕ) (mode new_mode : Mode) (held new_held : Held) (n m r u : ℕ)
@@ -73,14 +77,14 @@ module _ (query : LengthQuery) (jis0208 : List ℕ) (mode : Mode) where
   unfolding needed
   most held unread last resting = grind (arith, read_room-is)
 
-  none : (last : Bool) → needed (Begun Nothing) [] last true ≡ 0
+  none : (last : Bool) → needed (Begun None Nothing) [] last true ≡ 0
   unfolding needed events_of
   none last = rw (step_end jis0208 (mode_meaning mode)) refl
 
   enough : (unread : List ℕ) (last : Bool) (held : Held)
       → needed held unread last (rests (iso_2022_jp jis0208 (mode_meaning mode)) (bytes_of held)) ≤ bmp_room
       (query_form query) * (length unread + weight_of held)
-  enough [] last (Begun Nothing) = let n = none last in omega arith
+  enough [] last (Begun None Nothing) = let n = none last in omega arith
   enough unread last held = let m = most held unread last (rests (iso_2022_jp jis0208 (mode_meaning mode)) (bytes_of held)) in grind arith
 
 -- the room of a length query is enough for the next act

@@ -1,19 +1,19 @@
 -- The runs of ISO-2022-JP, and the escapes between them.
-use Rattle.std.proofs.Common.{◌≡◌, ◌≢◌, ◌∙◌, ℕ, suc, ◌+◌, ◌-◌, ◌*◌, ◌%◌, ◌^◌, ◌<◌, ◌≤◌, Bool, false, cond, ltb, Option, Some, List, [], ◌∷◌, ◌++◌, length, map}
+use Rattle.std.proofs.Common.{◌≡◌, ◌≢◌, ◌∙◌, ℕ, suc, ◌+◌, ◌-◌, ◌*◌, ◌%◌, ◌^◌, ◌<◌, ◌≤◌, Bool, false, cond, ltb, Some, List, [], ◌∷◌, ◌++◌, length, map}
 use Rattle.std.proofs.Common.{take, drop, get_or, replicate, w8, w64, IsAscii, refl, sym, ap, arith, append-nil, length-drop}
 use Rattle.std.proofs.lemmas.{Bool.{cases_lt, ne_eqb, Decides.nat_tests}, Nat.Bits.{bit_at-trailing_zeros, bit_at-zero}, Grind.common_steps}
-use Rattle.std.proofs.lemmas.{List.{length-take, length-take-le, length-map, get_or-map, get_or-take, drop-drop, Elements.{All-nil, All-cons, All-from_get_or}}}
+use Rattle.std.proofs.lemmas.{List.{length-take-le, length-map, get_or-map, get_or-take, drop-drop, Elements.{All-nil, All-cons, All-from_get_or}}}
 use Rattle.std.proofs.{lemmas.{Simd.{bit_mask_l, bitmask_splat, mask_l-lt, zip2_splat}, Str.Ascii.IsAscii-from_all}, Math.Seq.{drop-cons, take-add}}
-use Rattle.std.specs.{Prelude.{All, IfSome}, Char.IsScalar, Int.trailing_zeros}
+use Rattle.std.specs.{Prelude.{All}, Char.IsScalar, Int.trailing_zeros}
 use lib.Lanes.{mask_l, zip2, top}
 use Rattle.legacy_text.{specs.{declared.destination.Destination.{Ghosts}, EncodingForm.{code_units, unit_count}}, proofs.CodeUnits.{code_units_ascii}}
 use Rattle.legacy_base.specs.{Iso2022Jp.{ascii, two_byte, iso_2022_jp_front, esc}, Grammar.{iso_2022_jp, events_of}, States.DecoderState}
 use Rattle.legacy_base.proofs.{Iso2022JpFronts.{step_one, step_two}, Iso2022JpParts.no_escape, Shifts.{shift-append, shift-shift, shift-scalars}}
 use Rattle.legacy_tables.{specs.{AcceptedTables.AcceptedIndexes, Indexes.idx}, proofs.Accepted.length-jis0208}
 use Rattle.legacy_japanese.specs.declared.iso_2022_jp.{steps.{Mode.{TheVariants.Ascii, Mode}, Escape.Escape}, places.TheConstants.{LEADS, TRAILS}}
-use Rattle.legacy_japanese.specs.{Iso2022JpMoves.IsNarrowScalar, Iso2022JpRuns.{ArePlain, IsPlain, run_state, HasEscape}, Jis0208Places.jis_lead_place}
-use Rattle.legacy_japanese.specs.{Jis0208Places.jis_trail_place, Iso2022JpMachine.{mode_meaning, mode_of, second_of, third_of}}
-use Rattle.legacy_japanese.proofs.{Iso2022JpRooms.{one_fits, room-falls, times_one, same_rooms}, Iso2022JpStep.{events_in, escape_alone}}
+use Rattle.legacy_japanese.specs.{Iso2022JpRuns.{ArePlain, IsPlain, run_state, HasEscape}, Iso2022JpRuns.jis_lead_place}
+use Rattle.legacy_japanese.specs.{Iso2022JpRuns.jis_trail_place, Iso2022JpMachine.{mode_meaning, mode_of, second_of, third_of}}
+use Rattle.legacy_japanese.proofs.{Iso2022JpRooms.{entry_narrow, one_fits, room-falls, times_one, same_rooms}, Iso2022JpStep.{events_in, escape_alone}}
 use Rattle.legacy_decoder_engine.{specs.{ReadAhead.{Runs, IsPair, ReadsAhead, RunsTo, ReadsTo}, Places.IsTableOf}, proofs.WrittenRuns.{runs_none, runs_more}}
 use Rattle.legacy_decoder_engine.proofs.{WrittenRuns.{all_code_units_ascii, rest_of}, PairPlaces.idx_past, JoinedRuns.{reads_front, reads_then}}
 use Rattle.legacy_decoder_engine.proofs.AheadRuns.{reads_nothing}
@@ -47,18 +47,19 @@ unfolding events_of iso_2022_jp_front
 pair_run jis0208 a b c low high low' high' narrow scalar is = grind (arith, nat_tests, step_two, ne_eqb, All-cons, All-nil, room-falls, times_one, one_fits)
 
 -- the scalar of two bytes, by the sum of their places
-pub placed_scalar : (tables : AcceptedIndexes) (a b : ℕ) (found : Option ℕ) → found ≡ idx tables.flat.jis0208 (jis_lead_place a + jis_trail_place b)
-    → IfSome found IsNarrowScalar → IfSome found (λ c. IsPair (iso_2022_jp tables.flat.jis0208 two_byte) a b c)
+pub placed_scalar : (tables : AcceptedIndexes) (a b c : ℕ) → idx tables.flat.jis0208 (jis_lead_place a + jis_trail_place b) ≡ Some c
+    → IsPair (iso_2022_jp tables.flat.jis0208 two_byte) a b c
 unfolding jis_lead_place jis_trail_place
-placed_scalar tables a b found is narrow =
-    let short = length-jis0208 tables.flat tables.accepted in grind (arith, cases_lt, nat_tests, pair_run, idx_past)
+placed_scalar tables a b c is =
+    let short = length-jis0208 tables.flat tables.accepted in
+    let small = entry_narrow tables (jis_lead_place a + jis_trail_place b) c is in grind (arith, cases_lt, nat_tests, pair_run, idx_past)
 
 -- ---- a run of plain bytes
 
--- a front of a front
-pub plain_front : (source : List ℕ) (n count : ℕ) → count ≤ length (take n source) → ArePlain (take n source) count →
-    (count ≤ length source) × (count ≤ n) × ArePlain source count
-plain_front source n count within plain = grind (arith, length-take, get_or-take)
+-- a front of a block
+pub plain_front : (source : List ℕ) (count : ℕ) → 64 ≤ length source → count ≤ 64 → ArePlain (take 64 source) count
+    → (count ≤ length source) × ArePlain source count
+plain_front source count block most plain = (omega arith, λ k h. rw (get_or-take 64 source k 0 (omega arith)) at (plain k h))
 
 plain_all : (source : List ℕ) (count : ℕ) → count ≤ length source → ArePlain source count → All IsPlain (take count source)
 plain_all source count within plain =

@@ -12,19 +12,15 @@ euc_jp_first b =
     else if (b == 0x8E || b == 0x8F) || is_euc_jp_lead b then hold
     else finish (malformed 1)
 
--- the step at a byte after 8E, 8F or a lead
-abbrev pub euc_jp_second_step : List ℕ → ℕ → ℕ → Step
-euc_jp_second_step jis0208 lead b =
+-- the step at a byte after these held-back bytes
+abbrev pub euc_jp_step : List ℕ → List ℕ → List ℕ → ℕ → Step
+euc_jp_step jis0208 jis0212 [] b = euc_jp_first b
+euc_jp_step jis0208 jis0212 (lead ∷ []) b =
     if lead == 0x8E
     then (if is_katakana_byte b then finish (reads 2 (katakana_of b ∷ [])) else trail_step 1 [] b)
     else if lead == 0x8F
     then (if is_euc_jp_lead b then hold else trail_step 1 [] b)
     else trail_step 1 (euc_jp_scalars jis0208 lead b) b
-
--- the step at a byte after these held-back bytes
-abbrev pub euc_jp_step : List ℕ → List ℕ → List ℕ → ℕ → Step
-euc_jp_step jis0208 jis0212 [] b = euc_jp_first b
-euc_jp_step jis0208 jis0212 (lead ∷ []) b = euc_jp_second_step jis0208 lead b
 euc_jp_step jis0208 jis0212 (first ∷ lead ∷ held) b = trail_step 2 (euc_jp_scalars jis0212 lead b) b
 
 -- the machine

@@ -1,16 +1,14 @@
 -- The machine of the ISO-2022-JP decoder, in small functions. It reads one byte at a time, and keeps a mode and the
 -- held-back bytes.
-use Rattle.std.specs.Prelude.{ℕ, ◌+◌, ◌-◌, ◌*◌, Bool, true, not, ◌==◌, ◌||◌, if◌then◌else◌, Option, Some, None, List, [], ◌∷◌}
+use Rattle.std.specs.Prelude.{ℕ, ◌+◌, ◌-◌, ◌*◌, Bool, true, false, not, ◌==◌, ◌||◌, if◌then◌else◌, Option, Some, None, List, [], ◌∷◌, ◌++◌, length}
 use Rattle.std.specs.{Int.is_in_range, Char.is_ascii}
 use Rattle.legacy_tables.specs.Indexes.{idx}
-use Rattle.legacy_base.specs.{Iso2022Jp.esc, States.is_iso_2022_jp_byte, States.is_two_byte_mode}
-use Rattle.legacy_japanese.specs.declared.iso_2022_jp.steps.Mode.TheVariants.{Ascii, Roman, Katakana, TwoByte}
-use Rattle.legacy_japanese.specs.declared.iso_2022_jp.steps.Escape.TheVariants.{ToAscii, ToRoman, ToKatakana, ToJis1978, ToJis1983}
-use Rattle.legacy_japanese.specs.declared.iso_2022_jp.steps.Start.TheVariants.{Nothing, EscapeByte, Dollar, Paren}
-use Rattle.legacy_japanese.specs.declared.iso_2022_jp.steps.Action.TheVariants.{Holds, Writes, Reports, Leaves}
-use Rattle.legacy_japanese.specs.declared.iso_2022_jp.{steps.Mode.Mode, steps.Escape.Escape, steps.Start.Start, steps.Held.Held, steps.Action.Action}
-use Rattle.legacy_japanese.specs.declared.iso_2022_jp.steps.Held.TheVariants.{Byte, Begun, Whole}
-use Rattle.legacy_japanese.specs.declared.iso_2022_jp.steps.Outcome.{Outcome}
+use Rattle.legacy_base.specs.{Grammar.iso_2022_jp, Iso2022Jp.esc, States.{DecoderState, is_iso_2022_jp_byte, is_two_byte_mode}}
+use Rattle.legacy_decoder_engine.specs.declared.moves.Fed.{Fed, TheVariants.{Nothing as Kept, One, MalformedSequence}}
+use Rattle.legacy_japanese.specs.declared.iso_2022_jp.steps.Mode.{Mode, TheVariants.{Ascii, Roman, Katakana, TwoByte}}
+use Rattle.legacy_japanese.specs.declared.iso_2022_jp.steps.Escape.{Escape, TheVariants.{ToAscii, ToRoman, ToKatakana, ToJis1978, ToJis1983}}
+use Rattle.legacy_japanese.specs.declared.iso_2022_jp.steps.Start.{Start, TheVariants.{Nothing, EscapeByte, Dollar, Paren}}
+use Rattle.legacy_japanese.specs.declared.iso_2022_jp.steps.Held.{Held, TheVariants.{Byte, Begun}}
 use Rattle.legacy_base.specs.Iso2022Jp as iso
 
 -- the mode of the grammar
@@ -42,6 +40,16 @@ mode_of ToKatakana = Katakana
 mode_of ToJis1978 = TwoByte
 mode_of ToJis1983 = TwoByte
 
+-- the mode of the bytes after a held-back escape, if there is one
+abbrev pub mode_behind : Mode → Option Escape → Mode
+mode_behind mode None = mode
+mode_behind mode (Some e) = mode_of e
+
+-- the bytes of a held-back escape
+abbrev pub escape_bytes : Option Escape → List ℕ
+escape_bytes None = []
+escape_bytes (Some e) = esc ∷ second_of e ∷ third_of e ∷ []
+
 -- the bytes of the beginning of an escape
 abbrev pub start_bytes : Start → List ℕ
 start_bytes Nothing = []
@@ -52,12 +60,21 @@ start_bytes Paren = esc ∷ 0x28 ∷ []
 -- the held-back bytes
 abbrev pub bytes_of : Held → List ℕ
 bytes_of (Byte b) = b ∷ []
-bytes_of (Begun s) = start_bytes s
-bytes_of (Whole e s) = esc ∷ second_of e ∷ third_of e ∷ start_bytes s
+bytes_of (Begun e s) = escape_bytes e ++ start_bytes s
 
--- a move, with the mode and the held-back bytes after it
-abbrev pub moves : Action → Mode → Held → Outcome
-moves move mode held = record { action = move; mode = mode; held = held }
+-- the number of input bytes that the held-back bytes count as in a length; a whole escape counts as one
+abbrev pub weight_of : Held → ℕ
+weight_of (Byte b) = 1
+weight_of (Begun None s) = length (start_bytes s)
+weight_of (Begun (Some e) s) = 1 + length (start_bytes s)
+
+-- the state with this index, this mode and these held-back bytes
+abbrev pub state_in : List ℕ → Mode → Held → DecoderState
+state_in jis0208 mode held = record { grammar = iso_2022_jp jis0208 (mode_meaning mode); held = bytes_of held }
+
+-- a malformed sequence, with the mode and the held-back bytes after it
+abbrev pub malformed : ℕ → Bool → Mode → Held → Fed × Mode × Held
+malformed n unread mode held = (MalformedSequence n (length (bytes_of held)) unread, mode, held)
 
 -- the scalar of a byte outside two-byte mode
 abbrev pub single : Mode → ℕ → Option ℕ
@@ -71,27 +88,26 @@ single Katakana b = if is_in_range 0x21 0x5F b then Some (0xFF61 + (b - 0x21)) e
 single TwoByte b = None
 
 -- a byte outside two-byte mode is written as its scalar, or is malformed
-abbrev pub read_single : Mode → Option ℕ → Outcome
-read_single mode (Some c) = moves (Writes c) mode (Begun Nothing)
-read_single mode None = moves (Reports 1) mode (Begun Nothing)
+abbrev pub read_single : Mode → Option ℕ → Fed × Mode × Held
+read_single mode (Some c) = (One c, mode, Begun None Nothing)
+read_single mode None = malformed 1 false mode (Begun None Nothing)
 
 -- reads a byte that is not the escape byte, with nothing held back
-abbrev pub read_plain : Mode → ℕ → Outcome
-read_plain TwoByte b =
-    if is_in_range 0x21 0x7E b then moves Holds TwoByte (Byte b) else moves (Reports 1) TwoByte (Begun Nothing)
+abbrev pub read_plain : Mode → ℕ → Fed × Mode × Held
+read_plain TwoByte b = if is_in_range 0x21 0x7E b then (Kept, TwoByte, Byte b) else read_single TwoByte None
 read_plain mode b = read_single mode (single mode b)
 
 -- a pair is written as its scalar, or is malformed
-abbrev pub read_pair : Option ℕ → Outcome
-read_pair (Some c) = moves (Writes c) TwoByte (Begun Nothing)
-read_pair None = moves (Reports 2) TwoByte (Begun Nothing)
+abbrev pub read_pair : Option ℕ → Fed × Mode × Held
+read_pair (Some c) = (One c, TwoByte, Begun None Nothing)
+read_pair None = malformed 2 false TwoByte (Begun None Nothing)
 
 -- reads a byte after a lead
-abbrev pub read_trail : List ℕ → ℕ → ℕ → Outcome
+abbrev pub read_trail : List ℕ → ℕ → ℕ → Fed × Mode × Held
 read_trail jis0208 l b =
-    if b == esc then moves (Reports 1) TwoByte (Begun EscapeByte)
+    if b == esc then malformed 1 false TwoByte (Begun None EscapeByte)
     else if is_in_range 0x21 0x7E b then read_pair (idx jis0208 ((l - 0x21) * 94 + (b - 0x21)))
-    else moves (Reports 2) TwoByte (Begun Nothing)
+    else read_pair None
 
 -- the escape that a byte completes
 abbrev pub completes : Start → ℕ → Option Escape
@@ -103,74 +119,52 @@ completes Paren b =
     else None
 completes _ b = None
 
--- the third byte completes an escape, or the escape byte is malformed and the second byte is held back alone
-abbrev pub read_third : Mode → ℕ → Option Escape → Outcome
-read_third mode a (Some e) = moves Holds mode (Whole e Nothing)
-read_third mode a None = moves Leaves mode (Byte a)
+-- The third byte completes the next escape, and a whole one directly before it is malformed. Or the escape byte is
+-- malformed and the second byte is held back alone.
+abbrev pub read_third : Mode → Option Escape → ℕ → Option Escape → Fed × Mode × Held
+read_third mode None a (Some e) = (Kept, mode, Begun (Some e) Nothing)
+read_third mode (Some before) a (Some e) = malformed 3 false mode (Begun (Some e) Nothing)
+read_third mode before a None = malformed 1 true mode (Byte a)
 
--- reads a byte after the beginning of an escape, or with nothing held back
-abbrev pub read_start : Mode → Start → ℕ → Outcome
-read_start mode Nothing b = if b == esc then moves Holds mode (Begun EscapeByte) else read_plain mode b
-read_start mode EscapeByte b =
-    if b == 0x24 then moves Holds mode (Begun Dollar)
-    else if b == 0x28 then moves Holds mode (Begun Paren)
-    else moves Leaves mode (Begun Nothing)
-read_start mode Dollar b = read_third mode 0x24 (completes Dollar b)
-read_start mode Paren b = read_third mode 0x28 (completes Paren b)
-
--- the third byte completes the next escape, and the one before it is malformed; or the escape byte is malformed
-abbrev pub read_next_third : Mode → ℕ → Option Escape → Outcome
-read_next_third mode a (Some e) = moves (Reports 3) mode (Whole e Nothing)
-read_next_third mode a None = moves Leaves mode (Byte a)
-
--- reads a byte after a whole escape, whose mode applies from here on
-abbrev pub read_whole : Mode → Escape → Start → ℕ → Outcome
-read_whole mode e Nothing b = if b == esc then moves Holds mode (Whole e EscapeByte) else read_plain (mode_of e) b
-read_whole mode e EscapeByte b =
-    if b == 0x24 then moves Holds mode (Whole e Dollar)
-    else if b == 0x28 then moves Holds mode (Whole e Paren)
-    else moves Leaves (mode_of e) (Begun Nothing)
-read_whole mode e Dollar b = read_next_third (mode_of e) 0x24 (completes Dollar b)
-read_whole mode e Paren b = read_next_third (mode_of e) 0x28 (completes Paren b)
+-- reads a byte after the beginning of an escape, or with nothing held back; after a whole escape its mode applies
+abbrev pub read_start : Mode → Option Escape → Start → ℕ → Fed × Mode × Held
+read_start mode e Nothing b = if b == esc then (Kept, mode, Begun e EscapeByte) else read_plain (mode_behind mode e) b
+read_start mode e EscapeByte b =
+    if b == 0x24 then (Kept, mode, Begun e Dollar)
+    else if b == 0x28 then (Kept, mode, Begun e Paren)
+    else malformed 1 true (mode_behind mode e) (Begun None Nothing)
+read_start mode e Dollar b = read_third (mode_behind mode e) e 0x24 (completes Dollar b)
+read_start mode e Paren b = read_third (mode_behind mode e) e 0x28 (completes Paren b)
 
 -- reads the next byte
-abbrev pub read : List ℕ → Mode → Held → ℕ → Outcome
+abbrev pub read : List ℕ → Mode → Held → ℕ → Fed × Mode × Held
 read jis0208 mode (Byte l) b = read_trail jis0208 l b
-read jis0208 mode (Begun s) b = read_start mode s b
-read jis0208 mode (Whole e s) b = read_whole mode e s b
+read jis0208 mode (Begun e s) b = read_start mode e s b
 
 -- ---- the held-back bytes
 
 -- what may be held back in a mode: a byte alone is a lead, or outside two-byte mode `24` or `28`
 abbrev pub is_held : Mode → Held → Bool
 is_held mode (Byte b) = is_iso_2022_jp_byte (mode_meaning mode) b
-is_held mode (Begun s) = true
-is_held mode (Whole e s) = true
+is_held mode (Begun e s) = true
 
 -- a byte held back alone outside two-byte mode is written before the next byte is read
 abbrev pub is_resting : Mode → Held → Bool
 is_resting mode (Byte b) = is_two_byte_mode (mode_meaning mode)
-is_resting mode (Begun s) = true
-is_resting mode (Whole e s) = true
+is_resting mode (Begun e s) = true
 
 -- ---- moves that read no byte
 
 -- the scalar to write first: `24` or `28`, outside two-byte mode
 abbrev pub pending : Mode → Held → Option ℕ
 pending mode (Byte b) = single mode b
-pending mode (Begun s) = None
-pending mode (Whole e s) = None
+pending mode (Begun e s) = None
 
 -- The end of the input, with no scalar to write: one malformed byte is reported, and this is the mode and what is held
 -- back after it. `None`: nothing is left.
-abbrev pub finish_start : Mode → Start → Option (Mode × Held)
-finish_start mode Nothing = None
-finish_start mode EscapeByte = Some (mode, Begun Nothing)
-finish_start mode Dollar = Some (mode, Byte 0x24)
-finish_start mode Paren = Some (mode, Byte 0x28)
-
--- the same for all that may be held back
 abbrev pub finish : Mode → Held → Option (Mode × Held)
-finish mode (Byte l) = Some (mode, Begun Nothing)
-finish mode (Begun s) = finish_start mode s
-finish mode (Whole e s) = finish_start (mode_of e) s
+finish mode (Byte l) = Some (mode, Begun None Nothing)
+finish mode (Begun e Nothing) = None
+finish mode (Begun e EscapeByte) = Some (mode_behind mode e, Begun None Nothing)
+finish mode (Begun e Dollar) = Some (mode_behind mode e, Byte 0x24)
+finish mode (Begun e Paren) = Some (mode_behind mode e, Byte 0x28)

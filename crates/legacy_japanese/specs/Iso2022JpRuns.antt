@@ -1,11 +1,12 @@
 -- The runs of the ISO-2022-JP decoder.
-use Rattle.std.specs.Prelude.{◌≡◌, ◌≢◌, ℕ, ◌<◌, List, [], ◌∷◌, length, take, get_or, slice_index}
-use Rattle.legacy_base.specs.{Grammar.Grammar, Grammar.iso_2022_jp, Iso2022Jp.esc, Iso2022Jp.two_byte, States.DecoderState}
+use Rattle.std.specs.Prelude.{None, ◌≡◌, ◌≢◌, ℕ, ◌<◌, ◌-◌, ◌*◌, if◌then◌else◌, List, [], ◌∷◌, length, take, get_or, slice_index}
+use Rattle.std.specs.Int.{is_in_range}
+use Rattle.legacy_base.specs.{Iso2022Jp.esc, States.DecoderState}
 use Rattle.legacy_text.specs.declared.destination.Destination.{Ghosts}
 use Rattle.legacy_decoder_engine.specs.ReadAhead.{ReadsTo}
 use Rattle.legacy_japanese.specs.declared.iso_2022_jp.steps.{Escape.Escape, Mode.{Mode, TheVariants.Ascii}}
 use Rattle.legacy_japanese.specs.declared.iso_2022_jp.steps.{Start.TheVariants.Nothing, Held.TheVariants.Begun}
-use Rattle.legacy_japanese.specs.{Iso2022JpMachine.second_of, Iso2022JpMachine.third_of, Iso2022JpMoves.state_in}
+use Rattle.legacy_japanese.specs.Iso2022JpMachine.{second_of, third_of, state_in}
 
 -- an ASCII byte that is itself in ASCII mode, and not the escape byte
 abbrev pub IsPlain : ℕ → Type 0
@@ -17,7 +18,7 @@ ArePlain bytes n = (k : ℕ) → k < n → IsPlain (slice_index bytes k)
 
 -- a mode, with nothing held back
 abbrev pub run_state : List ℕ → Mode → DecoderState
-run_state jis0208 mode = state_in jis0208 mode (Begun Nothing)
+run_state jis0208 mode = state_in jis0208 mode (Begun None Nothing)
 
 -- bytes at the front of the source are read from the first mode to the last one, and their scalars are written
 abbrev pub ReadsModes : {D : Type 0} → Ghosts D → List ℕ → Mode → Mode → List ℕ → ℕ → D → D → Type 0
@@ -33,6 +34,10 @@ pub record HasEscape (escape : Escape) (bytes : List ℕ) : Type 0 where
   pub begins : take 3 bytes ≡ esc ∷ second_of escape ∷ third_of escape ∷ []
   pub alone : get_or bytes 3 0 ≢ esc
 
--- the grammar in two-byte mode
-abbrev pub pairs_grammar : List ℕ → Grammar
-pairs_grammar jis0208 = iso_2022_jp jis0208 two_byte
+-- The place of a lead's row in the index, and of a trail in a row. A pair's pointer is their sum. A byte that is not a
+-- lead or not a trail has a place past the end of the index.
+unfoldable pub jis_lead_place : ℕ → ℕ
+jis_lead_place lead = if is_in_range 0x21 0x7E lead then (lead - 0x21) * 94 else 65535
+
+unfoldable pub jis_trail_place : ℕ → ℕ
+jis_trail_place trail = if is_in_range 0x21 0x7E trail then trail - 0x21 else 65535

@@ -1,18 +1,14 @@
 -- The internal definitions of the codecs. The promises of the codecs are in legacy_base and do not depend on these.
 pub mod EucJpCodes
-pub mod EucJpHeld
 pub mod EucJpDecoder
 pub mod EucJpMachine
 pub mod Iso2022JpMachine
-pub mod Iso2022JpMoves
 pub mod Iso2022JpDecoder
 pub mod Iso2022JpRuns
 pub mod Iso2022JpEncoder
 pub mod Iso2022JpPairs
 pub mod Iso2022JpCached
-pub mod Jis0208Places
 pub mod ShiftJisCodes
-pub mod ShiftJisLanes
 pub mod ShiftJisMachine
 pub mod ShiftJisPlaces
 pub mod ShiftJisShown

@@ -1,7 +1,7 @@
 -- The steps of Shift_JIS agree with its grammar.
-use Rattle.std.proofs.Common.{◌≡◌, ℕ, ◌+◌, ◌-◌, ◌<◌, ◌≤◌, List, [], ◌∷◌, Option, Some, None, Bool, true, false, cond, refl, ◌||◌, ◌==◌, arith}
+use Rattle.std.proofs.Common.{◌≡◌, ℕ, ◌<◌, ◌≤◌, List, [], ◌∷◌, Option, Bool, true, false, cond, refl, ◌||◌, ◌==◌, arith}
 use Rattle.std.proofs.lemmas.{Bool.or_parts, Bool.Decides.nat_tests}
-use Rattle.std.specs.{Int.is_in_range, Option.option_map_or, Char.is_ascii}
+use Rattle.std.specs.{Option.option_map_or, Char.is_ascii}
 use Rattle.legacy_base.specs.ShiftJis.{shift_jis_front, shift_jis_pair, is_shift_jis_lead, shift_jis_scalars, shift_jis_pointer}
 use Rattle.legacy_base.specs.{Fronts.Front, Fronts.reads, Fronts.malformed, Grammar.shift_jis, Lengths.to_utf16}
 use Rattle.legacy_tables.specs.{Unicode.is_katakana_byte, Unicode.katakana_of}
@@ -10,7 +10,7 @@ use Rattle.legacy_decoder_engine.specs.LeadCodecs.{IsLeadCodec}
 use Rattle.legacy_japanese.specs.ShiftJisMachine.{shift_jis_first, shift_jis_pair_scalars}
 use Rattle.legacy_decoder_engine.proofs.TwoByteMeets.{IsFirst, ascii, other, leads, fails, IsTwoByte, step_front, first_test, front_test}
 use Rattle.legacy_decoder_engine.proofs.{Widths.narrow_idx_units, SettledSteps.one_test, SettledSteps.one_option}
-use Rattle.legacy_decoder_engine.proofs.{TwoByteCosts.units_test, TwoByteCosts.katakana_below, TwoByteShown.HasTwoByteRooms, TwoByteShown.lead_codec}
+use Rattle.legacy_decoder_engine.proofs.{TwoByteCosts.katakana_below, TwoByteShown.HasTwoByteRooms, TwoByteShown.lead_codec}
 use Rattle.legacy_tables.proofs.Accepted.{jis0208-below}
 
 -- no ASCII byte is a lead
@@ -44,16 +44,9 @@ front_is jis0208 b rest pair e = grind (arith, front_test)
 one : (jis0208 : List ℕ) (o : Option ℕ) → IsOneOrMarked false (option_map_or (shift_jis_scalars jis0208) o [])
 one jis0208 o = grind (arith, one_test, one_option)
 
-pointer_below : (p : ℕ) → is_in_range 8836 10715 p ≡ true → p ≤ 10715
-pointer_below p h = grind (arith, nat_tests)
-
-module _ (len : ℕ → ℕ) (narrow wide : ℕ) (w : IsWidth len narrow wide) where
-  scalar_units : (jis0208 : List ℕ) → IsNarrowIndex jis0208 → (o : Option ℕ) → units len (option_map_or (shift_jis_scalars jis0208) o []) ≤ narrow
-  scalar_units jis0208 h None = omega arith
-  scalar_units jis0208 h (Some p) =
-      units_test len narrow wide w narrow (is_in_range 8836 10715 p) ((0xE000 + (p - 8836)) ∷ []) _
-      (λ e. let l : p ≤ 10715 = pointer_below p e in let q : len (0xE000 + (p - 8836)) ≤ narrow = w.bmp (0xE000 + (p - 8836)) (omega arith) in omega arith)
-      (λ e. narrow_idx_units len narrow wide w jis0208 p h)
+scalar_units : (len : ℕ → ℕ) (narrow wide : ℕ) → IsWidth len narrow wide → (jis0208 : List ℕ) → IsNarrowIndex jis0208
+    → (o : Option ℕ) → units len (option_map_or (shift_jis_scalars jis0208) o []) ≤ narrow
+scalar_units len narrow wide w jis0208 h o = grind (arith, nat_tests, w.bmp, narrow_idx_units len narrow wide w jis0208)
 
 is : (jis0208 : List ℕ) → IsTwoByte (shift_jis jis0208) (shift_jis_front jis0208) is_shift_jis_lead shift_jis_first (shift_jis_pair_scalars jis0208)
 unfolding shift_jis_front shift_jis_pair

@@ -1,12 +1,12 @@
 //! The decoder of EUC-JP.
-ghost use Rattle.std.specs.{Prelude.{◌*◌, ◌≡◌, ℕ, List, ◌∷◌, [], true, length, option_to_list, IfSome}, Char.IsScalar};
-ghost use Rattle.legacy_text.specs.EncodingForm.{EncodingForm};
-ghost use Rattle.legacy_base.specs.{EucJp.euc_jp_scalars, Grammar.euc_jp, States.{is_neutral, new_state, state_of}, Fronts.malformed};
+ghost use Rattle.std.specs.{Prelude.{◌*◌, ◌≡◌, ◌∷◌, [], true, length, option_to_list, IfSome}, Char.IsScalar};
+ghost use Rattle.legacy_base.specs.{EucJp.euc_jp_scalars, Grammar.euc_jp, States.{is_neutral, new_state}, Fronts.malformed};
 ghost use Rattle.legacy_tables.specs.Tables.{index_list};
-ghost use Rattle.legacy_decoder_engine.specs.{Steps.finish, Moves.{read_room, room_units}, Feeding.Took, LanePlaces.row_place};
-ghost use Rattle.legacy_japanese.specs.{EucJpMachine.euc_jp_step, EucJpHeld.held_bytes, EucJpDecoder.euc_jp_state};
+ghost use Rattle.legacy_decoder_engine.specs.{Steps.finish, Feeding.Took, LanePlaces.row_place};
+ghost use Rattle.legacy_japanese.specs.{EucJpMachine.euc_jp_step, EucJpDecoder.{euc_jp_state, held_bytes}};
 
 use super::held_lead::EucJpLead;
+use crate::shift_jis::decoder::katakana;
 use legacy_base::{DecoderStep, Destination, IndexName, RawDecoder, Tables};
 use legacy_decoder_engine::common_forms::CommonForm;
 use legacy_decoder_engine::drive::{count_malformed_bytes, drive_decoder};
@@ -112,10 +112,7 @@ fn read_katakana(byte: u8) -> Fed
     if byte < 0xA1 || byte > 0xDF {
         return unmapped(1, byte);
     }
-    match char::from_u32(0xFF61 + u32::from(byte - 0xA1)) {
-        Some(scalar) => Fed::One(scalar),
-        None => unreachable!(),
-    }
+    Fed::One(katakana(byte))
 }
 
 /// Returns what a byte leads to after 8F.
@@ -169,20 +166,6 @@ fn read(tables: &Tables, held: Held, byte: u8) -> (Fed, Held)
         Held::Jis0212 => read_jis0212_lead(byte),
         Held::Lead(lead) => (read_jis0208_trail(tables, lead, byte), Held::Nothing),
         Held::Jis0212Lead(lead) => (read_jis0212_trail(tables, lead, byte), Held::Nothing),
-    }
-}
-
-/// Returns the room that an act needs.
-#[inline]
-fn room_of(held: Held, byte: u8) -> Room
-    ensures { (jis0208 jis0212 : List ℕ) (form : EncodingForm) →
-        room_units form result
-        ≡ read_room form (state_of (euc_jp jis0208 jis0212) (held_bytes held)) byte }
-{
-    if byte < 0x80 && matches!(held, Held::Nothing) {
-        Room::Unit
-    } else {
-        Room::Narrow
     }
 }
 
@@ -242,7 +225,11 @@ impl DecoderMoves for EucJpDecoder<'_> {
     #[inline]
     #[tactic(auto, using(crate::proofs::EucJpShown::covered))]
     fn reading_room(&self, byte: u8) -> Room {
-        room_of(self.held, byte)
+        if byte < 0x80 && matches!(self.held, Held::Nothing) {
+            Room::Unit
+        } else {
+            Room::Narrow
+        }
     }
 
     #[inline]

@@ -1,10 +1,10 @@
 //! The decoder of ISO-2022-JP.
-ghost use Rattle.std.specs.Prelude.{◌≡◌, [], true};
+ghost use Rattle.std.specs.Prelude.{◌≡◌, true};
 ghost use Rattle.legacy_base.specs.{Grammar.iso_2022_jp, Iso2022Jp.ascii, States.{is_neutral, new_state}};
-ghost use Rattle.legacy_japanese.specs.{Iso2022JpMachine.is_held, Iso2022JpMoves.weight_of};
+ghost use Rattle.legacy_japanese.specs.Iso2022JpMachine.{is_held};
 
 use super::read_ahead::{escape_at, read_modes};
-use super::steps::{Held, Mode, Start, finish, pending, read};
+use super::steps::{Held, Mode, NOTHING, Start, finish, pending, read};
 use legacy_base::{DecoderStep, Destination, RawDecoder, Tables};
 use legacy_decoder_engine::drive::drive_decoder;
 use legacy_decoder_engine::moves::{DecoderMoves, Fed, Room};
@@ -47,7 +47,7 @@ impl<'a> Iso2022JpDecoder<'a> {
         Iso2022JpDecoder {
             tables,
             mode: Mode::Ascii,
-            held: Held::Begun(Start::Nothing),
+            held: NOTHING,
         }
     }
 
@@ -60,7 +60,7 @@ impl<'a> Iso2022JpDecoder<'a> {
         ensures { result ≡ is_neutral (iso_2022_jp_state self.now) }
     {
         match (self.mode, self.held) {
-            (Mode::Ascii, Held::Begun(Start::Nothing)) => true,
+            (Mode::Ascii, Held::Begun(None, Start::Nothing)) => true,
             _ => false,
         }
     }
@@ -95,17 +95,17 @@ impl<'a> DecoderMoves for Iso2022JpDecoder<'a> {
     #[tactic(auto, using(crate::proofs::Iso2022JpEnding::released))]
     fn release(&mut self) -> Option<char> {
         let scalar = pending(self.mode, self.held)?;
-        self.held = Held::Begun(Start::Nothing);
+        self.held = NOTHING;
         Some(scalar)
     }
 
     #[inline(always)]
     #[tactic(auto, using(crate::proofs::Iso2022JpFeeding::kept, crate::proofs::Iso2022JpFeeding::feeds))]
     fn feed(&mut self, byte: u8) -> Fed {
-        let outcome = read(self.tables, self.mode, self.held, byte);
-        self.mode = outcome.mode;
-        self.held = outcome.held;
-        outcome.fed()
+        let (fed, mode, held) = read(self.tables, self.mode, self.held, byte);
+        self.mode = mode;
+        self.held = held;
+        fed
     }
 
     #[tactic(auto, using(crate::proofs::Iso2022JpEnding::rest_known))]
@@ -144,7 +144,7 @@ impl<'a> DecoderMoves for Iso2022JpDecoder<'a> {
         if dst.free() < T::narrow() {
             return 0;
         }
-        self.held = Held::Whole(escape, Start::Nothing);
+        self.held = Held::Begun(Some(escape), Start::Nothing);
         3
     }
 }

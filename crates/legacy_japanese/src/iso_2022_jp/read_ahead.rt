@@ -3,11 +3,12 @@
 // Functions that run for each sequence or block are always inlined, and so are their callers. A call would pass vectors
 // through memory, and keep the destination's place there.
 ghost use Rattle.std.specs.Prelude.{◌≡◌, ◌≤◌, IfSome, length, true};
-ghost use Rattle.legacy_japanese.specs.Iso2022JpRuns.{ArePlain, HasEscape, IsPlain, ReadsModes, ReadsPlain, pairs_grammar};
+ghost use Rattle.legacy_japanese.specs.Iso2022JpRuns.{ArePlain, HasEscape, IsPlain, ReadsModes, ReadsPlain};
+ghost use Rattle.legacy_base.specs.{Grammar.iso_2022_jp, Iso2022Jp.two_byte};
 
 use super::places::{LEADS, TRAILS};
-use super::steps::{DOLLAR, ESCAPE, Escape, Mode, PAREN, Start, completed, entry};
-use legacy_base::{Destination, Tables};
+use super::steps::{DOLLAR, ESCAPE, Escape, Mode, PAREN, Start, completed};
+use legacy_base::{Destination, IndexName, Tables};
 use legacy_decoder_engine::common_forms::{CommonForm, CommonForms, read_forms};
 use legacy_decoder_engine::past_ascii::{ascii_front, past_ascii};
 use legacy_decoder_engine::places::pair_pointer;
@@ -21,13 +22,14 @@ struct Jis0208Pairs<'a, 'b> {
 }
 
 impl CommonForms for Jis0208Pairs<'_, '_> {
-    ghost grammar = { λ pairs. pairs_grammar pairs.tables.now.flat.jis0208 };
+    ghost grammar = { λ pairs. iso_2022_jp pairs.tables.now.flat.jis0208 two_byte };
 
     const FOUR_AT_LEAST: usize = 8;
 
     #[inline(always)]
     fn form(&self, first: u8, second: u8) -> CommonForm {
-        match entry(self.tables, pair_pointer(&LEADS, &TRAILS, first, second)) {
+        let pointer = pair_pointer(&LEADS, &TRAILS, first, second);
+        match self.tables.idx(IndexName::Jis0208, pointer) {
             Some(scalar) => CommonForm::Pair(scalar),
             None => CommonForm::Other,
         }
@@ -122,24 +124,6 @@ fn read_pairs<T: Destination>(tables: &Tables, src: &[u8], dst: &mut T) -> usize
     }
 }
 
-/// Reads a run of the mode from the front. Returns the number of bytes read, which may be 0.
-#[inline(always)]
-fn read_mode<T: Destination>(tables: &Tables, mode: Mode, src: &[u8], dst: &mut T) -> usize
-    ensures { ReadsModes T.Destination tables.now.flat.jis0208 mode mode src.now result dst.old dst.new }
-{
-    match mode {
-        Mode::Ascii => read_plain(src, dst),
-        Mode::TwoByte => read_pairs(tables, src, dst),
-        Mode::Roman | Mode::Katakana => 0,
-    }
-}
-
-/// Checks whether the second byte is malformed in every mode.
-#[inline(always)]
-fn is_byte_alone(src: &[u8]) -> bool {
-    src.len() > 1 && src[1] >= 0x80
-}
-
 /// Checks whether a run of the mode may begin at the front.
 ///
 /// It is a guess from the first two bytes, and may be wrong either way.
@@ -149,7 +133,8 @@ fn may_begin(mode: Mode, src: &[u8]) -> bool {
         return false;
     }
     match mode {
-        Mode::Ascii => is_plain(src[0]) && !is_byte_alone(src),
+        // A byte from 80 on is malformed in every mode.
+        Mode::Ascii => is_plain(src[0]) && (src.len() == 1 || src[1] < 0x80),
         Mode::TwoByte => src[0] >= 0x21,
         Mode::Roman | Mode::Katakana => false,
     }
@@ -163,7 +148,11 @@ fn read_begun<T: Destination>(tables: &Tables, mode: Mode, src: &[u8], dst: &mut
     if !may_begin(mode, src) {
         return 0;
     }
-    read_mode(tables, mode, src, dst)
+    match mode {
+        Mode::Ascii => read_plain(src, dst),
+        Mode::TwoByte => read_pairs(tables, src, dst),
+        Mode::Roman | Mode::Katakana => 0,
+    }
 }
 
 /// Returns the valid escape at the front, if a byte follows that is not the escape byte.
@@ -174,12 +163,10 @@ pub fn escape_at(src: &[u8]) -> Option<Escape>
     if src.len() < 4 || src[0] != ESCAPE || src[3] == ESCAPE {
         return None;
     }
-    if src[1] == DOLLAR {
-        completed(Start::Dollar, src[2])
-    } else if src[1] == PAREN {
-        completed(Start::Paren, src[2])
-    } else {
-        None
+    match src[1] {
+        DOLLAR => completed(Start::Dollar, src[2]),
+        PAREN => completed(Start::Paren, src[2]),
+        _ => None,
     }
 }
 

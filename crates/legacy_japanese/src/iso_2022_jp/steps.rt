@@ -1,11 +1,9 @@
 //! The steps of an ISO-2022-JP decoder (Encoding Standard, "ISO-2022-JP decoder").
 //!
 //! A step gives the mode and the held-back bytes after a byte, or at the end of the input.
-ghost use Rattle.std.specs.Prelude.{◌≡◌, ◌≤◌, ◌↔◌, IfSome, IsTrue, length, true};
-ghost use Rattle.legacy_tables.specs.Indexes.{idx};
-ghost use Rattle.legacy_japanese.specs.Iso2022JpMachine.{start_bytes, bytes_of, is_held, is_resting};
-ghost use Rattle.legacy_japanese.specs.declared.iso_2022_jp.steps.{Mode.TheVariants.{Ascii, TwoByte}, Start.TheVariants.Nothing, Held.TheVariants.Begun};
-ghost use Rattle.legacy_japanese.specs.Iso2022JpMoves.{fed_of, weight_of, IsNarrow, IsNarrowScalar};
+ghost use Rattle.std.specs.Prelude.{◌≡◌, ◌≤◌, ◌↔◌, IsTrue, None, length, true};
+ghost use Rattle.legacy_japanese.specs.Iso2022JpMachine.{start_bytes, bytes_of, is_held, is_resting, weight_of};
+ghost use Rattle.legacy_japanese.specs.declared.iso_2022_jp.steps.{Mode.TheVariants.Ascii, Start.TheVariants.Nothing, Held.TheVariants.Begun};
 ghost use Rattle.legacy_japanese.specs.Iso2022JpMachine as machine;
 
 use legacy_base::{IndexName, Tables};
@@ -42,38 +40,20 @@ pub enum Start {
 
 /// The held-back bytes.
 ///
-/// They are a byte alone, the start of an escape, or a whole escape and the start of the next one.
+/// They are a byte alone, or the start of an escape, which may follow a whole escape.
 /// A byte alone is a lead in two-byte mode. In the other modes it is `24` or `28`, to be read in
 /// the mode.
 #[derive(Clone, Copy)]
 pub enum Held {
     Byte(u8),
-    Begun(Start),
-    Whole(Escape, Start),
-}
-
-/// The visible effect of a step.
-#[derive(Clone, Copy)]
-pub enum Action {
-    /// The byte is held back.
-    Holds,
-    /// The byte completes a scalar.
-    Writes(char),
-    /// A malformed sequence of this many bytes ends.
-    ///
-    /// The byte is its last one, or comes after it and is held back.
-    Reports(u8),
-    /// The first held-back byte is malformed, and the byte is not read.
-    Leaves,
+    Begun(Option<Escape>, Start),
 }
 
 /// The effect of a step, with the mode and the held-back bytes after it.
-#[derive(Clone, Copy)]
-pub struct Outcome {
-    pub action: Action,
-    pub mode: Mode,
-    pub held: Held,
-}
+pub type Outcome = (Fed, Mode, Held);
+
+/// No held-back bytes.
+pub const NOTHING: Held = Held::Begun(None, Start::Nothing);
 
 /// The escape byte.
 pub const ESCAPE: u8 = 0x1B;
@@ -92,8 +72,7 @@ impl Escape {
             Escape::ToAscii => Mode::Ascii,
             Escape::ToRoman => Mode::Roman,
             Escape::ToKatakana => Mode::Katakana,
-            Escape::ToJis1978 => Mode::TwoByte,
-            Escape::ToJis1983 => Mode::TwoByte,
+            Escape::ToJis1978 | Escape::ToJis1983 => Mode::TwoByte,
         }
     }
 }
@@ -108,8 +87,7 @@ impl Start {
         match self {
             Start::Nothing => 0,
             Start::EscapeByte => 1,
-            Start::Dollar => 2,
-            Start::Paren => 2,
+            Start::Dollar | Start::Paren => 2,
         }
     }
 }
@@ -118,10 +96,10 @@ impl Held {
     /// Returns whether nothing is held back.
     #[inline]
     pub fn is_nothing(self) -> bool
-        ensures { IsTrue result ↔ (self ≡ Begun Nothing) }
+        ensures { IsTrue result ↔ (self ≡ Begun None Nothing) }
     {
         match self {
-            Held::Begun(Start::Nothing) => true,
+            Held::Begun(None, Start::Nothing) => true,
             _ => false,
         }
     }
@@ -133,8 +111,8 @@ impl Held {
     {
         match self {
             Held::Byte(_) => 1,
-            Held::Begun(start) => start.count(),
-            Held::Whole(_, start) => 3 + start.count(),
+            Held::Begun(None, start) => start.count(),
+            Held::Begun(Some(_), start) => 3 + start.count(),
         }
     }
 
@@ -146,41 +124,38 @@ impl Held {
     {
         match self {
             Held::Byte(_) => 1,
-            Held::Begun(start) => usize::from(start.count()),
-            Held::Whole(_, start) => 1 + usize::from(start.count()),
+            Held::Begun(None, start) => usize::from(start.count()),
+            Held::Begun(Some(_), start) => 1 + usize::from(start.count()),
         }
     }
 }
 
-impl Outcome {
-    /// Returns the outcome with these parts.
-    #[inline]
-    fn new(action: Action, mode: Mode, held: Held) -> Outcome
-        ensures { result ≡ machine.moves action mode held }
-    {
-        Outcome { action, mode, held }
+/// Returns the mode of the bytes after a held-back escape, if there is one.
+#[inline]
+fn mode_behind(mode: Mode, escape: Option<Escape>) -> Mode
+    ensures { result ≡ machine.mode_behind mode escape }
+{
+    match escape {
+        Some(escape) => escape.mode(),
+        None => mode,
     }
+}
 
-    /// Returns the step as the loop of all decoders takes it.
-    #[inline]
-    pub fn fed(self) -> Fed
-        ensures { result ≡ fed_of self }
-    {
-        match self.action {
-            Action::Holds => Fed::Nothing,
-            Action::Writes(c) => Fed::One(c),
-            Action::Reports(length) => Fed::MalformedSequence {
-                length,
-                back: self.held.count(),
-                unread: false,
-            },
-            Action::Leaves => Fed::MalformedSequence {
-                length: 1,
-                back: self.held.count(),
-                unread: true,
-            },
-        }
-    }
+/// Returns the outcome of a malformed sequence of this many bytes.
+#[inline]
+fn malformed(length: u8, unread: bool, mode: Mode, held: Held) -> Outcome
+    ensures { result ≡ machine.malformed length unread mode held }
+{
+    let back = held.count();
+    (
+        Fed::MalformedSequence {
+            length,
+            back,
+            unread,
+        },
+        mode,
+        held,
+    )
 }
 
 /// Returns the scalar of a byte in ASCII mode, or `None`.
@@ -188,8 +163,7 @@ impl Outcome {
 /// 0E, 0F and the bytes from 80 on have none.
 #[inline]
 fn ascii_scalar(byte: u8) -> Option<char>
-    ensures value { result ≡ machine.single Ascii byte }
-    ensures narrow { IfSome result IsNarrowScalar }
+    ensures { result ≡ machine.single Ascii byte }
 {
     if byte == 0x0E || byte == 0x0F || byte >= 0x80 {
         None
@@ -201,20 +175,15 @@ fn ascii_scalar(byte: u8) -> Option<char>
 /// Returns the scalar of a byte outside two-byte mode, or `None`.
 #[inline]
 fn single_scalar(mode: Mode, byte: u8) -> Option<char>
-    ensures value { result ≡ machine.single mode byte }
-    ensures narrow { IfSome result IsNarrowScalar }
+    ensures { result ≡ machine.single mode byte }
 {
     match mode {
         Mode::Ascii => ascii_scalar(byte),
-        Mode::Roman => {
-            if byte == 0x5C {
-                Some('\u{A5}')
-            } else if byte == 0x7E {
-                Some('\u{203E}')
-            } else {
-                ascii_scalar(byte)
-            }
-        }
+        Mode::Roman => match byte {
+            0x5C => Some('\u{A5}'),
+            0x7E => Some('\u{203E}'),
+            _ => ascii_scalar(byte),
+        },
         Mode::Katakana => {
             if byte >= 0x21 && byte <= 0x5F {
                 char::from_u32(0xFF61 + u32::from(byte - 0x21))
@@ -232,79 +201,32 @@ pub fn completed(start: Start, byte: u8) -> Option<Escape>
     ensures { result ≡ machine.completes start byte }
 {
     match start {
-        Start::Nothing => None,
-        Start::EscapeByte => None,
-        Start::Dollar => {
-            if byte == 0x40 {
-                Some(Escape::ToJis1978)
-            } else if byte == 0x42 {
-                Some(Escape::ToJis1983)
-            } else {
-                None
-            }
-        }
-        Start::Paren => {
-            if byte == 0x42 {
-                Some(Escape::ToAscii)
-            } else if byte == 0x4A {
-                Some(Escape::ToRoman)
-            } else if byte == 0x49 {
-                Some(Escape::ToKatakana)
-            } else {
-                None
-            }
-        }
-    }
-}
-
-/// Returns the scalar of a pointer in index jis0208, or `None`.
-#[inline]
-pub fn entry<V: DecoderTables>(tables: &V, pointer: usize) -> Option<char>
-    ensures value { result ≡ idx (V.indexes tables.now).flat.jis0208 pointer }
-    ensures narrow { IfSome result IsNarrowScalar }
-{
-    tables.idx(IndexName::Jis0208, pointer)
-}
-
-/// Reads a byte that is not the escape byte, in two-byte mode with nothing held back.
-#[inline]
-fn read_lead(byte: u8) -> Outcome
-    ensures value { result ≡ machine.read_plain TwoByte byte }
-    ensures narrow { IsNarrow result.action }
-{
-    if byte >= 0x21 && byte <= 0x7E {
-        Outcome::new(Action::Holds, Mode::TwoByte, Held::Byte(byte))
-    } else {
-        Outcome::new(
-            Action::Reports(1),
-            Mode::TwoByte,
-            Held::Begun(Start::Nothing),
-        )
-    }
-}
-
-/// Returns the outcome of a byte with this scalar in the mode; without one it is malformed.
-#[inline]
-fn read_single(mode: Mode, scalar: Option<char>) -> Outcome
-    requires { IfSome scalar IsNarrowScalar }
-    ensures value { result ≡ machine.read_single mode scalar }
-    ensures narrow { IsNarrow result.action }
-{
-    match scalar {
-        Some(c) => Outcome::new(Action::Writes(c), mode, Held::Begun(Start::Nothing)),
-        None => Outcome::new(Action::Reports(1), mode, Held::Begun(Start::Nothing)),
+        Start::Nothing | Start::EscapeByte => None,
+        Start::Dollar => match byte {
+            0x40 => Some(Escape::ToJis1978),
+            0x42 => Some(Escape::ToJis1983),
+            _ => None,
+        },
+        Start::Paren => match byte {
+            0x42 => Some(Escape::ToAscii),
+            0x4A => Some(Escape::ToRoman),
+            0x49 => Some(Escape::ToKatakana),
+            _ => None,
+        },
     }
 }
 
 /// Reads a byte that is not the escape byte, with nothing held back.
 #[inline]
 fn read_plain(mode: Mode, byte: u8) -> Outcome
-    ensures value { result ≡ machine.read_plain mode byte }
-    ensures narrow { IsNarrow result.action }
+    ensures { result ≡ machine.read_plain mode byte }
 {
-    match mode {
-        Mode::TwoByte => read_lead(byte),
-        _ => read_single(mode, single_scalar(mode, byte)),
+    if matches!(mode, Mode::TwoByte) && byte >= 0x21 && byte <= 0x7E {
+        return (Fed::Nothing, mode, Held::Byte(byte));
+    }
+    match single_scalar(mode, byte) {
+        Some(c) => (Fed::One(c), mode, NOTHING),
+        None => malformed(1, false, mode, NOTHING),
     }
 }
 
@@ -313,113 +235,63 @@ fn read_plain(mode: Mode, byte: u8) -> Outcome
 /// An escape byte ends the lead, and is itself held back.
 #[inline]
 fn read_trail(tables: &Tables, lead: u8, byte: u8) -> Outcome
-    requires low { 0x21 ≤ lead }
-    requires high { lead ≤ 0x7E }
-    ensures value { result ≡ machine.read_trail tables.now.flat.jis0208 lead byte }
-    ensures narrow { IsNarrow result.action }
+    requires { 0x21 ≤ lead }
+    ensures { result ≡ machine.read_trail tables.now.flat.jis0208 lead byte }
 {
+    let mode = Mode::TwoByte;
     if byte == ESCAPE {
-        return Outcome::new(
-            Action::Reports(1),
-            Mode::TwoByte,
-            Held::Begun(Start::EscapeByte),
-        );
+        return malformed(1, false, mode, Held::Begun(None, Start::EscapeByte));
     }
-    let mut action = Action::Reports(2);
     if byte >= 0x21 && byte <= 0x7E {
         let pointer = usize::from(lead - 0x21) * 94 + usize::from(byte - 0x21);
-        if let Some(c) = entry(tables, pointer) {
-            action = Action::Writes(c);
+        if let Some(c) = tables.idx(IndexName::Jis0208, pointer) {
+            return (Fed::One(c), mode, NOTHING);
         }
     }
-    Outcome::new(action, Mode::TwoByte, Held::Begun(Start::Nothing))
+    malformed(2, false, mode, NOTHING)
 }
 
-/// Reads a byte after an escape byte and a second byte.
+/// Reads a byte after an escape byte and a second byte, which may follow a whole escape.
 ///
-/// Either the escape is whole, or the escape byte is malformed and the second byte is held back
-/// alone.
+/// Either the next escape is whole, and one directly before it is malformed. Or the escape byte is
+/// malformed and the second byte is held back alone.
 #[inline]
-fn read_third(mode: Mode, second: u8, escape: Option<Escape>) -> Outcome
-    ensures value { result ≡ machine.read_third mode second escape }
-    ensures narrow { IsNarrow result.action }
+fn read_third(mode: Mode, before: Option<Escape>, second: u8, next: Option<Escape>) -> Outcome
+    ensures { result ≡ machine.read_third mode before second next }
 {
-    match escape {
-        Some(escape) => Outcome::new(Action::Holds, mode, Held::Whole(escape, Start::Nothing)),
-        None => Outcome::new(Action::Leaves, mode, Held::Byte(second)),
+    let Some(escape) = next else {
+        return malformed(1, true, mode, Held::Byte(second));
+    };
+    let held = Held::Begun(Some(escape), Start::Nothing);
+    match before {
+        Some(_) => malformed(3, false, mode, held),
+        None => (Fed::Nothing, mode, held),
     }
 }
 
-/// Reads a byte after less than a whole escape.
+/// Reads a byte after less than a whole escape, which may follow a whole one.
+///
+/// The mode of that escape applies from here on.
 #[inline(always)]
-fn read_start(mode: Mode, start: Start, byte: u8) -> Outcome
-    ensures value { result ≡ machine.read_start mode start byte }
-    ensures narrow { IsNarrow result.action }
+fn read_start(mode: Mode, escape: Option<Escape>, start: Start, byte: u8) -> Outcome
+    ensures { result ≡ machine.read_start mode escape start byte }
 {
+    let new_mode = mode_behind(mode, escape);
     match start {
         Start::Nothing => {
             if byte == ESCAPE {
-                Outcome::new(Action::Holds, mode, Held::Begun(Start::EscapeByte))
-            } else {
-                read_plain(mode, byte)
-            }
-        }
-        Start::EscapeByte => {
-            if byte == DOLLAR {
-                Outcome::new(Action::Holds, mode, Held::Begun(Start::Dollar))
-            } else if byte == PAREN {
-                Outcome::new(Action::Holds, mode, Held::Begun(Start::Paren))
-            } else {
-                Outcome::new(Action::Leaves, mode, Held::Begun(Start::Nothing))
-            }
-        }
-        Start::Dollar => read_third(mode, DOLLAR, completed(start, byte)),
-        Start::Paren => read_third(mode, PAREN, completed(start, byte)),
-    }
-}
-
-/// Reads a byte after a whole escape, an escape byte and a second byte.
-///
-/// Either the next escape is whole, and the one before it is malformed because nothing is between
-/// them. Or the escape byte is malformed and the second byte is held back alone.
-#[inline]
-#[tactic(auto, using(std::proofs::lemmas::Grind::common_steps))]
-fn read_next_third(mode: Mode, second: u8, escape: Option<Escape>) -> Outcome
-    ensures value { result ≡ machine.read_next_third mode second escape }
-    ensures narrow { IsNarrow result.action }
-{
-    match escape {
-        Some(next) => Outcome::new(Action::Reports(3), mode, Held::Whole(next, Start::Nothing)),
-        None => Outcome::new(Action::Leaves, mode, Held::Byte(second)),
-    }
-}
-
-/// Reads a byte after a whole escape, whose mode applies from here on.
-#[inline]
-fn read_whole(mode: Mode, escape: Escape, start: Start, byte: u8) -> Outcome
-    ensures value { result ≡ machine.read_whole mode escape start byte }
-    ensures narrow { IsNarrow result.action }
-{
-    let new_mode = escape.mode();
-    match start {
-        Start::Nothing => {
-            if byte == ESCAPE {
-                Outcome::new(Action::Holds, mode, Held::Whole(escape, Start::EscapeByte))
+                (Fed::Nothing, mode, Held::Begun(escape, Start::EscapeByte))
             } else {
                 read_plain(new_mode, byte)
             }
         }
-        Start::EscapeByte => {
-            if byte == DOLLAR {
-                Outcome::new(Action::Holds, mode, Held::Whole(escape, Start::Dollar))
-            } else if byte == PAREN {
-                Outcome::new(Action::Holds, mode, Held::Whole(escape, Start::Paren))
-            } else {
-                Outcome::new(Action::Leaves, new_mode, Held::Begun(Start::Nothing))
-            }
-        }
-        Start::Dollar => read_next_third(new_mode, DOLLAR, completed(start, byte)),
-        Start::Paren => read_next_third(new_mode, PAREN, completed(start, byte)),
+        Start::EscapeByte => match byte {
+            DOLLAR => (Fed::Nothing, mode, Held::Begun(escape, Start::Dollar)),
+            PAREN => (Fed::Nothing, mode, Held::Begun(escape, Start::Paren)),
+            _ => malformed(1, true, new_mode, NOTHING),
+        },
+        Start::Dollar => read_third(new_mode, escape, DOLLAR, completed(start, byte)),
+        Start::Paren => read_third(new_mode, escape, PAREN, completed(start, byte)),
     }
 }
 
@@ -430,13 +302,11 @@ fn read_whole(mode: Mode, escape: Escape, start: Start, byte: u8) -> Outcome
 pub fn read(tables: &Tables, mode: Mode, held: Held, byte: u8) -> Outcome
     requires sound { is_held mode held ≡ true }
     requires rests { is_resting mode held ≡ true }
-    ensures value { result ≡ machine.read tables.now.flat.jis0208 mode held byte }
-    ensures narrow { IsNarrow result.action }
+    ensures { result ≡ machine.read tables.now.flat.jis0208 mode held byte }
 {
     match held {
         Held::Byte(lead) => read_trail(tables, lead, byte),
-        Held::Begun(start) => read_start(mode, start, byte),
-        Held::Whole(escape, start) => read_whole(mode, escape, start, byte),
+        Held::Begun(escape, start) => read_start(mode, escape, start, byte),
     }
 }
 
@@ -444,27 +314,11 @@ pub fn read(tables: &Tables, mode: Mode, held: Held, byte: u8) -> Outcome
 ///
 /// It is that of `24` or `28`, held back outside two-byte mode.
 pub fn pending(mode: Mode, held: Held) -> Option<char>
-    ensures value { result ≡ machine.pending mode held }
-    ensures narrow { IfSome result IsNarrowScalar }
+    ensures { result ≡ machine.pending mode held }
 {
     match held {
         Held::Byte(byte) => single_scalar(mode, byte),
-        Held::Begun(_) => None,
-        Held::Whole(_, _) => None,
-    }
-}
-
-/// Returns what the end of the input leaves after the start of an escape.
-///
-/// The first byte of the start is malformed.
-fn finish_start(mode: Mode, start: Start) -> Option<(Mode, Held)>
-    ensures { result ≡ machine.finish_start mode start }
-{
-    match start {
-        Start::Nothing => None,
-        Start::EscapeByte => Some((mode, Held::Begun(Start::Nothing))),
-        Start::Dollar => Some((mode, Held::Byte(DOLLAR))),
-        Start::Paren => Some((mode, Held::Byte(PAREN))),
+        Held::Begun(_, _) => None,
     }
 }
 
@@ -474,9 +328,14 @@ fn finish_start(mode: Mode, start: Start) -> Option<(Mode, Held)>
 pub fn finish(mode: Mode, held: Held) -> Option<(Mode, Held)>
     ensures { result ≡ machine.finish mode held }
 {
-    match held {
-        Held::Byte(_) => Some((mode, Held::Begun(Start::Nothing))),
-        Held::Begun(start) => finish_start(mode, start),
-        Held::Whole(escape, start) => finish_start(escape.mode(), start),
+    let Held::Begun(escape, start) = held else {
+        return Some((mode, NOTHING));
+    };
+    let new_mode = mode_behind(mode, escape);
+    match start {
+        Start::Nothing => None,
+        Start::EscapeByte => Some((new_mode, NOTHING)),
+        Start::Dollar => Some((new_mode, Held::Byte(DOLLAR))),
+        Start::Paren => Some((new_mode, Held::Byte(PAREN))),
     }
 }

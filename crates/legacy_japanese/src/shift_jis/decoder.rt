@@ -1,10 +1,9 @@
 //! The decoder of Shift_JIS.
-ghost use Rattle.std.specs.{Prelude.{◌*◌, ◌≡◌, ◌+◌, ◌-◌, ◌≤◌, [], option_to_list, IfSome, if◌then◌else◌}, Char.IsScalar};
+ghost use Rattle.std.specs.{Prelude.{◌*◌, ◌≡◌, ◌≤◌, [], option_to_list, IfSome, if◌then◌else◌}, Char.IsScalar};
 ghost use Rattle.legacy_tables.specs.Unicode.{katakana_of};
 ghost use Rattle.legacy_base.specs.{ShiftJis.{is_shift_jis_lead, shift_jis_scalars}, Grammar.shift_jis};
-ghost use Rattle.legacy_japanese.specs.{ShiftJisMachine.{shift_jis_first, shift_jis_pair_scalars}, ShiftJisShown.shift_jis_codec};
-ghost use Rattle.legacy_japanese.specs.ShiftJisLanes.{shift_jis_place};
-ghost use Rattle.legacy_decoder_engine.specs.{Feeding.Took, LeadCodecs.held_bytes};
+ghost use Rattle.legacy_japanese.specs.ShiftJisMachine.{shift_jis_first, shift_jis_pair_scalars};
+ghost use Rattle.legacy_japanese.specs.{ShiftJisPlaces.shift_jis_place, ShiftJisShown.shift_jis_codec};
 
 use super::held_lead::ShiftJisLead;
 use super::places::{LEADS, TRAILS};
@@ -37,26 +36,9 @@ pub struct ShiftJis;
 ///   lead (1 byte), and the ASCII byte is read again.
 pub type ShiftJisDecoder<'a> = LeadDecoder<'a, ShiftJis>;
 
-/// Reads the first byte of a sequence.
-#[inline]
-fn first_byte(byte: u8) -> (Fed, Option<ShiftJisLead>)
-    ensures { Took (shift_jis_first byte) [] byte result.0 (held_bytes (λ l. l.byte) result.1) }
-{
-    if byte <= 0x80 {
-        return (Fed::One(char::from(byte)), None);
-    }
-    if byte >= 0xA1 && byte <= 0xDF {
-        return (Fed::One(katakana(byte)), None);
-    }
-    match ShiftJisLead::new(byte) {
-        Some(lead) => (Fed::Nothing, Some(lead)),
-        None => (malformed_through(1), None),
-    }
-}
-
 /// Returns the half-width katakana of a byte from A1 to DF.
 #[inline]
-fn katakana(byte: u8) -> char
+pub(crate) fn katakana(byte: u8) -> char
     requires low { 0xA1 ≤ byte }
     requires high { byte ≤ 0xDF }
     ensures { result ≡ katakana_of byte }
@@ -95,16 +77,6 @@ fn form_scalar<V: DecoderTables>(tables: &V, lead: u8, trail: u8) -> Option<char
     ensures scalar { IfSome result IsScalar }
 {
     pointer_scalar(tables, pair_pointer(&LEADS, &TRAILS, lead, trail))
-}
-
-/// Returns the scalar of a lead and a trail, or `None`.
-#[inline]
-fn pair_scalar(tables: &Tables<'_>, lead: ShiftJisLead, trail: u8) -> Option<char>
-    ensures value { option_to_list result
-        ≡ shift_jis_pair_scalars tables.now.flat.jis0208 lead.byte trail }
-    ensures scalar { IfSome result IsScalar }
-{
-    form_scalar(tables, lead.byte, trail)
 }
 
 impl LaneCodec for ShiftJis {
@@ -187,12 +159,21 @@ impl LeadCodec for ShiftJis {
 
     #[inline]
     fn read_first(byte: u8) -> (Fed, Option<ShiftJisLead>) {
-        first_byte(byte)
+        if byte <= 0x80 {
+            return (Fed::One(char::from(byte)), None);
+        }
+        if byte >= 0xA1 && byte <= 0xDF {
+            return (Fed::One(katakana(byte)), None);
+        }
+        match ShiftJisLead::new(byte) {
+            Some(lead) => (Fed::Nothing, Some(lead)),
+            None => (malformed_through(1), None),
+        }
     }
 
     #[inline]
     fn read_pair(tables: &Tables<'_>, lead: ShiftJisLead, trail: u8) -> Fed {
-        read_trail(pair_scalar(tables, lead, trail), trail)
+        read_trail(form_scalar(tables, lead.byte, trail), trail)
     }
 
     #[inline]
