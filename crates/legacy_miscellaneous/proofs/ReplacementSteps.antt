@@ -1,5 +1,5 @@
 -- The machine of the replacement decoder agrees with its grammar, and its moves hold nothing back.
-use Rattle.std.proofs.{Common.{◌≡◌, ℕ, [], Bool, true, false, refl, arith}, lemmas.{Bool.false≢true, List.Elements.All-nil}}
+use Rattle.std.proofs.{Common.{◌≡◌, ℕ, [], Bool, true, refl, arith}, lemmas.{Bool.false≢true, List.Elements.All-nil}}
 use Rattle.{legacy_tables.specs.Unicode.IsByte, legacy_base.specs.{Grammar.{replacement, events_of}, States.state_of, Lengths.{LengthQuery, query_form}}}
 use Rattle.{legacy_base.specs.Replacement.replacement_events, legacy_decoder_engine.specs.{declared.moves.Fed.Fed, Feeding.fed_of}}
 use Rattle.legacy_decoder_engine.{specs.{Moves.{IsCovered, Feeds}, Steps.Meets, Shown.{KeepsRooms, IsShown}}, proofs.OneByteMeets.{few_held, no_report}}

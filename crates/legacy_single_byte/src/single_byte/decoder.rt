@@ -1,10 +1,8 @@
 //! The decoder of the single-byte encodings.
-ghost use Rattle.std.specs.Prelude.{◌≡◌, ◌≤◌, [], length, take, IsAscii};
+ghost use Rattle.std.specs.Prelude.{◌≡◌, ◌≤◌, length, take, IsAscii};
 ghost use Rattle.legacy_base.specs.Grammar.{single_byte};
 ghost use Rattle.legacy_base.specs.Latin1.{is_latin1_byte, latin1_front};
 ghost use Rattle.legacy_base.specs.States.{new_state};
-ghost use Rattle.legacy_single_byte.specs.SingleByteMachine.{single_byte_first};
-ghost use Rattle.legacy_decoder_engine.specs.Feeding.{Took};
 
 use super::blocks::read_text;
 use super::scalars::ByteScalars;
@@ -20,24 +18,6 @@ use std::simd::prelude::*;
 #[derive(Drop)]
 pub struct SingleByteDecoder<'a> {
     scalars: ByteScalars<'a>,
-}
-
-/// Returns what a byte decodes to.
-#[inline]
-fn read_byte(table: &SingleByteTable, byte: u8) -> Fed
-    ensures { Took (single_byte_first table.now.entries byte) [] byte result [] }
-{
-    if byte < 0x80 {
-        return Fed::One(char::from(byte));
-    }
-    match table.scalar(usize::from(byte - 0x80)) {
-        Some(scalar) => Fed::One(scalar),
-        None => Fed::MalformedSequence {
-            length: 1,
-            back: 0,
-            unread: false,
-        },
-    }
 }
 
 /// Checks whether the byte decodes to the scalar of the same number.
@@ -106,7 +86,7 @@ impl DecoderMoves for SingleByteDecoder<'_> {
     }
 
     #[inline]
-    #[tactic(auto, using(crate::proofs::SingleByteSteps::covered))]
+    #[tactic(auto, using(crate::proofs::SingleByteShown::covered))]
     fn reading_room(&self, byte: u8) -> Room {
         if byte < 0x80 {
             Room::Unit
@@ -116,7 +96,7 @@ impl DecoderMoves for SingleByteDecoder<'_> {
     }
 
     #[inline]
-    #[tactic(auto, using(crate::proofs::SingleByteSteps::covered))]
+    #[tactic(auto, using(crate::proofs::SingleByteShown::covered))]
     fn release_room(&self) -> Room {
         Room::Narrow
     }
@@ -126,18 +106,28 @@ impl DecoderMoves for SingleByteDecoder<'_> {
     }
 
     #[inline]
-    #[tactic(auto, using(crate::proofs::SingleByteSteps::feeds))]
+    #[tactic(auto, using(crate::proofs::SingleByteShown::feeds))]
     fn feed(&mut self, byte: u8) -> Fed {
-        read_byte(self.scalars.table, byte)
+        if byte < 0x80 {
+            return Fed::One(char::from(byte));
+        }
+        match self.scalars.table.scalar(usize::from(byte - 0x80)) {
+            Some(scalar) => Fed::One(scalar),
+            None => Fed::MalformedSequence {
+                length: 1,
+                back: 0,
+                unread: false,
+            },
+        }
     }
 
     #[inline]
-    #[tactic(auto, using(crate::proofs::SingleByteSteps::ends_none))]
+    #[tactic(auto, using(crate::proofs::SingleByteShown::ends_none))]
     fn has_rest(&self) -> bool {
         false
     }
 
-    #[tactic(auto, using(crate::proofs::SingleByteSteps::ends_none))]
+    #[tactic(auto, using(crate::proofs::SingleByteShown::ends_none))]
     fn report(&mut self) -> Option<(u8, u8)> {
         None
     }

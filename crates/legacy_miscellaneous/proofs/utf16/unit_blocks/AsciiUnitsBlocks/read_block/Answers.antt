@@ -1,4 +1,4 @@
-use Rattle.{std.proofs.Common.{◌*◌, arith}, legacy_miscellaneous.proofs.Utf16Runs.{ascii_block, reads_block}}
+use Rattle.{std.proofs.Common.{arith}, legacy_miscellaneous.proofs.Utf16Runs.{ascii_block, reads_block}}
 use Rattle.legacy_miscellaneous.proofs.utf16.unit_blocks.AsciiUnitsBlocks.read_block.Goals as goal
 
 pub put_block-requires-clause-ascii : goal.put_block-requires-clause-ascii
