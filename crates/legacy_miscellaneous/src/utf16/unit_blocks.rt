@@ -11,7 +11,7 @@ ghost use Rattle.legacy_decoder_engine.specs.ReadAhead.{ReadsAhead};
 ghost use Rattle.legacy_miscellaneous.specs.Utf16Decoder.{HasAsciiUnits, IsNarrow, AreUnitsBelow};
 
 use super::unit_steps::unit;
-use super::vectors::{eight_units, greater_units, sixteen_units};
+use super::vectors::{eight_units, sixteen_units};
 use legacy_base::Destination;
 use legacy_decoder_engine::common_forms::{CommonForm, CommonForms, read_forms};
 use legacy_decoder_engine::read_ahead::{Blocks, read_blocks};
@@ -156,8 +156,7 @@ impl Units {
         let mut greatest = eight_units(self.big_endian, src);
         let mut group = 1;
         while group < eights {
-            let units = eight_units(self.big_endian, &src[16 * group..]);
-            greatest = greater_units(greatest, units);
+            greatest = greatest.simd_max(eight_units(self.big_endian, &src[16 * group..]));
             group += 1;
         }
         are_all_below(greatest, bound)

@@ -2,7 +2,7 @@
 // Functions that run for each block are always inlined. A call would pass vectors through memory, and
 // keep the destination's place there.
 ghost use Rattle.std.specs.Prelude.{◌≡◌, ◌<◌, ◌≤◌, ℕ, length, slice_index};
-ghost use Rattle.legacy_miscellaneous.specs.Utf16Decoder.{unit_at, AreBelow};
+ghost use Rattle.legacy_miscellaneous.specs.Utf16Decoder.{unit_at};
 
 use std::simd::prelude::*;
 
@@ -35,12 +35,4 @@ pub fn sixteen_units(big_endian: bool, src: &[u8]) -> u16x16
         24, 27, 26, 29, 28, 31, 30,
     ]);
     u16x16::from_le_bytes(swapped)
-}
-
-/// Returns the greater unit of each lane.
-#[inline(always)]
-pub fn greater_units(a: u16x8, b: u16x8) -> u16x8
-    ensures { (n : ℕ) → AreBelow n result → AreBelow n a × AreBelow n b }
-{
-    a.simd_max(b)
 }
