@@ -1,9 +1,8 @@
 -- The runs of the single-byte decoders.
 use Rattle.std.proofs.Common.{rules, IsAscii, ◌≡◌, ◌∙◌, ℕ, List, ◌+◌, ◌-◌, ◌≤◌, ◌<◌, ◌^◌, ◌++◌, zero, suc, length, take, drop, get_or}
-use Rattle.std.proofs.Common.{cond, ltb, Some, refl, ap}
-use Rattle.std.proofs.{Common.{arith, All, set, inl, inr}, lemmas.Bool.{Decides.nat_tests, cases_lt}}
-use Rattle.std.proofs.lemmas.List.{get_or_past, get_or-set_same, get_or-set_other}
-use Rattle.std.proofs.{lemmas.List.{take_all, take_more, take-take, get_or-take, get_or-drop, length-drop, length-take, length-take-le}, lemmas.List.Elements.All-from_get_or, Math.Seq.take-append_seam}
+use Rattle.std.proofs.{Common.{cond, ltb, Some, refl, ap, arith, All}, lemmas.Bool.Decides.nat_tests, lemmas.List.Elements.All-from_get_or}
+use Rattle.std.proofs.lemmas.List.{get_or_past, take_all, take_more, take-take, get_or-take, get_or-drop, length-drop, length-take, length-take-le}
+use Rattle.std.proofs.Math.Seq.{take-append_seam}
 use Rattle.std.specs.Char.{IsScalar}
 use Rattle.legacy_text.specs.{declared.destination.Destination.Ghosts, EncodingForm.{all_code_units, total_unit_count}}
 use Rattle.legacy_base.specs.{States.{DecoderState, new_state}, Grammar.single_byte}
@@ -91,15 +90,6 @@ past_of source past are i h =
     let below : i < 64 = omega (arith, h) in
     let place : i ≡ 0 + i = omega arith in
     are i below ∙ ap (λ b. cond (ltb b 128) 0 1) (get_or-take 64 source i 0 below) ∙ ap (λ j. cond (ltb (get_or source j 0) 128) 0 1) place
-
--- one more entry of a list, where each is one of a place of the table
-pub one_more : (P : ℕ → ℕ → Type 0) (table entries : List ℕ) (n entry : ℕ) → n < length entries →
-    ((k : ℕ) → k < n → P (get_or table k 0) (get_or entries k 0)) → P (get_or table n 0) entry →
-    (k : ℕ) → k < n + 1 → P (get_or table k 0) (get_or (set entries n entry) k 0)
-one_more P table entries n entry within before one k h = elim (cases_lt k n) [
-  | inl less ↦ rw (get_or-set_other entries n k entry 0 (λ same. omega (arith, less, same))) (before k less)
-  | inr most ↦ let same : k ≡ n = omega (arith, h, most) in rw (same, get_or-set_same entries n entry 0 within) one
-]
 
 -- the lemmas for the functions that read blocks
 pub ruleset steps = (writes_none, writes_one, three_fit, short, reads_none, reads_padded, take-append_seam, length-take-le)

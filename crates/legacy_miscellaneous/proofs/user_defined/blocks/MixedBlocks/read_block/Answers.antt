@@ -1,4 +1,5 @@
-use Rattle.{std.proofs.Common.arith, legacy_decoder_engine.proofs.JoinedRuns.reads_more, legacy_miscellaneous.proofs.UserDefinedRuns.{is_single, reads_front, reads_byte}}
+use Rattle.{std.proofs.Common.arith, legacy_decoder_engine.proofs.JoinedRuns.reads_more}
+use Rattle.legacy_miscellaneous.proofs.UserDefinedRuns.{is_single, reads_front, reads_byte}
 use Rattle.legacy_miscellaneous.proofs.user_defined.blocks.MixedBlocks.read_block.Goals as goal
 
 pub returns-then-src-count-lt128-clause-ahead : goal.returns-then-src-count-lt128-clause-ahead
