@@ -5,8 +5,9 @@ use Rattle.{std.{proofs.lemmas.List.{length-drop, get_or-drop}, specs.Char.IsSca
 use Rattle.{legacy_base.specs.Grammar.user_defined, legacy_text.specs.{declared.destination.Destination.Ghosts, EncodingForm.{code_units, all_code_units}}}
 use Rattle.{legacy_text.specs.EncodingForm.total_unit_count, legacy_decoder_engine.specs.{declared.moves.Fed.TheVariants.One, ReadAhead.{Runs, IsSingle}}}
 use Rattle.legacy_decoder_engine.{specs.{ReadAhead.{HasAscii, ReadsAhead}, Moves.Feeds}, proofs.RunForms.{ascii_is, single_runs, has_ascii}}
-use Rattle.legacy_decoder_engine.proofs.{JoinedRuns.{reads_more, reads_written, reads_ascii}, WrittenRuns.{runs_none, runs_more, rest_of, all_short, short, reads_none}}
-use Rattle.{legacy_decoder_engine.proofs.WrittenRuns.{three_fit, writes_none, writes_one}, legacy_miscellaneous.specs.UserDefinedMachine.unit_of_byte}
+use Rattle.legacy_decoder_engine.proofs.JoinedRuns.{reads_more, reads_written, reads_ascii}
+use Rattle.legacy_decoder_engine.proofs.WrittenRuns.{runs_none, runs_more, rest_of, all_short, short, reads_none, three_fit, writes_none, writes_one}
+use Rattle.legacy_miscellaneous.specs.UserDefinedMachine.{unit_of_byte}
 use Rattle.legacy_miscellaneous.proofs.UserDefinedShown.{user_defined_shown}
 use Rattle.legacy_decoder_engine.proofs.Feeding as moves
 

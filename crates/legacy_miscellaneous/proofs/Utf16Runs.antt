@@ -5,7 +5,8 @@ use Rattle.{std.specs.{Prelude.IsAscii, Char.IsScalar}, legacy_text.specs.{decla
 use Rattle.{legacy_text.specs.EncodingForm.total_unit_count, legacy_tables.specs.Unicode.IsByte, legacy_base.specs.{Grammar.utf16, Utf16.unit_of}}
 use Rattle.{legacy_base.specs.States.new_state, legacy_decoder_engine.{specs.ReadAhead.{Runs, IsPair, Writes, ReadsAhead}, proofs.RunForms.pair_runs}}
 use Rattle.legacy_decoder_engine.proofs.{JoinedRuns.reads_written, WrittenRuns.{runs_none, runs_more, take_two, writes_two, rest_of, writes_run}}
-use Rattle.{legacy_decoder_engine.proofs.WrittenRuns.{all_code_units_ascii, all_short, short, three_fit, writes_none, reads_none}, legacy_miscellaneous.specs.Utf16Decoder.{HasAsciiUnits, AreUnitsBelow}}
+use Rattle.legacy_decoder_engine.proofs.WrittenRuns.{all_code_units_ascii, all_short, short, three_fit, writes_none, reads_none}
+use Rattle.legacy_miscellaneous.specs.Utf16Decoder.{HasAsciiUnits, AreUnitsBelow}
 use Rattle.legacy_text.proofs.Ascii.{ascii_front}
 use Rattle.legacy_miscellaneous.{specs.Utf16Decoder.unit_at, proofs.{Utf16Held.{unit_below, utf16_shown}, UserDefinedRuns.rest_bytes}}
 
