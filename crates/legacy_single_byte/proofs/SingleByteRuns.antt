@@ -92,4 +92,4 @@ past_of source past are i h =
     are i below ∙ ap (λ b. cond (ltb b 128) 0 1) (get_or-take 64 source i 0 below) ∙ ap (λ j. cond (ltb (get_or source j 0) 128) 0 1) place
 
 -- the lemmas for the functions that read blocks
-pub ruleset steps = (writes_none, writes_one, three_fit, short, reads_none, reads_padded, take-append_seam, length-take-le)
+pub ruleset steps = (past_of, writes_none, writes_one, three_fit, short, reads_none, reads_padded, take-append_seam, length-take-le)

@@ -30,6 +30,7 @@ fn is_latin1(table: &SingleByteTable, byte: u8) -> bool
 
 /// Returns the number of bytes at the front that are in whole blocks of 16 ASCII bytes.
 #[inline]
+#[tactic(auto, using(crate::proofs::Latin1Fronts::steps))]
 fn ascii_blocks(bytes: &[u8]) -> usize
     ensures within { result ≤ length bytes.now }
     ensures ascii { IsAscii (take result bytes.now) }
@@ -64,6 +65,7 @@ impl<'a> SingleByteDecoder<'a> {
     ///
     /// Each of them decodes to the scalar of the same number, as every ASCII byte does. The result
     /// is `bytes.len()` if all bytes do. The decoder is unchanged.
+    #[tactic(auto, using(crate::proofs::Latin1Fronts::steps))]
     pub fn latin1_byte_compatible_up_to(&self, bytes: &[u8]) -> usize
         ensures { result ≡ length (latin1_front (single_byte_entries self.now) bytes.now) }
     {

@@ -1,10 +1,7 @@
 use Rattle.std.proofs.Common.{arith}
-use Rattle.legacy_decoder_engine.proofs.{JoinedRuns.reads_front, WrittenRuns.{writes_none, writes_one, short}}
-use Rattle.legacy_single_byte.proofs.SingleByteRuns.{ascii_next, past_of}
+use Rattle.legacy_decoder_engine.proofs.{JoinedRuns.reads_front, WrittenRuns.{writes_one, short}}
+use Rattle.legacy_single_byte.proofs.SingleByteRuns.{ascii_next}
 use Rattle.legacy_single_byte.proofs.single_byte.blocks.FrontsParts.read_part.Goals as goal
-
-pub loop-at-init : goal.loop-at-init
-loop-at-init g c = grind (arith, past_of, writes_none)
 
 pub returns-then-at-gt0-clause-ahead : goal.returns-then-at-gt0-clause-ahead
 returns-then-at-gt0-clause-ahead g c =
