@@ -6,4 +6,3 @@ pub mod Utf16Cut
 pub mod Utf16Held
 pub mod Utf16Runs
 pub mod Utf16Vectors
-pub mod Utf16Bounds

@@ -1,10 +1,10 @@
 -- The machine of the replacement decoder agrees with its grammar, and its moves hold nothing back.
-use Rattle.std.proofs.{Common.{◌≡◌, ℕ, [], Bool, true, false, refl, arith}, lemmas.{Bool.false≢true, List.Elements.All-nil}}
+use Rattle.std.proofs.{Common.{◌≡◌, ℕ, [], Bool, true, refl, arith}, lemmas.{Bool.false≢true, List.Elements.All-nil}}
 use Rattle.{legacy_tables.specs.Unicode.IsByte, legacy_base.specs.{Grammar.{replacement, events_of}, States.state_of, Lengths.{LengthQuery, query_form}}}
-use Rattle.{legacy_base.specs.Replacement.replacement_events, legacy_decoder_engine.specs.declared.moves.Fed.TheVariants.{Nothing, MalformedSequence}}
+use Rattle.{legacy_base.specs.Replacement.replacement_events, legacy_decoder_engine.specs.{declared.moves.Fed.Fed, Feeding.fed_of}}
 use Rattle.legacy_decoder_engine.{specs.{Moves.{IsCovered, Feeds}, Steps.Meets, Shown.{KeepsRooms, IsShown}}, proofs.OneByteMeets.{few_held, no_report}}
 use Rattle.legacy_decoder_engine.proofs.{RoomMoves.{no_short_room, cond_most}, Widths.width_of, CallUnderWay.same_rooms}
-use Rattle.legacy_miscellaneous.specs.ReplacementMachine.{replacement_machine}
+use Rattle.legacy_miscellaneous.specs.ReplacementMachine.{replacement_first, replacement_machine}
 use Rattle.legacy_decoder_engine.proofs.Feeding as moves
 
 module _ (reported : Bool) where
@@ -24,12 +24,6 @@ module _ (reported : Bool) where
   pub ends_none : events_of (replacement reported) [] ≡ []
   ends_none = moves.ends_none shown [] refl (All-nil IsByte) refl refl
 
--- the first byte is reported as malformed
-pub feeds_first : (reported : Bool) (b : ℕ) → IsByte b → reported ≡ false →
-    Feeds (state_of (replacement reported) []) b (state_of (replacement true) []) (MalformedSequence 1 0 false)
-feeds_first reported b byte e = rw e (moves.feeds (shown false) [] refl (All-nil IsByte) b byte refl (MalformedSequence 1 0 false) [] (grind arith))
-
--- each byte after it is dropped
-pub feeds_more : (reported : Bool) (b : ℕ) → IsByte b → reported ≡ true →
-    Feeds (state_of (replacement reported) []) b (state_of (replacement reported) []) Nothing
-feeds_more reported b byte e = rw e (moves.feeds (shown true) [] refl (All-nil IsByte) b byte refl Nothing [] (grind arith))
+  pub feeds : (b : ℕ) → IsByte b → (fed : Fed) → fed ≡ fed_of (replacement_first reported) [] b →
+      Feeds (state_of (replacement reported) []) b (state_of (replacement true) []) fed
+  feeds b byte fed is = moves.feeds shown [] refl (All-nil IsByte) b byte refl fed [] (grind arith)

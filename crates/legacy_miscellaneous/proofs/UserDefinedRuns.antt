@@ -5,8 +5,9 @@ use Rattle.{std.{proofs.lemmas.List.{length-drop, get_or-drop}, specs.Char.IsSca
 use Rattle.{legacy_base.specs.Grammar.user_defined, legacy_text.specs.{declared.destination.Destination.Ghosts, EncodingForm.{code_units, all_code_units}}}
 use Rattle.{legacy_text.specs.EncodingForm.total_unit_count, legacy_decoder_engine.specs.{declared.moves.Fed.TheVariants.One, ReadAhead.{Runs, IsSingle}}}
 use Rattle.legacy_decoder_engine.{specs.{ReadAhead.{HasAscii, ReadsAhead}, Moves.Feeds}, proofs.RunForms.{ascii_is, single_runs, has_ascii}}
-use Rattle.legacy_decoder_engine.proofs.{JoinedRuns.{reads_more, reads_written, reads_ascii}, WrittenRuns.{runs_none, runs_more, rest_of, all_short, short}}
-use Rattle.{legacy_decoder_engine.proofs.WrittenRuns.{three_fit, one_unit, writes_none, writes_one}, legacy_miscellaneous.specs.UserDefinedUnits.unit_of_byte}
+use Rattle.legacy_decoder_engine.proofs.JoinedRuns.{reads_more, reads_written, reads_ascii}
+use Rattle.legacy_decoder_engine.proofs.WrittenRuns.{runs_none, runs_more, rest_of, all_short, short, reads_none, three_fit, writes_none, writes_one}
+use Rattle.legacy_miscellaneous.specs.UserDefinedMachine.{unit_of_byte}
 use Rattle.legacy_miscellaneous.proofs.UserDefinedShown.{user_defined_shown}
 use Rattle.legacy_decoder_engine.proofs.Feeding as moves
 
@@ -61,16 +62,17 @@ eight_more T source units {old} {mid} {new} at bytes within long before enough a
 
 -- ---- ASCII, and a byte after it
 
-module _ {D : Type 0} (T : Ghosts D) (source : List ℕ) (r : ℕ) (old mid : D) (few : r ≤ 64) (long : 64 < length source) (ascii : IsAscii (take r source))
-    (enough : 70 ≤ T.room old) (contents : T.contents mid ≡ T.contents old ++ take r source) (room : T.room mid + r ≡ T.room old)
-    (loan : T.loan mid ≡ T.loan old)
-  where
-    pub reads_front : ReadsAhead T (new_state user_defined) source r old mid
-    reads_front = reads_ascii user_defined_ascii (omega arith) ascii contents room loan (λ h. omega (arith, room))
+module _ {D : Type 0} (T : Ghosts D) (source : List ℕ) (r : ℕ) {old mid : D} where
+  pub reads_front : r ≤ 64 → 64 ≤ length source → IsAscii (take r source) → 67 ≤ T.room old → T.contents mid ≡ T.contents old ++ take r source →
+      T.room mid + r ≡ T.room old → T.loan mid ≡ T.loan old → ReadsAhead T (new_state user_defined) source r old mid
+  reads_front few long ascii enough contents room loan =
+      reads_ascii user_defined_ascii (omega arith) ascii contents room loan (λ h. omega (arith, room))
 
-    pub reads_byte : (new : D) (c : ℕ) → r < 64 → IsSingle user_defined (get_or source r 0) c → T.contents new ≡ T.contents mid ++ code_units T.form c
-        → T.room new + length (code_units T.form c) ≡ T.room mid → T.loan new ≡ T.loan mid → ReadsAhead T (new_state user_defined) source (r + 1) old new
-    reads_byte new c less single more less_room same = grind (arith, reads_front, writes_one, reads_written, short)
+  pub reads_byte : {new : D} (c : ℕ) → ReadsAhead T (new_state user_defined) source r old mid → r < length source → 7 ≤ T.room mid →
+      IsSingle user_defined (get_or source r 0) c → T.contents new ≡ T.contents mid ++ code_units T.form c →
+      T.room new + length (code_units T.form c) ≡ T.room mid → T.loan new ≡ T.loan mid → ReadsAhead T (new_state user_defined) source (r + 1) old new
+  reads_byte c before within enough single contents room loan = grind (arith, writes_one, reads_written, short)
 
--- the lemmas for a loop that reads bytes one by one
-pub ruleset byte_steps = (writes_none, writes_one, one_unit, three_fit, short, is_single)
+-- the lemmas for the functions that read blocks
+pub ruleset steps =
+    (writes_none, writes_one, three_fit, short, is_single, reads_none, reads_front, reads_byte, unit_scalar)

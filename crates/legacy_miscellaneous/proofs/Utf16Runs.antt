@@ -5,7 +5,8 @@ use Rattle.{std.specs.{Prelude.IsAscii, Char.IsScalar}, legacy_text.specs.{decla
 use Rattle.{legacy_text.specs.EncodingForm.total_unit_count, legacy_tables.specs.Unicode.IsByte, legacy_base.specs.{Grammar.utf16, Utf16.unit_of}}
 use Rattle.{legacy_base.specs.States.new_state, legacy_decoder_engine.{specs.ReadAhead.{Runs, IsPair, Writes, ReadsAhead}, proofs.RunForms.pair_runs}}
 use Rattle.legacy_decoder_engine.proofs.{JoinedRuns.reads_written, WrittenRuns.{runs_none, runs_more, take_two, writes_two, rest_of, writes_run}}
-use Rattle.{legacy_decoder_engine.proofs.WrittenRuns.{all_code_units_ascii, all_short}, legacy_miscellaneous.specs.Utf16Decoder.{HasAsciiUnits, AreUnitsBelow}}
+use Rattle.legacy_decoder_engine.proofs.WrittenRuns.{all_code_units_ascii, all_short, short, three_fit, writes_none, reads_none}
+use Rattle.legacy_miscellaneous.specs.Utf16Decoder.{HasAsciiUnits, AreUnitsBelow}
 use Rattle.legacy_text.proofs.Ascii.{ascii_front}
 use Rattle.legacy_miscellaneous.{specs.Utf16Decoder.unit_at, proofs.{Utf16Held.{unit_below, utf16_shown}, UserDefinedRuns.rest_bytes}}
 
@@ -106,3 +107,6 @@ writes_unit T be source at c bytes within before scalar is contents room loan =
     let place : 2 * (at + 1) ≡ 2 * at + 2 = omega arith in
     let run = unit_pair be _ _ c (bytes (2 * at)) (bytes (2 * at + 1)) is (rw is scalar) in
     rw place (writes_two T source (2 * at) c within before run.1 contents room loan)
+
+-- the lemmas for the functions that read blocks
+pub ruleset steps = (reads_none, reads_block, writes_none, writes_unit, three_fit, short, unit_pair)

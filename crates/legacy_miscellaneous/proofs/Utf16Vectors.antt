@@ -1,15 +1,17 @@
--- The units of a vector of bytes.
-use Rattle.std.proofs.Common.{◌≡◌, ◌∙◌, ℕ, ◌+◌, ◌-◌, ◌*◌, ◌%◌, ◌<◌, ◌≤◌, List, ◌++◌, true, false, length, map, take, get_or, sym, subst, arith}
+-- The units of a vector of bytes, and the greater ones of two vectors.
+use Rattle.std.proofs.Common.{◌≡◌, ◌∙◌, ℕ, ◌+◌, ◌-◌, ◌*◌, ◌%◌, ◌<◌, ◌≤◌, List, ◌++◌, Bool, true, false, length, map, take, get_or, sym, subst, arith}
 use Rattle.std.proofs.lemmas.List.{get_or-take, get_or_append_left, length-take-le, FromFn.{get_or-map-range_with_len, length-map-range_with_len}}
 use Rattle.{std.specs.{List.range_with_len, Simd.Lanes.{number_l, digits_l}}, legacy_tables.specs.Unicode.IsByte, legacy_text.proofs.ScalarTurns.lane}
-use Rattle.legacy_miscellaneous.specs.Utf16Decoder.{unit_at}
+use Rattle.legacy_miscellaneous.specs.Utf16Decoder.{unit_at, AreBelow}
+use Rattle.std.proofs.{Common.{zero, suc, ◌^◌, cond, ltb, ◌∷◌}, lemmas.Bool.Decides.nat_tests}
+use lib.Lanes.{zip2, sel_l, top}
 
 -- units in little-endian order
-pub little : (n : ℕ) (src : List ℕ) → 2 * n ≤ length src → ((i : ℕ) → IsByte (get_or src i 0)) → (k : ℕ) → k < n
-    → get_or (digits_l 65536 n (number_l 256 (take (2 * n) src))) k 0 ≡ unit_at false src k
-little n src within are k h =
+pub little : (n : ℕ) (be : Bool) (src : List ℕ) → be ≡ false → 2 * n ≤ length src → ((i : ℕ) → IsByte (get_or src i 0)) → (k : ℕ) → k < n
+    → get_or (digits_l 65536 n (number_l 256 (take (2 * n) src))) k 0 ≡ unit_at be src k
+little n be src is within are k h =
     lane n (take (2 * n) src) k (λ i l. subst IsByte (sym (get_or-take (2 * n) src i 0 l)) (are i)) (length-take-le (2 * n) src within) h
-    ∙ rw (get_or-take (2 * n) src (2 * k) 0 (omega arith), get_or-take (2 * n) src (2 * k + 1) 0 (omega arith)) (omega arith)
+    ∙ rw (is, get_or-take (2 * n) src (2 * k) 0 (omega arith), get_or-take (2 * n) src (2 * k + 1) 0 (omega arith)) (omega arith)
 
 -- ---- units in big-endian order: the bytes of each are swapped
 
@@ -21,11 +23,22 @@ swapped_at n src within i h =
     let swap : ℕ → ℕ = λ i. get_or (take (2 * n) src ++ take (2 * n) src) (i + 1 - 2 * (i % 2)) 0 in
     grind (arith, get_or-map-range_with_len swap 0 (2 * n) i, get_or_append_left, get_or-take, length-take-le)
 
-pub big : (n : ℕ) (src : List ℕ) → 2 * n ≤ length src → ((i : ℕ) → IsByte (get_or src i 0)) → (k : ℕ) → k < n
-    → get_or (digits_l 65536 n (number_l 256 (swapped n src))) k 0 ≡ unit_at true src k
-big n src within are k h =
+pub big : (n : ℕ) (be : Bool) (src : List ℕ) → be ≡ true → 2 * n ≤ length src → ((i : ℕ) → IsByte (get_or src i 0)) → (k : ℕ) → k < n
+    → get_or (digits_l 65536 n (number_l 256 (swapped n src))) k 0 ≡ unit_at be src k
+big n be src is within are k h =
     let high : 2 * k + 1 + 1 - 2 * ((2 * k + 1) % 2) ≡ 2 * k = omega arith in
     let low : 2 * k + 1 - 2 * ((2 * k) % 2) ≡ 2 * k + 1 = omega arith in
     let long = length-map-range_with_len (λ i. get_or (take (2 * n) src ++ take (2 * n) src) (i + 1 - 2 * (i % 2)) 0) 0 (2 * n) in
     lane n (swapped n src) k (λ i l. rw (swapped_at n src within i l) (are (i + 1 - 2 * (i % 2)))) long h
-    ∙ rw (swapped_at n src within (2 * k + 1) (omega arith), swapped_at n src within (2 * k) (omega arith), high, low) (omega arith)
+    ∙ rw (is, swapped_at n src within (2 * k + 1) (omega arith), swapped_at n src within (2 * k) (omega arith), high, low) (omega arith)
+
+-- ---- the greater of two units, lane by lane
+
+abbrev greater : List ℕ → List ℕ → List ℕ
+greater xs ys = sel_l (map (top 15) (zip2 (λ a b. cond (ltb a b) (2 ^ 16 - 1) 0) xs ys)) ys xs
+
+pub both_below : (n : ℕ) (xs ys : List ℕ) → length xs ≡ length ys → AreBelow n (greater xs ys) → AreBelow n xs × AreBelow n ys
+both_below n (x ∷ xs) (y ∷ ys) long below =
+    let tail = both_below n xs ys (omega arith) (λ k h. below (suc k) (omega arith)) in
+    grind (arith, nat_tests, below zero, tail)
+both_below n xs ys long below = grind arith

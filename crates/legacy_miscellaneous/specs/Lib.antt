@@ -5,7 +5,6 @@ pub mod UserDefinedCodes
 pub mod UserDefinedDecoder
 pub mod UserDefinedEncoder
 pub mod UserDefinedMachine
-pub mod UserDefinedUnits
 pub mod Utf16Decoder
 pub mod Utf16Fronts
 pub mod Utf16Machine

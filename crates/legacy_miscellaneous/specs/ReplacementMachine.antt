@@ -2,8 +2,7 @@
 use Rattle.std.specs.Prelude.{[], Bool, true, if◌then◌else◌}
 use Rattle.legacy_base.specs.Fronts.{reads, malformed}
 use Rattle.legacy_base.specs.Grammar.{replacement}
-use Rattle.legacy_decoder_engine.specs.Steps.{no_pending}
-use Rattle.legacy_decoder_engine.specs.Steps.{Step, finish, DecoderMachine}
+use Rattle.legacy_decoder_engine.specs.Steps.{Step, finish, no_pending, DecoderMachine}
 
 -- the malformed sequence is reported once, and each later byte is dropped
 abbrev pub replacement_first : Bool → Step

@@ -3,10 +3,13 @@ use Rattle.std.specs.Prelude.{ℕ, ◌+◌, ◌-◌, [], ◌∷◌, if◌then◌
 use Rattle.std.specs.Char.{is_ascii}
 use Rattle.legacy_base.specs.Fronts.{reads}
 use Rattle.legacy_base.specs.Grammar.{user_defined}
-use Rattle.legacy_decoder_engine.specs.Steps.{no_pending}
-use Rattle.legacy_decoder_engine.specs.Steps.{Step, finish, DecoderMachine}
+use Rattle.legacy_decoder_engine.specs.Steps.{Step, finish, no_pending, DecoderMachine}
 
--- the step at a byte: ASCII is itself, 80 to FF are U+F780 to U+F7FF
+-- the code unit of a byte: ASCII is itself, 80 to FF are U+F780 to U+F7FF
+abbrev pub unit_of_byte : ℕ → ℕ
+unit_of_byte b = if is_ascii b then b else 0xF780 + (b - 0x80)
+
+-- the step at a byte, by the same two cases
 abbrev pub user_defined_first : ℕ → Step
 user_defined_first b =
     if is_ascii b then finish (reads 1 (b ∷ []))

@@ -6,7 +6,7 @@ use Rattle.legacy_text.specs.UnitCodes.{IsNoSurrogate}
 use Rattle.legacy_tables.specs.{Indexes.{idx}, TableChecks.IsAcceptedTable}
 use Rattle.legacy_base.specs.SingleByte.{single_byte_code}
 use Rattle.legacy_tables.proofs.{Accepted.entry_scalar-is, AcceptedTable.{position-idx, within, table-scalars, table-below}}
-use Rattle.legacy_tables.proofs.FirstPlaces.{find-none-at}
+use Rattle.{std.proofs.lemmas.Grind.common_steps, legacy_tables.proofs.FirstPlaces.{find-first, find-none-at}}
 use Rattle.legacy_single_byte.specs.SingleByteRun.{IsRun, first_mismatch}
 
 pub run_holds : (table : List ℕ) (scalar start count : ℕ) → first_mismatch table scalar start count ≡ None → IsRun table scalar start count
@@ -46,3 +46,6 @@ module _ (table : List ℕ) (accepted : IsAcceptedTable table) (c : ℕ) (past :
 pub code_ascii : (table : List ℕ) (c : ℕ) → c < 128 → single_byte_code table c ≡ Some (c ∷ [])
 unfolding single_byte_code
 code_ascii table c h = rw (lt-ltb c 128 h) refl
+
+-- the lemmas for the check of a run
+pub ruleset run_steps = (common_steps, find-first, run_holds)

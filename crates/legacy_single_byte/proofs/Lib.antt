@@ -4,4 +4,3 @@ pub mod Latin1Fronts
 pub mod LongestRuns
 pub mod SingleByteShown
 pub mod SingleByteRuns
-pub mod SingleByteSteps

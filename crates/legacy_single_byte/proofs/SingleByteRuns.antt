@@ -1,40 +1,31 @@
 -- The runs of the single-byte decoders.
 use Rattle.std.proofs.Common.{rules, IsAscii, ◌≡◌, ◌∙◌, ℕ, List, ◌+◌, ◌-◌, ◌≤◌, ◌<◌, ◌^◌, ◌++◌, zero, suc, length, take, drop, get_or}
-use Rattle.std.proofs.Common.{cond, ltb, Some, refl, ap}
-use Rattle.std.proofs.{Common.{arith, All, set, inl, inr}, lemmas.Bool.{Decides.nat_tests, cases_lt}}
-use Rattle.std.proofs.lemmas.List.{get_or_past, get_or-set_same, get_or-set_other}
-use Rattle.std.proofs.{lemmas.List.{take_all, take_more, take-take, get_or-take, get_or-drop, length-drop, length-take}, lemmas.List.Elements.All-from_get_or}
+use Rattle.std.proofs.{Common.{cond, ltb, Some, refl, ap, arith, All}, lemmas.Bool.Decides.nat_tests, lemmas.List.Elements.All-from_get_or}
+use Rattle.std.proofs.lemmas.List.{get_or_past, take_all, take_more, take-take, get_or-take, get_or-drop, length-drop, length-take, length-take-le}
+use Rattle.std.proofs.Math.Seq.{take-append_seam}
 use Rattle.std.specs.Char.{IsScalar}
 use Rattle.legacy_text.specs.{declared.destination.Destination.Ghosts, EncodingForm.{all_code_units, total_unit_count}}
 use Rattle.legacy_base.specs.{States.{DecoderState, new_state}, Grammar.single_byte}
 use Rattle.legacy_tables.specs.{Indexes.{idx}, AcceptedTables.AcceptedTable}
 use Rattle.legacy_text.proofs.Ascii.{ascii_front}
 use Rattle.legacy_tables.proofs.AcceptedTable.{table-below, table-scalars}
-use Rattle.legacy_decoder_engine.specs.{ReadAhead.{Runs, IsSingle, HasAscii, Writes, ReadsAhead}, PickedForms.{ArePast, ArePastFrom}, Shown.IsShown}
-use Rattle.legacy_single_byte.specs.{ByteEntries.IsByteEntry, SingleByteMachine.single_byte_machine}
-use Rattle.legacy_decoder_engine.proofs.{RunForms.{single_runs, has_ascii, ascii_is, past_ascii}, JoinedRuns.{reads_written}}
+use Rattle.legacy_decoder_engine.specs.{ReadAhead.{Runs, IsSingle, HasAscii, Writes, ReadsAhead}, PickedForms.{ArePast, ArePastFrom}}
+use Rattle.legacy_single_byte.specs.{ByteEntries.IsByteEntry}
+use Rattle.legacy_decoder_engine.proofs.{RunForms.{single_runs, has_ascii, ascii_is}, JoinedRuns.{reads_written}}
 use Rattle.legacy_decoder_engine.proofs.WrittenRuns.{runs_none, runs_more, writes_none, writes_one, writes_run, writes_ascii, rest_of}
-use Rattle.legacy_decoder_engine.proofs.WrittenRuns.{all_short, short, three_fit}
-use Rattle.legacy_single_byte.proofs.SingleByteShown.{single_byte_shown}
+use Rattle.legacy_decoder_engine.proofs.WrittenRuns.{all_short, short, three_fit, reads_none}
+use Rattle.legacy_single_byte.proofs.SingleByteShown.{shown}
 
 small : (x : ℕ) → x < 0x80 → IsScalar x
 small x h = search rules
 
 module _ (table : AcceptedTable) where
-  pub shown : IsShown (single_byte table.entries) (single_byte_machine table.entries)
-  shown = single_byte_shown table.entries (table-below table.entries table.accepted)
-
   pub single_byte_ascii : HasAscii (single_byte table.entries)
-  single_byte_ascii = has_ascii shown (λ b. refl) (λ b h. let a = ascii_is b h in rw a refl)
+  single_byte_ascii = has_ascii (shown table) (λ b. refl) (λ b h. let a = ascii_is b h in rw a refl)
 
   -- the scalar at a place is at most U+FFFF
   pub place_below : (p c : ℕ) → Some c ≡ idx table.entries p → (c < 0x1_0000) × IsScalar c
   place_below p c e = grind (arith, table-below table.entries table.accepted p 0, table-scalars table.entries table.accepted p 0, get_or_past)
-
-  -- a byte that has a scalar is a run by itself
-  pub front_runs : (b c : ℕ) → b < 2 ^ 8 → 0x80 ≤ b → Some c ≡ idx table.entries (b - 0x80) → IsSingle (single_byte table.entries) b c
-  front_runs b c byte h e =
-      let is = place_below (b - 0x80) c e in (is.0, single_runs shown b c byte is.1 refl (let a = past_ascii b h in rw (a, ← e) refl))
 
   -- the entry of a byte is a scalar up to U+FFFF
   pub entry_below : (b e : ℕ) → IsByteEntry table.entries b e → (e < 0x1_0000) × IsScalar e
@@ -43,25 +34,21 @@ module _ (table : AcceptedTable) where
 
   -- if the entry is not 0, the byte is a run by itself
   pub entry_runs : (b e : ℕ) → b < 2 ^ 8 → IsByteEntry table.entries b e → (e ≡ 0 → ⊥) → IsSingle (single_byte table.entries) b e
-  entry_runs b e byte is some = grind (arith, nat_tests, single_byte_ascii b, front_runs b e)
+  entry_runs b e byte is some =
+      let below = entry_below b e is in (below.0, single_runs (shown table) b e byte below.1 refl (grind (arith, nat_tests)))
 
   -- ---- ASCII, and single bytes past it
 
-  module _ {D : Type 0} (T : Ghosts D) (source : List ℕ) (at : ℕ) {n : ℕ} {old mid new : D} (few : at + n ≤ 64) (long : at + 64 ≤ length source) where
-    -- the ASCII bytes at a place were written after what was read
-    pub ascii_next : Writes T (single_byte table.entries) (take at source) old mid →
-        ((k : ℕ) → k < n → at + k < 64 → get_or source (at + k) 0 < 128) →
-        T.contents new ≡ T.contents mid ++ take n (take (length source - at) (drop at source)) →
-        T.room new + n ≡ T.room mid → T.loan new ≡ T.loan mid →
-        Writes T (single_byte table.entries) (take (at + n) source) old new
-    ascii_next before ascii contents room loan =
-        let rest = drop at source in
-        let all = rest_of source at in
-        let part : take n (take (length source - at) rest) ≡ take n rest = ap (λ xs. take n xs) all in
-        let size : length (take n (take (length source - at) rest)) ≡ n = omega (arith, length-drop at source, length-take n rest, ap length part) in
-        let front : IsAscii (take n (take (length source - at) rest)) =
-        rw part (ascii_front rest n (λ k h. rw (get_or-drop at source k 0) (ascii k h (omega arith)))) in
-        writes_run T source at n before (writes_ascii T _ mid new _ single_byte_ascii front contents (omega (arith, size, room)) loan)
+  -- the ASCII bytes at a place were written after what was read
+  pub ascii_next : {D : Type 0} (T : Ghosts D) (source : List ℕ) (at n m : ℕ) {old mid new : D} → at + n ≤ 64 → at + 64 ≤ length source → n ≤ m →
+      Writes T (single_byte table.entries) (take at source) old mid → ((k : ℕ) → k < m → at + k < 64 → get_or source (at + k) 0 < 128) →
+      T.contents new ≡ T.contents mid ++ take n (take (length source - at) (drop at source)) → T.room new + n ≡ T.room mid → T.loan new ≡ T.loan mid →
+      Writes T (single_byte table.entries) (take (at + n) source) old new
+  ascii_next T source at n m {old} {mid} {new} few long most before ascii contents room loan =
+      let front : IsAscii (take n (take (length source - at) (drop at source))) =
+      rw (rest_of source at) (ascii_front (drop at source) n (λ k h. rw (get_or-drop at source k 0) (ascii k (omega arith) (omega arith)))) in
+      let size : length (take n (take (length source - at) (drop at source))) ≡ n = grind (arith, rest_of, length-drop, length-take-le) in
+      writes_run T source at n before (writes_ascii T _ mid new _ single_byte_ascii front contents (omega (arith, size)) loan)
 
   -- ---- eight bytes at once, by their entries
 
@@ -104,14 +91,5 @@ past_of source past are i h =
     let place : i ≡ 0 + i = omega arith in
     are i below ∙ ap (λ b. cond (ltb b 128) 0 1) (get_or-take 64 source i 0 below) ∙ ap (λ j. cond (ltb (get_or source j 0) 128) 0 1) place
 
--- one more entry of a list, where each is one of a place of the table
-pub one_more : (P : ℕ → ℕ → Type 0) (table entries : List ℕ) (n entry : ℕ) → n < length entries →
-    ((k : ℕ) → k < n → P (get_or table k 0) (get_or entries k 0)) → P (get_or table n 0) entry →
-    (k : ℕ) → k < n + 1 → P (get_or table k 0) (get_or (set entries n entry) k 0)
-one_more P table entries n entry within before one k h = elim (cases_lt k n) [
-  | inl less ↦ rw (get_or-set_other entries n k entry 0 (λ same. omega (arith, less, same))) (before k less)
-  | inr most ↦ let same : k ≡ n = omega (arith, h, most) in rw (same, get_or-set_same entries n entry 0 within) one
-]
-
--- the lemmas for a loop that reads bytes one by one
-pub ruleset byte_steps = (writes_none, writes_one, three_fit, short)
+-- the lemmas for the functions that read blocks
+pub ruleset steps = (past_of, writes_none, writes_one, three_fit, short, reads_none, reads_padded, take-append_seam, length-take-le)

@@ -60,7 +60,7 @@ impl DecoderMoves for ReplacementDecoder {
     }
 
     #[inline]
-    #[tactic(auto, using(crate::proofs::ReplacementSteps::feeds_first, crate::proofs::ReplacementSteps::feeds_more))]
+    #[tactic(auto, using(crate::proofs::ReplacementSteps::feeds))]
     fn feed(&mut self, _byte: u8) -> Fed {
         if self.has_reported {
             return Fed::Nothing;

@@ -1,12 +1,13 @@
 //! Decodes blocks of x-user-defined: ASCII with single bytes past it, or eight bytes at a time.
 // Functions that run for each block are always inlined. A call would pass vectors through memory, and
 // keep the destination's place there.
-ghost use Rattle.std.specs.Prelude.{◌≡◌, ◌+◌, ◌*◌, ◌<◌, ◌≤◌, ℕ, length, slice_index};
-ghost use Rattle.legacy_text.specs.EncodingForm.{bmp_room};
+#![tactic(auto, using(crate::proofs::UserDefinedRuns::steps))]
+
+ghost use Rattle.std.specs.Prelude.{◌≡◌, ◌<◌, ◌≤◌, ℕ, length, slice_index};
 ghost use Rattle.legacy_base.specs.Grammar.{user_defined};
 ghost use Rattle.legacy_base.specs.States.{new_state};
 ghost use Rattle.legacy_decoder_engine.specs.ReadAhead.{ReadsAhead};
-ghost use Rattle.legacy_miscellaneous.specs.UserDefinedUnits.{unit_of_byte};
+ghost use Rattle.legacy_miscellaneous.specs.UserDefinedMachine.{unit_of_byte};
 
 use legacy_base::Destination;
 use legacy_decoder_engine::past_ascii::has_past_ascii;
@@ -48,24 +49,6 @@ fn units_of(src: &[u8]) -> [u16; 8]
     units
 }
 
-/// Decodes bytes if a scalar up to U+FFFF is one code unit, and leaves three units free.
-///
-/// Returns the number of bytes read.
-#[inline(always)]
-#[tactic(auto, using(crate::proofs::UserDefinedRuns::byte_steps))]
-pub fn read_units<T: Destination>(src: &[u8], dst: &mut T) -> usize
-    requires { bmp_room T.form ≡ 1 }
-    ensures { ReadsAhead T.Destination (new_state user_defined) src.now result dst.old dst.new }
-{
-    let count = src.len().min(dst.free().saturating_sub(3));
-    let mut at = 0;
-    while at < count {
-        dst.put(scalar_of(src[at]));
-        at += 1;
-    }
-    count
-}
-
 /// Decodes eight bytes at a time, and leaves three units free. Returns the number of bytes read.
 ///
 /// With `is_mixed` it stops before eight bytes of ASCII.
@@ -85,29 +68,18 @@ fn read_eights<T: Destination>(src: &[u8], dst: &mut T, is_mixed: bool) -> usize
     at
 }
 
-/// Decodes at most `most` bytes one by one. Returns the number of bytes read.
+/// Decodes bytes one by one, and leaves three units free. Returns the number of bytes read.
 #[inline(always)]
-#[tactic(auto, using(crate::proofs::UserDefinedRuns::byte_steps))]
-fn read_singly<T: Destination>(src: &[u8], most: usize, dst: &mut T) -> usize
-    requires source { most ≤ length src.now }
-    requires room { 0 < most → 3 * most + 3 ≤ T.room dst.old }
+pub fn read_few<T: Destination>(src: &[u8], dst: &mut T) -> usize
     ensures { ReadsAhead T.Destination (new_state user_defined) src.now result dst.old dst.new }
 {
+    let most = src.len().min(dst.free().saturating_sub(3) / T::narrow());
     let mut at = 0;
     while at < most {
         dst.put(scalar_of(src[at]));
         at += 1;
     }
     at
-}
-
-/// Decodes bytes one by one, and leaves three units free. Returns the number of bytes read.
-#[inline(always)]
-fn read_few<T: Destination>(src: &[u8], dst: &mut T) -> usize
-    ensures { ReadsAhead T.Destination (new_state user_defined) src.now result dst.old dst.new }
-{
-    let most = src.len().min(dst.free().saturating_sub(3) / 3);
-    read_singly(src, most, dst)
 }
 
 /// Any text but the last 64 bytes.

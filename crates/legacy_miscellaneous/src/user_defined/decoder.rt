@@ -3,7 +3,7 @@ ghost use Rattle.std.specs.Prelude.{◌≡◌};
 ghost use Rattle.legacy_base.specs.Grammar.{user_defined};
 ghost use Rattle.legacy_base.specs.States.{new_state};
 
-use super::blocks::{read_text, read_units, scalar_of};
+use super::blocks::{read_few, read_text, scalar_of};
 use legacy_base::{DecoderStep, Destination, RawDecoder};
 use legacy_decoder_engine::drive::drive_decoder;
 use legacy_decoder_engine::moves::{DecoderMoves, Fed, Room};
@@ -74,7 +74,7 @@ impl DecoderMoves for UserDefinedDecoder {
     #[inline(always)]
     fn read_runs<T: Destination>(&mut self, src: &[u8], dst: &mut T) -> usize {
         if T::narrow() == 1 {
-            read_units(src, dst)
+            read_few(src, dst)
         } else {
             read_text(src, dst)
         }

@@ -1,16 +1,17 @@
 //! Blocks of UTF-16 code units without surrogates: by 64, by eight, and one by one.
 // Functions that run for each block are always inlined. A call would pass vectors through memory, and
 // keep the destination's place there.
-ghost use Rattle.std.specs.Prelude.{◌≡◌, ◌+◌, ◌*◌, ◌%◌, ◌<◌, ◌≤◌, ◌++◌, ℕ, length, true, false, slice_index};
+#![tactic(auto, using(crate::proofs::Utf16Runs::steps))]
+
+ghost use Rattle.std.specs.Prelude.{◌≡◌, ◌+◌, ◌*◌, ◌%◌, ◌<◌, ◌≤◌, ℕ, length, true, false, slice_index};
 ghost use Rattle.std.specs.Char.{IsScalar};
-ghost use Rattle.legacy_text.specs.EncodingForm.{code_units, unit_count};
 ghost use Rattle.legacy_base.specs.Grammar.{utf16};
 ghost use Rattle.legacy_base.specs.States.{new_state};
 ghost use Rattle.legacy_decoder_engine.specs.ReadAhead.{ReadsAhead};
 ghost use Rattle.legacy_miscellaneous.specs.Utf16Decoder.{HasAsciiUnits, IsNarrow, AreUnitsBelow};
 
 use super::unit_steps::unit;
-use super::vectors::{eight_units, greater_units, sixteen_units};
+use super::vectors::{eight_units, sixteen_units};
 use legacy_base::Destination;
 use legacy_decoder_engine::common_forms::{CommonForm, CommonForms, read_forms};
 use legacy_decoder_engine::read_ahead::{Blocks, read_blocks};
@@ -52,19 +53,6 @@ fn has_surrogate(units: &[u16]) -> bool
     found
 }
 
-/// Writes a unit that is a scalar.
-#[inline(always)]
-#[tactic(auto, using(legacy_decoder_engine::proofs::WrittenRuns::three_fit))]
-fn put_unit<T: Destination>(dst: &mut T, unit: u16)
-    requires scalar { IsScalar unit }
-    requires room { 3 ≤ T.room dst.old }
-    ensures contents { T.contents dst.new ≡ T.contents dst.old ++ code_units T.form unit }
-    ensures room { T.room dst.new + unit_count T.form unit ≡ T.room dst.old }
-    ensures loan { T.loan dst.new ≡ T.loan dst.old }
-{
-    dst.put(unsafe { char::from_u32_unchecked(u32::from(unit)) });
-}
-
 /// Sixteen units at a time, for UTF-16 output.
 #[derive(Drop)]
 struct Sixteens<'a> {
@@ -87,8 +75,7 @@ impl Blocks for Sixteens<'_> {
         }
         let mut at = 0;
         while at < 16 {
-            let unit = units[at];
-            put_unit(dst, unit);
+            dst.put(unsafe { char::from_u32_unchecked(u32::from(units[at])) });
             at += 1;
         }
         (32, true)
@@ -169,8 +156,7 @@ impl Units {
         let mut greatest = eight_units(self.big_endian, src);
         let mut group = 1;
         while group < eights {
-            let units = eight_units(self.big_endian, &src[16 * group..]);
-            greatest = greater_units(greatest, units);
+            greatest = greatest.simd_max(eight_units(self.big_endian, &src[16 * group..]));
             group += 1;
         }
         are_all_below(greatest, bound)
@@ -193,17 +179,24 @@ impl Units {
             return read_blocks(&AsciiUnits { units: self }, src, dst);
         }
         if self.are_below(src, eights, 0x800) {
-            return self.read_short_units(src, dst, eights);
+            return self.read_eights(src, dst, eights, true);
         }
-        self.read_eights(src, dst, eights)
+        self.read_eights(src, dst, eights, false)
     }
 
     /// Decodes groups of eight units, up to the first group with a surrogate.
     ///
-    /// Returns the number of bytes read.
+    /// With `is_short` all are below U+0800. Returns the number of bytes read.
     #[inline(always)]
-    fn read_eights<T: Destination>(&self, src: &[u8], dst: &mut T, eights: usize) -> usize
+    fn read_eights<T: Destination>(
+        &self,
+        src: &[u8],
+        dst: &mut T,
+        eights: usize,
+        is_short: bool,
+    ) -> usize
         requires source { 16 * eights ≤ length src.now }
+        requires short { is_short ≡ true → AreUnitsBelow self.now.big_endian src.now (8 * eights) 0x800 }
         requires room { 0 < eights → 24 * eights + 11 ≤ T.room dst.old }
         ensures { ReadsAhead T.Destination (new_state (utf16 self.now.big_endian)) src.now result
             dst.old dst.new }
@@ -211,28 +204,14 @@ impl Units {
         let mut group = 0;
         while group < eights {
             let units = eight_units(self.big_endian, &src[16 * group..]);
-            if has_surrogate(&units.to_array()) {
-                return 16 * group;
+            if is_short {
+                dst.put_eight_short(units);
+            } else {
+                if has_surrogate(&units.to_array()) {
+                    return 16 * group;
+                }
+                dst.put_eight(units);
             }
-            dst.put_eight(units);
-            group += 1;
-        }
-        16 * eights
-    }
-
-    /// Decodes groups of eight units below U+0800. Returns the number of bytes read.
-    #[inline(always)]
-    fn read_short_units<T: Destination>(&self, src: &[u8], dst: &mut T, eights: usize) -> usize
-        requires source { 16 * eights ≤ length src.now }
-        requires short { AreUnitsBelow self.now.big_endian src.now (8 * eights) 0x800 }
-        requires room { 0 < eights → 24 * eights + 11 ≤ T.room dst.old }
-        ensures { ReadsAhead T.Destination (new_state (utf16 self.now.big_endian)) src.now result
-            dst.old dst.new }
-    {
-        let mut group = 0;
-        while group < eights {
-            let units = eight_units(self.big_endian, &src[16 * group..]);
-            dst.put_eight_short(units);
             group += 1;
         }
         16 * eights
@@ -254,7 +233,7 @@ impl Units {
         } else if eights >= 4 {
             self.read_groups(src, dst, 4)
         } else {
-            self.read_eights(src, dst, eights)
+            self.read_eights(src, dst, eights, false)
         }
     }
 }

@@ -67,10 +67,7 @@ fn pair(high: HighSurrogate, low: u16) -> char
     ensures { result ≡ surrogate_pair_char high.unit low }
 {
     let code = 0x1_0000 + (u32::from(high.unit) - 0xD800) * 0x400 + (u32::from(low) - 0xDC00);
-    match char::from_u32(code) {
-        Some(scalar) => scalar,
-        None => unreachable!(),
-    }
+    unsafe { char::from_u32_unchecked(code) }
 }
 
 /// Holds back a unit that is not a low surrogate.
@@ -83,10 +80,8 @@ fn hold_unit(unit: u16) -> Held
     if is_high(unit) {
         return Held::High(HighSurrogate { unit });
     }
-    match char::from_u32(u32::from(unit)) {
-        Some(scalar) => Held::Pending(UnitScalar { scalar }),
-        None => unreachable!(),
-    }
+    let scalar = unsafe { char::from_u32_unchecked(u32::from(unit)) };
+    Held::Pending(UnitScalar { scalar })
 }
 
 /// Returns what the second byte of a unit leads to if a high surrogate is before the unit.

@@ -1,53 +1,10 @@
 //! Units read by vectors of bytes. In a loop over bytes the compiler would load them one by one.
 // Functions that run for each block are always inlined. A call would pass vectors through memory, and
 // keep the destination's place there.
-ghost use Rattle.std.specs.Prelude.{◌≡◌, ◌<◌, ◌≤◌, ℕ, length, true, false, slice_index};
-ghost use Rattle.legacy_miscellaneous.specs.Utf16Decoder.{unit_at, AreBelow};
+ghost use Rattle.std.specs.Prelude.{◌≡◌, ◌<◌, ◌≤◌, ℕ, length, slice_index};
+ghost use Rattle.legacy_miscellaneous.specs.Utf16Decoder.{unit_at};
 
 use std::simd::prelude::*;
-
-/// Returns the first eight units, in little-endian order.
-#[inline(always)]
-fn eight_little(src: &[u8]) -> u16x8
-    requires { 16 ≤ length src.now }
-    ensures { (k : ℕ) → k < 8 → slice_index result k ≡ unit_at false src.now k }
-{
-    u16x8::from_le_bytes(u8x16::from_slice(src))
-}
-
-/// Returns the first eight units, in big-endian order.
-#[inline(always)]
-fn eight_big(src: &[u8]) -> u16x8
-    requires { 16 ≤ length src.now }
-    ensures { (k : ℕ) → k < 8 → slice_index result k ≡ unit_at true src.now k }
-{
-    let swapped = u8x16::from_slice(src).swizzle([
-        1, 0, 3, 2, 5, 4, 7, 6, 9, 8, 11, 10, 13, 12, 15, 14,
-    ]);
-    u16x8::from_le_bytes(swapped)
-}
-
-/// Returns the first sixteen units, in little-endian order.
-#[inline(always)]
-fn sixteen_little(src: &[u8]) -> u16x16
-    requires { 32 ≤ length src.now }
-    ensures { (k : ℕ) → k < 16 → slice_index result k ≡ unit_at false src.now k }
-{
-    u16x16::from_le_bytes(u8x32::from_slice(src))
-}
-
-/// Returns the first sixteen units, in big-endian order.
-#[inline(always)]
-fn sixteen_big(src: &[u8]) -> u16x16
-    requires { 32 ≤ length src.now }
-    ensures { (k : ℕ) → k < 16 → slice_index result k ≡ unit_at true src.now k }
-{
-    let swapped = u8x32::from_slice(src).swizzle([
-        1, 0, 3, 2, 5, 4, 7, 6, 9, 8, 11, 10, 13, 12, 15, 14, 17, 16, 19, 18, 21, 20, 23, 22, 25,
-        24, 27, 26, 29, 28, 31, 30,
-    ]);
-    u16x16::from_le_bytes(swapped)
-}
 
 /// Returns the first eight units.
 #[inline(always)]
@@ -55,11 +12,12 @@ pub fn eight_units(big_endian: bool, src: &[u8]) -> u16x8
     requires { 16 ≤ length src.now }
     ensures { (k : ℕ) → k < 8 → slice_index result k ≡ unit_at big_endian src.now k }
 {
-    if big_endian {
-        eight_big(src)
-    } else {
-        eight_little(src)
+    let bytes = u8x16::from_slice(src);
+    if !big_endian {
+        return u16x8::from_le_bytes(bytes);
     }
+    let swapped = bytes.swizzle([1, 0, 3, 2, 5, 4, 7, 6, 9, 8, 11, 10, 13, 12, 15, 14]);
+    u16x8::from_le_bytes(swapped)
 }
 
 /// Returns the first sixteen units.
@@ -68,17 +26,13 @@ pub fn sixteen_units(big_endian: bool, src: &[u8]) -> u16x16
     requires { 32 ≤ length src.now }
     ensures { (k : ℕ) → k < 16 → slice_index result k ≡ unit_at big_endian src.now k }
 {
-    if big_endian {
-        sixteen_big(src)
-    } else {
-        sixteen_little(src)
+    let bytes = u8x32::from_slice(src);
+    if !big_endian {
+        return u16x16::from_le_bytes(bytes);
     }
-}
-
-/// Returns the greater unit of each lane.
-#[inline(always)]
-pub fn greater_units(a: u16x8, b: u16x8) -> u16x8
-    ensures { (n : ℕ) → AreBelow n result → AreBelow n a × AreBelow n b }
-{
-    a.simd_max(b)
+    let swapped = bytes.swizzle([
+        1, 0, 3, 2, 5, 4, 7, 6, 9, 8, 11, 10, 13, 12, 15, 14, 17, 16, 19, 18, 21, 20, 23, 22, 25,
+        24, 27, 26, 29, 28, 31, 30,
+    ]);
+    u16x16::from_le_bytes(swapped)
 }

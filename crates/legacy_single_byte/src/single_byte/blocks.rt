@@ -1,6 +1,8 @@
 //! Decodes blocks of single-byte text: ASCII with single bytes past it, or eight bytes at a time.
 // Functions that run for each block are always inlined. A call would pass vectors through memory,
 // and keep the destination's place there.
+#![tactic(auto, using(crate::proofs::SingleByteRuns::steps))]
+
 ghost use Rattle.std.specs.Prelude.{◌≡◌, ◌≢◌, ◌+◌, ◌*◌, ◌<◌, ◌≤◌, ◌++◌, ℕ, All, true, false, length, take, slice_index};
 ghost use Rattle.std.specs.Char.{IsScalar};
 ghost use Rattle.legacy_text.specs.EncodingForm.{all_code_units, total_unit_count};
@@ -120,34 +122,30 @@ impl Parts for Fronts<'_> {
     }
 }
 
+/// Decodes at most `most` bytes one by one, up to one that has no scalar. Returns the number of bytes read.
+#[inline(always)]
+fn read_singly<T: Destination>(scalars: &ByteScalars, src: &[u8], most: usize, dst: &mut T) -> usize
+    requires source { most ≤ length src.now }
+    requires room { 0 < most → 3 * most + 3 ≤ T.room dst.old }
+    ensures most { result ≤ most }
+    ensures ahead { ReadsAhead T.Destination (new_state (single_byte scalars.now.table.now.entries))
+        src.now result dst.old dst.new }
+{
+    let mut at = 0;
+    while at < most {
+        match scalars.scalar(src[at]) {
+            Some(scalar) => dst.put(scalar),
+            None => return at,
+        }
+        at += 1;
+    }
+    at
+}
+
 /// Eight bytes at a time, of any kind.
 #[derive(Drop)]
 struct Eights<'a> {
     scalars: &'a ByteScalars<'a>,
-}
-
-impl Eights<'_> {
-    /// Decodes at most `most` bytes one by one, up to one that has no scalar. Returns the number of bytes read.
-    #[inline(always)]
-    #[tactic(auto, using(crate::proofs::SingleByteRuns::byte_steps))]
-    fn read_singly<T: Destination>(&self, src: &[u8], most: usize, dst: &mut T) -> usize
-        requires source { most ≤ length src.now }
-        requires room { 0 < most → 3 * most + 3 ≤ T.room dst.old }
-        ensures most { result ≤ most }
-        ensures ahead { ReadsAhead T.Destination
-            (new_state (single_byte self.now.scalars.now.table.now.entries)) src.now result
-            dst.old dst.new }
-    {
-        let mut at = 0;
-        while at < most {
-            match self.scalars.scalar(src[at]) {
-                Some(scalar) => dst.put(scalar),
-                None => return at,
-            }
-            at += 1;
-        }
-        at
-    }
 }
 
 impl Parts for Eights<'_> {
@@ -160,36 +158,29 @@ impl Parts for Eights<'_> {
     #[inline(always)]
     fn read_part<T: Destination>(&self, src: &[u8], most: usize, dst: &mut T) -> (usize, bool) {
         if most < 8 {
-            return (self.read_singly(src, most, dst), false);
+            return (read_singly(self.scalars, src, most, dst), false);
         }
         if T::narrow() == 1 {
-            let read = self.read_singly(src, 8, dst);
+            let read = read_singly(self.scalars, src, 8, dst);
             return (read, read == 8 && has_past_ascii(&src[8..]));
         }
         let units = self.scalars.units(src);
         if has_zero(&units) {
-            return (self.read_singly(src, 8, dst), false);
+            return (read_singly(self.scalars, src, 8, dst), false);
         }
         put_units(dst, u16x8::from_array(units));
         (8, has_past_ascii(&src[8..]))
     }
 }
 
-/// Any text.
-#[derive(Drop)]
-struct Mixed<'a> {
-    scalars: &'a ByteScalars<'a>,
-}
-
-impl Parts for Mixed<'_> {
-    ghost grammar = { λ mixed. single_byte mixed.scalars.now.table.now.entries };
+impl Parts for ByteScalars<'_> {
+    ghost grammar = { λ scalars. single_byte scalars.table.now.entries };
 
     /// Reads ASCII with single bytes past it, and then eights with more of them.
     #[inline(always)]
     fn read_part<T: Destination>(&self, src: &[u8], most: usize, dst: &mut T) -> (usize, bool) {
-        let scalars = self.scalars;
-        let front = read_parts(&Fronts { scalars }, src, most, dst);
-        let read = read_parts(&Eights { scalars }, &src[front..], most - front, dst);
+        let front = read_parts(&Fronts { scalars: self }, src, most, dst);
+        let read = read_parts(&Eights { scalars: self }, &src[front..], most - front, dst);
         (front + read, read > 0)
     }
 }
@@ -209,25 +200,6 @@ fn copy_last(src: &[u8], text: &mut [u8])
     }
 }
 
-/// Checks whether one of the first two bytes has no scalar. Such bytes are often followed by more.
-#[inline(always)]
-fn begins_uncommon(scalars: &ByteScalars, src: &[u8]) -> bool {
-    if src.len() < 2 {
-        return true;
-    }
-    matches!(scalars.scalar(src[0]), None) || matches!(scalars.scalar(src[1]), None)
-}
-
-/// Decodes bytes one by one from the front, up to one that has no scalar. Returns the number of bytes read.
-#[inline(always)]
-fn read_few<T: Destination>(scalars: &ByteScalars, src: &[u8], dst: &mut T) -> usize
-    ensures { ReadsAhead T.Destination (new_state (single_byte scalars.now.table.now.entries))
-        src.now result dst.old dst.new }
-{
-    let most = src.len().min(dst.free().saturating_sub(3) / 3);
-    Eights { scalars }.read_singly(src, most, dst)
-}
-
 /// Decodes the last 64 bytes of an input by parts, and nothing if there are more. Returns the number of bytes read.
 // They are copied into an array with as many bytes after them: this makes short pieces fast.
 #[inline(always)]
@@ -240,7 +212,7 @@ fn read_last<T: Destination>(scalars: &ByteScalars, src: &[u8], dst: &mut T) -> 
     }
     let mut text = [0u8; 128];
     copy_last(src, &mut text);
-    read_parts(&Mixed { scalars }, &text, src.len(), dst)
+    read_parts(scalars, &text, src.len(), dst)
 }
 
 /// Decodes text from the front, and returns the number of bytes read.
@@ -251,13 +223,12 @@ pub fn read_text<T: Destination>(scalars: &ByteScalars, src: &[u8], dst: &mut T)
     ensures { ReadsAhead T.Destination (new_state (single_byte scalars.now.table.now.entries))
         src.now result dst.old dst.new }
 {
-    if begins_uncommon(scalars, src) {
+    // Bytes without a scalar are often followed by more.
+    if src.len() < 2 || scalars.scalar(src[0]).is_none() || scalars.scalar(src[1]).is_none() {
         return 0;
     }
-    let at = read_parts(&Mixed { scalars }, src, src.len(), dst);
+    let at = read_parts(scalars, src, src.len(), dst);
     let end = at + read_last(scalars, &src[at..], dst);
-    if end == src.len() {
-        return end;
-    }
-    end + read_few(scalars, &src[end..], dst)
+    let most = (src.len() - end).min(dst.free().saturating_sub(3) / 3);
+    end + read_singly(scalars, &src[end..], most, dst)
 }

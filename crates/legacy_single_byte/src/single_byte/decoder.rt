@@ -1,10 +1,8 @@
 //! The decoder of the single-byte encodings.
-ghost use Rattle.std.specs.Prelude.{◌≡◌, ◌≤◌, [], length, take, IsAscii};
+ghost use Rattle.std.specs.Prelude.{◌≡◌, ◌≤◌, length, take, IsAscii};
 ghost use Rattle.legacy_base.specs.Grammar.{single_byte};
 ghost use Rattle.legacy_base.specs.Latin1.{is_latin1_byte, latin1_front};
 ghost use Rattle.legacy_base.specs.States.{new_state};
-ghost use Rattle.legacy_single_byte.specs.SingleByteMachine.{single_byte_first};
-ghost use Rattle.legacy_decoder_engine.specs.Feeding.{Took};
 
 use super::blocks::read_text;
 use super::scalars::ByteScalars;
@@ -22,24 +20,6 @@ pub struct SingleByteDecoder<'a> {
     scalars: ByteScalars<'a>,
 }
 
-/// Returns what a byte decodes to.
-#[inline]
-fn read_byte(table: &SingleByteTable, byte: u8) -> Fed
-    ensures { Took (single_byte_first table.now.entries byte) [] byte result [] }
-{
-    if byte < 0x80 {
-        return Fed::One(char::from(byte));
-    }
-    match table.scalar(usize::from(byte - 0x80)) {
-        Some(scalar) => Fed::One(scalar),
-        None => Fed::MalformedSequence {
-            length: 1,
-            back: 0,
-            unread: false,
-        },
-    }
-}
-
 /// Checks whether the byte decodes to the scalar of the same number.
 #[inline]
 fn is_latin1(table: &SingleByteTable, byte: u8) -> bool
@@ -50,6 +30,7 @@ fn is_latin1(table: &SingleByteTable, byte: u8) -> bool
 
 /// Returns the number of bytes at the front that are in whole blocks of 16 ASCII bytes.
 #[inline]
+#[tactic(auto, using(crate::proofs::Latin1Fronts::steps))]
 fn ascii_blocks(bytes: &[u8]) -> usize
     ensures within { result ≤ length bytes.now }
     ensures ascii { IsAscii (take result bytes.now) }
@@ -84,6 +65,7 @@ impl<'a> SingleByteDecoder<'a> {
     ///
     /// Each of them decodes to the scalar of the same number, as every ASCII byte does. The result
     /// is `bytes.len()` if all bytes do. The decoder is unchanged.
+    #[tactic(auto, using(crate::proofs::Latin1Fronts::steps))]
     pub fn latin1_byte_compatible_up_to(&self, bytes: &[u8]) -> usize
         ensures { result ≡ length (latin1_front (single_byte_entries self.now) bytes.now) }
     {
@@ -106,7 +88,7 @@ impl DecoderMoves for SingleByteDecoder<'_> {
     }
 
     #[inline]
-    #[tactic(auto, using(crate::proofs::SingleByteSteps::covered))]
+    #[tactic(auto, using(crate::proofs::SingleByteShown::covered))]
     fn reading_room(&self, byte: u8) -> Room {
         if byte < 0x80 {
             Room::Unit
@@ -116,7 +98,7 @@ impl DecoderMoves for SingleByteDecoder<'_> {
     }
 
     #[inline]
-    #[tactic(auto, using(crate::proofs::SingleByteSteps::covered))]
+    #[tactic(auto, using(crate::proofs::SingleByteShown::covered))]
     fn release_room(&self) -> Room {
         Room::Narrow
     }
@@ -126,18 +108,28 @@ impl DecoderMoves for SingleByteDecoder<'_> {
     }
 
     #[inline]
-    #[tactic(auto, using(crate::proofs::SingleByteSteps::feeds))]
+    #[tactic(auto, using(crate::proofs::SingleByteShown::feeds))]
     fn feed(&mut self, byte: u8) -> Fed {
-        read_byte(self.scalars.table, byte)
+        if byte < 0x80 {
+            return Fed::One(char::from(byte));
+        }
+        match self.scalars.table.scalar(usize::from(byte - 0x80)) {
+            Some(scalar) => Fed::One(scalar),
+            None => Fed::MalformedSequence {
+                length: 1,
+                back: 0,
+                unread: false,
+            },
+        }
     }
 
     #[inline]
-    #[tactic(auto, using(crate::proofs::SingleByteSteps::ends_none))]
+    #[tactic(auto, using(crate::proofs::SingleByteShown::ends_none))]
     fn has_rest(&self) -> bool {
         false
     }
 
-    #[tactic(auto, using(crate::proofs::SingleByteSteps::ends_none))]
+    #[tactic(auto, using(crate::proofs::SingleByteShown::ends_none))]
     fn report(&mut self) -> Option<(u8, u8)> {
         None
     }

@@ -56,6 +56,7 @@ fn first_mismatch(
 }
 
 /// Checks that `count` places from `start` on contain the scalars from `scalar` upwards.
+#[tactic(auto, using(crate::proofs::EncoderRuns::run_steps))]
 pub(super) fn check_run(
     table: &SingleByteTable,
     scalar: u16,

@@ -26,6 +26,7 @@ pub struct ByteScalars<'a> {
 }
 
 /// Returns the entry of a byte.
+#[tactic(auto, using(crate::proofs::SingleByteRuns::place_below))]
 fn entry_of(table: &SingleByteTable, byte: usize) -> u16
     requires { byte < 0x100 }
     ensures { IsByteEntry table.now.entries byte result }
@@ -54,6 +55,7 @@ fn entries_of(table: &SingleByteTable) -> [u16; 256]
 }
 
 /// Returns the entries in UTF-8 of the bytes past ASCII.
+#[tactic(auto, using(crate::proofs::SingleByteRuns::place_below))]
 fn utf8_entries_of(table: &SingleByteTable) -> [u32; 128]
     ensures count { length result ≡ 128 }
     ensures same { AreUtf8Entries table.now.entries result 128 }
@@ -61,8 +63,7 @@ fn utf8_entries_of(table: &SingleByteTable) -> [u32; 128]
     let mut entries = [0u32; 128];
     let mut place = 0;
     while place < 128 {
-        let entry = u32::from(entry_of(table, 0x80 + place));
-        entries[place] = utf8_entry(unsafe { char::from_u32_unchecked(entry) });
+        entries[place] = utf8_entry(table.scalar(place).unwrap_or('\0'));
         place += 1;
     }
     entries

@@ -1,9 +1,6 @@
 use Rattle.{std.{proofs.{lemmas.List.Elements.All-from_get_or, Common.arith}, specs.Char.IsScalar}, legacy_miscellaneous.proofs.UserDefinedRuns.unit_scalar}
-use Rattle.{legacy_miscellaneous.proofs.UserDefinedRuns.{rest_bytes, eight_more}, legacy_decoder_engine.proofs.WrittenRuns.reads_none}
+use Rattle.legacy_miscellaneous.proofs.UserDefinedRuns.{rest_bytes, eight_more}
 use Rattle.legacy_miscellaneous.proofs.user_defined.blocks.read_eights.Goals as goal
-
-pub loop-at-init : goal.loop-at-init
-loop-at-init g c = reads_none _ _ _ _
 
 pub put_eight-requires-clause-scalars : goal.put_eight-requires-clause-scalars
 put_eight-requires-clause-scalars g c =

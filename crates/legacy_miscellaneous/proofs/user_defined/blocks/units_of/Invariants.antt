@@ -1,4 +1,4 @@
-use Rattle.{std.proofs.Common.{◌≡◌, ℕ, ◌-◌, ◌<◌, ◌≤◌, length, get_or}, legacy_miscellaneous.specs.UserDefinedUnits.unit_of_byte}
+use Rattle.{std.proofs.Common.{◌≡◌, ℕ, ◌-◌, ◌<◌, ◌≤◌, length, get_or}, legacy_miscellaneous.specs.UserDefinedMachine.unit_of_byte}
 use Rattle.legacy_miscellaneous.proofs.user_defined.blocks.units_of.Given as goal
 
 -- the units of the first bytes are theirs

@@ -1,9 +1,6 @@
 use Rattle.std.proofs.Common.{arith}
-use Rattle.legacy_decoder_engine.proofs.{JoinedRuns.reads_more, WrittenRuns.reads_none}
+use Rattle.legacy_decoder_engine.proofs.{JoinedRuns.reads_more}
 use Rattle.legacy_single_byte.proofs.single_byte.blocks.read_parts.Goals as goal
-
-pub loop-at-init : goal.loop-at-init
-loop-at-init g c = (omega arith, reads_none _ _ _ _)
 
 pub loop-at-preserved : goal.loop-at-preserved
 loop-at-preserved g c = (omega (arith, c.loop-at.invariant.0, c.read_part-read.ensures.most), reads_more c.loop-at.invariant.1 c.read_part-read.ensures.ahead)

@@ -1,16 +1,32 @@
-use Rattle.{std.{proofs.{Common.arith, lemmas.List.Elements.All-from_get_or}, specs.Char.IsScalar}, legacy_decoder_engine.proofs.WrittenRuns.writes_none}
-use Rattle.legacy_miscellaneous.proofs.Utf16Runs.{eight_more}
+use Rattle.{std.{proofs.{Common.{◌<◌, arith}, lemmas.List.Elements.All-from_get_or}, specs.Char.IsScalar}}
+use Rattle.legacy_miscellaneous.proofs.Utf16Runs.{below_scalar, eight_more, short_eight}
+use Rattle.legacy_miscellaneous.proofs.utf16.unit_blocks.Units.read_eights.Goals.{then-is_short, else-is_short+else-has_surrogate}
 use Rattle.legacy_miscellaneous.proofs.utf16.unit_blocks.Units.read_eights.Goals as goal
 
-pub loop-group-init : goal.loop-group-init
-loop-group-init g c = grind (arith, writes_none)
+pub put_eight_short-requires : goal.put_eight_short-requires
+put_eight_short-requires g c =
+    let units = c.eight_units-units in
+    let short = short_eight _ _ _ c.loop-group.group _ (c.requires.short c.if-is_short.true) c.loop-group-test.true units.ensures in
+    record {
+      scalars = All-from_get_or IsScalar units.result 0 (λ k h. below_scalar _ (short k (omega arith)));
+      short = All-from_get_or (λ u. u < 0x800) units.result 0 (λ k h. short k (omega arith));
+      room = omega (arith, c.loop-group.invariant.room, c.requires.room);
+    }
 
 pub put_eight-requires-clause-scalars : goal.put_eight-requires-clause-scalars
 put_eight-requires-clause-scalars g c = All-from_get_or IsScalar c.eight_units-units.result 0 (c.has_surrogate.ensures c.if-has_surrogate.false)
 
 pub loop-group-preserved : goal.loop-group-preserved
 loop-group-preserved g c =
-    let e = c.put_eight.ensures in
-    let scalar = c.has_surrogate.ensures c.if-has_surrogate.false in
-    eight_more c.eight_units-units.result (λ k. (c.type_inv.src k).fits) c.requires.source c.loop-group-test.true (omega arith) c.loop-group.invariant
-    (λ k h. (c.eight_units-units.ensures k h, scalar k (omega arith))) e.contents e.room e.loan
+    let units = c.eight_units-units in
+    elim c.if-is_short.branch [
+      | then-is_short w ↦
+          let e = w.put_eight_short.ensures in
+          let short = short_eight _ _ _ c.loop-group.group _ (c.requires.short w.if-is_short.true) c.loop-group-test.true units.ensures in
+          rw w.dst-is (eight_more units.result (λ k. (c.type_inv.src k).fits) c.requires.source c.loop-group-test.true (omega arith) c.loop-group.invariant
+          (λ k h. (units.ensures k h, below_scalar _ (short k h))) e.contents e.room e.loan)
+      | else-is_short+else-has_surrogate w ↦
+          let e = w.put_eight.ensures in
+          rw w.dst-is (eight_more units.result (λ k. (c.type_inv.src k).fits) c.requires.source c.loop-group-test.true (omega arith) c.loop-group.invariant
+          (λ k h. (units.ensures k h, w.has_surrogate.ensures w.if-has_surrogate.false k (omega arith))) e.contents e.room e.loan)
+    ]

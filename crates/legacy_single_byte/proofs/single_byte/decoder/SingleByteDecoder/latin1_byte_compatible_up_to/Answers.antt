@@ -1,9 +1,6 @@
 use Rattle.std.proofs.Common.{◌∙◌, sym, arith}
-use Rattle.legacy_single_byte.proofs.Latin1Fronts.{latin1_front-length, latin1-ascii}
+use Rattle.legacy_single_byte.proofs.Latin1Fronts.{latin1_front-length}
 use Rattle.legacy_single_byte.proofs.single_byte.decoder.SingleByteDecoder.latin1_byte_compatible_up_to.Goals as goal
-
-pub loop-count-init : goal.loop-count-init
-loop-count-init c = (c.ascii_blocks-count.ensures.within, latin1-ascii _ _ _ c.ascii_blocks-count.ensures.ascii)
 
 pub returns-else-is_latin1 : goal.returns-else-is_latin1
 returns-else-is_latin1 c =

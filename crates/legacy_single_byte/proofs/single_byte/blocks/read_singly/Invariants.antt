@@ -1,7 +1,7 @@
 use Rattle.std.proofs.Common.{◌+◌, ◌*◌, ◌-◌, ◌≤◌, take}
 use Rattle.legacy_base.specs.Grammar.{single_byte}
 use Rattle.legacy_decoder_engine.specs.ReadAhead.{Writes}
-use Rattle.legacy_single_byte.proofs.single_byte.blocks.Eights.read_singly.Given as goal
+use Rattle.legacy_single_byte.proofs.single_byte.blocks.read_singly.Given as goal
 
 -- the bytes read are written, with at most three code units for each
 abbrev pub invariant-loop-at : goal.invariant-loop-at
@@ -9,7 +9,7 @@ invariant-loop-at g l =
     let T = g.T.Destination in
     (l.at ≤ l.most)
     × (T.room l.fn.dst ≤ T.room l.dst + 3 * l.at)
-    × Writes T (single_byte l.self.scalars.now.table.now.entries) (take l.at l.src) l.fn.dst l.dst
+    × Writes T (single_byte l.scalars.table.now.entries) (take l.at l.src) l.fn.dst l.dst
 
 abbrev pub decreases-loop-at : goal.decreases-loop-at
 decreases-loop-at g l = l.most - l.at
