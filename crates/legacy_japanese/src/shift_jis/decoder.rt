@@ -4,6 +4,7 @@ ghost use Rattle.legacy_tables.specs.Unicode.{katakana_of};
 ghost use Rattle.legacy_base.specs.{ShiftJis.{is_shift_jis_lead, shift_jis_scalars}, Grammar.shift_jis};
 ghost use Rattle.legacy_japanese.specs.ShiftJisMachine.{shift_jis_first, shift_jis_pair_scalars};
 ghost use Rattle.legacy_japanese.specs.{ShiftJisPlaces.shift_jis_place, ShiftJisShown.shift_jis_codec};
+ghost use Rattle.legacy_decoder_engine.specs.{Feeding.Took, LeadCodecs.held_bytes};
 
 use super::held_lead::ShiftJisLead;
 use super::places::{LEADS, TRAILS};
@@ -35,6 +36,24 @@ pub struct ShiftJis;
 /// - a lead with a byte that gives no scalar with it (2 bytes); if that byte is ASCII, only the
 ///   lead (1 byte), and the ASCII byte is read again.
 pub type ShiftJisDecoder<'a> = LeadDecoder<'a, ShiftJis>;
+
+/// Reads the first byte of a sequence.
+// In a function of its own the bytes FF take a tenth fewer instructions.
+#[inline]
+fn first_byte(byte: u8) -> (Fed, Option<ShiftJisLead>)
+    ensures { Took (shift_jis_first byte) [] byte result.0 (held_bytes (λ l. l.byte) result.1) }
+{
+    if byte <= 0x80 {
+        return (Fed::One(char::from(byte)), None);
+    }
+    if byte >= 0xA1 && byte <= 0xDF {
+        return (Fed::One(katakana(byte)), None);
+    }
+    match ShiftJisLead::new(byte) {
+        Some(lead) => (Fed::Nothing, Some(lead)),
+        None => (malformed_through(1), None),
+    }
+}
 
 /// Returns the half-width katakana of a byte from A1 to DF.
 #[inline]
@@ -159,16 +178,7 @@ impl LeadCodec for ShiftJis {
 
     #[inline]
     fn read_first(byte: u8) -> (Fed, Option<ShiftJisLead>) {
-        if byte <= 0x80 {
-            return (Fed::One(char::from(byte)), None);
-        }
-        if byte >= 0xA1 && byte <= 0xDF {
-            return (Fed::One(katakana(byte)), None);
-        }
-        match ShiftJisLead::new(byte) {
-            Some(lead) => (Fed::Nothing, Some(lead)),
-            None => (malformed_through(1), None),
-        }
+        first_byte(byte)
     }
 
     #[inline]
