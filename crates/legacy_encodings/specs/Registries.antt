@@ -1,6 +1,6 @@
 -- What a registry of encodings does by their names, over the index data that it owns.
 use Rattle.std.specs.Prelude.{◌≡◌, ◌≢◌, ◌⊎◌, ℕ, List, ◌∷◌, length, Option, Some, None, true, find, option_map, bytes_eq}
-use Rattle.std.specs.Str.{chars}
+use Rattle.std.specs.Str.{chars, IsUtf8}
 use Rattle.legacy_base.specs.States.{DecoderState}
 use Rattle.legacy_base.specs.Encoders.{EncoderState, encoded}
 use Rattle.legacy_base.specs.Lengths.{query_answer, to_utf8}
@@ -112,9 +112,11 @@ IsEncodeError flat tables name (Sized TooLong) = ⊥
 IsEncodeError flat tables name (Sized Memory) = (output : Option EncoderState) × IsEncoderOf flat tables name output
 IsEncodeError flat tables name error = IsNameError tables name error
 
--- the bytes are a text in the encoding of the second name, whose characters are those of the input in that of the first
+-- The bytes are a text in the encoding of the second name, whose characters are those of the input in that of the first.
 pub record IsTranscoded (flat : FlatIndexes) (tables : List EncodingTable) (from to input bytes : List ℕ) : Type 0 where
   pub text : List ℕ
+  -- its characters then determine the text: `chars` says nothing of the bytes of a text that is ill-formed
+  pub utf8 : IsUtf8 text
   pub decoded : IsText flat tables from input (chars text)
   pub encoded : AreBytes flat tables to text bytes
 

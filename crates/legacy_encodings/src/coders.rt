@@ -16,7 +16,8 @@ use legacy_index_files::Codec;
 
 /// A decoder of any encoding.
 ///
-/// Outside this crate, match on a reference to it.
+/// It implements `Drop`, so outside this crate no `match` can move its coder out: match on a
+/// reference to it.
 pub enum AnyDecoder<'a> {
     /// Of a single-byte encoding.
     SingleByte(SingleByteDecoder<'a>),

@@ -118,8 +118,8 @@ impl Registry {
 
     /// Reads the index file of a single-byte encoding, and adds its table before the other ones.
     ///
-    /// A table that was read earlier for the encoding is used no more. No coder uses a table that is
-    /// read for a multi-byte encoding. The indexes are unchanged, and after an error the tables too.
+    /// A table that was read earlier for the encoding is used no more. For a multi-byte encoding it
+    /// adds a table that no coder uses. The indexes are unchanged, and after an error the tables too.
     ///
     /// - `File`: `text` has a malformed line (`read_index`), or an allocation failed.
     /// - `Tables`: the entries of `text` are refused (`SingleByteTable::new`).
@@ -269,7 +269,7 @@ impl Coders<'_> {
 
     /// Decodes a whole input by the encoding of the name, with U+FFFD for each malformed sequence.
     ///
-    /// The errors are those of `decoder` and `decode_whole`.
+    /// The errors are those of `decoder`, and those of `decode_whole` as `Sized`.
     pub fn decode(&self, alloc: Global, name: &str, input: &[u8]) -> Result<String, RegistryError>
         ensures { MatchResult result
             (λ text. IsText self.now.tables.flat self.now.single_bytes.now name.now input.now
@@ -284,8 +284,9 @@ impl Coders<'_> {
     /// Encodes a text by the encoding of the name, with a reference for each unmappable character.
     ///
     /// Replacement and UTF-16 encode as UTF-8. A text of 1024 bytes or more is encoded with a list
-    /// of the encoding's pairs, which is made for it. The errors are those of `encoder`, and a
-    /// failed allocation of the bytes or of the list. To encode many texts, keep a `ListedEncoder`.
+    /// of the encoding's pairs, which is made for it. To encode many texts, keep a `ListedEncoder`.
+    /// The errors are those of `encoder`, and `Sized(Memory)` if the allocation of the bytes or of the
+    /// list failed.
     pub fn encode(&self, alloc: Global, name: &str, text: &str) -> Result<Vec<u8>, RegistryError>
         ensures { MatchResult result
             (λ bytes. AreBytes self.now.tables.flat self.now.single_bytes.now name.now text.now

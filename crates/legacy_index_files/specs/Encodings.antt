@@ -89,8 +89,11 @@ indexes_of codec.Utf16Be = []
 indexes_of codec.Utf16Le = []
 indexes_of codec.UserDefined = []
 
--- the indexes that a codec's encoder uses: those of its decoder, and for ISO-2022-JP the katakana index
+-- The indexes that a codec's encoder uses: those of its decoder, and for ISO-2022-JP the katakana index. EUC-JP's encoder
+-- does not write the sequences of index jis0212, nor GBK's those of the ranges.
 abbrev pub encoder_indexes_of : Codec → List EncoderIndex
+encoder_indexes_of codec.Gbk = Of index.Gb18030 ∷ []
+encoder_indexes_of codec.EucJp = Of index.Jis0208 ∷ []
 encoder_indexes_of codec.Iso2022Jp = Of index.Jis0208 ∷ Katakana ∷ []
 encoder_indexes_of codec = map Of (indexes_of codec)
 

@@ -252,28 +252,25 @@ impl Encoding {
 
     /// Returns the indexes that the encoding's encoder uses.
     ///
-    /// These are the indexes of its decoder, and for ISO-2022-JP also index ISO-2022-JP katakana.
-    /// There are none for x-user-defined, nor for replacement and UTF-16, which have no encoder.
+    /// These are the indexes of its decoder, but for three encodings: EUC-JP's encoder does not use
+    /// index jis0212, GBK's does not use the ranges, and that of ISO-2022-JP also uses index
+    /// ISO-2022-JP katakana. There are none for x-user-defined, nor for replacement and UTF-16,
+    /// which have no encoder.
     pub fn encoder_indexes(self) -> &'static [EncoderIndex]
         ensures { result.now ≡ encoder_indexes_of (codec_of self) }
     {
         match self.codec() {
             Codec::SingleByte => &[EncoderIndex::Of(FileIndex::SingleByte)],
-            Codec::Gbk | Codec::Gb18030 => {
+            Codec::Gbk => &[EncoderIndex::Of(FileIndex::Gb18030)],
+            Codec::Gb18030 => {
                 &[
                     EncoderIndex::Of(FileIndex::Gb18030),
                     EncoderIndex::Of(FileIndex::Ranges),
                 ]
             }
             Codec::Big5 => &[EncoderIndex::Of(FileIndex::Big5)],
-            Codec::EucJp => {
-                &[
-                    EncoderIndex::Of(FileIndex::Jis0208),
-                    EncoderIndex::Of(FileIndex::Jis0212),
-                ]
-            }
             Codec::Iso2022Jp => { &[EncoderIndex::Of(FileIndex::Jis0208), EncoderIndex::Katakana] }
-            Codec::ShiftJis => &[EncoderIndex::Of(FileIndex::Jis0208)],
+            Codec::EucJp | Codec::ShiftJis => &[EncoderIndex::Of(FileIndex::Jis0208)],
             Codec::EucKr => &[EncoderIndex::Of(FileIndex::EucKr)],
             Codec::Replacement | Codec::Utf16Be | Codec::Utf16Le | Codec::UserDefined => &[],
         }

@@ -20,7 +20,6 @@ pub use encodings::{ENCODINGS, Encoding};
 pub use index_file::{
     EncoderIndex, FileIndex, FileTable, IndexFileError, KATAKANA_FILE, read_index, read_katakana,
 };
-pub use legacy_tables::GB18030_2022_PUA;
 pub use owned_indexes::OwnedIndexes;
 pub use packed_indexes::PackedIndexes;
 pub use packing::{OwnedPacked, pack};

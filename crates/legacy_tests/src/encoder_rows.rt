@@ -118,9 +118,11 @@ fn goes<E: RawEncoder>(
     let run = pieces.run(rt.alloc(), encoder, lengths);
     is_refusal(rt, place, pieces.form(), run.as_ref().err(), None);
     if let Ok(run) = run {
-        let came = (run.events.as_slice(), run.calls, run.finished);
-        let wanted = (events, calls.unwrap_or(run.calls), finished);
-        is_answer(rt, place, pieces.form(), came, wanted);
+        let came = (run.events.as_slice(), run.finished);
+        is_answer(rt, place, pieces.form(), came, (events, finished));
+        if let Some(wanted) = calls {
+            is_answer(rt, place, "the number of calls", run.calls, wanted);
+        }
     }
 }
 

@@ -245,9 +245,11 @@ fn runs<D: RawDecoder>(
     let run = form.run(rt.alloc(), decoder, pieces, lengths);
     is_refusal(rt, place, form.name(), run.as_ref().err(), None);
     if let Ok(run) = run {
-        let came = (run.events.as_slice(), run.calls, run.finished);
-        let wanted = (events, calls.unwrap_or(run.calls), finished);
-        is_answer(rt, place, form.name(), came, wanted);
+        let came = (run.events.as_slice(), run.finished);
+        is_answer(rt, place, form.name(), came, (events, finished));
+        if let Some(wanted) = calls {
+            is_answer(rt, place, "the number of calls", run.calls, wanted);
+        }
     }
 }
 
@@ -334,7 +336,9 @@ fn is_length(
     came: Option<usize>,
     stated: Option<Option<usize>>,
 ) {
-    is_answer(rt, place, question, came, stated.unwrap_or(came));
+    if let Some(wanted) = stated {
+        is_answer(rt, place, question, came, wanted);
+    }
 }
 
 /// Follows the row of another query, which only some decoders have or where few bytes count.

@@ -87,6 +87,17 @@ const ENCODERS: &[Encoders] = &[
         &[EncoderIndex::Of(FileIndex::Jis0208), EncoderIndex::Katakana],
     ),
     ("Shift_JIS", &[EncoderIndex::Of(FileIndex::Jis0208)]),
+    // Only EUC-JP's decoder uses index jis0212.
+    ("EUC-JP", &[EncoderIndex::Of(FileIndex::Jis0208)]),
+    // GBK's encoder writes no sequence of four bytes.
+    ("GBK", &[EncoderIndex::Of(FileIndex::Gb18030)]),
+    (
+        "gb18030",
+        &[
+            EncoderIndex::Of(FileIndex::Gb18030),
+            EncoderIndex::Of(FileIndex::Ranges),
+        ],
+    ),
     ("UTF-16LE", &[]),
 ];
 
@@ -96,7 +107,7 @@ fn encoder_indexes_of(name: &str) -> Option<&'static [EncoderIndex]> {
 }
 
 #[test]
-fn the_encoder_of_iso_2022_jp_looks_katakana_up(rt: HostRuntime) {
+fn encoders_look_up_their_own_indexes(rt: HostRuntime) {
     for (name, indexes) in ENCODERS {
         holds(&rt, *name, encoder_indexes_of(*name) == Some(*indexes));
     }

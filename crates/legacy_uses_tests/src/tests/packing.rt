@@ -1,5 +1,6 @@
 use crate::tests::compared::{are_pointers, holds, is_error, is_scalar};
 use legacy_index_files::{FileIndex, OwnedIndexes, OwnedPacked, PackedIndexes, pack};
+use legacy_tables::TableError::{BadEntry, TooLong};
 use legacy_tables::{DecoderTables, IndexName, Indexes, Packed, Run, TableError, Tables};
 use std::process::Abort;
 use std::test::Fail;
@@ -26,16 +27,11 @@ fn only_jis0208<'a>(jis0208: &'a [u16]) -> Indexes<'a> {
     }
 }
 
-// The next three functions have no clauses: the prover would search the clauses of their calls at each later statement.
+// The next two functions have no clauses: the prover would search the clauses of their calls at each later statement.
 
 /// Returns the first fault of indexes with these packed parts.
 fn fault_with<'a>(indexes: &Indexes<'a>, packed: &Packed<'a>) -> Option<TableError> {
     Tables::packed_of(indexes, packed).err()
-}
-
-/// Returns the first fault of indexes.
-fn fault_of<'a>(indexes: &Indexes<'a>) -> Option<TableError> {
-    Tables::new(indexes).err()
 }
 
 /// Packs indexes.
@@ -43,10 +39,15 @@ fn packed_of(rt: &(impl AllocGlobal + Abort), indexes: &Indexes) -> OwnedPacked 
     pack(rt.alloc(), indexes).expect(rt, "no memory")
 }
 
-/// Asserts that packed indexes have no fault of their own beside their indexes.
-fn has_no_own_fault<'a>(rt: &impl Abort, indexes: &Indexes<'a>, packed: &Packed<'a>) {
-    let (came, wanted) = (fault_with(indexes, packed), fault_of(indexes));
-    is_error(rt, "packed", came.as_ref(), wanted.as_ref());
+/// Asserts that packed indexes have this fault of their indexes, or none: none is of the packed parts.
+fn has_no_own_fault<'a>(
+    rt: &impl Abort,
+    indexes: &Indexes<'a>,
+    packed: &Packed<'a>,
+    wanted: Option<&TableError>,
+) {
+    let came = fault_with(indexes, packed);
+    is_error(rt, "packed", came.as_ref(), wanted);
 }
 
 /// Puts each entry at its pointer.
@@ -132,7 +133,7 @@ fn an_index_is_packed_to_runs_and_an_order_and_unpacked(rt: HostRuntime) {
             ..no_entries()
         };
         let made = packed_of(&rt, &indexes);
-        has_no_own_fault(&rt, &indexes, &made.packed());
+        has_no_own_fault(&rt, &indexes, &made.packed(), None);
         holds(&rt, "the runs of EUC-KR", are_runs(&made.euc_kr, *runs));
         are_pointers(&rt, "EUC-KR", &made.euc_kr_order, *order);
         let flat = packed_entries(*entries, *runs);
@@ -160,7 +161,7 @@ fn two_orders_of_jis0208(rt: HostRuntime) {
         fill(&mut entries, *places);
         let indexes = only_jis0208(&entries);
         let made = packed_of(&rt, &indexes);
-        has_no_own_fault(&rt, &indexes, &made.packed());
+        has_no_own_fault(&rt, &indexes, &made.packed(), None);
         let count = made.jis0208.len();
         holds(&rt, "a run for each place", count == places.len());
         are_pointers(&rt, "Shift_JIS", &made.shift_jis_order, *shift_jis);
@@ -196,29 +197,35 @@ fn an_order_of_big5(rt: HostRuntime) {
             ..no_entries()
         };
         let made = packed_of(&rt, &indexes);
-        has_no_own_fault(&rt, &indexes, &made.packed());
+        has_no_own_fault(&rt, &indexes, &made.packed(), None);
         are_pointers(&rt, "Big5", &made.big5_order, *order);
     }
 }
 
-/// Entries of index Big5 that are refused but can be packed.
-const REFUSED: &[&[u32]] = &[
-    &[0x41],
-    &[0xD800, 0xD801],
-    &[0x11_0000],
-    &[u32::MAX - 1, u32::MAX, 0, u32::MAX],
-    &[0x4E00; 65537],
+/// Entries of index Big5 that are refused but can be packed, and their first fault.
+type Refused<'a> = (&'a [u32], TableError);
+
+const REFUSED: &[Refused] = &[
+    (&[0x41], BadEntry(IndexName::Big5, 0)),
+    (&[0x4E00, 0xD800, 0xD801], BadEntry(IndexName::Big5, 1)),
+    (&[0, 0, 0x11_0000], BadEntry(IndexName::Big5, 2)),
+    (
+        &[u32::MAX - 1, u32::MAX, 0, u32::MAX],
+        BadEntry(IndexName::Big5, 0),
+    ),
+    // The length is checked before the entries.
+    (&[0x41; 65537], TooLong(IndexName::Big5)),
 ];
 
 #[test]
 fn indexes_that_are_refused_are_packed_too(rt: HostRuntime) {
-    for entries in REFUSED {
+    for (entries, fault) in REFUSED {
         let indexes = Indexes {
             big5: entries,
             ..no_entries()
         };
         let made = packed_of(&rt, &indexes);
-        has_no_own_fault(&rt, &indexes, &made.packed());
+        has_no_own_fault(&rt, &indexes, &made.packed(), Some(fault));
     }
 }
 
