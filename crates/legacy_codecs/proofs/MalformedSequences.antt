@@ -89,7 +89,7 @@ module _ {before : DecoderState} {input : List ℕ} {free : ℕ} {now : DecoderS
 
   -- a call that reports none is the last
   pub finds_stop : {answer : DecoderResult} → DecoderCall Utf8 now rest true free after answer count scalars → ((a b : ℕ) → answer ≡ Malformed a b → ⊥) →
-      found ≡ malformed_of (length before.held) (events_of before.grammar (before.held ++ input))
-  finds_stop {answer = InputEmpty} c n = finds_end c
+      (found ≡ malformed_of (length before.held) (events_of before.grammar (before.held ++ input))) × (events_of after.grammar after.held ≡ [])
+  finds_stop {answer = InputEmpty} c n = (finds_end c, (c.input_empty refl).2 refl)
   finds_stop {answer = OutputFull} c n = absurd (never_full c)
   finds_stop {answer = Malformed a b} c n = absurd (n a b refl)

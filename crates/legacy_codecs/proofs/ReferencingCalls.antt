@@ -223,7 +223,8 @@ module _ {before : EncoderState} {source : List ℕ} {last : Bool} {free : ℕ} 
           reserve = reserve_after room room_is written x c.fits (rw (no_report result) tt);
           found_is = u.found_is ∙ same_found (has_unmappable u.out) result ∙ found-call u.out written x;
           input_empty = λ e. c.input_empty (ap last_answer e);
-          output_full = λ e. let lacks = c.output_full (ap last_answer e) in omega (arith, long, c.fits, u.fits, lacks);
+          output_full = λ e.
+              let lacks = c.output_full (ap last_answer e) in (omega (arith, lacks), omega (arith, long, c.fits, u.fits, lacks));
           few = λ e. let lacks = c.output_full (ap last_answer e) in omega (arith, long, c.fits, u.fits, lacks, small);
           full_at_once = λ need l. let full = full_so x c need l in (is_full result full.0, full.1, full.2, u.unfound need l, full.3);
           enough = λ form n k h e f full. found_if_full found u.untouched (rw full at c) form n k h e f;

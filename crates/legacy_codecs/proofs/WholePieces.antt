@@ -52,11 +52,13 @@ module _ {form : EncodingForm} {before : DecoderState} {source : List ℕ} {last
   whole_text : IsTrue last → text_of before source ≡ replaced_scalars c.out
   whole_text is_last = grind (arith, append-nil, scalars_go_on, none_left)
 
--- a last call into UTF-8 that had the queried length free wrote the text of its source
+-- a last call into UTF-8 that had the queried length free wrote the text of its source, and no text is left
 pub whole_with_room : {before : DecoderState} {source : List ℕ} {free : ℕ} {after : DecoderState} {answer : CoderResult} {read : ℕ} {written : List ℕ}
     {found : Bool} →
     ReplacingDecoderCall Utf8 before source true free after answer read written found →
-    (k : ℕ) → query_answer to_utf8 before (length source) ≡ Some k → k ≤ free → IsUtf8 written × (chars written ≡ text_of before source)
+    (k : ℕ) → query_answer to_utf8 before (length source) ≡ Some k → k ≤ free →
+    IsUtf8 written × (chars written ≡ text_of before source) × (text_of after [] ≡ [])
 whole_with_room {source = source} {written = written} c k queried fits =
     let empty = c.enough (length source) k (omega arith) queried fits in
-    let utf8 = utf8_of written (replaced_scalars c.out) c.scalar c.text in (utf8.0, utf8.1 ∙ sym (whole_text c empty refl))
+    let utf8 = utf8_of written (replaced_scalars c.out) c.scalar c.text in
+    (utf8.0, utf8.1 ∙ sym (whole_text c empty refl), none_left c empty refl)

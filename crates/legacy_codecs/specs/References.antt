@@ -78,8 +78,8 @@ pub record ReplacingEncoderCall (before : EncoderState) (source : List ℕ) (las
   pub found_is : found ≡ has_unmappable out
   -- at InputEmpty all is read; on a last call the end has nothing left to write
   pub input_empty : answer ≡ InputEmpty → (left ≡ []) × (IsTrue last → end_bytes after ≡ [])
-  -- at OutputFull the next act and a reference lack their room
-  pub output_full : answer ≡ OutputFull → LacksReferenceRoom after left last (free - length bytes)
+  -- at OutputFull something is left to do, and the next act and a reference lack their room
+  pub output_full : answer ≡ OutputFull → (0 < encoder_need after left last) × LacksReferenceRoom after left last (free - length bytes)
   -- at OutputFull fewer than fourteen bytes are free
   pub few : answer ≡ OutputFull → free - length bytes < 14
   -- if the next act and a reference lack their room as the call begins, it returns OutputFull and does nothing

@@ -1,5 +1,5 @@
 //! The malformed sequences of an input, with their places.
-ghost use Rattle.std.specs.Prelude.{◌≡◌, ◌↔◌, ◌+◌, ◌-◌, ◌++◌, length, Err, IfOk, None};
+ghost use Rattle.std.specs.Prelude.{◌≡◌, ◌↔◌, ◌+◌, ◌-◌, [], ◌++◌, length, Err, IfOk, None};
 ghost use Rattle.legacy_base.specs.Grammar.{events_of};
 ghost use Rattle.legacy_base.specs.Lengths.{query_answer, to_utf8_without_replacement};
 ghost use Rattle.legacy_codecs.specs.MalformedSequences.{malformed_of};
@@ -33,7 +33,8 @@ fn sequence_at(read: usize, length: u8, back: u8) -> MalformedSequence
 /// Finds every malformed sequence of a whole input, in order.
 ///
 /// The sequences are those of the bytes that the decoder held back and all of `input`, whose end is
-/// the end of the input. A place counts bytes of `input` from 0. The text is not kept.
+/// the end of the input. A place counts bytes of `input` from 0. The text is not kept, and no event
+/// is left.
 ///
 /// - `TooLong`: exactly if `max_utf8_buffer_length_without_replacement` returns `None` for the
 ///   length of `input`.
@@ -50,6 +51,8 @@ pub fn malformed_sequences<D: RawDecoder>(
     ensures found { IfOk result (λ found. let before = D.state decoder.old in
         found.items ≡ malformed_of (length before.held)
         (events_of before.grammar (before.held ++ input.now))) }
+    ensures end { IfOk result (λ found. let after = D.state decoder.new in
+        events_of after.grammar after.held ≡ []) }
     ensures too_long { (result ≡ Err SizedError.TooLong)
         ↔ query_answer to_utf8_without_replacement (D.state decoder.old) (length input.now) ≡ None }
 {

@@ -2,7 +2,7 @@
 ghost use Rattle.std.specs.Prelude.{◌≡◌, ◌↔◌, ℕ, ◌≤◌, [], length, take, string_bytes, IfOk, OnErr, Err, Some, None, IsTrue, true};
 ghost use Rattle.std.specs.Str.{chars};
 ghost use Rattle.legacy_text.specs.EncodingForm.{Utf8};
-ghost use Rattle.legacy_base.specs.Encoders.{encoded};
+ghost use Rattle.legacy_base.specs.Encoders.{encoded, end_bytes};
 ghost use Rattle.legacy_base.specs.Lengths.{query_answer, to_utf8};
 ghost use Rattle.legacy_codecs.specs.References.{referenced_bytes};
 ghost use Rattle.legacy_codecs.specs.WholeTexts.{text_of, TextGoesOn};
@@ -38,8 +38,8 @@ impl From<AllocError> for SizedError {
 /// Decodes a whole input and returns its text, with U+FFFD for each malformed sequence.
 ///
 /// The result has the characters of the bytes that the decoder held back and of all of `input`,
-/// whose end is the end of the input (Encoding Standard, error mode "replacement"). Take a new
-/// decoder for the next input.
+/// whose end is the end of the input (Encoding Standard, error mode "replacement"). Then nothing is
+/// left to write. Take a new decoder for the next input.
 ///
 /// - `TooLong`: exactly if `max_utf8_buffer_length` returns `None` for the length of `input`.
 /// - `Memory`: the allocation of that many bytes failed.
@@ -58,6 +58,7 @@ pub fn decode_whole<D: RawDecoder>(
 ) -> Result<String, SizedError>
     ensures text { IfOk result (λ text.
         chars (string_bytes text) ≡ text_of (D.state decoder.old) input.now) }
+    ensures end { IfOk result (λ text. text_of (D.state decoder.new) [] ≡ []) }
     ensures too_long { (result ≡ Err SizedError.TooLong)
         ↔ query_answer to_utf8 (D.state decoder.old) (length input.now) ≡ None }
     ensures unchanged { OnErr result (decoder.new ≡ decoder.old) }
@@ -103,7 +104,8 @@ pub fn decode_piece<D: RawDecoder>(
 /// Encodes a whole text, with a numeric character reference for each unmappable character.
 ///
 /// The result has the bytes of all of `text` and of its end, for ISO-2022-JP with the escape back
-/// to ASCII. A reference is written as `&#128169;` (Encoding Standard, error mode "html").
+/// to ASCII. A reference is written as `&#128169;` (Encoding Standard, error mode "html"). Then
+/// the encoder can take another.
 ///
 /// If an allocation fails, the result is `AllocError`. The encoder may then have read a part of the
 /// text: take a new one.
@@ -117,8 +119,9 @@ pub fn encode_whole<E: RawEncoder>(
     encoder: &mut E,
     text: &str,
 ) -> Result<Vec<u8>, AllocError>
-    ensures { IfOk result (λ bytes. bytes.items
+    ensures bytes { IfOk result (λ bytes. bytes.items
         ≡ referenced_bytes (encoded (E.state encoder.old) (chars text.now) true)) }
+    ensures end { IfOk result (λ bytes. end_bytes (E.state encoder.new) ≡ []) }
 {
     let mut bytes = Vec::new(alloc);
     let mut rest = text;
@@ -137,6 +140,7 @@ pub fn encode_whole<E: RawEncoder>(
 ///
 /// A malformed sequence becomes U+FFFD, as in `decode_whole`. Each character that the new encoding
 /// lacks becomes a numeric character reference, as in `encode_whole`; U+FFFD may be one of them.
+/// Then nothing is left in either coder.
 ///
 /// It makes no list of pairs. For a long input pass an encoder that has one, such as
 /// `CachedEncoder`.
@@ -159,6 +163,8 @@ pub fn transcode<D: RawDecoder, E: RawEncoder>(
 ) -> Result<Vec<u8>, SizedError>
     ensures bytes { IfOk result (λ bytes. let text = text_of (D.state decoder.old) input.now in
         bytes.items ≡ referenced_bytes (encoded (E.state encoder.old) text true)) }
+    ensures end { IfOk result (λ bytes. (text_of (D.state decoder.new) [] ≡ [])
+        × (end_bytes (E.state encoder.new) ≡ [])) }
     ensures too_long { (result ≡ Err SizedError.TooLong)
         ↔ query_answer to_utf8 (D.state decoder.old) (length input.now) ≡ None }
 {

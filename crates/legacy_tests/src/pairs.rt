@@ -1,7 +1,9 @@
 //! Rows that several encoders of pairs share.
 use crate::encode_events::Wanted::{Bytes, Report};
 use crate::encoder_rows::EncoderRow;
-use crate::encoder_rows::EncoderRow::{Encoder, Encodes, FromUtf8, Full, Utf8Length, Utf16Length};
+use crate::encoder_rows::EncoderRow::{
+    Encoder, Encodes, FromUtf8, Full, ReplacedFromUtf8, Utf8Length, Utf16Length,
+};
 use legacy_base::EncoderResult::{InputEmpty, Unmappable};
 
 /// The rows of Big5, EUC-JP, EUC-KR and Shift_JIS without entries.
@@ -16,6 +18,9 @@ pub(crate) const WITHOUT_ENTRIES: &[EncoderRow] = &[
     Utf8Length(usize::MAX, None),
     Utf16Length(5, Some(10)),
     Utf16Length(usize::MAX / 2 + 1, None),
+    Encoder("with nothing left to do an output without room for a reference is not full"),
+    ReplacedFromUtf8("", 5, true, InputEmpty, 0, b"", false),
+    ReplacedFromUtf8("\u{1F4A9}", 12, true, InputEmpty, 4, b"&#128169;", true),
 ];
 
 /// The rows of EUC-JP and Shift_JIS without entries.

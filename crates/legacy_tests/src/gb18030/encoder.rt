@@ -3,7 +3,7 @@ use crate::ahead::{encode_ahead, pair_room};
 use crate::encode_events::Wanted::{Bytes, Report};
 use crate::encoder_rows::EncoderRow;
 use crate::encoder_rows::EncoderRow::{
-    Encoder, Encodes, FromUtf8, FromUtf16, Full, Utf8Length, Utf16Length,
+    Encoder, Encodes, FromUtf8, FromUtf16, Full, ReplacedFromUtf8, Utf8Length, Utf16Length,
 };
 use crate::indexes::{EMPTY, Filled, Flat, flat, tables_of};
 use legacy_base::EncoderResult::{InputEmpty, OutputFull, Unmappable};
@@ -46,6 +46,9 @@ pub(crate) const GBK_WITHOUT_ENTRIES: &[EncoderRow] = &[
     Encoder("a scalar past ASCII needs four bytes"),
     Full("\u{20AC}", 3),
     FromUtf8("\u{20AC}", 4, true, InputEmpty, 3, b"\x80"),
+    Encoder("a reference needs ten bytes more, of which those it leaves free do not matter"),
+    ReplacedFromUtf8("\u{1F4A9}", 13, true, OutputFull, 0, b"", false),
+    ReplacedFromUtf8("\u{1F4A9}", 14, true, InputEmpty, 4, b"&#128169;", true),
     Encoder(
         "the lengths are two bytes more than for two bytes a unit, and three more than the bytes",
     ),

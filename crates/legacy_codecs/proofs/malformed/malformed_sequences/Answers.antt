@@ -11,7 +11,13 @@ pub returns-in_default-answer-clause-found : goal.returns-in_default-answer-clau
 returns-in_default-answer-clause-found g c =
     let call = c.decode_to_utf8_raw-answer.ensures.call in
     let free = rw c.as_mut_slice.ensures.len at call.1 in
-    finds_stop c.calls.invariant free c.in_default-answer.not-Malformed
+    (finds_stop c.calls.invariant free c.in_default-answer.not-Malformed).0
+
+pub returns-in_default-answer-clause-end : goal.returns-in_default-answer-clause-end
+returns-in_default-answer-clause-end g c =
+    let call = c.decode_to_utf8_raw-answer.ensures.call in
+    let free = rw c.as_mut_slice.ensures.len at call.1 in
+    (finds_stop c.calls.invariant free c.in_default-answer.not-Malformed).1
 
 pub calls-smaller : goal.calls-smaller
 calls-smaller g c =

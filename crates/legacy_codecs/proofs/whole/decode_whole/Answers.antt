@@ -19,3 +19,9 @@ returns-clause-text g c =
     c.truncate.ensures.items ∙ front_of_buffer _ _ _ _ c.decode_replacing_utf8-written.ensures.written (omega (arith, c.as_mut_slice.ensures.len)) in
     let same = rw c.unwrap.ensures at c.from_utf8.ensures.ok in
     ap (λ v. chars v.items) same ∙ ap chars items ∙ whole.1
+
+pub returns-clause-end : goal.returns-clause-end
+returns-clause-end g c =
+    let whole = whole_with_room c.decode_replacing_utf8-written.ensures.call c.in-Some.length (sym c.max_utf8_buffer_length.ensures ∙ c.in-Some.is)
+    (omega (arith, c.as_mut_slice.ensures.len, c.in-Ok.ensures.len)) in
+    whole.2

@@ -2,8 +2,8 @@ use Rattle.std.proofs.Common.{arith, append-nil}
 use Rattle.legacy_codecs.proofs.WholeTexts.{bytes_end, bytes_less, bytes_after}
 use Rattle.legacy_codecs.proofs.whole.encode_whole.Goals as goal
 
-pub returns-in-InputEmpty : goal.returns-in-InputEmpty
-returns-in-InputEmpty g c =
+pub returns-in-InputEmpty-clause-bytes : goal.returns-in-InputEmpty-clause-bytes
+returns-in-InputEmpty-clause-bytes g c =
     let call = c.encode_replacing_utf8-answer.ensures.call in
     rw (bytes_end call c.in-InputEmpty.is, append-nil c.extend_from_slice.new.self.items)
     at (bytes_after call _ c.calls.invariant.1 c.in_ok-extend_from_slice.ensures.items)
