@@ -82,7 +82,21 @@ module _ {before now : DecoderState} {total : ℕ} {left_old left_mid : Option (
         }
 
     pub whole_end : {last : Bool} → IsAtEnd left → last ≡ true → DecodesPiece now piece last after Second → DecodesAll before after left_old left Both
-    whole_end at_end e given = grind (arith, append-nil, way_on, Consumes-trans, place)
+    whole_end at_end e given =
+        let p = rw e at given in
+        let way = way_on true piece p.progress in
+        let ended = p.ended refl in
+        let all : events_of before.grammar (before.held ++ (w.bytes ++ piece)) ≡ all_events p.events =
+        grind (arith, append-nil, way.events [] (λ _. inl refl), ended) in
+        record {
+          bytes = w.bytes ++ piece;
+          read = Consumes-trans _ _ _ _ _ w.read r;
+          at_end = at_end;
+          shown = rw all (j.join w.passed w.events p.events place w.shown p.shown);
+          passed = w.passed + p.passed;
+          progress = rw all way;
+          ended = ended;
+        }
 
     -- what holds after a failed write
     pub whole_partly : (last : Bool) → (IsTrue last → IsAtEnd left) → DecodesFront now piece last after Second

@@ -1,5 +1,5 @@
 -- Decoding a stream: which events were decoded, and what is true of them.
-use Rattle.std.specs.Prelude.{◌≡◌, ℕ, List, [], ◌++◌, Bool, false, IsTrue, Option}
+use Rattle.std.specs.Prelude.{◌≡◌, ℕ, List, [], ◌++◌, Bool, true, false, IsTrue, Option}
 use Rattle.std.specs.Io.KnownBytes.{Appends, Consumes, IsAtEnd}
 use Rattle.legacy_base.specs.declared.results.DecodeEvent.{DecodeEvent}
 use Rattle.legacy_base.specs.Grammar.{events_of}
@@ -34,12 +34,14 @@ pub record DecodesFront (before : DecoderState) (piece : List ℕ) (last : Bool)
 -- ---- the whole input
 
 -- The input was read to its end, and `Shown` is true of all events of the held-back and read bytes. No event is left in
--- the decoder.
+-- the decoder, which continues after them if more bytes come with which all events still begin so.
 pub record DecodesAll (before after : DecoderState) (input_old input_new : Option (List ℕ)) (Shown : List DecodeEvent → Type 0) : Type 0 where
   pub bytes : List ℕ
   pub read : Consumes input_old input_new bytes
   pub at_end : IsAtEnd input_new
   pub shown : Shown (events_of before.grammar (before.held ++ bytes))
+  pub passed : ℕ
+  pub progress : Progress true before bytes passed after [] (events_of before.grammar (before.held ++ bytes))
   pub ended : events_of after.grammar after.held ≡ []
 
 -- Some bytes of the input were read and decoded, and `Shown` is true of their events. All events begin with these,
