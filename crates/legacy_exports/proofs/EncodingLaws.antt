@@ -11,6 +11,7 @@ use Rattle.legacy_base.specs.EncoderCalls.{EncoderCall, tells_end, reported}
 use Rattle.legacy_base.proofs.Beginnings.{begins_later}
 use Rattle.legacy_codecs.specs.References.{referenced_bytes, Gives, ReplacingEncoderCall}
 use Rattle.legacy_codecs.specs.declared.results.CoderResult.{CoderResult}
+use Rattle.legacy_codecs.specs.declared.results.CoderResult.TheVariants as result
 use Rattle.legacy_exports.specs.declared.calls.CallEnd.TheVariants.{Read, Full, Replaced}
 use Rattle.legacy_exports.specs.Decoding.{end_of}
 use Rattle.legacy_exports.specs.Encoding.{Replacement, question_mark, numeric_reference, bytes_of_event, bytes_of, Encodes, EncodingCall, LacksBytes}
@@ -35,7 +36,12 @@ pub replacing_call : {before : EncoderState} {text : List ℕ} {last : Bool} {fr
     {left written : List ℕ} {found : Bool} →
     ReplacingEncoderCall before text last free after answer left written found →
     EncodingCall numeric_reference before text last free after (end_of answer) left written
-replacing_call answer c = grind (arith, bytes-references, append-nil)
+replacing_call result.InputEmpty {written = written} c =
+    let bytes = bytes-references c.out ∙ sym c.text ∙ sym (append-nil written) in
+    record { lost = []; encodes = record { out = c.out; gives = c.gives; bytes = bytes }; ends = (c.input_empty refl, refl) }
+replacing_call result.OutputFull {written = written} c =
+    let bytes = bytes-references c.out ∙ sym c.text ∙ sym (append-nil written) in
+    record { lost = []; encodes = record { out = c.out; gives = c.gives; bytes = bytes }; ends = let full = c.output_full refl in inl (refl, full.0, full.1) }
 
 -- the events of a raw call
 raw_gives : {before : EncoderState} {text : List ℕ} {last : Bool} {free : ℕ} {after : EncoderState} {answer : EncoderResult} {left written : List ℕ} →
@@ -60,7 +66,7 @@ module _ {before : EncoderState} {text : List ℕ} {last : Bool} {free : ℕ} {a
   raw_full c = record {
     lost = [];
     encodes = record { out = map Byte written ++ []; gives = raw_gives c; bytes = raw_bytes written OutputFull };
-    ends = let l = c.output_full refl in inl (refl, omega arith);
+    ends = let l = c.output_full refl in inl (refl, omega arith, omega arith);
   }
 
   -- a question mark is written for an unmappable scalar, or lost

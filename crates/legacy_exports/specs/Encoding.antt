@@ -55,10 +55,10 @@ pub record Encodes (kind : Replacement) (ended : Bool) (before : EncoderState) (
 abbrev pub IsEncoded : EncoderState → List ℕ → Bool → Type 0
 IsEncoded state left last = (left ≡ []) × (IsTrue last → end_bytes state ≡ [])
 
--- the next act lacks its room, and nothing is lost; or no byte is free for a question mark, which is lost
+-- an act is left and lacks its room, and nothing is lost; or no byte is free for a question mark, which is lost
 abbrev pub LacksBytes : Replacement → EncoderState → List ℕ → Bool → ℕ → List ℕ → Type 0
 LacksBytes kind state left last free lost =
-    ((lost ≡ []) × (free < encoder_need state left last + kept_room kind))
+    ((lost ≡ []) × (0 < encoder_need state left last) × (free < encoder_need state left last + kept_room kind))
     ⊎ ((kind ≡ question_mark) × (lost ≡ 0x3F ∷ []) × (free ≡ 0))
 
 -- what the end of a call says of the scalars left, of the bytes left free, of the number that it wrote, and of what is
