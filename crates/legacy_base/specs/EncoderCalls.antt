@@ -42,6 +42,8 @@ pub record EncoderCall (before : EncoderState) (source : List ℕ) (last : Bool)
   -- the scalars that were read; with those left they are the source
   pub taken : List ℕ
   pub cut : source ≡ taken ++ left
+  -- the codec and its lists stay
+  pub codec : after.codec ≡ before.codec
   -- at most the free bytes are written
   pub fits : length bytes ≤ free
   -- All events are the bytes written, the report, and then the events of the scalars left. This holds for the source

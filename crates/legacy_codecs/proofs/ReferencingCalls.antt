@@ -100,6 +100,7 @@ pub record IsReferencing (before : EncoderState) (source : List ℕ) (last : Boo
     (found : Bool) : Type 0 where
   pub taken : List ℕ
   pub cut : source ≡ taken ++ left
+  pub codec : now.codec ≡ before.codec
   pub fits : length bytes ≤ free
   pub out : List EncodeEvent
   pub gives : Gives false before source now left out
@@ -116,6 +117,7 @@ unfolding KeepsReserve
 referencing_start before source last free = record {
   taken = [];
   cut = refl;
+  codec = refl;
   fits = omega arith;
   out = [];
   gives = λ more ended h. refl;
@@ -182,6 +184,7 @@ module _ {before : EncoderState} {source : List ℕ} {last : Bool} {free : ℕ} 
         record {
           taken = u.taken ++ call.taken;
           cut = cut_after x call;
+          codec = call.codec ∙ u.codec;
           fits = fits;
           out = out_after written x;
           gives = gives_after x call;
@@ -216,6 +219,7 @@ module _ {before : EncoderState} {source : List ℕ} {last : Bool} {free : ℕ} 
         record {
           taken = u.taken ++ c.taken;
           cut = cut_after x c;
+          codec = c.codec ∙ u.codec;
           fits = omega (arith, long, c.fits, u.fits);
           out = out_after written x;
           gives = rw (same_end last result) at (gives_after x c);

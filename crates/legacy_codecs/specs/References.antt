@@ -64,6 +64,8 @@ pub record ReplacingEncoderCall (before : EncoderState) (source : List ℕ) (las
   -- the source is the scalars that were read, and then those that are left
   pub taken : List ℕ
   pub cut : source ≡ taken ++ left
+  -- the codec and its lists stay
+  pub codec : after.codec ≡ before.codec
   -- at most the free bytes are written
   pub fits : length bytes ≤ free
   -- the events of the call

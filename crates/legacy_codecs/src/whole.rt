@@ -122,6 +122,7 @@ pub fn encode_whole<E: RawEncoder>(
     ensures bytes { IfOk result (λ bytes. bytes.items
         ≡ referenced_bytes (encoded (E.state encoder.old) (chars text.now) true)) }
     ensures end { IfOk result (λ bytes. end_bytes (E.state encoder.new) ≡ []) }
+    ensures codec { IfOk result (λ bytes. (E.state encoder.new).codec ≡ (E.state encoder.old).codec) }
 {
     let mut bytes = Vec::new(alloc);
     let mut rest = text;

@@ -3,7 +3,7 @@
 ghost use Rattle.std.specs.Prelude.{◌≡◌, ◌+◌, ◌<◌, ◌≤◌, ◌++◌, length, take};
 ghost use Rattle.legacy_decoder_engine.specs.PickedForms.{forms_of};
 
-use crate::lanes::LaneCodec;
+use crate::lane_codec::LaneCodec;
 use crate::past_ascii::past_ascii;
 use crate::picks::{form_starts, pick_forms};
 use std::simd::prelude::*;

@@ -8,8 +8,9 @@ ghost use Rattle.legacy_base.specs.States.{new_state};
 ghost use Rattle.legacy_decoder_engine.specs.ReadAhead.{HasAscii, ReadsAhead};
 ghost use Rattle.legacy_decoder_engine.specs.LaneCodes.{ArePairs, AreUnits};
 
+use crate::lane_codec::LaneCodec;
 use crate::lane_entries::{entries_at, entry_count};
-use crate::lanes::{LaneCodec, are_known, chosen, kept_and_places, known_count};
+use crate::lanes::{are_known, chosen, kept_and_places, known_count};
 use legacy_base::Destination;
 use legacy_tables::FlatTables;
 use std::simd::prelude::*;

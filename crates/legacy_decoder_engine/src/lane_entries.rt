@@ -2,7 +2,7 @@
 ghost use Rattle.std.specs.Prelude.{◌≡◌, ◌≢◌, ℕ, ◌<◌, ◌≤◌, length, get_or, min};
 ghost use Rattle.legacy_decoder_engine.specs.LaneCodes.{ArePairs};
 
-use crate::lanes::LaneCodec;
+use crate::lane_codec::LaneCodec;
 use legacy_tables::{FlatTables, IndexName};
 use std::simd::prelude::*;
 

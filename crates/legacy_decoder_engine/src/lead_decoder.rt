@@ -8,7 +8,8 @@ ghost use Rattle.legacy_decoder_engine.specs.{Steps.{Step, finish, trail_step}, 
 ghost use Rattle.legacy_decoder_engine.specs.LeadCodecs.{IsLeadCodec, held_bytes, lead_state};
 
 use crate::drive::{count_malformed_bytes, drive_decoder};
-use crate::lanes::{LaneBlocks, LaneCodec};
+use crate::lane_blocks::LaneBlocks;
+use crate::lane_codec::LaneCodec;
 use crate::moves::{DecoderMoves, Fed, Room};
 use crate::near_malformed::{AFTER_MALFORMED, read_common};
 use crate::read_ahead::read_ascii;

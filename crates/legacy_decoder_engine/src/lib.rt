@@ -8,6 +8,8 @@ pub mod common_forms;
 pub mod drive;
 mod eights;
 pub mod held_lead;
+pub mod lane_blocks;
+pub mod lane_codec;
 mod lane_entries;
 pub mod lane_places;
 pub mod lanes;

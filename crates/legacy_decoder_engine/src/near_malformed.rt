@@ -5,7 +5,8 @@ ghost use Rattle.legacy_tables.specs.AcceptedTables.{AcceptedIndexes};
 ghost use Rattle.legacy_base.specs.States.{new_state};
 ghost use Rattle.legacy_decoder_engine.specs.ReadAhead.{HasAscii, ReadsAhead};
 
-use crate::lanes::{LaneBlocks, LaneCodec, begins_uncommon, read_any_longer, read_in_turn};
+use crate::lane_blocks::{LaneBlocks, begins_uncommon, read_any_longer, read_in_turn};
+use crate::lane_codec::LaneCodec;
 use crate::read_ahead::{read_ascii, read_blocks};
 use legacy_base::Destination;
 

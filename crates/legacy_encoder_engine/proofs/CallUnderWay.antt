@@ -63,6 +63,7 @@ module _ (before : EncoderState) (source : List ℕ) (last : Bool) (free : ℕ) 
     call_full l never = record {
       taken = under.taken;
       cut = under.cut;
+      codec = under.same;
       fits = under.fits;
       events = λ more ended h. whole more ended;
       input_empty = λ e. cc;
@@ -213,6 +214,7 @@ module _ (before : EncoderState) (source : List ℕ) (last : Bool) (free : ℕ) 
       call_unmappable next r f room = record {
         taken = under.taken ++ c ∷ [];
         cut = read_cut next (moves.Unmappable r) f room;
+        codec = rw f.goes under.same;
         fits = under.fits;
         events = λ more ended h.
             rw (under.cut, at, append_assoc, ← f.events (rest ++ more) ended) (rw at at (under.events (rest ++ more) ended));
@@ -241,6 +243,7 @@ module _ (before : EncoderState) (source : List ℕ) (last : Bool) (free : ℕ) 
       call_done p = record {
         taken = under.taken;
         cut = under.cut;
+        codec = under.same;
         fits = under.fits;
         events = λ more ended h. whole more ended;
         input_empty = λ e. (none, λ l. no_bytes (end_bytes now) (p l));
@@ -267,6 +270,7 @@ module _ (before : EncoderState) (source : List ℕ) (last : Bool) (free : ℕ) 
         call_finish next f room = record {
           taken = under.taken;
           cut = under.cut;
+          codec = f.codec ∙ under.same;
           fits = let g = under.fits in omega (arith, length-append bytes (0x1B ∷ 0x28 ∷ 0x42 ∷ []));
           events = λ more ended h.
               let here = rw none at (whole more ended) in

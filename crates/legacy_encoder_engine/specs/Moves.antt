@@ -63,6 +63,7 @@ pub record Finishes (before after : EncoderState) : Type 0 where
       ((more ≡ []) × IsTrue ended) ⊎ BeginsWith (encoded before more ended) (map Byte (0x1B ∷ 0x28 ∷ 0x42 ∷ [])) →
       encoded before more ended ≡ map Byte (0x1B ∷ 0x28 ∷ 0x42 ∷ []) ++ encoded after more ended
   pub done : end_bytes after ≡ []
+  pub codec : after.codec ≡ before.codec
 
 -- the move writes the code of the scalar c, in a codec without modes
 abbrev pub IsCode : Option (List ℕ) → ℕ → EncoderMove → Type 0

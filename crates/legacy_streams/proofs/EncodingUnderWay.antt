@@ -40,7 +40,7 @@ sends_all {a = a} {b = b} s = subst (Appends a b) (sym (s.parts ∙ append-nil s
 
 pub text_start : (before : EncoderState) (text : List ℕ) (last : Bool) (waiting : List ℕ) (old : Option (List ℕ))
     → EncodesUpTo before text last before text waiting waiting old old
-text_start before text last waiting old = record { events = []; goes_on = record { gives = λ more ended h. refl }; sends = sends_none waiting old }
+text_start before text last waiting old = record { events = []; goes_on = record { gives = λ more ended h. refl; codec = refl }; sends = sends_none waiting old }
 
 module _ {before now : EncoderState} {text rest waited waiting : List ℕ} {last : Bool} {old mid new : Option (List ℕ)}
     (u : EncodesUpTo before text last now rest waited waiting old mid) where
@@ -60,6 +60,7 @@ module _ {before now : EncoderState} {text rest waited waiting : List ℕ} {last
       events = u.events ++ c.out;
       goes_on = record {
         gives = λ more ended h. u.goes_on.gives more ended h ∙ rw (c.gives more ended (λ v. inl (h (wrote_last last answer v))), append_assoc) refl;
+        codec = c.codec ∙ u.goes_on.codec;
       };
       sends = grind (arith, append_assoc, append-nil, flat_map-append event_bytes, Appends-trans);
     }
@@ -77,6 +78,7 @@ up_to_join {before = before} {after = after} {first} {second} {left} t k = recor
     gives = λ more ended h.
         let one = t.goes_on.gives (second ++ more) ended (λ f. absurd (let no : false ≡ true = f in cc)) in
         rw (append_assoc first second more, one, k.goes_on.gives more ended h, append_assoc) refl;
+    codec = k.goes_on.codec ∙ t.goes_on.codec;
   };
   sends = rw (flat_map-append event_bytes t.events k.events) (sends_join t.sends k.sends);
 }
@@ -270,7 +272,14 @@ module _ {before now : EncoderState} {held : List ℕ} {left_old left old mid : 
         let ended = t.ended refl in
         let all : encoded before (utf8_text u.bytes) true ≡ whole.done.events =
         grind (arith, append-nil, whole_text, whole.done.goes_on.gives [] true, end-encoded after) in
-        record { bytes = u.bytes; read = read_all; at_end = at_end; written = rw all (sends_all whole.done.sends); ended = ended }
+        record {
+          bytes = u.bytes;
+          read = read_all;
+          at_end = at_end;
+          written = rw all (sends_all whole.done.sends);
+          ended = ended;
+          codec = whole.done.goes_on.codec;
+        }
 
     -- what holds if writing the end fails
     pub input_end_partly : IsAtEnd left_new → (after : EncoderState) (new : Option (List ℕ))

@@ -7,10 +7,11 @@ use Rattle.legacy_codecs.specs.References.{referenced_bytes}
 use Rattle.legacy_streams.specs.Utf8Texts.{utf8_text}
 
 -- The events of the text and whatever follows, ended or not, are `events`, and then those of what is left. After the
--- last text nothing follows.
+-- last text nothing follows. The codec stays.
 pub record GoesOn (last : Bool) (before : EncoderState) (text : List ℕ) (events : List EncodeEvent) (after : EncoderState) (left : List ℕ) : Type 0 where
   pub gives : (more : List ℕ) (ended : Bool) → (IsTrue last → (more ≡ []) × IsTrue ended) →
       encoded before (text ++ more) ended ≡ events ++ encoded after (left ++ more) ended
+  pub codec : after.codec ≡ before.codec
 
 -- ---- bytes that wait
 
@@ -76,13 +77,14 @@ pub record EncodesPieceFront (before : EncoderState) (piece : List ℕ) (after :
 -- ---- the whole input
 
 -- The input was read to its end, and the bytes and references of all events of its text were written. The encoder has
--- nothing left to write.
+-- nothing left to write, and its codec stays.
 pub record EncodesAll (before after : EncoderState) (input_old input_new output_old output_new : Option (List ℕ)) : Type 0 where
   pub bytes : List ℕ
   pub read : Consumes input_old input_new bytes
   pub at_end : IsAtEnd input_new
   pub written : Appends output_old output_new (referenced_bytes (encoded before (utf8_text bytes) true))
   pub ended : end_bytes after ≡ []
+  pub codec : after.codec ≡ before.codec
 
 -- Some bytes of the input were read. All of them except up to three at their end were encoded, and their bytes and
 -- references were written: the events are a beginning of all events, whatever else the input contains, and the encoder

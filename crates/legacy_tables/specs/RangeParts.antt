@@ -26,6 +26,7 @@ pub record IsPartAt (ranges : List (ℕ × ℕ)) (place : ℕ) (part : RangePart
 -- these pointers are those of the last range whose scalars begin at or before c, or else those of the first range
 pub record IsPartWith (ranges : List (ℕ × ℕ)) (c : ℕ) (part : RangePart) : Type 0 where
   pub place : ℕ
+  pub within : 0 < place → place < length ranges
   pub is : IsPartAt ranges place part
   pub reached : 0 < place → (slice_index_or ranges place (0, 0)).1 ≤ c
   pub ahead : (k : ℕ) → place < k → k < length ranges → c < (slice_index_or ranges k (0, 0)).1

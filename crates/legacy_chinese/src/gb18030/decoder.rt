@@ -11,7 +11,7 @@ use super::pair_places::TRAILS;
 use legacy_base::{DecoderStep, Destination, IndexName, RawDecoder, Tables};
 use legacy_decoder_engine::drive::{count_malformed_bytes, drive_decoder};
 use legacy_decoder_engine::held_lead::Lead;
-use legacy_decoder_engine::lanes::LaneBlocks;
+use legacy_decoder_engine::lane_blocks::LaneBlocks;
 use legacy_decoder_engine::lead_and_trail::malformed_through;
 use legacy_decoder_engine::moves::{DecoderMoves, Fed, Room};
 use legacy_decoder_engine::near_malformed::{AFTER_MALFORMED, read_common};

@@ -11,7 +11,7 @@ use super::places::{LEADS, TRAILS};
 use legacy_base::{IndexName, Tables};
 use legacy_decoder_engine::common_forms::CommonForm;
 use legacy_decoder_engine::lane_places::{lead_places, place_sums, trail_places};
-use legacy_decoder_engine::lanes::LaneCodec;
+use legacy_decoder_engine::lane_codec::LaneCodec;
 use legacy_decoder_engine::lead_and_trail::{malformed_through, read_trail};
 use legacy_decoder_engine::lead_decoder::{LeadCodec, LeadDecoder};
 use legacy_decoder_engine::moves::{Fed, Room};

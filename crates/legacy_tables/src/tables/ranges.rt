@@ -134,6 +134,8 @@ impl<'a> Ranges<'a> {
         requires part { IsRangePart self.now.list.now part }
         requires small { pointer < 0x1_0000_0000 }
         ensures given { IfSome result (λ c. range self.now.list.now pointer ≡ Some c) }
+        ensures within { IfSome result (λ c. (part.first ≤ pointer) × (pointer < part.first + part.count)
+            × (pointer ≢ 7457)) }
         ensures outside { result ≡ None → part.first ≤ pointer → pointer < part.first + part.count →
             pointer ≡ 7457 }
     {
@@ -151,6 +153,7 @@ impl<'a> Ranges<'a> {
         requires part { IsRangePart self.now.list.now part }
         requires free { scalar ≢ 0xE7C7 }
         ensures given { IfSome result (λ p. range_pointer_of self.now.list.now scalar ≡ Some p) }
+        ensures within { IfSome result (λ p. (part.first ≤ p) × (p < part.first + part.count) × (p ≢ 7457)) }
         ensures outside { result ≡ None → part.scalar ≤ scalar → scalar < part.scalar + part.count →
             part.first + (scalar - part.scalar) ≡ 7457 }
     {

@@ -1,4 +1,4 @@
-use Rattle.std.proofs.Common.{arith, append-nil}
+use Rattle.std.proofs.Common.{◌∙◌, arith, append-nil}
 use Rattle.legacy_codecs.proofs.WholeTexts.{bytes_end, bytes_less, bytes_after}
 use Rattle.legacy_codecs.proofs.whole.encode_whole.Goals as goal
 
@@ -16,4 +16,5 @@ calls-smaller g c =
 pub calls-preserved : goal.calls-preserved
 calls-preserved g c =
     let call = rw (← c.range_from-rest.ensures.value) at c.encode_replacing_utf8-answer.ensures.call in
-    (c.range_from-rest.utf8, bytes_after call _ c.calls.invariant.1 c.in_ok-extend_from_slice.ensures.items, omega (arith, c.calls.invariant.2))
+    (c.range_from-rest.utf8, bytes_after call _ c.calls.invariant.1 c.in_ok-extend_from_slice.ensures.items, omega (arith, c.calls.invariant.2),
+    call.codec ∙ c.calls.invariant.3)

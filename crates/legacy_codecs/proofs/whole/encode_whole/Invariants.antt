@@ -11,6 +11,7 @@ invariant-calls g l =
     × (l.bytes.items ++ referenced_bytes (encoded (g.E.RawEncoder.state l.encoder) (chars l.rest) true)
     ≡ referenced_bytes (encoded (g.E.RawEncoder.state l.fn.encoder) (chars l.fn.text) true))
     × (14 ≤ length l.output)
+    × ((g.E.RawEncoder.state l.encoder).codec ≡ (g.E.RawEncoder.state l.fn.encoder).codec)
 
 abbrev pub decreases-calls : goal.decreases-calls
 decreases-calls g l = length (referenced_bytes (encoded (g.E.RawEncoder.state l.encoder) (chars l.rest) true))

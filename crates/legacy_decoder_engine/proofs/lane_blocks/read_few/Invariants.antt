@@ -1,7 +1,7 @@
 use Rattle.std.proofs.Common.{◌-◌, length}
 use Rattle.legacy_base.specs.States.{new_state}
 use Rattle.legacy_decoder_engine.specs.ReadAhead.{ReadsAhead}
-use Rattle.legacy_decoder_engine.proofs.lanes.read_few.Given as goal
+use Rattle.legacy_decoder_engine.proofs.lane_blocks.read_few.Given as goal
 
 abbrev pub invariant-loop-at : goal.invariant-loop-at
 invariant-loop-at g l = ReadsAhead g.T.Destination (new_state (g.C.LaneCodec.grammar l.blocks.tables.now.flat)) l.src l.at l.fn.dst l.dst

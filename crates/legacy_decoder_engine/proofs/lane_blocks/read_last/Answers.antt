@@ -1,6 +1,6 @@
 use Rattle.std.proofs.{Common.{length-drop, arith}, lemmas.List.length-take}
 use Rattle.legacy_decoder_engine.proofs.WrittenRuns.{writes_put, writes_run, four_fit}
-use Rattle.legacy_decoder_engine.proofs.lanes.read_last.Goals as goal
+use Rattle.legacy_decoder_engine.proofs.lane_blocks.read_last.Goals as goal
 
 pub form_at-requires-clause-ascii : goal.form_at-requires-clause-ascii
 form_at-requires-clause-ascii g c = rw c.copied-tables.ensures c.requires

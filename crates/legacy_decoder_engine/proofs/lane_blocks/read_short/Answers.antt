@@ -1,6 +1,6 @@
 use Rattle.std.proofs.{Common.arith, lemmas.List.{length-take, length-drop}}
 use Rattle.legacy_decoder_engine.proofs.{JoinedRuns.reads_more}
-use Rattle.legacy_decoder_engine.proofs.lanes.read_short.Goals as goal
+use Rattle.legacy_decoder_engine.proofs.lane_blocks.read_short.Goals as goal
 
 pub loop-codes-smaller : goal.loop-codes-smaller
 loop-codes-smaller g c = grind (arith, length-take, length-drop, c.read_front-read.ensures)

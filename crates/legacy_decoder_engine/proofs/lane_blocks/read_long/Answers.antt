@@ -1,5 +1,5 @@
 use Rattle.legacy_decoder_engine.proofs.{JoinedRuns.reads_more}
-use Rattle.legacy_decoder_engine.proofs.lanes.read_long.Goals as goal
+use Rattle.legacy_decoder_engine.proofs.lane_blocks.read_long.Goals as goal
 
 pub loop-codes-preserved : goal.loop-codes-preserved
 loop-codes-preserved g c = reads_more (reads_more c.loop-codes.invariant c.read_front-read.ensures.ahead) c.read_any_longer-longer.ensures

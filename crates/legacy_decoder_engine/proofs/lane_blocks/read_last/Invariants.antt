@@ -1,6 +1,6 @@
 use Rattle.std.proofs.Common.{◌-◌, ◌<◌, ◌≤◌, take, length}
 use Rattle.legacy_decoder_engine.specs.ReadAhead.{Writes}
-use Rattle.legacy_decoder_engine.proofs.lanes.read_last.Given as goal
+use Rattle.legacy_decoder_engine.proofs.lane_blocks.read_last.Given as goal
 
 -- what was read is written, and three code units are free if any was read
 abbrev pub invariant-loop-at : goal.invariant-loop-at

@@ -1,6 +1,6 @@
 use Rattle.std.proofs.{Common.{arith}, lemmas.List.take_more}
 use Rattle.legacy_decoder_engine.proofs.WrittenRuns.{runs_byte}
-use Rattle.legacy_decoder_engine.proofs.lanes.form_at.Goals as goal
+use Rattle.legacy_decoder_engine.proofs.lane_blocks.form_at.Goals as goal
 
 pub returns-then-byte-lt128 : goal.returns-then-byte-lt128
 returns-then-byte-lt128 g c =

@@ -1,6 +1,6 @@
 use Rattle.std.proofs.Common.{arith}
 use Rattle.legacy_decoder_engine.proofs.{JoinedRuns.reads_more}
-use Rattle.legacy_decoder_engine.proofs.lanes.read_few.Goals as goal
+use Rattle.legacy_decoder_engine.proofs.lane_blocks.read_few.Goals as goal
 
 pub returns-then-src-at-lt16-clause-ahead : goal.returns-then-src-at-lt16-clause-ahead
 returns-then-src-at-lt16-clause-ahead g c = reads_more (reads_more c.loop-at.invariant (c.read_ascii-ascii.ensures.ahead _ c.requires)) c.read_last.ensures

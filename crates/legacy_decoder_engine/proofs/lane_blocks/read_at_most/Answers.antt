@@ -1,6 +1,6 @@
 use Rattle.std.proofs.Common.{arith}
 use Rattle.legacy_decoder_engine.proofs.JoinedRuns.{reads_first}
-use Rattle.legacy_decoder_engine.proofs.lanes.read_at_most.Goals as goal
+use Rattle.legacy_decoder_engine.proofs.lane_blocks.read_at_most.Goals as goal
 
 pub returns-then-eights-gt0 : goal.returns-then-eights-gt0
 returns-then-eights-gt0 g c = c.read_eights-eights.ensures
