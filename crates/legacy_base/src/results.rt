@@ -39,6 +39,8 @@ pub enum EncoderResult {
     /// The encoder's next act needs more room than the output has left.
     OutputFull,
     /// The scalar was read, and the encoding has no bytes for it.
+    ///
+    /// In ISO-2022-JP it is U+FFFD where U+000E, U+000F or U+001B was read.
     Unmappable(char),
 }
 

@@ -82,15 +82,15 @@ pub fn decode_whole<D: RawDecoder>(
 /// The bytes of `output` after those written may change.
 ///
 /// `output` must be at least as long as the result of `max_utf8_buffer_length` for the length of
-/// `piece`, queried after the previous piece. `docs/USING.md` has an example, `show_piece`.
+/// `piece` or more, queried after the previous piece. `docs/USING.md` has an example, `show_piece`.
 pub fn decode_piece<D: RawDecoder>(
     decoder: &mut D,
     piece: &[u8],
     output: &mut [u8],
     last: bool,
 ) -> usize
-    requires { (room : ℕ)
-        × (query_answer to_utf8 (D.state decoder.old) (length piece.now) ≡ Some room)
+    requires { (bytes : ℕ) × (room : ℕ) × (length piece.now ≤ bytes)
+        × (query_answer to_utf8 (D.state decoder.old) bytes ≡ Some room)
         × (room ≤ length output.old) }
     ensures within { result ≤ length output.new }
     ensures text { TextGoesOn Utf8 last (D.state decoder.old) piece.now (D.state decoder.new)

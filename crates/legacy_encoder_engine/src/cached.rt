@@ -181,8 +181,8 @@ pub struct CachedEncoder<'a, E: EncodesPairs> {
 impl<'a, E: EncodesPairs> CachedEncoder<'a, E> {
     /// Returns an encoder that writes what `encoder` writes.
     ///
-    /// The result is `None` exactly if `room` is shorter than `PAIR_ROOM` entries. Otherwise its
-    /// first `PAIR_ROOM` entries are overwritten, whatever they are.
+    /// The result is `None` exactly if `room` is shorter than `PAIR_ROOM` entries. The entries of
+    /// `room` may have any values before, and are overwritten.
     pub fn new(encoder: &'a E, room: &'a mut [u16]) -> Option<CachedEncoder<'a, E>>
         ensures { MatchOption result (length room.old < 65536)
             (λ cached. (65536 ≤ length room.old)

@@ -75,8 +75,8 @@ impl<'a, 'b> ListedEncoder<'a, 'b> {
     /// Returns an encoder that continues from `encoder` and writes what it would write.
     ///
     /// The result is `None` exactly if `room` is shorter than `PAIR_ROOM` entries or the encoding
-    /// has no pairs: it is single-byte or x-user-defined. Otherwise the first `PAIR_ROOM` entries
-    /// are overwritten.
+    /// has no pairs: it is single-byte or x-user-defined. The entries of `room` may have any values
+    /// before, and are overwritten.
     pub fn new(encoder: &'b AnyEncoder<'a>, room: &'b mut [u16]) -> Option<ListedEncoder<'a, 'b>>
         ensures { MatchOption result ((length room.old < 65536) ⊎ (has_pairs encoder.now ≡ false))
             (λ listed. (65536 ≤ length room.old) × (has_pairs encoder.now ≡ true)

@@ -1,5 +1,5 @@
 //! Room for lists of pairs.
-ghost use Rattle.std.specs.Prelude.{◌≡◌, length, IfOk};
+ghost use Rattle.std.specs.Prelude.{◌≡◌, replicate, IfOk};
 
 use legacy_codecs::PAIR_ROOM;
 use std::alloc::{AllocError, Global};
@@ -8,7 +8,7 @@ use std::alloc::{AllocError, Global};
 ///
 /// All entries are 0. The only error is that the allocation failed.
 pub fn pair_room(alloc: Global) -> Result<Vec<u16>, AllocError>
-    ensures { IfOk result (λ room. length room.items ≡ 65536) }
+    ensures { IfOk result (λ room. room.items ≡ replicate 65536 0) }
 {
     vec![in alloc; 0; PAIR_ROOM]
 }

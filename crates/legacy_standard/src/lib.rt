@@ -4,8 +4,11 @@
 //! do nothing: each has a law as its contract.
 #![tactic(auto)]
 
+ghost use Rattle.std.specs.Prelude.{◌≡◌};
+ghost use Rattle.legacy_tables.specs.declared.tables.private_use.TheConstants.{GB18030_2022_PUA};
 ghost use Rattle.legacy_standard.specs.DecoderLaw.{AreDecodedByHandlers};
 ghost use Rattle.legacy_standard.specs.EncoderLaw.{AreEncodedByHandlers};
+ghost use Rattle.legacy_standard.specs.Gb18030Encoder.{private_use_rows};
 ghost use Rattle.legacy_standard.specs.WorkedBytes.{ComputeWorkedBytes};
 ghost use Rattle.legacy_standard.specs.WorkedTexts.{ComputeWorkedTexts, PartWithoutPointers, HavePointers};
 
@@ -30,6 +33,11 @@ pub fn decoders_are_the_standards()
 #[tactic(auto, using(crate::proofs::AllCodecs::all_encoders))]
 pub fn encoders_are_the_standards()
     ensures { AreEncodedByHandlers }
+{}
+
+/// Shows that the private-use rows of GB18030-2022 that callers are given are the Standard's.
+pub fn private_use_rows_are_the_standards()
+    ensures { GB18030_2022_PUA ≡ private_use_rows }
 {}
 
 /// Shows the handlers' events for worked examples.

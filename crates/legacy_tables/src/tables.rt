@@ -272,7 +272,7 @@ impl<'a> Tables<'a> {
         })
     }
 
-    /// Writes index Big5 as a flat index to the start of `room`, and returns it.
+    /// Writes index Big5 as a flat index into `room`, and returns it. Other entries of `room` may change.
     ///
     /// Returns `None` exactly if `room` is shorter than the index. Tables made of flat indexes look pointers up
     /// without a search.
@@ -287,7 +287,7 @@ impl<'a> Tables<'a> {
         }
     }
 
-    /// Writes the named index as a flat index to the start of `room`, and returns it.
+    /// Writes the named index as a flat index into `room`, and returns it. Other entries of `room` may change.
     ///
     /// The name must be `EucKr`, `Jis0208`, `Jis0212` or `Gb18030`. Returns `None` exactly if `room` is shorter than the
     /// index.

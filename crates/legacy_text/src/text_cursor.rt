@@ -79,7 +79,8 @@ pub trait TextCursor: Copy {
     /// Moves past the next ten code units of UTF-16, or ten scalars of UTF-8, and returns them.
     ///
     /// Each is a scalar if none is a surrogate. In UTF-8 a surrogate replaces each scalar of two or
-    /// four bytes. The result may always be `None`, and the cursor then does not move.
+    /// four bytes. With a surrogate among them, only the cursor's place in UTF-16 is still right. The
+    /// result may always be `None`, and the cursor then does not move.
     #[inline(always)]
     fn take_ten(&mut self) -> Option<[u16; 10]>
         ensures { MatchOption result (self.new ≡ self.old) (λ units. TakesUnits form (left self.old)

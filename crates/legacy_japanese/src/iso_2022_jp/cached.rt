@@ -147,8 +147,8 @@ impl<'a, 'b> CachedIso2022JpEncoder<'a, 'b> {
 
     /// Returns an encoder that continues in the mode of `encoder` and writes what it would write.
     ///
-    /// The result is `None` exactly if `room` is shorter than `PAIR_ROOM` entries. Otherwise its
-    /// first `PAIR_ROOM` entries are overwritten, whatever they are. `encoder` is unchanged.
+    /// The result is `None` exactly if `room` is shorter than `PAIR_ROOM` entries. The entries of
+    /// `room` may have any values before, and are overwritten. `encoder` is unchanged.
     pub fn new(
         encoder: &Iso2022JpEncoder<'a>,
         room: &'b mut [u16],

@@ -1,4 +1,3 @@
-use Rattle.std.proofs.Common.{length, arith}
 use Rattle.legacy_codecs.proofs.WholePieces.{text_goes_on, none_left}
 use Rattle.legacy_codecs.proofs.whole.decode_piece.Goals as goal
 
@@ -6,10 +5,10 @@ pub returns-clause-text : goal.returns-clause-text
 returns-clause-text g c later h =
     let call = c.decode_replacing_utf8-written.ensures.call in
     let room = c.requires in
-    text_goes_on call (call.enough (length c.args.piece.now) room.0 (omega arith) room.1 room.2) later h
+    text_goes_on call (call.enough room.0 room.1 room.2 room.3 room.4) later h
 
 pub returns-clause-end : goal.returns-clause-end
 returns-clause-end g c is_last =
     let call = c.decode_replacing_utf8-written.ensures.call in
     let room = c.requires in
-    none_left call (call.enough (length c.args.piece.now) room.0 (omega arith) room.1 room.2) is_last
+    none_left call (call.enough room.0 room.1 room.2 room.3 room.4) is_last

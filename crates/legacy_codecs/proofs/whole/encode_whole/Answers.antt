@@ -15,6 +15,9 @@ calls-smaller g c =
 
 pub calls-preserved : goal.calls-preserved
 calls-preserved g c =
-    let call = rw (← c.range_from-rest.ensures.value) at c.encode_replacing_utf8-answer.ensures.call in
-    (c.range_from-rest.utf8, bytes_after call _ c.calls.invariant.1 c.in_ok-extend_from_slice.ensures.items, omega (arith, c.calls.invariant.2),
-    call.codec ∙ c.calls.invariant.3)
+    let call = rw (← c.range_from-rest.ensures.value) at c.encode_replacing_utf8-answer.ensures.call in (
+      c.range_from-rest.utf8,
+      bytes_after call _ c.calls.invariant.1 c.in_ok-extend_from_slice.ensures.items,
+      omega (arith, c.calls.invariant.2),
+      call.codec ∙ c.calls.invariant.3,
+    )
