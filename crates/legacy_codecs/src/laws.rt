@@ -12,7 +12,9 @@ ghost use Rattle.legacy_codecs.specs.StandardRuns.{RunsAreDecodedByHandlers, Run
 pub use legacy_decoders::laws::{
     events_are_sound, lists_are_read_by_fronts, nothing_has_no_events,
 };
-pub use legacy_standard::{decoders_are_the_standards, encoders_are_the_standards};
+pub use legacy_standard::{
+    decoders_are_the_standards, encoders_are_the_standards, private_use_rows_are_the_standards,
+};
 
 /// Shows that finished runs return what the Standard's decoders and encoders give.
 ///

@@ -1,8 +1,8 @@
 //! The legacy codecs of the WHATWG Encoding Standard, under one name.
 //!
-//! The crate names every public item of `legacy_base`, `legacy_decoders` and `legacy_encoders` but
-//! their modules `laws`. It adds calls that replace what is malformed or unmappable, calls for whole
-//! inputs and texts, and runs that return events.
+//! The crate names what a user calls of `legacy_base`, `legacy_decoders` and `legacy_encoders`. It
+//! adds calls that replace what is malformed or unmappable, calls for whole inputs and texts, runs
+//! that return events, and laws.
 #![tactic(auto)]
 
 mod character_references;

@@ -13,8 +13,6 @@ use legacy_tables::RangePart;
 use legacy_text::TextCursor;
 
 /// An encoder of a codec without modes, with its own way to read ahead.
-///
-/// See the Encoding Standard, section "Encoders and decoders".
 pub trait PlainEncoder: PlainCodes {
     /// Reads scalars from the front of the source and writes their bytes from the place `start` on.
     ///

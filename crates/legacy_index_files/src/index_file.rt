@@ -10,7 +10,7 @@ use crate::index_table::{check_lines, read_narrow, read_ranges, read_single_byte
 use std::alloc::Global;
 use thiserror::Error;
 
-/// An index of the WHATWG Encoding Standard ("Indexes") that can be read from a file.
+/// An index of the WHATWG Encoding Standard ("Indexes") that `read_index` reads.
 #[derive(Clone, Copy, Debug, PartialEq, Eq)]
 pub enum FileIndex {
     /// Index Big5: pointers below 19782, values up to 10FFFF.

@@ -73,7 +73,7 @@ fn lines_of_one_call<D: RawDecoder>(
 
 /// Appends the lines of bytes at the beginning that are each malformed by themselves.
 ///
-/// Each of them is a malformed sequence by itself. `total` bytes of the input come before them.
+/// `total` bytes of the input come before them.
 /// Returns their number.
 #[inline]
 fn lines_of_malformed_bytes<D: RawDecoder>(

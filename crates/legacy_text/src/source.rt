@@ -1,4 +1,4 @@
-//! The source of a decoder.
+//! A cursor over bytes.
 ghost use Rattle.std.specs.Prelude.{◌≡◌, ℕ, ◌+◌, ◌<◌, ◌≤◌, length, drop, slice_get};
 
 use std::marker::Model;
