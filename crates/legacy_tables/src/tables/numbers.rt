@@ -1,5 +1,5 @@
 //! Lists of numbers in any form.
-ghost use Rattle.std.specs.Prelude.{◌≡◌, ◌≢◌, ℕ, ◌+◌, ◌<◌, ◌≤◌, List, true, length, slice_index};
+ghost use Rattle.std.specs.Prelude.{◌≡◌, ℕ, ◌+◌, ◌<◌, ◌≤◌, List, length, slice_index};
 
 use super::entries::Entry;
 
@@ -39,15 +39,6 @@ pub(super) trait Numbers {
         ensures place { is_at self.now result.3 (result.0 + result.2) };
 }
 
-/// A list that is searched by blocks of 32 numbers, which the library compares as vectors.
-pub(super) trait Blocks: Numbers {
-    /// Checks whether a block lacks a number.
-    fn lacks(&self, from: usize, number: usize) -> bool
-        requires { from + 32 ≤ length (Self.numbers self.now) }
-        ensures { result ≡ true → (k : ℕ) → from ≤ k → k < from + 32 →
-            slice_index (Self.numbers self.now) k ≢ number };
-}
-
 /// A flat index.
 impl<'a, E: Entry> Numbers for &'a [E] {
     ghost numbers = { λ s. E.numbers s.now };
@@ -66,13 +57,6 @@ impl<'a, E: Entry> Numbers for &'a [E] {
     #[inline(always)]
     fn row(&self, place: usize, at: usize) -> (usize, usize, usize, usize) {
         (at, E::number(self, at), 1, place)
-    }
-}
-
-impl<'a, E: Entry> Blocks for &'a [E] {
-    #[inline(always)]
-    fn lacks(&self, from: usize, number: usize) -> bool {
-        E::lacks(self, from, number)
     }
 }
 
