@@ -116,17 +116,6 @@ fn last_of(lasts: &LastPointers, scalar: usize) -> Option<usize>
     }
 }
 
-/// Checks whether `taken` is `None`, or another pointer than `pointer`.
-fn is_other(taken: Option<usize>, pointer: usize) -> bool
-    ensures same { result ≡ false → taken ≡ Some pointer }
-    ensures other { result ≡ true → taken ≡ Some pointer → ⊥ }
-{
-    match taken {
-        Some(taken) => taken != pointer,
-        None => true,
-    }
-}
-
 /// Returns the pointer that an order has for the scalar of a pointer.
 // A pointer in the order needs no search. Only few pointers are not in it: those that the codec does not use.
 #[inline(always)]
@@ -181,7 +170,7 @@ fn lacks<N: Numbers>(
         None => true,
         Some(taken) => {
             if takes_last_of(part, scalar) {
-                is_other(last_of(lasts, scalar), taken)
+                last_of(lasts, scalar) != Some(taken)
             } else {
                 taken > pointer
             }
