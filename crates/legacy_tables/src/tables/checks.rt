@@ -13,7 +13,7 @@ use super::private_use::check_rows;
 use super::{IndexName, Indexes, TableError};
 
 /// The greatest pointer of the ranges.
-const LAST_RANGE_POINTER: u16 = 39419;
+pub(super) const LAST_RANGE_POINTER: u16 = 39419;
 
 /// Checks whether the entry is a scalar of the Basic Multilingual Plane past ASCII.
 pub(crate) fn is_narrow(entry: usize) -> bool

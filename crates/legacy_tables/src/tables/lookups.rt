@@ -6,6 +6,7 @@ ghost use Rattle.legacy_tables.specs.Unicode.{AreScalars};
 ghost use Rattle.legacy_tables.specs.Indexes.{entry_scalar, idx, last_range_scalar, range};
 ghost use Rattle.legacy_tables.specs.TableChecks.{range_order_fault, range_value_fault};
 
+use super::checks::LAST_RANGE_POINTER;
 use super::numbers::{Numbers, number_at};
 
 /// Returns the scalar of an entry, or `None` if the entry is 0.
@@ -72,7 +73,7 @@ pub(super) fn range_scalar(ranges: &[(u16, u16)], pointer: usize) -> Option<char
     if pointer == 7457 {
         return Some('\u{E7C7}');
     }
-    if pointer <= 39419 {
+    if pointer <= usize::from(LAST_RANGE_POINTER) {
         return last_range(ranges, pointer);
     }
     if pointer >= 189000 && pointer <= 1237575 {
