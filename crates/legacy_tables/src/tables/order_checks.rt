@@ -11,6 +11,9 @@ ghost use Rattle.legacy_tables.specs.PointerSets.{HasOnly};
 ghost use Rattle.legacy_tables.specs.Orders.{IsLookup, IsOrder, RisesBy, order_pointer};
 
 use super::entries::Entry;
+use super::limits::{
+    EUC_JP_POINTERS, FIRST_BIG5_ENCODER_POINTER, FIRST_SKIPPED_POINTER, LAST_SKIPPED_POINTER,
+};
 use super::numbers::{Numbers, number_at};
 use super::order::pointer_in_order;
 use super::packed::{Packed, PackedPart};
@@ -23,9 +26,11 @@ pub(super) fn is_usable(part: PackedPart, pointer: usize) -> bool
     ensures { result ≡ may_use part pointer }
 {
     match part {
-        PackedPart::Big5Order => pointer >= 5024,
-        PackedPart::ShiftJisOrder => !(8272..=8835).contains(&pointer),
-        PackedPart::EucJpOrder => pointer < 8836,
+        PackedPart::Big5Order => pointer >= FIRST_BIG5_ENCODER_POINTER,
+        PackedPart::ShiftJisOrder => !(FIRST_SKIPPED_POINTER..=LAST_SKIPPED_POINTER).contains(
+            &pointer,
+        ),
+        PackedPart::EucJpOrder => pointer < EUC_JP_POINTERS,
         _ => true,
     }
 }
@@ -81,7 +86,7 @@ fn last_taken<E: Entry>(part: PackedPart, index: &[E], scalar: usize) -> Option<
         pointer_of part (E.numbers index.now) scalar ≡ result }
 {
     match part {
-        PackedPart::Big5Order => last_from(index, 5024, scalar),
+        PackedPart::Big5Order => last_from(index, FIRST_BIG5_ENCODER_POINTER, scalar),
         _ => None,
     }
 }

@@ -9,6 +9,10 @@ ghost use Rattle.legacy_tables.specs.TableChecks.{range_order_fault, range_value
 
 use super::checks::end_of;
 use super::entries::Entry;
+use super::limits::{
+    E7C7_POINTER, EUC_JP_POINTERS, FIRST_BIG5_ENCODER_POINTER, FIRST_SKIPPED_POINTER,
+    FIRST_SUPPLEMENTARY_POINTER, LAST_SKIPPED_POINTER,
+};
 
 /// Returns the start of the first block from `start` on that has the entry.
 ///
@@ -98,9 +102,9 @@ pub(super) fn big5_pointer(index: &[u32], scalar: char) -> Option<usize>
     ensures { result ≡ big5_pointer_of index.now scalar }
 {
     if takes_last(scalar as usize) {
-        last_from(index, 5024, scalar as usize)
+        last_from(index, FIRST_BIG5_ENCODER_POINTER, scalar as usize)
     } else {
-        first_between(index, 5024, index.len(), scalar)
+        first_between(index, FIRST_BIG5_ENCODER_POINTER, index.len(), scalar)
     }
 }
 
@@ -116,9 +120,9 @@ pub(super) fn first(index: &[u16], scalar: char) -> Option<usize>
 pub(super) fn shift_jis_pointer(jis0208: &[u16], scalar: char) -> Option<usize>
     ensures { result ≡ shift_jis_pointer_of jis0208.now scalar }
 {
-    match first_between(jis0208, 0, jis0208.len().min(8272), scalar) {
+    match first_between(jis0208, 0, jis0208.len().min(FIRST_SKIPPED_POINTER), scalar) {
         Some(pointer) => Some(pointer),
-        None => first_between(jis0208, 8836, jis0208.len(), scalar),
+        None => first_between(jis0208, LAST_SKIPPED_POINTER + 1, jis0208.len(), scalar),
     }
 }
 
@@ -127,7 +131,7 @@ pub(super) fn shift_jis_pointer(jis0208: &[u16], scalar: char) -> Option<usize>
 pub(super) fn euc_jp_pointer(jis0208: &[u16], scalar: char) -> Option<usize>
     ensures { result ≡ euc_jp_pointer_of jis0208.now scalar }
 {
-    first_between(jis0208, 0, jis0208.len().min(8836), scalar)
+    first_between(jis0208, 0, jis0208.len().min(EUC_JP_POINTERS), scalar)
 }
 
 /// Returns the number of ranges whose first scalar is at most `scalar`. Ranges rise, so these are the first ones.
@@ -158,7 +162,7 @@ fn pointer_in_ranges(ranges: &[(u16, u16)], scalar: usize) -> Option<usize>
     if pointer >= usize::from(end_of(ranges, count - 1)) {
         return None;
     }
-    if pointer == 7457 {
+    if pointer == E7C7_POINTER {
         return None;
     }
     Some(pointer)
@@ -174,10 +178,10 @@ pub(super) fn range_pointer(ranges: &[(u16, u16)], scalar: char) -> Option<usize
 {
     let number = u32::from(scalar) as usize;
     if number >= 0x1_0000 {
-        return Some(189000 + (number - 0x1_0000));
+        return Some(FIRST_SUPPLEMENTARY_POINTER + (number - 0x1_0000));
     }
     if scalar == '\u{E7C7}' {
-        return Some(7457);
+        return Some(E7C7_POINTER);
     }
     pointer_in_ranges(ranges, number)
 }

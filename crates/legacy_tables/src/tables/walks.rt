@@ -6,6 +6,7 @@ ghost use Rattle.legacy_tables.specs.Packed.{may_use, takes_last};
 ghost use Rattle.legacy_tables.specs.Walks.{is_preferred, marked_then};
 ghost use Rattle.legacy_tables.specs.Walks.{IsFilledBelow, IsFilled};
 
+use super::limits::GB18030_POINTERS;
 use super::numbers::Numbers;
 use super::order_checks::{is_usable, takes_last_of};
 use super::packed::PackedPart;
@@ -76,7 +77,7 @@ pub(super) fn shortened<T>(index: &[T]) -> &[T]
     ensures few { length result.now ≤ 23940 }
     ensures all { length index.now ≤ 23940 → result.now ≡ index.now }
 {
-    &index[..index.len().min(23940)]
+    &index[..index.len().min(GB18030_POINTERS)]
 }
 
 /// Fills a list with the marks of the pointers that the codec uses in an index.
