@@ -6,6 +6,7 @@ pub(crate) mod decoder_tables;
 pub(crate) mod encoder_tables;
 pub(crate) mod entries;
 pub(crate) mod flat;
+pub(crate) mod limits;
 pub(crate) mod lookups;
 pub(crate) mod numbers;
 pub(crate) mod order;

@@ -8,12 +8,13 @@ ghost use Rattle.legacy_tables.specs.TableChecks.{next_pointer, has_range_scalar
 ghost use Rattle.legacy_tables.specs.TableChecks.{table_fault};
 ghost use Rattle.legacy_tables.specs.Tables.{flat_indexes};
 
+use super::limits::{
+    BIG5_POINTERS, EUC_KR_POINTERS, GB18030_POINTERS, JIS0208_POINTERS, JIS0212_POINTERS,
+    LAST_RANGE_POINTER,
+};
 use super::numbers::Numbers;
 use super::private_use::check_rows;
 use super::{IndexName, Indexes, TableError};
-
-/// The greatest pointer of the ranges.
-const LAST_RANGE_POINTER: u16 = 39419;
 
 /// Checks whether the entry is a scalar of the Basic Multilingual Plane past ASCII.
 pub(crate) fn is_narrow(entry: usize) -> bool
@@ -165,11 +166,11 @@ pub(super) fn check_indexes(indexes: &Indexes<'_>) -> Result<(), TableError>
     ensures { let found = table_fault (flat_indexes indexes.now) in
         MatchResult result (λ _. found ≡ None) (λ fault. found ≡ Some fault) }
 {
-    check_index(IndexName::Big5, 19782, &indexes.big5)?;
-    check_index(IndexName::EucKr, 23940, &indexes.euc_kr)?;
-    check_index(IndexName::Jis0208, 11280, &indexes.jis0208)?;
-    check_index(IndexName::Jis0212, 8836, &indexes.jis0212)?;
-    check_index(IndexName::Gb18030, 23940, &indexes.gb18030)?;
+    check_index(IndexName::Big5, BIG5_POINTERS, &indexes.big5)?;
+    check_index(IndexName::EucKr, EUC_KR_POINTERS, &indexes.euc_kr)?;
+    check_index(IndexName::Jis0208, JIS0208_POINTERS, &indexes.jis0208)?;
+    check_index(IndexName::Jis0212, JIS0212_POINTERS, &indexes.jis0212)?;
+    check_index(IndexName::Gb18030, GB18030_POINTERS, &indexes.gb18030)?;
     check_katakana(indexes.katakana)?;
     check_range_order(indexes.ranges)?;
     check_range_scalars(indexes.ranges)?;

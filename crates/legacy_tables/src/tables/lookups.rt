@@ -6,6 +6,7 @@ ghost use Rattle.legacy_tables.specs.Unicode.{AreScalars};
 ghost use Rattle.legacy_tables.specs.Indexes.{entry_scalar, idx, last_range_scalar, range};
 ghost use Rattle.legacy_tables.specs.TableChecks.{range_order_fault, range_value_fault};
 
+use super::limits::{E7C7_POINTER, FIRST_SUPPLEMENTARY_POINTER, LAST_POINTER, LAST_RANGE_POINTER};
 use super::numbers::{Numbers, number_at};
 
 /// Returns the scalar of an entry, or `None` if the entry is 0.
@@ -69,14 +70,14 @@ pub(super) fn range_scalar(ranges: &[(u16, u16)], pointer: usize) -> Option<char
     requires valued { range_value_fault 0 ranges.now ≡ None }
     ensures { result ≡ range ranges.now pointer }
 {
-    if pointer == 7457 {
+    if pointer == E7C7_POINTER {
         return Some('\u{E7C7}');
     }
-    if pointer <= 39419 {
+    if pointer <= usize::from(LAST_RANGE_POINTER) {
         return last_range(ranges, pointer);
     }
-    if pointer >= 189000 && pointer <= 1237575 {
-        return char::from_u32(0x1_0000 + (pointer - 189000) as u32);
+    if pointer >= FIRST_SUPPLEMENTARY_POINTER && pointer <= LAST_POINTER {
+        return char::from_u32(0x1_0000 + (pointer - FIRST_SUPPLEMENTARY_POINTER) as u32);
     }
     None
 }

@@ -1,7 +1,20 @@
 //! Lists of numbers in any form.
-ghost use Rattle.std.specs.Prelude.{◌≡◌, ◌≢◌, ℕ, ◌+◌, ◌<◌, ◌≤◌, List, true, length, slice_index};
+ghost use Rattle.std.specs.Prelude.{◌≡◌, ℕ, ◌+◌, ◌<◌, ◌≤◌, List, length, slice_index};
 
 use super::entries::Entry;
+
+/// Consecutive numbers at consecutive positions, as a walk over a list finds them.
+#[derive(Clone, Copy)]
+pub(super) struct Row {
+    /// The position of the first number.
+    pub(super) pointer: usize,
+    /// The first number.
+    pub(super) scalar: usize,
+    /// How many there are.
+    pub(super) count: usize,
+    /// The walk's next place.
+    pub(super) next: usize,
+}
 
 /// A list of numbers, read one at a time.
 pub(super) trait Numbers {
@@ -22,30 +35,18 @@ pub(super) trait Numbers {
         requires { at < length (numbers self.now) }
         ensures { result ≡ slice_index (numbers self.now) at };
 
-    /// Returns the next consecutive numbers of a walk that has reached position `at`.
-    ///
-    /// The four results are their position, the first of them, how many there are, and the walk's next place. The
-    /// numbers from `at` up to their position are 0.
-    fn row(&self, place: usize, at: usize) -> (usize, usize, usize, usize)
+    /// Returns the next consecutive numbers of a walk that has reached position `at`. The numbers before them are 0.
+    fn row(&self, place: usize, at: usize) -> Row
         requires within { at < length (numbers self.now) }
         requires place { is_at self.now place at }
-        ensures from { at ≤ result.0 }
-        ensures gap { (k : ℕ) → at ≤ k → k < result.0 → slice_index (numbers self.now) k ≡ 0 }
-        ensures some { 0 < result.2 }
-        ensures within { result.0 + result.2 ≤ length (numbers self.now) }
-        ensures small { result.1 + result.2 ≤ 0x1_0000_0000 }
-        ensures numbers { (k : ℕ) → k < result.2 →
-            slice_index (numbers self.now) (result.0 + k) ≡ result.1 + k }
-        ensures place { is_at self.now result.3 (result.0 + result.2) };
-}
-
-/// A list that is searched by blocks of 32 numbers, which the library compares as vectors.
-pub(super) trait Blocks: Numbers {
-    /// Checks whether a block lacks a number.
-    fn lacks(&self, from: usize, number: usize) -> bool
-        requires { from + 32 ≤ length (Self.numbers self.now) }
-        ensures { result ≡ true → (k : ℕ) → from ≤ k → k < from + 32 →
-            slice_index (Self.numbers self.now) k ≢ number };
+        ensures from { at ≤ result.pointer }
+        ensures gap { (k : ℕ) → at ≤ k → k < result.pointer → slice_index (numbers self.now) k ≡ 0 }
+        ensures some { 0 < result.count }
+        ensures within { result.pointer + result.count ≤ length (numbers self.now) }
+        ensures small { result.scalar + result.count ≤ 0x1_0000_0000 }
+        ensures numbers { (k : ℕ) → k < result.count →
+            slice_index (numbers self.now) (result.pointer + k) ≡ result.scalar + k }
+        ensures place { is_at self.now result.next (result.pointer + result.count) };
 }
 
 /// A flat index.
@@ -64,15 +65,13 @@ impl<'a, E: Entry> Numbers for &'a [E] {
     }
 
     #[inline(always)]
-    fn row(&self, place: usize, at: usize) -> (usize, usize, usize, usize) {
-        (at, E::number(self, at), 1, place)
-    }
-}
-
-impl<'a, E: Entry> Blocks for &'a [E] {
-    #[inline(always)]
-    fn lacks(&self, from: usize, number: usize) -> bool {
-        E::lacks(self, from, number)
+    fn row(&self, place: usize, at: usize) -> Row {
+        Row {
+            pointer: at,
+            scalar: E::number(self, at),
+            count: 1,
+            next: place,
+        }
     }
 }
 

@@ -1,5 +1,5 @@
 //! The checks of orders against the flat indexes.
-ghost use Rattle.std.specs.Prelude.{◌≡◌, ◌≢◌, ℕ, ◌+◌, ◌≤◌, ◌<◌, List, length, slice_index};
+ghost use Rattle.std.specs.Prelude.{◌≡◌, ℕ, ◌+◌, ◌≤◌, ◌<◌, List, length, slice_index};
 ghost use Rattle.std.specs.Prelude.{MatchResult, Some, None, true, false};
 ghost use Rattle.legacy_tables.specs.declared.tables.packed.PackedPart.{PackedPart};
 ghost use Rattle.legacy_tables.specs.Packed.{is_pointer_in_order, order_fault, is_lacking};
@@ -10,7 +10,11 @@ ghost use Rattle.legacy_tables.specs.Tables.{flat_indexes};
 ghost use Rattle.legacy_tables.specs.PointerSets.{HasOnly};
 ghost use Rattle.legacy_tables.specs.Orders.{IsLookup, IsOrder, RisesBy, order_pointer};
 
-use super::numbers::{Blocks, Numbers, number_at};
+use super::entries::Entry;
+use super::limits::{
+    EUC_JP_POINTERS, FIRST_BIG5_ENCODER_POINTER, FIRST_SKIPPED_POINTER, LAST_SKIPPED_POINTER,
+};
+use super::numbers::{Numbers, number_at};
 use super::order::pointer_in_order;
 use super::packed::{Packed, PackedPart};
 use super::pointer_set::PointerSet;
@@ -22,9 +26,11 @@ pub(super) fn is_usable(part: PackedPart, pointer: usize) -> bool
     ensures { result ≡ may_use part pointer }
 {
     match part {
-        PackedPart::Big5Order => pointer >= 5024,
-        PackedPart::ShiftJisOrder => !(8272..=8835).contains(&pointer),
-        PackedPart::EucJpOrder => pointer < 8836,
+        PackedPart::Big5Order => pointer >= FIRST_BIG5_ENCODER_POINTER,
+        PackedPart::ShiftJisOrder => !(FIRST_SKIPPED_POINTER..=LAST_SKIPPED_POINTER).contains(
+            &pointer,
+        ),
+        PackedPart::EucJpOrder => pointer < EUC_JP_POINTERS,
         _ => true,
     }
 }
@@ -75,19 +81,19 @@ pub(super) struct LastPointers {
 }
 
 /// Returns the last pointer of a scalar that Big5's encoder may use, or `None` for other encoders.
-fn last_taken<N: Blocks>(part: PackedPart, index: &N, scalar: usize) -> Option<usize>
+fn last_taken<E: Entry>(part: PackedPart, index: &[E], scalar: usize) -> Option<usize>
     ensures { takes_last part scalar ≡ true →
-        pointer_of part (N.numbers index.now) scalar ≡ result }
+        pointer_of part (E.numbers index.now) scalar ≡ result }
 {
     match part {
-        PackedPart::Big5Order => last_from(index, 5024, scalar),
+        PackedPart::Big5Order => last_from(index, FIRST_BIG5_ENCODER_POINTER, scalar),
         _ => None,
     }
 }
 
 /// Returns the last pointers of the six scalars in an index.
-fn last_pointers<N: Blocks>(part: PackedPart, index: &N) -> LastPointers
-    ensures { AreLastPointers part (N.numbers index.now) result }
+fn last_pointers<E: Entry>(part: PackedPart, index: &[E]) -> LastPointers
+    ensures { AreLastPointers part (E.numbers index.now) result }
 {
     LastPointers {
         of_2550: last_taken(part, index, 0x2550),
@@ -112,17 +118,6 @@ fn last_of(lasts: &LastPointers, scalar: usize) -> Option<usize>
         0x5341 => lasts.of_5341,
         0x5345 => lasts.of_5345,
         _ => None,
-    }
-}
-
-/// Checks whether `taken` is `None`, or another pointer than `pointer`.
-fn is_other(taken: Option<usize>, pointer: usize) -> bool
-    ensures same { result ≡ false → taken ≡ Some pointer }
-    ensures other { result ≡ true → taken ≡ Some pointer → ⊥ }
-{
-    match taken {
-        Some(taken) => taken != pointer,
-        None => true,
     }
 }
 
@@ -180,7 +175,7 @@ fn lacks<N: Numbers>(
         None => true,
         Some(taken) => {
             if takes_last_of(part, scalar) {
-                is_other(last_of(lasts, scalar), taken)
+                last_of(lasts, scalar) != Some(taken)
             } else {
                 taken > pointer
             }
@@ -189,16 +184,16 @@ fn lacks<N: Numbers>(
 }
 
 /// Returns the least pointer whose scalar the order lacks.
-fn first_difference<N: Blocks>(part: PackedPart, index: &N, order: &[u16]) -> Option<usize>
-    requires rises { RisesBy (N.numbers index.now) order.now }
-    requires lookup { IsLookup part (N.numbers index.now) order.now
-        (order_pointer (N.numbers index.now) order.now) }
-    ensures { result ≡ order_difference part (N.numbers index.now) order.now }
+fn first_difference<E: Entry>(part: PackedPart, index: &[E], order: &[u16]) -> Option<usize>
+    requires rises { RisesBy (E.numbers index.now) order.now }
+    requires lookup { IsLookup part (E.numbers index.now) order.now
+        (order_pointer (E.numbers index.now) order.now) }
+    ensures { result ≡ order_difference part (E.numbers index.now) order.now }
 {
     let held = PointerSet::of(order);
     let lasts = last_pointers(part, index);
-    for pointer in 0..index.count() {
-        if lacks(part, index, order, &held, &lasts, pointer) {
+    for pointer in 0..index.len() {
+        if lacks(part, &index, order, &held, &lasts, pointer) {
             return Some(pointer);
         }
     }
@@ -206,13 +201,13 @@ fn first_difference<N: Blocks>(part: PackedPart, index: &N, order: &[u16]) -> Op
 }
 
 /// Checks that an order is in order, and has the pointer that the codec uses for each scalar.
-fn check_order<N: Blocks>(part: PackedPart, order: &[u16], index: &N) -> Result<(), TableError>
-    ensures { let found = pointers_fault part (N.numbers index.now) order.now in
+fn check_order<E: Entry>(part: PackedPart, order: &[u16], index: &[E]) -> Result<(), TableError>
+    ensures { let found = pointers_fault part (E.numbers index.now) order.now in
         MatchResult result
-        (λ _. IsOrder part (N.numbers index.now) order.now × (found ≡ None))
+        (λ _. IsOrder part (E.numbers index.now) order.now × (found ≡ None))
         (λ fault. found ≡ Some fault) }
 {
-    if let Some(at) = first_out_of_order(part, index, order) {
+    if let Some(at) = first_out_of_order(part, &index, order) {
         return Err(TableError::PackedOrder(part, at));
     }
     match first_difference(part, index, order) {
@@ -242,22 +237,18 @@ pub(super) fn all_orders_of<'a>(
         (λ o. AnswerPointersOf o (flat_indexes indexes.now) × (found ≡ None))
         (λ fault. found ≡ Some fault) }
 {
-    check_order(PackedPart::Big5Order, packed.big5_order, &indexes.big5)?;
-    check_order(PackedPart::EucKrOrder, packed.euc_kr_order, &indexes.euc_kr)?;
+    check_order(PackedPart::Big5Order, packed.big5_order, indexes.big5)?;
+    check_order(PackedPart::EucKrOrder, packed.euc_kr_order, indexes.euc_kr)?;
     check_order(
         PackedPart::ShiftJisOrder,
         packed.shift_jis_order,
-        &indexes.jis0208,
+        indexes.jis0208,
     )?;
-    check_order(
-        PackedPart::EucJpOrder,
-        packed.euc_jp_order,
-        &indexes.jis0208,
-    )?;
+    check_order(PackedPart::EucJpOrder, packed.euc_jp_order, indexes.jis0208)?;
     check_order(
         PackedPart::Gb18030Order,
         packed.gb18030_order,
-        &indexes.gb18030,
+        indexes.gb18030,
     )?;
     Ok(CheckedOrders {
         big5: packed.big5_order,

@@ -7,6 +7,9 @@ ghost use Rattle.legacy_tables.specs.Packed.{run_difference, runs_fault, all_run
 ghost use Rattle.legacy_tables.specs.PackedTables.{AreRunsOf};
 ghost use Rattle.legacy_tables.specs.Tables.{flat_indexes};
 
+use super::limits::{
+    BIG5_POINTERS, EUC_KR_POINTERS, GB18030_POINTERS, JIS0208_POINTERS, JIS0212_POINTERS,
+};
 use super::numbers::Numbers;
 use super::packed::{Packed, PackedPart, Run};
 use super::pointer_runs::{Runs, first_out_of_order};
@@ -78,11 +81,11 @@ pub(super) fn runs_of<'a, N: Numbers, const POINTERS: usize>(
 /// The runs of the five indexes.
 #[derive(Drop)]
 pub(super) struct CheckedRuns<'a> {
-    pub(super) big5: Runs<'a, 19782>,
-    pub(super) euc_kr: Runs<'a, 23940>,
-    pub(super) jis0208: Runs<'a, 11280>,
-    pub(super) jis0212: Runs<'a, 8836>,
-    pub(super) gb18030: Runs<'a, 23940>,
+    pub(super) big5: Runs<'a, BIG5_POINTERS>,
+    pub(super) euc_kr: Runs<'a, EUC_KR_POINTERS>,
+    pub(super) jis0208: Runs<'a, JIS0208_POINTERS>,
+    pub(super) jis0212: Runs<'a, JIS0212_POINTERS>,
+    pub(super) gb18030: Runs<'a, GB18030_POINTERS>,
 }
 
 /// Returns the runs of the five indexes, or their first fault.

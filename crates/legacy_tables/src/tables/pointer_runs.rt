@@ -4,7 +4,7 @@ ghost use Rattle.legacy_tables.specs.Runs.{runs_scalar, runs_list, run_fault};
 ghost use Rattle.legacy_tables.specs.Runs.{is_run_in_order, AreInOrder, IsFirstBehind, run_at};
 ghost use Rattle.legacy_tables.specs.Runs.{IsBetween, between-first};
 
-use super::numbers::Numbers;
+use super::numbers::{Numbers, Row};
 use super::packed::Run;
 
 /// Runs in order, with pointers below a limit.
@@ -151,13 +151,13 @@ impl<'a, const POINTERS: usize> Numbers for Runs<'a, POINTERS> {
 
     #[tactic(auto, using(crate::proofs::RunWalks::next_row))]
     #[inline(always)]
-    fn row(&self, place: usize, _at: usize) -> (usize, usize, usize, usize) {
+    fn row(&self, place: usize, _at: usize) -> Row {
         let run = &self.runs[place];
-        (
-            usize::from(run.pointer),
-            run.scalar as usize,
-            usize::from(run.length),
-            place + 1,
-        )
+        Row {
+            pointer: usize::from(run.pointer),
+            scalar: run.scalar as usize,
+            count: usize::from(run.length),
+            next: place + 1,
+        }
     }
 }

@@ -8,20 +8,24 @@ ghost use Rattle.legacy_tables.specs.Pointers.{range_pointer_of};
 ghost use Rattle.legacy_tables.specs.TableChecks.{range_order_fault, range_value_fault};
 
 use super::checks::end_of;
-use super::numbers::Blocks;
+use super::entries::Entry;
+use super::limits::{
+    E7C7_POINTER, EUC_JP_POINTERS, FIRST_BIG5_ENCODER_POINTER, FIRST_SKIPPED_POINTER,
+    FIRST_SUPPLEMENTARY_POINTER, LAST_SKIPPED_POINTER,
+};
 
 /// Returns the start of the first block from `start` on that has the entry.
 ///
 /// If no whole block before `end` has it, it returns the end of the last such block. No pointer from `start` up to the
 /// result has the entry.
-fn first_block<N: Blocks>(index: &N, start: usize, end: usize, entry: usize) -> usize
-    requires { end ≤ length (N.numbers index.now) }
+fn first_block<E: Entry>(index: &[E], start: usize, end: usize, entry: usize) -> usize
+    requires { end ≤ length (E.numbers index.now) }
     ensures from { start ≤ result }
-    ensures none { (k : ℕ) → start ≤ k → k < result → slice_index (N.numbers index.now) k ≢ entry }
+    ensures none { (k : ℕ) → start ≤ k → k < result → slice_index (E.numbers index.now) k ≢ entry }
 {
     let mut pointer = start;
     let mut blocks = end.saturating_sub(start) / 32;
-    while blocks > 0 && index.lacks(pointer, entry) {
+    while blocks > 0 && E::lacks(index, pointer, entry) {
         pointer += 32;
         blocks -= 1;
     }
@@ -30,10 +34,10 @@ fn first_block<N: Blocks>(index: &N, start: usize, end: usize, entry: usize) -> 
 
 /// Returns the first pointer from `start` on and before `end` that has the scalar.
 #[tactic(auto, unfolding(crate::specs::Pointers::first_pointer))]
-fn first_between<N: Blocks>(index: &N, start: usize, end: usize, scalar: char) -> Option<usize>
-    requires { end ≤ length (N.numbers index.now) }
+fn first_between<E: Entry>(index: &[E], start: usize, end: usize, scalar: char) -> Option<usize>
+    requires { end ≤ length (E.numbers index.now) }
     ensures { result
-        ≡ first_pointer (λ p. nat_le start p && nat_lt p end) (N.numbers index.now) scalar }
+        ≡ first_pointer (λ p. nat_le start p && nat_lt p end) (E.numbers index.now) scalar }
 {
     let entry = scalar as usize;
     if entry == 0 {
@@ -41,7 +45,7 @@ fn first_between<N: Blocks>(index: &N, start: usize, end: usize, scalar: char) -
     }
     let mut pointer = first_block(index, start, end, entry);
     while pointer < end {
-        if index.number(pointer) == entry {
+        if E::number(index, pointer) == entry {
             return Some(pointer);
         }
         pointer += 1;
@@ -53,14 +57,14 @@ fn first_between<N: Blocks>(index: &N, start: usize, end: usize, scalar: char) -
 ///
 /// If no whole block from `start` on has it, the result is less than a block after `start`. No pointer from the result
 /// on has the entry.
-fn last_block<N: Blocks>(index: &N, start: usize, entry: usize) -> usize
-    ensures within { result ≤ length (N.numbers index.now) }
-    ensures none { (k : ℕ) → result ≤ k → k < length (N.numbers index.now) →
-        slice_index (N.numbers index.now) k ≢ entry }
+fn last_block<E: Entry>(index: &[E], start: usize, entry: usize) -> usize
+    ensures within { result ≤ length (E.numbers index.now) }
+    ensures none { (k : ℕ) → result ≤ k → k < length (E.numbers index.now) →
+        slice_index (E.numbers index.now) k ≢ entry }
 {
-    let mut behind = index.count();
+    let mut behind = index.len();
     let mut blocks = behind.saturating_sub(start) / 32;
-    while blocks > 0 && index.lacks(behind - 32, entry) {
+    while blocks > 0 && E::lacks(index, behind - 32, entry) {
         behind -= 32;
         blocks -= 1;
     }
@@ -69,8 +73,8 @@ fn last_block<N: Blocks>(index: &N, start: usize, entry: usize) -> usize
 
 /// Returns the last pointer from `start` on that has the entry.
 #[tactic(auto, using(crate::proofs::Pointers::from_end), unfolding(crate::specs::Pointers::last_pointer))]
-pub(super) fn last_from<N: Blocks>(index: &N, start: usize, entry: usize) -> Option<usize>
-    ensures { result ≡ last_pointer (nat_le start) (N.numbers index.now) entry }
+pub(super) fn last_from<E: Entry>(index: &[E], start: usize, entry: usize) -> Option<usize>
+    ensures { result ≡ last_pointer (nat_le start) (E.numbers index.now) entry }
 {
     if entry == 0 {
         return None;
@@ -78,7 +82,7 @@ pub(super) fn last_from<N: Blocks>(index: &N, start: usize, entry: usize) -> Opt
     let mut behind = last_block(index, start, entry);
     while behind > start {
         behind -= 1;
-        if index.number(behind) == entry {
+        if E::number(index, behind) == entry {
             return Some(behind);
         }
     }
@@ -98,9 +102,9 @@ pub(super) fn big5_pointer(index: &[u32], scalar: char) -> Option<usize>
     ensures { result ≡ big5_pointer_of index.now scalar }
 {
     if takes_last(scalar as usize) {
-        last_from(&index, 5024, scalar as usize)
+        last_from(index, FIRST_BIG5_ENCODER_POINTER, scalar as usize)
     } else {
-        first_between(&index, 5024, index.len(), scalar)
+        first_between(index, FIRST_BIG5_ENCODER_POINTER, index.len(), scalar)
     }
 }
 
@@ -109,16 +113,16 @@ pub(super) fn big5_pointer(index: &[u32], scalar: char) -> Option<usize>
 pub(super) fn first(index: &[u16], scalar: char) -> Option<usize>
     ensures { result ≡ first_pointer every_pointer index.now scalar }
 {
-    first_between(&index, 0, index.len(), scalar)
+    first_between(index, 0, index.len(), scalar)
 }
 
 /// Returns the pointer that Shift_JIS's encoder uses for a scalar.
 pub(super) fn shift_jis_pointer(jis0208: &[u16], scalar: char) -> Option<usize>
     ensures { result ≡ shift_jis_pointer_of jis0208.now scalar }
 {
-    match first_between(&jis0208, 0, jis0208.len().min(8272), scalar) {
+    match first_between(jis0208, 0, jis0208.len().min(FIRST_SKIPPED_POINTER), scalar) {
         Some(pointer) => Some(pointer),
-        None => first_between(&jis0208, 8836, jis0208.len(), scalar),
+        None => first_between(jis0208, LAST_SKIPPED_POINTER + 1, jis0208.len(), scalar),
     }
 }
 
@@ -127,7 +131,7 @@ pub(super) fn shift_jis_pointer(jis0208: &[u16], scalar: char) -> Option<usize>
 pub(super) fn euc_jp_pointer(jis0208: &[u16], scalar: char) -> Option<usize>
     ensures { result ≡ euc_jp_pointer_of jis0208.now scalar }
 {
-    first_between(&jis0208, 0, jis0208.len().min(8836), scalar)
+    first_between(jis0208, 0, jis0208.len().min(EUC_JP_POINTERS), scalar)
 }
 
 /// Returns the number of ranges whose first scalar is at most `scalar`. Ranges rise, so these are the first ones.
@@ -158,7 +162,7 @@ fn pointer_in_ranges(ranges: &[(u16, u16)], scalar: usize) -> Option<usize>
     if pointer >= usize::from(end_of(ranges, count - 1)) {
         return None;
     }
-    if pointer == 7457 {
+    if pointer == E7C7_POINTER {
         return None;
     }
     Some(pointer)
@@ -174,10 +178,10 @@ pub(super) fn range_pointer(ranges: &[(u16, u16)], scalar: char) -> Option<usize
 {
     let number = u32::from(scalar) as usize;
     if number >= 0x1_0000 {
-        return Some(189000 + (number - 0x1_0000));
+        return Some(FIRST_SUPPLEMENTARY_POINTER + (number - 0x1_0000));
     }
     if scalar == '\u{E7C7}' {
-        return Some(7457);
+        return Some(E7C7_POINTER);
     }
     pointer_in_ranges(ranges, number)
 }

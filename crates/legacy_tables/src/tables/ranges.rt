@@ -7,6 +7,7 @@ ghost use Rattle.legacy_tables.specs.RangeParts.{IsRangePart, IsPartAt, IsPartWi
 ghost use Rattle.legacy_tables.specs.TableChecks.{range_order_fault, range_value_fault};
 
 use super::checks::end_of;
+use super::limits::E7C7_POINTER;
 use super::lookups::{range_scalar, started_count};
 use super::pointers::{range_pointer, ranges_up_to};
 
@@ -140,7 +141,7 @@ impl<'a> Ranges<'a> {
             pointer ≡ 7457 }
     {
         let at = offset(part.first, pointer as u32, part.count)?;
-        if pointer == 7457 {
+        if pointer == E7C7_POINTER {
             return None;
         }
         let unit = (part.scalar + at) as u16;
@@ -159,7 +160,7 @@ impl<'a> Ranges<'a> {
     {
         let at = offset(part.scalar, u32::from(scalar), part.count)?;
         let pointer = part.first + at;
-        if pointer == 7457 {
+        if pointer == E7C7_POINTER as u32 {
             return None;
         }
         Some(pointer as usize)

@@ -2,26 +2,26 @@
 ghost use Rattle.std.specs.Prelude.{◌≡◌, ℕ, ◌+◌, ◌<◌, ◌≤◌, List, length, slice_index, slice_set, MatchOption};
 
 use super::entries::Entry;
-use super::numbers::Numbers;
+use super::numbers::{Numbers, Row};
 
 /// Writes consecutive numbers.
 // Most rows have one number, which is written without a loop.
 #[inline(always)]
-fn write_row<E: Entry>(entries: &mut [E], row: (usize, usize), pointer: usize)
-    requires some { 0 < row.1 }
-    requires within { pointer + row.1 ≤ length entries.old }
-    requires small { row.0 + row.1 ≤ E.limit }
-    requires wide { row.0 + row.1 ≤ 0x1_0000_0000 }
-    ensures row { (k : ℕ) → k < row.1 →
-        slice_index (E.numbers entries.new) (pointer + k) ≡ row.0 + k }
-    ensures before { (k : ℕ) → k < pointer →
+fn write_row<E: Entry>(entries: &mut [E], row: Row)
+    requires some { 0 < row.count }
+    requires within { row.pointer + row.count ≤ length entries.old }
+    requires small { row.scalar + row.count ≤ E.limit }
+    requires wide { row.scalar + row.count ≤ 0x1_0000_0000 }
+    ensures row { (k : ℕ) → k < row.count →
+        slice_index (E.numbers entries.new) (row.pointer + k) ≡ row.scalar + k }
+    ensures before { (k : ℕ) → k < row.pointer →
         slice_index (E.numbers entries.new) k ≡ slice_index (E.numbers entries.old) k }
-    ensures after { (k : ℕ) → pointer + row.1 ≤ k →
+    ensures after { (k : ℕ) → row.pointer + row.count ≤ k →
         slice_index (E.numbers entries.new) k ≡ slice_index (E.numbers entries.old) k }
 {
-    E::put(entries, pointer, row.0);
-    for at in 1..row.1 {
-        E::put(entries, pointer + at, row.0 + at);
+    E::put(entries, row.pointer, row.scalar);
+    for at in 1..row.count {
+        E::put(entries, row.pointer + at, row.scalar + at);
     }
 }
 
@@ -36,10 +36,10 @@ fn write<N: Numbers, E: Entry>(index: &N, entries: &mut [E])
     let mut pointer = 0;
     let end = index.count();
     while pointer < end {
-        let (start, first, count, next) = index.row(place, pointer);
-        write_row(entries, (first, count), start);
-        pointer = start + count;
-        place = next;
+        let row = index.row(place, pointer);
+        write_row(entries, row);
+        pointer = row.pointer + row.count;
+        place = row.next;
     }
 }
 

@@ -6,7 +6,8 @@ ghost use Rattle.legacy_tables.specs.Packed.{may_use, takes_last};
 ghost use Rattle.legacy_tables.specs.Walks.{is_preferred, marked_then};
 ghost use Rattle.legacy_tables.specs.Walks.{IsFilledBelow, IsFilled};
 
-use super::numbers::Numbers;
+use super::limits::GB18030_POINTERS;
+use super::numbers::{Numbers, Row};
 use super::order_checks::{is_usable, takes_last_of};
 use super::packed::PackedPart;
 
@@ -51,22 +52,16 @@ fn take_pointer<M: Marks>(
 
 /// Writes the marks of consecutive pointers with consecutive scalars, each as `take_pointer` does.
 #[inline(always)]
-fn take_row<M: Marks>(
-    part: PackedPart,
-    marks: &M,
-    entries: &mut [u16],
-    row: (usize, usize),
-    pointer: usize,
-)
-    requires within { pointer + row.1 ≤ 23940 }
-    requires small { row.0 + row.1 ≤ 0x1_0000_0000 }
+fn take_row<M: Marks>(part: PackedPart, marks: &M, entries: &mut [u16], row: Row)
+    requires within { row.pointer + row.count ≤ 23940 }
+    requires small { row.scalar + row.count ≤ 0x1_0000_0000 }
     ensures { (index : List ℕ) →
-        ((k : ℕ) → k < row.1 → slice_index index (pointer + k) ≡ row.0 + k) →
-        IsFilledBelow part M.mark index pointer entries.old →
-        IsFilledBelow part M.mark index (pointer + row.1) entries.new }
+        ((k : ℕ) → k < row.count → slice_index index (row.pointer + k) ≡ row.scalar + k) →
+        IsFilledBelow part M.mark index row.pointer entries.old →
+        IsFilledBelow part M.mark index (row.pointer + row.count) entries.new }
 {
-    for at in 0..row.1 {
-        take_pointer(part, marks, entries, row.0 + at, pointer + at);
+    for at in 0..row.count {
+        take_pointer(part, marks, entries, row.scalar + at, row.pointer + at);
     }
 }
 
@@ -76,7 +71,7 @@ pub(super) fn shortened<T>(index: &[T]) -> &[T]
     ensures few { length result.now ≤ 23940 }
     ensures all { length index.now ≤ 23940 → result.now ≡ index.now }
 {
-    &index[..index.len().min(23940)]
+    &index[..index.len().min(GB18030_POINTERS)]
 }
 
 /// Fills a list with the marks of the pointers that the codec uses in an index.
@@ -95,9 +90,9 @@ pub(super) fn walk<N: Numbers, M: Marks>(
     let mut pointer = 0;
     let end = index.count();
     while pointer < end {
-        let (start, first, count, next) = index.row(place, pointer);
-        take_row(part, marks, entries, (first, count), start);
-        pointer = start + count;
-        place = next;
+        let row = index.row(place, pointer);
+        take_row(part, marks, entries, row);
+        pointer = row.pointer + row.count;
+        place = row.next;
     }
 }

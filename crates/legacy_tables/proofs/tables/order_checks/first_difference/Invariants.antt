@@ -4,4 +4,4 @@ use Rattle.legacy_tables.proofs.tables.order_checks.first_difference.Given as go
 
 -- no scalar is missing up to here
 abbrev pub invariant-loop-pointer : goal.invariant-loop-pointer
-invariant-loop-pointer g l = (k : ℕ) → k < l.pointer → is_lacking l.part (g.N.Numbers.numbers l.index) l.order k ≡ false
+invariant-loop-pointer g l = (k : ℕ) → k < l.pointer → is_lacking l.part (g.E.Entry.numbers l.index) l.order k ≡ false

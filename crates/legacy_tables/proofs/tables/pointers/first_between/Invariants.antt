@@ -5,7 +5,7 @@ use Rattle.legacy_tables.proofs.tables.pointers.first_between.Given as goal
 abbrev pub invariant-loop-pointer : goal.invariant-loop-pointer
 invariant-loop-pointer g l = record {
   from : l.start ≤ l.pointer;
-  none : (k : ℕ) → l.start ≤ k → k < l.pointer → slice_index (g.N.Numbers.numbers l.index) k ≢ l.entry;
+  none : (k : ℕ) → l.start ≤ k → k < l.pointer → slice_index (g.E.Entry.numbers l.index) k ≢ l.entry;
 }
 
 abbrev pub decreases-loop-pointer : goal.decreases-loop-pointer

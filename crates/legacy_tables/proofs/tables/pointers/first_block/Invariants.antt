@@ -6,7 +6,7 @@ abbrev pub invariant-loop-blocks : goal.invariant-loop-blocks
 invariant-loop-blocks g l = record {
   from : l.start ≤ l.pointer;
   room : 0 < l.blocks → l.pointer + 32 * l.blocks ≤ l.end;
-  none : (k : ℕ) → l.start ≤ k → k < l.pointer → slice_index (g.N.Numbers.numbers l.index) k ≢ l.entry;
+  none : (k : ℕ) → l.start ≤ k → k < l.pointer → slice_index (g.E.Entry.numbers l.index) k ≢ l.entry;
 }
 
 abbrev pub decreases-loop-blocks : goal.decreases-loop-blocks

@@ -4,8 +4,8 @@ use Rattle.legacy_tables.proofs.tables.pointers.last_from.Given as goal
 -- no later entry is the searched one
 abbrev pub invariant-loop-behind : goal.invariant-loop-behind
 invariant-loop-behind g l = record {
-  within : l.behind ≤ length (g.N.Numbers.numbers l.index);
-  none : (k : ℕ) → l.behind ≤ k → k < length (g.N.Numbers.numbers l.index) → slice_index (g.N.Numbers.numbers l.index) k ≢ l.entry;
+  within : l.behind ≤ length (g.E.Entry.numbers l.index);
+  none : (k : ℕ) → l.behind ≤ k → k < length (g.E.Entry.numbers l.index) → slice_index (g.E.Entry.numbers l.index) k ≢ l.entry;
 }
 
 abbrev pub decreases-loop-behind : goal.decreases-loop-behind

@@ -13,12 +13,12 @@ returns-then-pointer-from c =
     (e.reached _ (omega arith)) (λ k l h. e.ahead k (omega arith) h) _ (rw (c.from.ensures, c.from-2.ensures) refl)
     (rw (c.from-3.ensures, c.end_of.ensures) at c.if-pointer-from.true)
 
-pub returns-then-pointer-eq7457 : goal.returns-then-pointer-eq7457
-returns-then-pointer-eq7457 c =
+pub returns-then-pointer-eq-E7C7_POINTER : goal.returns-then-pointer-eq-E7C7_POINTER
+returns-then-pointer-eq-E7C7_POINTER c =
     let e = c.ranges_up_to-count.ensures in
     let within : c.ranges_up_to-count.result ≤ length c.args.ranges.now = e.within in
     pointer-fixed c.args.ranges.now c.requires.ordered _ c.requires.narrow c.requires.free (c.ranges_up_to-count.result - 1) (omega arith)
-    (e.reached _ (omega arith)) (λ k l h. e.ahead k (omega arith) h) _ (rw (c.from.ensures, c.from-2.ensures) refl) c.if-pointer-eq7457.true
+    (e.reached _ (omega arith)) (λ k l h. e.ahead k (omega arith) h) _ (rw (c.from.ensures, c.from-2.ensures) refl) c.if-pointer-eq-E7C7_POINTER.true
 
 pub returns : goal.returns
 returns c =
@@ -26,4 +26,4 @@ returns c =
     let within : c.ranges_up_to-count.result ≤ length c.args.ranges.now = e.within in
     pointer-found c.args.ranges.now c.requires.ordered _ c.requires.narrow c.requires.free (c.ranges_up_to-count.result - 1) (omega arith)
     (e.reached _ (omega arith)) (λ k l h. e.ahead k (omega arith) h) _ (rw (c.from.ensures, c.from-2.ensures) refl)
-    (rw (c.from-3.ensures, c.end_of.ensures) at c.if-pointer-from.false) c.if-pointer-eq7457.false
+    (rw (c.from-3.ensures, c.end_of.ensures) at c.if-pointer-from.false) c.if-pointer-eq-E7C7_POINTER.false

@@ -6,18 +6,18 @@ loop-pointer-init g c = grind (arith, c.clear.ensures, g.N.Numbers.begins c.args
 
 pub write_row-requires-clause-small : goal.write_row-requires-clause-small
 write_row-requires-clause-small g c =
-    let last = c.row-start.result.2 - 1 in
-    grind (arith, c.row-start.ensures.numbers last, c.requires.small (c.row-start.result.0 + last))
+    let last = c.row-row.result.count - 1 in
+    grind (arith, c.row-row.ensures.numbers last, c.requires.small (c.row-row.result.pointer + last))
 
 pub loop-pointer-preserved : goal.loop-pointer-preserved
 loop-pointer-preserved g c =
-    let row = c.row-start.ensures in
+    let row = c.row-row.ensures in
     let done = c.write_row.ensures in
     let at = c.loop-pointer.invariant in
     record {
       within = row.within;
       written = λ k h.
-          let past = k - c.row-start.result.0 in
+          let past = k - c.row-row.result.pointer in
           grind (arith, row.gap k, row.numbers past, done.before k, done.row past, at.written k, at.none k);
       none = λ k l. done.after k l ∙ at.none k (omega arith);
       at = row.place;

@@ -9,8 +9,8 @@ loop-pointer-init g c =
 pub loop-pointer-preserved : goal.loop-pointer-preserved
 loop-pointer-preserved g c =
     let gap = filled-gap c.args.part g.M.Marks.mark g.met.M.Marks.some (g.N.Numbers.numbers c.args.index.now) c.loop-pointer.pointer
-    (c.row-start.result.0 - c.loop-pointer.pointer) in
-    grind (arith, gap, c.row-start.ensures.gap, c.take_row.ensures (g.N.Numbers.numbers c.args.index.now))
+    (c.row-row.result.pointer - c.loop-pointer.pointer) in
+    grind (arith, gap, c.row-row.ensures.gap, c.take_row.ensures (g.N.Numbers.numbers c.args.index.now))
 
 pub returns : goal.returns
 returns g c = grind (arith, all-filled c.args.part g.M.Marks.mark g.met.M.Marks.some (g.N.Numbers.numbers c.args.index.now) c.loop-pointer.entries)
