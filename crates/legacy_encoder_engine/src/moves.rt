@@ -37,8 +37,7 @@ impl EncoderMove {
 
 /// The moves of an encoder, of which `drive_encoder` makes its calls.
 ///
-/// They are the Standard's handler of the encoder (Encoding Standard, section "Encoders and
-/// decoders"), with the room in the output that each move needs.
+/// They come with the room that each needs.
 pub trait EncoderMoves {
     /// The codec with its lists, and the mode of the encoder.
     ghost state: { Self → EncoderState };
