@@ -115,7 +115,7 @@ impl<'a, C: PastPairs> PlainCodes for WithPairs<'a, C> {
 
     const GOES_PAST_PAIRS: bool = C::GOES_PAST_PAIRS;
 
-    const GOES_BY_TURNS: bool = true;
+    const GOES_BY_TENS: bool = true;
 
     #[inline(always)]
     fn unit_code(&self, unit: u16) -> (u16, bool) {
