@@ -1,7 +1,7 @@
 //! The small moves of each encoder, and the runs that it reads ahead of them.
-ghost use Rattle.std.specs.Prelude.{◌≡◌, ◌≤◌, [], length, true, false};
+ghost use Rattle.std.specs.Prelude.{◌≡◌, ◌≤◌, [], ◌∷◌, length, true, false, option_map};
 ghost use Rattle.legacy_base.specs.Encoders.{EncoderState, encoder_profile, is_pending, scalar_room};
-ghost use Rattle.legacy_encoder_engine.specs.Moves.{Moves, Finishes, is_escape, move_report};
+ghost use Rattle.legacy_encoder_engine.specs.Moves.{Moves, Finishes, IsCode, is_escape, move_report};
 ghost use Rattle.legacy_encoder_engine.specs.ProfileSuffices.{Serves};
 ghost use Rattle.legacy_encoder_engine.specs.UnfinishedCall.{EncodesFrom};
 
@@ -31,6 +31,17 @@ impl EncoderMove {
         match self {
             EncoderMove::One(_) | EncoderMove::Two(_, _) | EncoderMove::Four(_, _, _, _) => true,
             EncoderMove::Escape(_, _) | EncoderMove::Unmappable(_) => false,
+        }
+    }
+
+    /// Returns the move at a scalar with this lead and trail, or at one that is unmappable.
+    #[inline(always)]
+    pub fn of_pair(pair: Option<(u8, u8)>, c: char) -> EncoderMove
+        ensures { IsCode (option_map (λ pair. pair.0 ∷ pair.1 ∷ []) pair) c result }
+    {
+        match pair {
+            Some((lead, trail)) => EncoderMove::Two(lead, trail),
+            None => EncoderMove::Unmappable(c),
         }
     }
 }

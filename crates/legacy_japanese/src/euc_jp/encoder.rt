@@ -68,10 +68,7 @@ impl PairCodec for EucJp {
         } else if code >= 0xFF61 && code <= 0xFF9F {
             EncoderMove::Two(0x8E, (0xA1 + (code - 0xFF61)) as u8)
         } else {
-            match pair(tables, c) {
-                Some((lead, trail)) => EncoderMove::Two(lead, trail),
-                None => EncoderMove::Unmappable(c),
-            }
+            EncoderMove::of_pair(pair(tables, c), c)
         }
     }
 

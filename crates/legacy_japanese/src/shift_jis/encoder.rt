@@ -74,10 +74,7 @@ impl PairCodec for ShiftJis {
         } else if code >= 0xFF61 && code <= 0xFF9F {
             EncoderMove::One((0xA1 + (code - 0xFF61)) as u8)
         } else {
-            match pair(tables, c) {
-                Some((lead, trail)) => EncoderMove::Two(lead, trail),
-                None => EncoderMove::Unmappable(c),
-            }
+            EncoderMove::of_pair(pair(tables, c), c)
         }
     }
 

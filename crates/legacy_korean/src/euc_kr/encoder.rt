@@ -55,10 +55,7 @@ impl PairCodec for EucKr {
         if code < 0x80 {
             return EncoderMove::One(code as u8);
         }
-        match pair(tables, c) {
-            Some((lead, trail)) => EncoderMove::Two(lead, trail),
-            None => EncoderMove::Unmappable(c),
-        }
+        EncoderMove::of_pair(pair(tables, c), c)
     }
 
     #[inline(always)]
