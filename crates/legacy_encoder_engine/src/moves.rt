@@ -23,6 +23,9 @@ pub enum EncoderMove {
 }
 
 impl EncoderMove {
+    /// The escape to ASCII mode.
+    pub const TO_ASCII: EncoderMove = EncoderMove::Escape(0x28, 0x42);
+
     /// Checks whether the move reads the scalar and writes bytes for it.
     #[inline(always)]
     pub fn has_bytes(self) -> bool
