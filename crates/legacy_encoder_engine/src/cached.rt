@@ -13,8 +13,8 @@ use crate::pair_encoder::{FillsPairs, PairCodec, PairEncoder};
 use crate::plain::PlainEncoder;
 use crate::plain_codes::PlainCodes;
 use crate::read_ahead::read_runs;
-use legacy_base::{EncoderStep, RawEncoder, Source};
-use legacy_tables::RangePart;
+use legacy_base::{EncoderStep, RawEncoder, Source, Tables};
+use legacy_tables::{EncoderTables, RangePart};
 use std::alloc::AllocError;
 
 /// The length of the list of a codec's pairs in 16-bit entries: one for each scalar below U+10000.
@@ -115,7 +115,7 @@ impl<'a, C: PastPairs> PlainCodes for WithPairs<'a, C> {
 
     const GOES_PAST_PAIRS: bool = C::GOES_PAST_PAIRS;
 
-    const GOES_BY_TURNS: bool = true;
+    const GOES_BY_TENS: bool = true;
 
     #[inline(always)]
     fn unit_code(&self, unit: u16) -> (u16, bool) {
@@ -152,9 +152,9 @@ pub trait EncodesPairs: PlainEncoder + PastPairs + RawEncoder + Sized {
     ghost same: { (encoder : Self) → Self.state encoder ≡ new_encoder (Self.codec encoder) };
 }
 
-impl<C: PairCodec> PastPairs for PairEncoder<'_, C> {}
+impl<C: PairCodec, V: EncoderTables> PastPairs for PairEncoder<'_, C, V> {}
 
-impl<'a, C: FillsPairs> EncodesPairs for PairEncoder<'a, C> {
+impl<'a, C: FillsPairs> EncodesPairs for PairEncoder<'a, C, Tables<'a>> {
     ghost use Rattle.std.proofs.Common.{refl};
 
     ghost same = { λ e. refl };

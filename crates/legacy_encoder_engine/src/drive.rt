@@ -109,7 +109,7 @@ pub fn drive_encoder<E: EncoderMoves, S: Source>(
             return (EncoderResult::OutputFull, written);
         }
         encoder.finish();
-        written = put_move(dst, written, EncoderMove::Escape(0x28, 0x42));
+        written = put_move(dst, written, EncoderMove::TO_ASCII);
     }
     (EncoderResult::InputEmpty, written)
 }

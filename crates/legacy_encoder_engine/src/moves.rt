@@ -1,7 +1,7 @@
 //! The small moves of each encoder, and the runs that it reads ahead of them.
-ghost use Rattle.std.specs.Prelude.{◌≡◌, ◌≤◌, [], length, true, false};
+ghost use Rattle.std.specs.Prelude.{◌≡◌, ◌≤◌, [], ◌∷◌, length, true, false, option_map};
 ghost use Rattle.legacy_base.specs.Encoders.{EncoderState, encoder_profile, is_pending, scalar_room};
-ghost use Rattle.legacy_encoder_engine.specs.Moves.{Moves, Finishes, is_escape, move_report};
+ghost use Rattle.legacy_encoder_engine.specs.Moves.{Moves, Finishes, IsCode, is_escape, move_report};
 ghost use Rattle.legacy_encoder_engine.specs.ProfileSuffices.{Serves};
 ghost use Rattle.legacy_encoder_engine.specs.UnfinishedCall.{EncodesFrom};
 
@@ -23,6 +23,9 @@ pub enum EncoderMove {
 }
 
 impl EncoderMove {
+    /// The escape to ASCII mode.
+    pub const TO_ASCII: EncoderMove = EncoderMove::Escape(0x28, 0x42);
+
     /// Checks whether the move reads the scalar and writes bytes for it.
     #[inline(always)]
     pub fn has_bytes(self) -> bool
@@ -33,12 +36,22 @@ impl EncoderMove {
             EncoderMove::Escape(_, _) | EncoderMove::Unmappable(_) => false,
         }
     }
+
+    /// Returns the move at a scalar with this lead and trail, or at one that is unmappable.
+    #[inline(always)]
+    pub fn of_pair(pair: Option<(u8, u8)>, c: char) -> EncoderMove
+        ensures { IsCode (option_map (λ pair. pair.0 ∷ pair.1 ∷ []) pair) c result }
+    {
+        match pair {
+            Some((lead, trail)) => EncoderMove::Two(lead, trail),
+            None => EncoderMove::Unmappable(c),
+        }
+    }
 }
 
 /// The moves of an encoder, of which `drive_encoder` makes its calls.
 ///
-/// They are the Standard's handler of the encoder (Encoding Standard, section "Encoders and
-/// decoders"), with the room in the output that each move needs.
+/// They come with the room that each needs.
 pub trait EncoderMoves {
     /// The codec with its lists, and the mode of the encoder.
     ghost state: { Self → EncoderState };

@@ -52,18 +52,20 @@ pub trait FillsPairs: PairCodec {
         ensures { AreAllPairsOf (Self.codec (V.indexes tables.now).flat) entries.new };
 }
 
-/// The encoder of a codec of ASCII and pairs, by an index of the tables.
+/// The encoder of a codec of ASCII and pairs, by one kind of tables.
 #[derive(Drop)]
-pub struct PairEncoder<'a, C: PairCodec> {
-    pub(crate) tables: &'a Tables<'a>,
+pub struct PairEncoder<'a, C: PairCodec, V: EncoderTables> {
+    pub(crate) tables: &'a V,
     codec: PhantomData<C>,
 }
 
-impl<'a, C: PairCodec> PairEncoder<'a, C> {
+impl<'a, C: PairCodec, V: EncoderTables> PairEncoder<'a, C, V> {
     /// Returns an encoder before its first scalar, which writes by the codec's index of the tables.
-    pub fn new(tables: &'a Tables<'a>) -> PairEncoder<'a, C>
-        ensures { pair_encoder_state C.codec result.tables.now ≡ new_encoder
-            (C.codec tables.now.flat) }
+    #[inline]
+    pub fn new(tables: &'a V) -> PairEncoder<'a, C, V>
+        ensures tables { result.tables.now ≡ tables.now }
+        ensures state { pair_encoder_state C.codec (V.indexes result.tables.now) ≡ new_encoder
+            (C.codec (V.indexes tables.now).flat) }
     {
         PairEncoder {
             tables,
@@ -72,71 +74,7 @@ impl<'a, C: PairCodec> PairEncoder<'a, C> {
     }
 }
 
-impl<'a, C: PairCodec> PlainCodes for PairEncoder<'a, C> {
-    ghost codec = { λ e. C.codec e.tables.now.flat };
-
-    ghost past = { 2 };
-
-    ghost plain = { λ e. pair_plain (C.codec e.tables.now.flat) (C.pairs e.tables.now.flat) };
-
-    #[inline]
-    fn past_room(&self) -> usize {
-        2
-    }
-
-    #[inline]
-    fn code_of(&self, c: char) -> EncoderMove {
-        C::code_of(self.tables, c)
-    }
-
-    const GOES_PAST_PAIRS: bool = C::GOES_PAST_PAIRS;
-}
-
-impl<'a, C: PairCodec> PlainEncoder for PairEncoder<'a, C> {
-    #[inline]
-    fn read_codes<S: Source>(&self, src: &mut S, dst: &mut [u8], start: usize) -> usize {
-        match self.tables.flat() {
-            Some(tables) => {
-                read_runs(
-                    &PairCodes::<C, FlatTables<'_>>::new(tables),
-                    src,
-                    dst,
-                    start,
-                )
-            }
-            None => {
-                read_runs(
-                    &PairCodes::<C, Tables<'a>>::new(self.tables),
-                    src,
-                    dst,
-                    start,
-                )
-            }
-        }
-    }
-}
-
-/// The codes of a codec of ASCII and pairs, by one kind of tables.
-#[derive(Drop)]
-pub struct PairCodes<'a, C: PairCodec, V: EncoderTables> {
-    tables: &'a V,
-    codec: PhantomData<C>,
-}
-
-impl<'a, C: PairCodec, V: EncoderTables> PairCodes<'a, C, V> {
-    /// Returns the codes by these tables.
-    #[inline]
-    pub fn new(tables: &'a V) -> PairCodes<'a, C, V>
-        ensures { result.tables.now ≡ tables.now }
-    {
-        PairCodes {
-            tables,
-            codec: PhantomData,
-        }
-    }
-}
-
-impl<'a, C: PairCodec, V: EncoderTables> PlainCodes for PairCodes<'a, C, V> {
+impl<'a, C: PairCodec, V: EncoderTables> PlainCodes for PairEncoder<'a, C, V> {
     ghost codec = { λ e. C.codec (V.indexes e.tables.now).flat };
 
     ghost past = { 2 };
@@ -162,6 +100,23 @@ impl<'a, C: PairCodec, V: EncoderTables> PlainCodes for PairCodes<'a, C, V> {
     }
 }
 
+impl<'a, C: PairCodec> PlainEncoder for PairEncoder<'a, C, Tables<'a>> {
+    #[inline]
+    fn read_codes<S: Source>(&self, src: &mut S, dst: &mut [u8], start: usize) -> usize {
+        match self.tables.flat() {
+            Some(tables) => {
+                read_runs(
+                    &PairEncoder::<C, FlatTables<'_>>::new(tables),
+                    src,
+                    dst,
+                    start,
+                )
+            }
+            None => read_runs(self, src, dst, start),
+        }
+    }
+}
+
 /// Returns twice the number of code units: each may need a pair.
 fn length_from_utf16(u16_length: usize) -> Option<usize>
     ensures { result ≡ answer (number 2 ⊗ number u16_length) }
@@ -176,7 +131,7 @@ fn length_from_utf8(byte_length: usize) -> Option<usize>
     byte_length.checked_add(1)
 }
 
-impl<'a, C: PairCodec> RawEncoder for PairEncoder<'a, C> {
+impl<'a, C: PairCodec> RawEncoder for PairEncoder<'a, C, Tables<'a>> {
     ghost state = { λ e. pair_encoder_state C.codec e.tables.now };
 
     fn step<S: Source>(&mut self, src: &mut S, dst: &mut [u8], last: bool) -> EncoderStep {

@@ -125,7 +125,7 @@ impl<C: PlainCodes> AheadCodes for C {
         at
     }
 
-    const HAS_TENS: bool = C::GOES_BY_TURNS;
+    const HAS_TENS: bool = C::GOES_BY_TENS;
 
     #[inline(always)]
     fn unit_bytes(&self, unit: u16) -> (u16, usize, bool) {

@@ -65,8 +65,10 @@ pub trait PlainCodes {
     /// It does if such scalars past ASCII are common. It is a hint: any value is right.
     const GOES_PAST_PAIRS: bool = false;
 
-    /// Whether `unit_code` is worth calling for UTF-16. It is a hint: any value is right.
-    const GOES_BY_TURNS: bool = false;
+    /// Whether `unit_code` is worth calling by turns of ten, from UTF-8 or UTF-16.
+    ///
+    /// It is a hint: any value is right.
+    const GOES_BY_TENS: bool = false;
 
     /// Returns the bytes of a UTF-16 code unit as one number, and whether it has them.
     ///
@@ -81,7 +83,9 @@ pub trait PlainCodes {
         (0, false)
     }
 
-    /// Whether `byte_of` is worth calling for UTF-16. It is a hint: any value is right.
+    /// Whether `byte_of` is worth calling by blocks of UTF-16 and turns of UTF-8.
+    ///
+    /// It is a hint: any value is right.
     const GOES_BY_UNITS: bool = false;
 
     /// Returns the byte of a UTF-16 code unit, and whether it has one.

@@ -158,7 +158,7 @@ fn read_scalars<C: AheadCodes, S: TextCursor>(
 {
     let widest = codes.widest();
     let mut at = start;
-    let mut by_turns = C::HAS_TENS;
+    let mut by_tens = C::HAS_TENS;
     while dst.len() - at >= widest {
         match src.front() {
             Next::One(c) => {
@@ -171,9 +171,9 @@ fn read_scalars<C: AheadCodes, S: TextCursor>(
                 let may_turn = end == at + 2 || widest <= 2;
                 at = end;
                 src.pass(1);
-                if by_turns && may_turn && src.has_tens(c) {
+                if by_tens && may_turn && src.has_tens(c) {
                     at = read_tens(codes, src, dst, end);
-                    by_turns = at > end;
+                    by_tens = at > end;
                 }
             }
             Next::Two(c) => {

@@ -6,8 +6,8 @@ ghost use Rattle.legacy_chinese.specs.Big5Codes.{big5_pairs, big5_mark, big5_mar
 use super::decoder::Big5;
 use legacy_encoder_engine::asked_pairs::ask_pairs;
 use legacy_encoder_engine::moves::EncoderMove;
-use legacy_encoder_engine::pair_encoder::{FillsPairs, PairCodec, PairCodes, PairEncoder};
-use legacy_tables::{EncoderTables, Marks, PackedPart};
+use legacy_encoder_engine::pair_encoder::{FillsPairs, PairCodec, PairEncoder};
+use legacy_tables::{EncoderTables, Marks, PackedPart, Tables};
 
 /// The encoder of Big5 (Encoding Standard, "Big5 encoder").
 ///
@@ -15,7 +15,7 @@ use legacy_tables::{EncoderTables, Marks, PackedPart};
 /// pointer there; the pointers below 5024 belong to the Hong Kong supplement. For U+2550, U+255E,
 /// U+2561, U+256A, U+5341 and U+5345 it is the last such pointer, and for all others the first. All
 /// other scalars are unmappable.
-pub type Big5Encoder<'a> = PairEncoder<'a, Big5>;
+pub type Big5Encoder<'a> = PairEncoder<'a, Big5, Tables<'a>>;
 
 /// Returns the lead and the trail of a scalar in index Big5, or `None`.
 #[inline(always)]
@@ -59,10 +59,7 @@ impl PairCodec for Big5 {
         if code < 0x80 {
             return EncoderMove::One(code as u8);
         }
-        match pair(tables, c) {
-            Some((lead, trail)) => EncoderMove::Two(lead, trail),
-            None => EncoderMove::Unmappable(c),
-        }
+        EncoderMove::of_pair(pair(tables, c), c)
     }
 
     #[inline(always)]
@@ -75,6 +72,6 @@ impl PairCodec for Big5 {
 impl FillsPairs for Big5 {
     fn fill<V: EncoderTables>(tables: &V, entries: &mut [u16]) {
         tables.fill(PackedPart::Big5Order, &Big5Marks, entries);
-        ask_pairs(&PairCodes::<Big5, V>::new(tables), entries, 0, 0x80);
+        ask_pairs(&PairEncoder::<Big5, V>::new(tables), entries, 0, 0x80);
     }
 }

@@ -247,10 +247,7 @@ fn gbk_code_of<V: EncoderTables>(tables: &V, c: char) -> EncoderMove
     if code == 0x20AC {
         return EncoderMove::One(0x80);
     }
-    match pair_of(tables, c) {
-        Some((lead, trail)) => EncoderMove::Two(lead, trail),
-        None => EncoderMove::Unmappable(c),
-    }
+    EncoderMove::of_pair(pair_of(tables, c), c)
 }
 
 /// Returns what GB18030 or GBK writes for a scalar.

@@ -7,8 +7,8 @@ ghost use Rattle.legacy_japanese.specs.EucJpCodes.{euc_jp_pairs, euc_jp_mark, eu
 use crate::asked_scalars::ask_others;
 use crate::folded_scalars::{is_by_index, minus_as_hyphen};
 use legacy_encoder_engine::moves::EncoderMove;
-use legacy_encoder_engine::pair_encoder::{FillsPairs, PairCodec, PairCodes, PairEncoder};
-use legacy_tables::{EncoderTables, Marks, PackedPart};
+use legacy_encoder_engine::pair_encoder::{FillsPairs, PairCodec, PairEncoder};
+use legacy_tables::{EncoderTables, Marks, PackedPart, Tables};
 
 /// The codec of EUC-JP.
 pub struct EucJp;
@@ -19,7 +19,7 @@ pub struct EucJp;
 /// and a byte A1 to DF. Another scalar of index jis0208 is the lead and the trail of its first
 /// pointer below 8836. The minus sign U+2212 is encoded as U+FF0D. All other scalars are
 /// unmappable: the encoder does not use index jis0212.
-pub type EucJpEncoder<'a> = PairEncoder<'a, EucJp>;
+pub type EucJpEncoder<'a> = PairEncoder<'a, EucJp, Tables<'a>>;
 
 /// Returns the lead and the trail of a scalar in index jis0208, or `None`.
 #[inline(always)]
@@ -68,10 +68,7 @@ impl PairCodec for EucJp {
         } else if code >= 0xFF61 && code <= 0xFF9F {
             EncoderMove::Two(0x8E, (0xA1 + (code - 0xFF61)) as u8)
         } else {
-            match pair(tables, c) {
-                Some((lead, trail)) => EncoderMove::Two(lead, trail),
-                None => EncoderMove::Unmappable(c),
-            }
+            EncoderMove::of_pair(pair(tables, c), c)
         }
     }
 
@@ -88,6 +85,6 @@ impl PairCodec for EucJp {
 impl FillsPairs for EucJp {
     fn fill<V: EncoderTables>(tables: &V, entries: &mut [u16]) {
         tables.fill(PackedPart::EucJpOrder, &EucJpMarks, entries);
-        ask_others(&PairCodes::<EucJp, V>::new(tables), entries);
+        ask_others(&PairEncoder::<EucJp, V>::new(tables), entries);
     }
 }

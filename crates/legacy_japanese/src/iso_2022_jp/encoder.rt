@@ -53,7 +53,7 @@ impl Mode {
         ensures { result ≡ escape_move self }
     {
         match self {
-            Mode::Ascii => EncoderMove::Escape(0x28, 0x42),
+            Mode::Ascii => EncoderMove::TO_ASCII,
             Mode::Roman => EncoderMove::Escape(0x28, 0x4A),
             Mode::TwoByte => EncoderMove::Escape(0x24, 0x42),
         }

@@ -8,8 +8,8 @@ use super::decoder::ShiftJis;
 use crate::asked_scalars::ask_others;
 use crate::folded_scalars::{is_by_index, minus_as_hyphen};
 use legacy_encoder_engine::moves::EncoderMove;
-use legacy_encoder_engine::pair_encoder::{FillsPairs, PairCodec, PairCodes, PairEncoder};
-use legacy_tables::{EncoderTables, Marks, PackedPart};
+use legacy_encoder_engine::pair_encoder::{FillsPairs, PairCodec, PairEncoder};
+use legacy_tables::{EncoderTables, Marks, PackedPart, Tables};
 
 /// The encoder of Shift_JIS (Encoding Standard, "Shift_JIS encoder").
 ///
@@ -17,7 +17,7 @@ use legacy_tables::{EncoderTables, Marks, PackedPart};
 /// to U+FF9F are the bytes A1 to DF. Another scalar of index jis0208 is the lead and the trail of
 /// its first pointer there, except the pointers 8272 to 8835. The minus sign U+2212 is encoded as
 /// U+FF0D. All other scalars are unmappable.
-pub type ShiftJisEncoder<'a> = PairEncoder<'a, ShiftJis>;
+pub type ShiftJisEncoder<'a> = PairEncoder<'a, ShiftJis, Tables<'a>>;
 
 /// Returns the lead and the trail of a scalar in index jis0208, or `None`.
 #[inline(always)]
@@ -74,10 +74,7 @@ impl PairCodec for ShiftJis {
         } else if code >= 0xFF61 && code <= 0xFF9F {
             EncoderMove::One((0xA1 + (code - 0xFF61)) as u8)
         } else {
-            match pair(tables, c) {
-                Some((lead, trail)) => EncoderMove::Two(lead, trail),
-                None => EncoderMove::Unmappable(c),
-            }
+            EncoderMove::of_pair(pair(tables, c), c)
         }
     }
 
@@ -94,6 +91,6 @@ impl PairCodec for ShiftJis {
 impl FillsPairs for ShiftJis {
     fn fill<V: EncoderTables>(tables: &V, entries: &mut [u16]) {
         tables.fill(PackedPart::ShiftJisOrder, &ShiftJisMarks, entries);
-        ask_others(&PairCodes::<ShiftJis, V>::new(tables), entries);
+        ask_others(&PairEncoder::<ShiftJis, V>::new(tables), entries);
     }
 }

@@ -8,14 +8,14 @@ ghost use Rattle.legacy_korean.specs.EucKrCodes.{euc_kr_pairs, euc_kr_mark, euc_
 use super::decoder::EucKr;
 use legacy_encoder_engine::asked_pairs::ask_pairs;
 use legacy_encoder_engine::moves::EncoderMove;
-use legacy_encoder_engine::pair_encoder::{FillsPairs, PairCodec, PairCodes, PairEncoder};
-use legacy_tables::{EncoderTables, Marks, PackedPart};
+use legacy_encoder_engine::pair_encoder::{FillsPairs, PairCodec, PairEncoder};
+use legacy_tables::{EncoderTables, Marks, PackedPart, Tables};
 
 /// The encoder of EUC-KR (Encoding Standard, "EUC-KR encoder").
 ///
 /// ASCII is itself. A scalar of index EUC-KR is the lead and the trail of its first pointer. All
 /// other scalars are unmappable.
-pub type EucKrEncoder<'a> = PairEncoder<'a, EucKr>;
+pub type EucKrEncoder<'a> = PairEncoder<'a, EucKr, Tables<'a>>;
 
 /// Returns the lead and the trail of a scalar in index EUC-KR, or `None`.
 #[inline(always)]
@@ -55,10 +55,7 @@ impl PairCodec for EucKr {
         if code < 0x80 {
             return EncoderMove::One(code as u8);
         }
-        match pair(tables, c) {
-            Some((lead, trail)) => EncoderMove::Two(lead, trail),
-            None => EncoderMove::Unmappable(c),
-        }
+        EncoderMove::of_pair(pair(tables, c), c)
     }
 
     #[inline(always)]
@@ -71,6 +68,6 @@ impl PairCodec for EucKr {
 impl FillsPairs for EucKr {
     fn fill<V: EncoderTables>(tables: &V, entries: &mut [u16]) {
         tables.fill(PackedPart::EucKrOrder, &EucKrMarks, entries);
-        ask_pairs(&PairCodes::<EucKr, V>::new(tables), entries, 0, 0x80);
+        ask_pairs(&PairEncoder::<EucKr, V>::new(tables), entries, 0, 0x80);
     }
 }

@@ -5,8 +5,8 @@ use Rattle.legacy_encoder_engine.proofs.read_ahead.read_scalars.Goals as goal
 pub loop-dst-init : goal.loop-dst-init
 loop-dst-init g c = (encodes_none _ _ _ _ _ _ _ c.requires.start, c.requires.near)
 
-pub loop-dst-preserved-else-by_turns : goal.loop-dst-preserved-else-by_turns
-loop-dst-preserved-else-by_turns g c =
+pub loop-dst-preserved-else-by_tens : goal.loop-dst-preserved-else-by_tens
+loop-dst-preserved-else-by_tens g c =
     let widest = c.widest-widest.ensures in
     let before = c.loop-dst.invariant.0 in
     let one = encodes_put g.S.TextCursor.form widest.serves (widest.fits _) before c.in-One.ensures

@@ -6,4 +6,4 @@ pub returns : goal.returns
 returns g c =
     let tables = g.V.DecoderTables.indexes c.args.tables.now in
     all-listed (euc-jp-by-pointers tables.flat tables.accepted) c.fill.new.entries _ (c.fill.auto.entries ∙ c.requires) c.fill.ensures c.ask_others.auto.pairs
-    (rw c.new.ensures at c.ask_others.ensures)
+    (rw c.new.ensures.tables at c.ask_others.ensures)
