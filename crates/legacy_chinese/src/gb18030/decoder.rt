@@ -12,12 +12,11 @@ use legacy_base::{DecoderStep, Destination, IndexName, RawDecoder, Tables};
 use legacy_decoder_engine::drive::{count_malformed_bytes, drive_decoder};
 use legacy_decoder_engine::held_lead::Lead;
 use legacy_decoder_engine::lane_blocks::LaneBlocks;
-use legacy_decoder_engine::lead_and_trail::malformed_through;
+use legacy_decoder_engine::lead_and_trail::{malformed_through, unmapped};
 use legacy_decoder_engine::moves::{DecoderMoves, Fed, Room};
 use legacy_decoder_engine::near_malformed::{AFTER_MALFORMED, read_common};
 use legacy_decoder_engine::places::{ROWS_OF_190, pair_pointer};
 use legacy_decoder_engine::read_ahead::read_ascii;
-use legacy_decoder_engine::unmapped_trail::unmapped;
 use legacy_tables::DecoderTables;
 use std::cell::Cell;
 
