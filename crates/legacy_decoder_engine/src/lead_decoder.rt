@@ -179,7 +179,7 @@ impl<'a, C: LeadCodec> DecoderMoves for LeadDecoder<'a, C> {
 
     #[inline]
     #[tactic(auto, using(crate::proofs::LeadHeld::ends_none, crate::proofs::LeadHeld::ends_some))]
-    fn has_rest(&self) -> bool {
+    fn has_report(&self) -> bool {
         self.held.is_some()
     }
 

@@ -309,7 +309,7 @@ impl DecoderMoves for Gb18030Decoder<'_> {
 
     #[inline]
     #[tactic(auto, using(crate::proofs::Gb18030Held::ends_none, crate::proofs::Gb18030Held::ends_some))]
-    fn has_rest(&self) -> bool {
+    fn has_report(&self) -> bool {
         !matches!(self.held, Held::Nothing)
     }
 

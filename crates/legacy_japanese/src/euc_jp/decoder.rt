@@ -257,7 +257,7 @@ impl DecoderMoves for EucJpDecoder<'_> {
 
     #[inline]
     #[tactic(auto, using(crate::proofs::EucJpShown::ends_none, crate::proofs::EucJpShown::ends_some))]
-    fn has_rest(&self) -> bool {
+    fn has_report(&self) -> bool {
         !matches!(self.held, Held::Nothing)
     }
 

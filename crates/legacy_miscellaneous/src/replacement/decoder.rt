@@ -72,7 +72,7 @@ impl DecoderMoves for ReplacementDecoder {
 
     #[inline]
     #[tactic(auto, using(crate::proofs::ReplacementSteps::ends_none))]
-    fn has_rest(&self) -> bool {
+    fn has_report(&self) -> bool {
         false
     }
 

@@ -122,7 +122,7 @@ impl DecoderMoves for SingleByteDecoder<'_> {
 
     #[inline]
     #[tactic(auto, using(crate::proofs::SingleByteShown::ends_none))]
-    fn has_rest(&self) -> bool {
+    fn has_report(&self) -> bool {
         false
     }
 
