@@ -6,6 +6,7 @@ ghost use Rattle.std.specs.Prelude.{◌+◌, ◌*◌, ◌≤◌, length, take};
 ghost use Rattle.legacy_base.specs.{Grammar.Grammar, States.new_state};
 ghost use Rattle.legacy_decoder_engine.specs.ReadAhead.{IsCommonForm, Writes, ReadsAhead};
 
+use crate::read_ahead::SLACK;
 use legacy_base::Destination;
 
 /// What is at the front of the input.
@@ -105,7 +106,7 @@ fn read_run<F: CommonForms, T: Destination>(forms: &F, src: &[u8], dst: &mut T) 
     requires { F.ready forms.now }
     ensures { ReadsAhead T.Destination (new_state (F.grammar forms.now)) src.now result dst.old dst.new }
 {
-    let turns = fitting(src.len(), dst.free().saturating_sub(3));
+    let turns = fitting(src.len(), dst.free().saturating_sub(SLACK));
     if turns == 0 {
         return 0;
     }

@@ -9,6 +9,9 @@ ghost use Rattle.legacy_decoder_engine.specs.ReadAhead.{HasAscii, ReadsAhead};
 
 use legacy_base::Destination;
 
+/// The least number of code units that stay free after text was read ahead.
+pub const SLACK: usize = 3;
+
 /// Blocks that follow one another, with nothing held back between two of them.
 ///
 /// A block is a number of bytes or forms for which room is tested once.
@@ -48,7 +51,7 @@ fn read_wide_blocks<T: Destination>(src: &[u8], dst: &mut T) -> (usize, bool)
     ensures ahead { (grammar : Grammar) → HasAscii grammar → ReadsAhead T.Destination (new_state grammar) src.now result.0 dst.old dst.new }
 {
     let mut at = 0;
-    while src.len() - at >= 128 && dst.free() >= 67 {
+    while src.len() - at >= 128 && dst.free() >= 64 + SLACK {
         let count = dst.put_front(&src[at..], 64);
         at += count;
         if count < 64 {
@@ -65,7 +68,7 @@ fn read_short_blocks<T: Destination>(src: &[u8], dst: &mut T) -> usize
     ensures read { result ≤ length src.now }
     ensures ahead { (grammar : Grammar) → HasAscii grammar → ReadsAhead T.Destination (new_state grammar) src.now result dst.old dst.new }
 {
-    let most = dst.free().saturating_sub(3).min(src.len());
+    let most = dst.free().saturating_sub(SLACK).min(src.len());
     dst.copy_ascii(&src[..most])
 }
 
