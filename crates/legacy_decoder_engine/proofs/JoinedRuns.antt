@@ -5,7 +5,7 @@ use Rattle.legacy_text.specs.{declared.destination.Destination.Ghosts}
 use Rattle.legacy_base.specs.{Grammar.Grammar, States.{DecoderState, new_state}}
 use Rattle.legacy_decoder_engine.specs.ReadAhead.{HasAscii, IsIdle, Writes, WritesTo, ReadsTo, ReadsAhead}
 use Rattle.legacy_decoder_engine.proofs.{AheadRuns.{reads_nothing, with_empty}, CallUnderWay.{same_rooms, both_rooms}}
-use Rattle.legacy_decoder_engine.proofs.WrittenRuns.{rest_of, writes_then, writes_ascii}
+use Rattle.legacy_decoder_engine.proofs.WrittenRuns.{rest_of, reads_none, writes_none, writes_then, writes_run, writes_ascii}
 
 module _ {D : Type 0} {T : Ghosts D} {source : List ℕ} {old mid new : D} {r s : ℕ} where
   pub reads_then : {first next last : DecoderState} → ReadsTo T first next source r old mid
@@ -44,3 +44,5 @@ module _ {D : Type 0} {T : Ghosts D} {source : List ℕ} {old new : D} {r : ℕ}
     pub reads_ascii : HasAscii g → r ≤ length source → IsAscii (take r source) → T.contents new ≡ T.contents old ++ take r source → T.room new + r ≡ T.room old
         → T.loan new ≡ T.loan old → (0 < r → 3 ≤ T.room new) → ReadsAhead T (new_state g) source r old new
     reads_ascii law within ascii written room loan slack = grind (arith, length-take-le, reads_front, writes_ascii)
+
+pub ruleset turn_by_turn = (reads_written, reads_none, writes_none, writes_run)

@@ -17,7 +17,6 @@ pub mod SettledSteps
 pub mod TwoByteCosts
 pub mod TwoByteMeets
 pub mod TwoByteShown
-pub mod Turns
 pub mod Picking
 pub mod LaneUnits
 pub mod LanePlaces

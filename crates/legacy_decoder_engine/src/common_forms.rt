@@ -1,9 +1,12 @@
 //! Common forms one by one: bytes and pairs that each give one scalar up to U+FFFF. The machine does all the rest:
 //! malformed sequences, held-back bytes, small outputs.
+// The functions that run for each form are always inlined, and so are all between them and a decoder's call: a call
+// would store the destination's place there for each form.
+ghost use Rattle.std.specs.Prelude.{◌+◌, ◌*◌, ◌≤◌, length, take};
 ghost use Rattle.legacy_base.specs.{Grammar.Grammar, States.new_state};
-ghost use Rattle.legacy_decoder_engine.specs.ReadAhead.{IsCommonForm, ReadsAhead};
+ghost use Rattle.legacy_decoder_engine.specs.ReadAhead.{IsCommonForm, Writes, ReadsAhead};
 
-use crate::read_ahead::{Forms, read_run};
+use crate::read_ahead::SLACK;
 use legacy_base::Destination;
 
 /// What is at the front of the input.
@@ -36,60 +39,88 @@ pub trait CommonForms {
         ensures { IsCommonForm (grammar self.now) first second result };
 }
 
-/// Common forms that are read one after another.
-#[derive(Drop)]
-struct FormsInTurn<'a, F: CommonForms> {
-    forms: &'a F,
+/// Returns a number of forms that have at most `bytes` bytes and at most `units` code units.
+// A division by three takes as long as a form. Most outputs have more room.
+#[inline(always)]
+fn fitting(bytes: usize, units: usize) -> usize
+    ensures bytes { 2 * result ≤ bytes }
+    ensures units { 3 * result ≤ units }
+{
+    if units / 2 >= bytes {
+        bytes / 2
+    } else {
+        (bytes / 2).min(units / 3)
+    }
 }
 
-impl<F: CommonForms> Forms for FormsInTurn<'_, F> {
-    ghost grammar = { λ turns. F.grammar turns.forms.now };
-
-    ghost ready = { λ turns. F.ready turns.forms.now };
-
-    ghost most_bytes = { 2 };
-
-    ghost most_units = { 3 };
-
-    const FOUR_AT_LEAST: usize = F::FOUR_AT_LEAST;
-
-    // A division by three takes as long as a form. Most outputs have more room.
-    #[inline(always)]
-    fn fitting(&self, bytes: usize, units: usize) -> usize {
-        if units / 2 >= bytes {
-            bytes / 2
-        } else {
-            (bytes / 2).min(units / 3)
-        }
-    }
-
-    /// Reads the forms, and also stops at two ASCII bytes in a row.
-    #[inline(always)]
-    #[tactic(auto, using(crate::proofs::WrittenRuns::one_by_one))]
-    fn read_forms<T: Destination>(&self, src: &[u8], dst: &mut T, most: usize) -> usize {
-        let mut at = 0;
-        let mut left = most;
-        while left > 0 {
-            let byte = src[at];
-            let next = src[at + 1];
-            match self.forms.form(byte, next) {
-                CommonForm::Pair(c) => {
-                    dst.put(c);
-                    at += 2;
-                }
-                CommonForm::Single(c) => {
-                    dst.put(c);
-                    at += 1;
-                    if (byte | next) < 0x80 {
-                        return at;
-                    }
-                }
-                CommonForm::Other => return at,
+/// Reads at most `most` forms, up to an uncommon one or past two ASCII bytes in a row, and returns the number of bytes read.
+///
+/// The input has bytes for `most` forms, and the output has room for them and three more code units.
+#[inline(always)]
+#[tactic(auto, using(crate::proofs::WrittenRuns::one_by_one))]
+fn read_turns<F: CommonForms, T: Destination>(
+    forms: &F,
+    src: &[u8],
+    dst: &mut T,
+    most: usize,
+) -> usize
+    requires ready { F.ready forms.now }
+    requires source { 2 * most ≤ length src.now }
+    requires room { 3 * most + 3 ≤ T.room dst.old }
+    ensures read { result ≤ 2 * most }
+    ensures writes { Writes T.Destination (F.grammar forms.now) (take result src.now) dst.old dst.new }
+    ensures slack { T.room dst.old ≤ T.room dst.new + 3 * most }
+{
+    let mut at = 0;
+    let mut left = most;
+    while left > 0 {
+        let byte = src[at];
+        let next = src[at + 1];
+        match forms.form(byte, next) {
+            CommonForm::Pair(c) => {
+                dst.put(c);
+                at += 2;
             }
-            left -= 1;
+            CommonForm::Single(c) => {
+                dst.put(c);
+                at += 1;
+                if (byte | next) < 0x80 {
+                    return at;
+                }
+            }
+            CommonForm::Other => return at,
         }
-        at
+        left -= 1;
     }
+    at
+}
+
+/// Reads a run of forms from the front, up to an uncommon one, and returns the number of bytes read, which may be 0.
+///
+/// If it reads any, three code units stay free.
+// Four at a time: the compiler unrolls a loop of that size, so each place has its own branches, and the processor
+// predicts each of them by its own history.
+#[inline(always)]
+#[tactic(auto, using(crate::proofs::JoinedRuns::turn_by_turn))]
+fn read_run<F: CommonForms, T: Destination>(forms: &F, src: &[u8], dst: &mut T) -> usize
+    requires { F.ready forms.now }
+    ensures { ReadsAhead T.Destination (new_state (F.grammar forms.now)) src.now result dst.old dst.new }
+{
+    let turns = fitting(src.len(), dst.free().saturating_sub(SLACK));
+    if turns == 0 {
+        return 0;
+    }
+    let mut at = 0;
+    let mut left = turns / 4;
+    while left > 0 {
+        let read = read_turns(forms, &src[at..], dst, 4);
+        at += read;
+        if read < F::FOUR_AT_LEAST {
+            return at;
+        }
+        left -= 1;
+    }
+    at + read_turns(forms, &src[at..], dst, turns % 4)
 }
 
 /// Reads common forms from the front of at most `most` bytes, up to an uncommon one.
@@ -106,5 +137,5 @@ pub fn read_forms<F: CommonForms, T: Destination>(
     ensures { ReadsAhead T.Destination (new_state (F.grammar forms.now)) src.now result dst.old dst.new }
 {
     let part = src.len().min(most);
-    read_run(&FormsInTurn { forms }, &src[..part], dst)
+    read_run(forms, &src[..part], dst)
 }

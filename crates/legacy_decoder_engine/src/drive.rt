@@ -99,7 +99,7 @@ fn finish<D: DecoderMoves, T: Destination>(decoder: &mut D, dst: &T, last: bool)
     requires { rests (D.state decoder.old).grammar (D.state decoder.old).held ≡ true }
     ensures { Finishes T.form (D.state decoder.old) last (T.room dst.now) (D.state decoder.new) result }
 {
-    if !last || !decoder.has_rest() {
+    if !last || !decoder.has_report() {
         return DecoderResult::InputEmpty;
     }
     if !has_room(dst, decoder.release_room()) {

@@ -11,6 +11,7 @@ ghost use Rattle.legacy_decoder_engine.specs.LaneCodes.{ArePairs, AreUnits};
 use crate::lane_codec::LaneCodec;
 use crate::lane_entries::{entries_at, entry_count};
 use crate::lanes::{are_known, chosen, kept_and_places, known_count};
+use crate::read_ahead::SLACK;
 use legacy_base::Destination;
 use legacy_tables::FlatTables;
 use std::simd::prelude::*;
@@ -97,7 +98,7 @@ pub(crate) fn read_eights<C: LaneCodec, T: Destination>(
     }
     let last = (entries - 1) as u16;
     let mut at = 0;
-    while src.len() - at >= 16 && at < most && dst.free() >= 35 {
+    while src.len() - at >= 16 && at < most && dst.free() >= 32 + SLACK {
         let read = read_eight::<C, T>(tables, &src[at..], last, dst);
         if read < 16 {
             return at + read;

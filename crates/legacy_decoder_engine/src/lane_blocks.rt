@@ -14,7 +14,7 @@ use crate::eights::read_eights;
 use crate::lane_codec::LaneCodec;
 use crate::lanes::{byte_total, put_codes};
 use crate::past_ascii::past_ascii;
-use crate::read_ahead::{Blocks, read_ascii};
+use crate::read_ahead::{Blocks, SLACK, read_ascii};
 use legacy_base::Destination;
 use legacy_tables::FlatTables;
 use std::cell::Cell;
@@ -333,7 +333,7 @@ fn read_last<C: LaneCodec, T: Destination>(
 {
     let tables = blocks.tables.copied();
     let mut at = 0;
-    while at < src.len() && dst.free() >= 7 {
+    while at < src.len() && dst.free() >= 4 + SLACK {
         match form_at::<C>(&tables, blocks.guess, &src[at..]) {
             Some((scalar, length)) => {
                 dst.put(scalar);

@@ -1,9 +1,8 @@
 //! The common steps of codecs whose sequences are a lead and a trail.
-ghost use Rattle.std.specs.Prelude.{◌≡◌, ℕ, [], ◌∷◌, Bool, false, option_to_list};
+ghost use Rattle.std.specs.{Prelude.{◌≡◌, ℕ, ◌+◌, ◌<◌, [], ◌∷◌, Bool, true, false, if◌then◌else◌, option_to_list}, Char.is_ascii};
 ghost use Rattle.legacy_decoder_engine.specs.{Steps.trail_step, LeadMachines.lead_first, Feeding.Took, LeadCodecs.{IsLeadOf, held_bytes}};
 
 use crate::moves::Fed;
-use crate::unmapped_trail::unmapped;
 
 /// Returns a malformed sequence that ends with the byte, with nothing held back after it.
 #[inline]
@@ -15,6 +14,24 @@ pub fn malformed_through(length: u8) -> Fed
         back: 0,
         unread: false,
     }
+}
+
+/// Returns the result of a byte that ends a sequence of `before` bytes without a scalar.
+///
+/// An ASCII byte is left unread after the malformed sequence. Any other byte is its last one.
+#[inline]
+pub fn unmapped(before: u8, byte: u8) -> Fed
+    requires { before < 4 }
+    ensures { result ≡ (if is_ascii byte then Fed.MalformedSequence before 0 true else Fed.MalformedSequence (before + 1) 0 false) }
+{
+    if byte < 0x80 {
+        return Fed::MalformedSequence {
+            length: before,
+            back: 0,
+            unread: true,
+        };
+    }
+    malformed_through(before + 1)
 }
 
 /// Reads the first byte of a sequence, given the byte as a lead or `None`.

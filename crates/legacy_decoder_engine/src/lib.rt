@@ -21,4 +21,3 @@ pub mod past_ascii;
 pub mod picks;
 pub mod places;
 pub mod read_ahead;
-pub mod unmapped_trail;

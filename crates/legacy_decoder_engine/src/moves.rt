@@ -34,10 +34,7 @@ pub enum Fed {
     MalformedSequence { length: u8, back: u8, unread: bool },
 }
 
-/// The moves of a decoder, of which `drive` makes its calls.
-///
-/// They are the Standard's handler of the decoder (Encoding Standard, section "Encoders and
-/// decoders"), with the room in the output that each move needs.
+/// The moves of a decoder, of which `drive_decoder` makes its calls, with the room that each needs.
 pub trait DecoderMoves {
     /// The grammar and the held-back bytes.
     ghost state: { Self → DecoderState };
@@ -80,7 +77,7 @@ pub trait DecoderMoves {
     {}
 
     /// Returns whether there is something to report at the end of the input. Nothing changes.
-    fn has_rest(&self) -> bool
+    fn has_report(&self) -> bool
         ensures some { result ≡ true → events_of (state self.now).grammar (state self.now).held ≢ [] }
         ensures none { result ≡ false → events_of (state self.now).grammar (state self.now).held ≡ [] };
 

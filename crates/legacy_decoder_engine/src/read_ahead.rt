@@ -1,76 +1,16 @@
-//! The two loops that read ahead of the machine: forms four at a time, and blocks one after another.
-// The functions that run for each form or block are always inlined, and so are all between them and a decoder's call:
-// a call would pass vectors through memory, and would store the destination's place there for each form.
+//! The loop that reads blocks ahead of the machine, one after another, and blocks of ASCII.
+// The functions that run for each block are always inlined, and so are all between them and a decoder's call: a call
+// would pass vectors through memory, and would store the destination's place there for each block.
 #![tactic(auto, using(crate::proofs::WrittenRuns::no_bytes))]
 
-ghost use Rattle.std.specs.Prelude.{◌≡◌, ℕ, ◌+◌, ◌*◌, ◌<◌, ◌≤◌, length, take, true};
-ghost use Rattle.legacy_base.specs.{Grammar.Grammar, States.{DecoderState, new_state}};
-ghost use Rattle.legacy_decoder_engine.specs.ReadAhead.{HasAscii, Writes, ReadsAhead};
+ghost use Rattle.std.specs.Prelude.{◌≡◌, ◌<◌, ◌≤◌, length, true};
+ghost use Rattle.legacy_base.specs.{Grammar.Grammar, States.new_state};
+ghost use Rattle.legacy_decoder_engine.specs.ReadAhead.{HasAscii, ReadsAhead};
 
 use legacy_base::Destination;
 
-/// Forms that follow one another, with nothing held back between two of them.
-pub trait Forms {
-    /// The grammar.
-    ghost grammar: { Self → Grammar };
-
-    /// What a run requires of the grammar.
-    ghost ready: { Self → Type 0 } = { λ _. Unit {0} };
-
-    /// The largest number of bytes of a form.
-    ghost most_bytes: { ℕ };
-
-    /// The largest number of code units of a form's scalar.
-    ghost most_units: { ℕ };
-
-    /// The smallest number of bytes of four forms. The run ends if fewer were read.
-    const FOUR_AT_LEAST: usize;
-
-    /// Returns a number of forms that have at most `bytes` bytes and at most `units` code units.
-    fn fitting(&self, bytes: usize, units: usize) -> usize
-        ensures bytes { most_bytes * result ≤ bytes }
-        ensures units { most_units * result ≤ units }
-        ensures few { result ≤ units };
-
-    /// Reads at most `most` forms, up to an uncommon one, and returns the number of bytes read.
-    ///
-    /// The input has bytes for `most` forms, and the output has room for them and three more code units.
-    fn read_forms<T: Destination>(&self, src: &[u8], dst: &mut T, most: usize) -> usize
-        requires ready { ready self.now }
-        requires source { most_bytes * most ≤ length src.now }
-        requires room { most_units * most + 3 ≤ T.room dst.old }
-        ensures read { result ≤ most_bytes * most }
-        ensures writes { Writes T.Destination (grammar self.now) (take result src.now) dst.old dst.new }
-        ensures slack { T.room dst.old ≤ T.room dst.new + most_units * most };
-}
-
-/// Reads a run of forms from the front, up to an uncommon one, and returns the number of bytes read, which may be 0.
-///
-/// If it reads any, three code units stay free.
-// Four at a time: the compiler unrolls a loop of that size, so each place has its own branches, and the processor
-// predicts each of them by its own history.
-#[inline(always)]
-#[tactic(auto, using(crate::proofs::Turns::turning))]
-pub fn read_run<F: Forms, T: Destination>(forms: &F, src: &[u8], dst: &mut T) -> usize
-    requires { F.ready forms.now }
-    ensures { ReadsAhead T.Destination (new_state (F.grammar forms.now)) src.now result dst.old dst.new }
-{
-    let turns = forms.fitting(src.len(), dst.free().saturating_sub(3));
-    if turns == 0 {
-        return 0;
-    }
-    let mut at = 0;
-    let mut left = turns / 4;
-    while left > 0 {
-        let read = forms.read_forms(&src[at..], dst, 4);
-        at += read;
-        if read < F::FOUR_AT_LEAST {
-            return at;
-        }
-        left -= 1;
-    }
-    at + forms.read_forms(&src[at..], dst, turns % 4)
-}
+/// The least number of code units that stay free after text was read ahead.
+pub const SLACK: usize = 3;
 
 /// Blocks that follow one another, with nothing held back between two of them.
 ///
@@ -111,7 +51,7 @@ fn read_wide_blocks<T: Destination>(src: &[u8], dst: &mut T) -> (usize, bool)
     ensures ahead { (grammar : Grammar) → HasAscii grammar → ReadsAhead T.Destination (new_state grammar) src.now result.0 dst.old dst.new }
 {
     let mut at = 0;
-    while src.len() - at >= 128 && dst.free() >= 67 {
+    while src.len() - at >= 128 && dst.free() >= 64 + SLACK {
         let count = dst.put_front(&src[at..], 64);
         at += count;
         if count < 64 {
@@ -128,7 +68,7 @@ fn read_short_blocks<T: Destination>(src: &[u8], dst: &mut T) -> usize
     ensures read { result ≤ length src.now }
     ensures ahead { (grammar : Grammar) → HasAscii grammar → ReadsAhead T.Destination (new_state grammar) src.now result dst.old dst.new }
 {
-    let most = dst.free().saturating_sub(3).min(src.len());
+    let most = dst.free().saturating_sub(SLACK).min(src.len());
     dst.copy_ascii(&src[..most])
 }
 

@@ -11,10 +11,11 @@ use super::pair_places::TRAILS;
 use legacy_base::{Destination, IndexName};
 use legacy_decoder_engine::common_forms::CommonForm;
 use legacy_decoder_engine::held_lead::Lead;
-use legacy_decoder_engine::lane_places::{lead_places, place_sums, trail_places};
 use legacy_decoder_engine::lane_codec::LaneCodec;
+use legacy_decoder_engine::lane_places::{lead_places, place_sums, trail_places};
 use legacy_decoder_engine::past_ascii::{ascii_front, past_ascii};
 use legacy_decoder_engine::places::{ROWS_OF_190, pair_pointer};
+use legacy_decoder_engine::read_ahead::SLACK;
 use legacy_tables::{DecoderTables, FlatTables, RangePart, Ranges};
 use std::cell::Cell;
 use std::simd::prelude::*;
@@ -149,7 +150,7 @@ impl LaneCodec for Gb18030 {
         src: &[u8],
         dst: &mut T,
     ) -> usize {
-        let most = src.len().min(dst.free().saturating_sub(3));
+        let most = src.len().min(dst.free().saturating_sub(SLACK));
         let ranges = tables.ranges();
         let mut part = ranges.part_at(guess.get());
         let mut at = 0;

@@ -9,6 +9,7 @@ use super::four_picks::pick_fours;
 use legacy_base::Destination;
 use legacy_decoder_engine::lane_places::place_sums;
 use legacy_decoder_engine::lanes::{chosen, known_count};
+use legacy_decoder_engine::read_ahead::SLACK;
 use legacy_tables::{DecoderTables, FlatTables, RangePart};
 use std::simd::prelude::*;
 
@@ -123,7 +124,7 @@ fn put_fours<T: Destination>(
     ensures had { 0 < result → 4 ≤ T.room dst.old }
 {
     let mut at = 0;
-    while at < count && dst.free() >= 35 {
+    while at < count && dst.free() >= 32 + SLACK {
         let units = units_of(
             part,
             u16x8::from_slice(&front[at..]),

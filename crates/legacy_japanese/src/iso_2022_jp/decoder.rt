@@ -109,7 +109,7 @@ impl<'a> DecoderMoves for Iso2022JpDecoder<'a> {
     }
 
     #[tactic(auto, using(crate::proofs::Iso2022JpEnding::rest_known))]
-    fn has_rest(&self) -> bool {
+    fn has_report(&self) -> bool {
         finish(self.mode, self.held).is_some()
     }
 

@@ -12,6 +12,7 @@ use legacy_base::{Destination, IndexName, Tables};
 use legacy_decoder_engine::common_forms::{CommonForm, CommonForms, read_forms};
 use legacy_decoder_engine::past_ascii::{ascii_front, past_ascii};
 use legacy_decoder_engine::places::pair_pointer;
+use legacy_decoder_engine::read_ahead::SLACK;
 use legacy_tables::{DecoderTables, FlatTables};
 use std::simd::prelude::*;
 
@@ -78,7 +79,7 @@ fn read_plain_blocks<T: Destination>(src: &[u8], dst: &mut T) -> usize
     ensures ahead { ReadsPlain T.Destination src.now result dst.old dst.new }
 {
     let mut at = 0;
-    while src.len() - at >= 64 && dst.free() >= 67 {
+    while src.len() - at >= 64 && dst.free() >= 64 + SLACK {
         let count = read_plain_block(&src[at..], dst);
         at += count;
         if count < 64 {
@@ -97,7 +98,7 @@ fn read_plain_bytes<T: Destination>(src: &[u8], dst: &mut T) -> usize
     ensures ahead { ReadsPlain T.Destination src.now result dst.old dst.new }
 {
     let mut at = 0;
-    while at < src.len() && is_plain(src[at]) && dst.free() >= 4 {
+    while at < src.len() && is_plain(src[at]) && dst.free() >= 1 + SLACK {
         dst.put(char::from(src[at]));
         at += 1;
     }

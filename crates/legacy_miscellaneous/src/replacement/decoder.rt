@@ -5,6 +5,7 @@ ghost use Rattle.legacy_base.specs.States.{new_state};
 
 use legacy_base::{DecoderStep, Destination, RawDecoder};
 use legacy_decoder_engine::drive::drive_decoder;
+use legacy_decoder_engine::lead_and_trail::malformed_through;
 use legacy_decoder_engine::moves::{DecoderMoves, Fed, Room};
 
 /// The replacement decoder (Encoding Standard, "replacement decoder").
@@ -66,16 +67,12 @@ impl DecoderMoves for ReplacementDecoder {
             return Fed::Nothing;
         }
         self.has_reported = true;
-        Fed::MalformedSequence {
-            length: 1,
-            back: 0,
-            unread: false,
-        }
+        malformed_through(1)
     }
 
     #[inline]
     #[tactic(auto, using(crate::proofs::ReplacementSteps::ends_none))]
-    fn has_rest(&self) -> bool {
+    fn has_report(&self) -> bool {
         false
     }
 

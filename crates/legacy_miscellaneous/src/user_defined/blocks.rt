@@ -11,7 +11,7 @@ ghost use Rattle.legacy_miscellaneous.specs.UserDefinedMachine.{unit_of_byte};
 
 use legacy_base::Destination;
 use legacy_decoder_engine::past_ascii::has_past_ascii;
-use legacy_decoder_engine::read_ahead::{Blocks, read_blocks};
+use legacy_decoder_engine::read_ahead::{Blocks, SLACK, read_blocks};
 use std::simd::prelude::*;
 
 /// Returns the code unit of any byte: ASCII for ASCII, and a private-use scalar for any other.
@@ -57,7 +57,7 @@ fn read_eights<T: Destination>(src: &[u8], dst: &mut T, is_mixed: bool) -> usize
     ensures { ReadsAhead T.Destination (new_state user_defined) src.now result dst.old dst.new }
 {
     let mut at = 0;
-    while src.len() - at >= 8 && dst.free() >= 35 {
+    while src.len() - at >= 8 && dst.free() >= 32 + SLACK {
         let part = &src[at..];
         if is_mixed && !has_past_ascii(part) {
             return at;
@@ -73,7 +73,9 @@ fn read_eights<T: Destination>(src: &[u8], dst: &mut T, is_mixed: bool) -> usize
 pub fn read_few<T: Destination>(src: &[u8], dst: &mut T) -> usize
     ensures { ReadsAhead T.Destination (new_state user_defined) src.now result dst.old dst.new }
 {
-    let most = src.len().min(dst.free().saturating_sub(3) / T::narrow());
+    let most = src
+        .len()
+        .min(dst.free().saturating_sub(SLACK) / T::narrow());
     let mut at = 0;
     while at < most {
         dst.put(scalar_of(src[at]));
@@ -92,7 +94,7 @@ impl Blocks for Mixed {
     /// Reads the ASCII of the first 64 bytes, and the byte after it or eights if the next one is past ASCII too.
     #[inline(always)]
     fn read_block<T: Destination>(&self, src: &[u8], dst: &mut T) -> (usize, bool) {
-        if src.len() <= 64 || dst.free() < 70 {
+        if src.len() <= 64 || dst.free() < 64 + 3 + SLACK {
             return (0, false);
         }
         let count = dst.put_front(src, 64);
@@ -113,7 +115,7 @@ impl Blocks for Mixed {
 fn read_ascii_block<T: Destination>(src: &[u8], dst: &mut T) -> usize
     ensures { ReadsAhead T.Destination (new_state user_defined) src.now result dst.old dst.new }
 {
-    if src.len() < 64 || dst.free() < 67 {
+    if src.len() < 64 || dst.free() < 64 + SLACK {
         return 0;
     }
     let past = u8x64::from_slice(src).simd_ge(u8x64::splat(0x80));

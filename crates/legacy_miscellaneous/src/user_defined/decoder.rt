@@ -62,7 +62,7 @@ impl DecoderMoves for UserDefinedDecoder {
 
     #[inline]
     #[tactic(auto, using(crate::proofs::UserDefinedShown::ends_none))]
-    fn has_rest(&self) -> bool {
+    fn has_report(&self) -> bool {
         false
     }
 

@@ -110,7 +110,7 @@ impl DecoderMoves for Utf16Decoder {
 
     #[inline]
     #[tactic(auto, using(crate::proofs::Utf16Held::ends_none, crate::proofs::Utf16Held::ends_some))]
-    fn has_rest(&self) -> bool {
+    fn has_report(&self) -> bool {
         !matches!(self.held, Held::Nothing)
     }
 

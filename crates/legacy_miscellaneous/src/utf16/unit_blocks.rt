@@ -14,7 +14,7 @@ use super::unit_steps::unit;
 use super::vectors::{eight_units, sixteen_units};
 use legacy_base::Destination;
 use legacy_decoder_engine::common_forms::{CommonForm, CommonForms, read_forms};
-use legacy_decoder_engine::read_ahead::{Blocks, read_blocks};
+use legacy_decoder_engine::read_ahead::{Blocks, SLACK, read_blocks};
 use legacy_text::are_all_below;
 
 /// The code units of a byte order.
@@ -66,7 +66,7 @@ impl Blocks for Sixteens<'_> {
     // No turn ends early and the units are those of a vector, so the compiler stores the vector as it is.
     #[inline(always)]
     fn read_block<T: Destination>(&self, src: &[u8], dst: &mut T) -> (usize, bool) {
-        if src.len() < 32 || dst.free() < 51 {
+        if src.len() < 32 || dst.free() < 48 + SLACK {
             return (0, false);
         }
         let units = sixteen_units(self.units.big_endian, src).to_array();
@@ -111,7 +111,7 @@ impl Blocks for AsciiUnits<'_> {
     // In text with tags the first letter past ASCII comes at any place, so its block is read whole by `read_groups`.
     #[inline(always)]
     fn read_block<T: Destination>(&self, src: &[u8], dst: &mut T) -> (usize, bool) {
-        if src.len() >= 128 && dst.free() >= 67 {
+        if src.len() >= 128 && dst.free() >= 64 + SLACK {
             if !self.units.are_below(src, 8, 0x80) {
                 return (0, false);
             }
@@ -120,7 +120,7 @@ impl Blocks for AsciiUnits<'_> {
             dst.put_block(&block, 64);
             return (128, true);
         }
-        if src.len() < 32 || dst.free() < 19 {
+        if src.len() < 32 || dst.free() < 16 + SLACK {
             return (0, false);
         }
         let mut block = [0; 16];
@@ -227,7 +227,7 @@ impl Units {
         if T::narrow() == 1 {
             return read_blocks(&Sixteens { units: self }, src, dst);
         }
-        let eights = (src.len() / 16).min(dst.free().saturating_sub(11) / 24);
+        let eights = (src.len() / 16).min(dst.free().saturating_sub(8 + SLACK) / 24);
         if eights >= 8 {
             self.read_groups(src, dst, 8)
         } else if eights >= 4 {

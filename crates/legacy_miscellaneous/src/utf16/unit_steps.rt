@@ -9,6 +9,7 @@ ghost use Rattle.legacy_decoder_engine.specs.Feeding.{Took};
 ghost use Rattle.legacy_miscellaneous.specs.Utf16Decoder.{first_byte, second_byte, held_bytes};
 
 use super::held_bytes::{Held, HighSurrogate, OddByte, UnitScalar};
+use legacy_decoder_engine::lead_and_trail::malformed_through;
 use legacy_decoder_engine::moves::Fed;
 
 /// Returns the unit of two bytes.
@@ -49,14 +50,7 @@ fn read_second(big_endian: bool, first: OddByte, byte: u8) -> (Fed, Held)
     }
     match char::from_u32(u32::from(unit)) {
         Some(scalar) => (Fed::One(scalar), Held::Nothing),
-        None => (
-            Fed::MalformedSequence {
-                length: 2,
-                back: 0,
-                unread: false,
-            },
-            Held::Nothing,
-        ),
+        None => (malformed_through(2), Held::Nothing),
     }
 }
 

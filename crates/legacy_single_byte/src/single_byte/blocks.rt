@@ -13,6 +13,7 @@ ghost use Rattle.legacy_decoder_engine.specs.ReadAhead.{ReadsAhead};
 use super::scalars::ByteScalars;
 use legacy_base::Destination;
 use legacy_decoder_engine::past_ascii::{ascii_front, has_past_ascii, past_after, past_ascii};
+use legacy_decoder_engine::read_ahead::SLACK;
 use legacy_text::are_all_below;
 use std::simd::prelude::*;
 
@@ -75,7 +76,7 @@ fn read_parts<P: Parts, T: Destination>(parts: &P, src: &[u8], most: usize, dst:
         dst.old dst.new }
 {
     let mut at = 0;
-    while at < most && src.len() - at > 64 && dst.free() >= 70 {
+    while at < most && src.len() - at > 64 && dst.free() >= 64 + 3 + SLACK {
         let (read, goes_on) = parts.read_part(&src[at..], most - at, dst);
         at += read;
         if !goes_on {
@@ -114,7 +115,7 @@ impl Parts for Fronts<'_> {
                 None => return (at, false),
             }
             at += 1;
-            if at == end || src.len() - at < 64 || dst.free() < 70 {
+            if at == end || src.len() - at < 64 || dst.free() < 64 + 3 + SLACK {
                 return (at, true);
             }
             past = past_after(past, count);
@@ -229,6 +230,6 @@ pub fn read_text<T: Destination>(scalars: &ByteScalars, src: &[u8], dst: &mut T)
     }
     let at = read_parts(scalars, src, src.len(), dst);
     let end = at + read_last(scalars, &src[at..], dst);
-    let most = (src.len() - end).min(dst.free().saturating_sub(3) / 3);
+    let most = (src.len() - end).min(dst.free().saturating_sub(SLACK) / 3);
     end + read_singly(scalars, &src[end..], most, dst)
 }

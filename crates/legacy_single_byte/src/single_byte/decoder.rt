@@ -8,6 +8,7 @@ use super::blocks::read_text;
 use super::scalars::ByteScalars;
 use legacy_base::{DecoderStep, Destination, RawDecoder, SingleByteTable};
 use legacy_decoder_engine::drive::drive_decoder;
+use legacy_decoder_engine::lead_and_trail::malformed_through;
 use legacy_decoder_engine::moves::{DecoderMoves, Fed, Room};
 use std::simd::prelude::*;
 
@@ -115,17 +116,13 @@ impl DecoderMoves for SingleByteDecoder<'_> {
         }
         match self.scalars.table.scalar(usize::from(byte - 0x80)) {
             Some(scalar) => Fed::One(scalar),
-            None => Fed::MalformedSequence {
-                length: 1,
-                back: 0,
-                unread: false,
-            },
+            None => malformed_through(1),
         }
     }
 
     #[inline]
     #[tactic(auto, using(crate::proofs::SingleByteShown::ends_none))]
-    fn has_rest(&self) -> bool {
+    fn has_report(&self) -> bool {
         false
     }
 

@@ -1,13 +1,13 @@
 use Rattle.std.proofs.Common.{◌+◌, ◌*◌, ◌≤◌, take}
 use Rattle.legacy_decoder_engine.specs.ReadAhead.{Writes}
-use Rattle.legacy_decoder_engine.proofs.common_forms.FormsInTurnForms.read_forms.Given as goal
+use Rattle.legacy_decoder_engine.proofs.common_forms.read_turns.Given as goal
 
 -- the scalars of the bytes read are written, and there is room for the turns left
 abbrev pub invariant-loop-left : goal.invariant-loop-left
 invariant-loop-left g l =
     let T = g.T.Destination in
     (l.at + 2 * l.left ≤ 2 * l.most) × (T.room l.fn.dst + 3 * l.left ≤ T.room l.dst + 3 * l.most)
-    × Writes T (g.F.CommonForms.grammar l.self.forms.now) (take l.at l.src) l.fn.dst l.dst
+    × Writes T (g.F.CommonForms.grammar l.forms) (take l.at l.src) l.fn.dst l.dst
 
 abbrev pub decreases-loop-left : goal.decreases-loop-left
 decreases-loop-left g l = l.left
