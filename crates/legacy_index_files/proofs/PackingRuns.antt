@@ -1,31 +1,12 @@
 -- The runs of the first pointers of an index. At the end of the index they are accepted.
-use Rattle.std.proofs.Common.{◌≡◌, ◌≢◌, ℕ, ◌+◌, ◌-◌, ◌≤◌, ◌<◌, List, [], ◌∷◌, ◌++◌, length, get_or, refl, arith, Some, None, true, false}
-use Rattle.std.proofs.{lemmas.Bool.Decides.nat_tests, lemmas.List.{get_or_past, get_or_append_left, get_or_push}}
-use Rattle.std.proofs.lemmas.List.{length_push}
+use Rattle.std.proofs.Common.{◌≡◌, ◌≢◌, ◌∙◌, ℕ, zero, suc, ◌+◌, ◌-◌, ◌≤◌, ◌<◌, List, [], ◌∷◌, ◌++◌, length, get_or, take, drop, refl, arith, Some, None}
+use Rattle.std.proofs.{Common.{true, false}, lemmas.Bool.Decides.nat_tests, lemmas.List.{get_or_past, get_or_append_left, get_or_push}}
+use Rattle.std.proofs.lemmas.List.{length_push, length-take, get_or-take}
 use Rattle.std.specs.Option.{option_or}
-use Rattle.legacy_tables.specs.{declared.tables.packed.PackedPart.PackedPart, declared.tables.packed.Run.Run, Indexes.idx, Runs.{run_end, run_scalar}}
-use Rattle.legacy_tables.specs.{Runs.{runs_scalar, is_run_in_order, run_fault_from, run_fault}, Packed.{differs_at, run_difference, runs_fault}}
-use Rattle.legacy_tables.proofs.FirstPlaces.{taken, find-none}
-use Rattle.legacy_index_files.specs.Packing.{AreBelow, AreLongest}
-
--- ---- one more run
-
--- the first pointer after the last run
-unfoldable pub end_from : ℕ → List Run → ℕ
-end_from before [] = before
-end_from before (run ∷ runs) = end_from (run_end run) runs
-
-fault-push : (place before limit : ℕ) (runs : List Run) (run : Run) → run_fault_from place before limit runs ≡ None
-    → is_run_in_order (end_from before runs) limit run ≡ true
-    → run_fault_from place before limit (runs ++ run ∷ []) ≡ None
-unfolding run_fault_from end_from
-fault-push place before limit [] run e h = grind arith
-fault-push place before limit (r ∷ runs) run e h = grind (arith, taken, fault-push (place + 1) (run_end r) limit runs run)
-
-end-push : (before : ℕ) (runs : List Run) (run : Run) → end_from before (runs ++ run ∷ []) ≡ run_end run
-unfolding end_from
-end-push before [] run = refl
-end-push before (r ∷ runs) run = end-push (run_end r) runs run
+use Rattle.legacy_tables.specs.{declared.tables.packed.PackedPart.PackedPart, declared.tables.packed.Run.Run, Indexes.idx, Runs.{run_at, run_end, run_scalar}}
+use Rattle.legacy_tables.specs.{Runs.{runs_scalar, is_run_in_order, run_fault_from}, Packed.{differs_at, run_difference, runs_fault}}
+use Rattle.legacy_tables.proofs.{FirstPlaces.find-none, PackedRuns.{no_run, outside-behind, runs_next, runs_over}}
+use Rattle.legacy_index_files.specs.Packing.{AreLongest, GivesIndex}
 
 scalar-push : (runs : List Run) (run : Run) (p : ℕ) → runs_scalar (runs ++ run ∷ []) p ≡ option_or (runs_scalar runs p) (run_scalar run p)
 scalar-push [] run p = grind arith
@@ -47,44 +28,92 @@ module _ (end p : ℕ) (index : List ℕ) (runs : List Run) (so_far : AreLongest
   module _ (run : Run) (starts : run.pointer ≡ p) (scalar : run.scalar ≡ get_or index p 0) (within : p + run.length ≤ end) (some : 0 < run.length)
       (longest : p + run.length < end → get_or index (p + run.length) 0 ≢ get_or index p 0 + run.length) where
     pub longest-added : AreLongestBelow end (p + run.length) index (runs ++ run ∷ [])
-    longest-added = grind (arith, length_push, get_or_append_left, get_or_push, so_far.longest.ends, so_far.stops, so_far.reach)
+    longest-added = grind (
+      arith,
+      length_push,
+      get_or_append_left,
+      get_or_push,
+      so_far.longest.some,
+      so_far.longest.rising,
+      so_far.longest.ends,
+      so_far.stops,
+      so_far.reach,
+    )
 
 -- ---- the entries of runs
 
-pub record AreRunsBelow (limit p : ℕ) (index : List ℕ) (runs : List Run) : Type 0 where
-  pub ordered : AreBelow 0x11_0000 index → run_fault limit runs ≡ None
-  pub ends : end_from 0 runs ≤ p
+pub record AreRunsBelow (p : ℕ) (index : List ℕ) (runs : List Run) : Type 0 where
   pub gives : (k : ℕ) → k < p → runs_scalar runs k ≡ idx index k
   pub nothing_more : (k : ℕ) → p ≤ k → runs_scalar runs k ≡ None
 
-pub no-runs : (limit : ℕ) (index : List ℕ) → AreRunsBelow limit 0 index []
-unfolding run_fault_from end_from
-no-runs limit index = grind arith
+pub no-runs : (index : List ℕ) → AreRunsBelow 0 index []
+no-runs index = grind arith
 
-module _ (limit p : ℕ) (index : List ℕ) (runs : List Run) (so_far : AreRunsBelow limit p index runs) where
-  module _ (run : Run) (starts : run.pointer ≡ p) (scalar : run.scalar ≡ get_or index p 0) (mapped : get_or index p 0 ≢ 0) (some : 0 < run.length)
-      (reach : p + run.length ≤ limit)
+module _ (p : ℕ) (index : List ℕ) (runs : List Run) (so_far : AreRunsBelow p index runs) where
+  module _ (run : Run) (starts : run.pointer ≡ p) (scalar : run.scalar ≡ get_or index p 0) (mapped : get_or index p 0 ≢ 0)
       (row : (k : ℕ) → k < run.length → get_or index (p + k) 0 ≡ get_or index p 0 + k) where
-    in_order : AreBelow 0x11_0000 index → is_run_in_order (end_from 0 runs) limit run ≡ true
-    in_order below = grind (arith, nat_tests, row (run.length - 1), below.at (p + (run.length - 1)))
-
     entry_some : (k : ℕ) → p ≤ k → k < p + run.length → idx index k ≡ Some (run.scalar + (k - run.pointer))
     entry_some k h l =
         grind (arith, nat_tests, row (k - p))
 
-    pub run-added : AreRunsBelow limit (p + run.length) index (runs ++ run ∷ [])
+    pub run-added : AreRunsBelow (p + run.length) index (runs ++ run ∷ [])
     run-added = record {
-      ordered = λ below. fault-push 0 0 limit runs run (so_far.ordered below) (in_order below);
-      ends = let e = end-push 0 runs run in omega arith;
       gives = λ k h. rw (scalar-push runs run k) (grind (arith, nat_tests, so_far.gives k, so_far.nothing_more k, entry_some k));
       nothing_more = λ k h. rw (scalar-push runs run k) (grind (arith, nat_tests, so_far.nothing_more k));
     }
 
-  -- ---- at the end of the index
+  -- at the end of the first entries of the index
+  pub runs-made : (limit : ℕ) → p ≤ limit → (p < limit → length index ≤ p) → (k : ℕ) → runs_scalar runs k ≡ idx (take limit index) k
+  runs-made limit within all k =
+      grind (
+        arith,
+        nat_tests,
+        so_far.gives k,
+        so_far.nothing_more k,
+        get_or-take limit index k 0,
+        get_or_past (take limit index) k 0,
+        get_or_past index k 0,
+        length-take limit index,
+      )
 
-  no_difference : length index ≤ p → (k : ℕ) → differs_at runs index k ≡ false
-  no_difference all k = grind (arith, nat_tests, so_far.gives k, so_far.nothing_more k, get_or_past)
+-- ---- the runs of an index of scalars are accepted
 
-  pub runs-made : length index ≤ p → AreBelow 0x11_0000 index → (part : PackedPart) → runs_fault part limit runs index ≡ None
+-- each entry of the index is less than the limit
+pub record AreBelow (limit : ℕ) (index : List ℕ) : Type 0 where
+  pub at : (p : ℕ) → get_or index p 0 < limit
+
+-- the first run that has a pointer gives its scalar
+scalar-first : (runs : List Run) (n p : ℕ) → n < length runs → (run_at runs n).pointer ≤ p → p < run_end (run_at runs n)
+    → ((k : ℕ) → k < n → run_end (run_at runs k) ≤ p) → runs_scalar runs p ≡ Some ((run_at runs n).scalar + (p - (run_at runs n).pointer))
+scalar-first [] n p h low high before = absurd (omega arith)
+scalar-first (run ∷ runs) zero p h low high before = grind (arith, nat_tests)
+scalar-first (run ∷ runs) (suc n) p h low high before =
+    rw (outside-behind run p (before 0 (omega arith)))
+    (scalar-first runs n p (omega arith) low high (λ k l. before (suc k) (omega arith)))
+
+module _ (limit scalars : ℕ) (index : List ℕ) (runs : List Run) (made : GivesIndex limit index runs) (below : AreBelow scalars index)
+    (few : scalars ≤ 0x11_0000) where
+  -- the last scalar of a run is an entry of the index
+  in_order : (n before : ℕ) → n < length runs → before ≤ (run_at runs n).pointer → is_run_in_order before limit (run_at runs n) ≡ true
+  in_order n before h behind =
+      let some = made.longest.some n no_run h in
+      let p = (run_at runs n).pointer + ((run_at runs n).length - 1) in
+      let last = scalar-first runs n p h (omega arith) (omega arith) (λ k l. let r = made.longest.rising k n no_run l h in omega arith) in
+      grind (arith, nat_tests, last, made.gives p, get_or-take limit index p 0, get_or_past (take limit index) p 0, length-take limit index, below.at p)
+
+  ordered_from : (n place before : ℕ) → place + n ≡ length runs → (place < length runs → before ≤ (run_at runs place).pointer)
+      → run_fault_from place before limit (drop place runs) ≡ None
+  ordered_from zero place before e behind = runs_over limit runs place before (omega arith)
+  ordered_from (suc n) place before e behind =
+      runs_next limit runs place before (omega arith)
+      ∙ rw (in_order place before (omega arith) (behind (omega arith)))
+      (ordered_from n (place + 1) (run_end (run_at runs place)) (omega arith) (λ h. made.longest.rising place (place + 1) no_run (omega arith) h))
+
+  no_difference : (k : ℕ) → k < limit → differs_at runs index k ≡ false
+  no_difference k h = grind (arith, nat_tests, made.gives k, get_or-take limit index k 0)
+
+  pub runs-accepted : (part : PackedPart) → runs_fault part limit runs index ≡ None
   unfolding run_difference
-  runs-made all below part = rw (so_far.ordered below, find-none (differs_at runs index) 0 limit (λ k l h. no_difference all k)) refl
+  runs-accepted part =
+      rw (ordered_from (length runs) 0 0 (omega arith) (λ h. omega arith), find-none (differs_at runs index) 0 limit (λ k l h. no_difference k (omega arith)))
+      refl

@@ -1,5 +1,5 @@
 -- The owning set of indexes: its values for each index, and the flat lists of its tables.
-use Rattle.std.specs.Prelude.{◌≡◌, ℕ, List}
+use Rattle.std.specs.Prelude.{◌≡◌, ℕ, List, vec_capacity}
 use Rattle.legacy_tables.specs.Indexes.{FlatIndexes}
 use Rattle.legacy_tables.specs.AcceptedTables.{flat_lists}
 use Rattle.legacy_tables.specs.declared.tables.private_use.TheConstants.{GB18030_2022_PUA}
@@ -25,6 +25,16 @@ pub record HoldsTexts (texts : FileIndex → List ℕ) (owned : OwnedIndexes) : 
   pub gb18030 : IsIndexOf (text_entries texts Gb18030) owned.gb18030.items
   pub ranges : owned.ranges.items ≡ text_entries texts Ranges
   pub single_byte : IsSingleByteIndexOf (text_entries texts SingleByte) owned.single_byte
+
+-- no index of the set has memory
+pub record IsUnallocated (owned : OwnedIndexes) : Type 0 where
+  pub big5 : vec_capacity owned.big5 ≡ 0
+  pub euc_kr : vec_capacity owned.euc_kr ≡ 0
+  pub jis0208 : vec_capacity owned.jis0208 ≡ 0
+  pub jis0212 : vec_capacity owned.jis0212 ≡ 0
+  pub gb18030 : vec_capacity owned.gb18030 ≡ 0
+  pub katakana : vec_capacity owned.katakana ≡ 0
+  pub ranges : vec_capacity owned.ranges ≡ 0
 
 -- the set with the table of an index replaced; a table of the wrong kind for the index changes nothing
 abbrev pub with_table : OwnedIndexes → FileIndex → FileTable → OwnedIndexes

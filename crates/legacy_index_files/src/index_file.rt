@@ -86,9 +86,9 @@ pub enum IndexFileError {
 /// The pointer and the value must be in the index's range. In the ranges, the line with pointer
 /// 189000 and value 10000 is skipped too.
 ///
-/// Returns the table of the lines. If a pointer occurs twice, the later value counts. Returns
-/// `Line` for the first line that does not have this form, and `Memory` only if there is no such
-/// line.
+/// Returns the table of the lines. If a pointer occurs twice, the later value counts; the ranges
+/// keep both lines. Returns `Line` for the first line that does not have this form, and `Memory`
+/// only if there is no such line.
 #[tactic(auto, using(crate::proofs::IndexGrammars::kind_by_grammar))]
 pub fn read_index(alloc: Global, name: FileIndex, text: &[u8]) -> Result<FileTable, IndexFileError>
     ensures table { IfOk result (λ table. IsTableOf name (entries_of name (lines text.now)) table) }

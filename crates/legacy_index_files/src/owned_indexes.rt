@@ -7,7 +7,7 @@ ghost use Rattle.legacy_index_files.specs.IndexTable.{first_malformed, entries_o
 ghost use Rattle.legacy_index_files.specs.IndexTable.{malformed_line};
 ghost use Rattle.legacy_index_files.specs.declared.index_file.EncoderIndex.TheVariants.{Katakana};
 ghost use Rattle.legacy_index_files.specs.IndexTexts.{no_text, with_text};
-ghost use Rattle.legacy_index_files.specs.OwnedIndexes.{HoldsTexts, HoldsFile, HoldsKatakana, with_table, owned_lists};
+ghost use Rattle.legacy_index_files.specs.OwnedIndexes.{HoldsTexts, IsUnallocated, HoldsFile, HoldsKatakana, with_table, owned_lists};
 
 use crate::index_file::{FileIndex, FileTable, IndexFileError, read_index, read_katakana};
 use legacy_tables::{GB18030_2022_PUA, Indexes, SingleByteTable, TableError, Tables};
@@ -50,6 +50,7 @@ impl OwnedIndexes {
     pub fn new(alloc: Global) -> OwnedIndexes
         ensures empty { HoldsTexts no_text result }
         ensures katakana { result.katakana.items ≡ [] }
+        ensures unallocated { IsUnallocated result }
     {
         OwnedIndexes {
             big5: Vec::new(alloc),

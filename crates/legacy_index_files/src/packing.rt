@@ -69,6 +69,12 @@ impl OwnedPacked {
 /// If `Tables::new` accepts the indexes, `Tables::packed_of` accepts them with the result.
 /// Otherwise both return the same fault, because `packed_of` checks the flat indexes first.
 ///
+/// Refused indexes are packed in the same way, with these limits:
+///
+/// - If an index is too long, its runs contain only as many entries as it may have.
+/// - Big5's order contains only scalar values below U+30000.
+/// - The orders of an index with more than 23940 entries are unspecified.
+///
 /// The time is near linear. Runs need one pass over each index. An order needs one pass over its
 /// index and one over all scalar values up to U+FFFF (U+2FFFF for Big5). While an order is made, a
 /// list has 2 bytes for each of these scalar values.

@@ -30,7 +30,7 @@ fn run_length<E: Entries>(index: &E, pointer: usize, end: usize) -> usize
     end - pointer
 }
 
-/// Returns the longest runs of an index, which has at most `limit` entries.
+/// Returns the longest runs of the first `limit` entries of an index.
 fn runs_of<E: Entries>(alloc: Global, limit: usize, index: &E) -> Result<Vec<Run>, AllocError>
     requires { limit ≤ 23940 }
     ensures { IfOk result (λ runs. GivesIndex limit (E.entries index.now) runs.items) }

@@ -7,7 +7,7 @@ pub loop-pointer-init : goal.loop-pointer-init
 loop-pointer-init g c = record {
   within = omega arith;
   longest = rw c.new-runs.ensures.items (none-longest _ (g.E.Entries.entries c.args.index.now));
-  runs = rw c.new-runs.ensures.items (no-runs c.args.limit (g.E.Entries.entries c.args.index.now));
+  runs = rw c.new-runs.ensures.items (no-runs (g.E.Entries.entries c.args.index.now));
 }
 
 pub loop-pointer-preserved : goal.loop-pointer-preserved
@@ -20,12 +20,11 @@ loop-pointer-preserved g c =
           (longest-added _ _ _ _ c.loop-pointer.invariant.longest run refl c.entry-scalar.ensures (omega arith) c.run_length-length.ensures.some
           (λ l. c.run_length-length.ensures.longest (omega arith)));
       runs = rw c.in_ok-push.ensures.items
-          (run-added _ _ _ _ c.loop-pointer.invariant.runs run refl c.entry-scalar.ensures (grind arith) c.run_length-length.ensures.some (omega arith)
-          c.run_length-length.ensures.row);
+          (run-added _ _ _ c.loop-pointer.invariant.runs run refl c.entry-scalar.ensures (grind arith) c.run_length-length.ensures.row);
     }
 
 pub returns : goal.returns
 returns g c = record {
-  accepted = λ short. runs-made _ c.loop-pointer.pointer _ _ c.loop-pointer.invariant.runs (omega arith);
+  gives = runs-made c.loop-pointer.pointer _ _ c.loop-pointer.invariant.runs c.args.limit (omega arith) (λ h. omega arith);
   longest = c.loop-pointer.invariant.longest.longest;
 }

@@ -6,7 +6,7 @@ abbrev pub invariant-loop-pointer : goal.invariant-loop-pointer
 invariant-loop-pointer g l = record {
   within : l.pointer ≤ l.end;
   longest : AreLongestBelow l.end l.pointer (g.E.Entries.entries l.index) l.runs.items;
-  runs : AreRunsBelow l.limit l.pointer (g.E.Entries.entries l.index) l.runs.items;
+  runs : AreRunsBelow l.pointer (g.E.Entries.entries l.index) l.runs.items;
 }
 
 abbrev pub decreases-loop-pointer : goal.decreases-loop-pointer
