@@ -1,7 +1,7 @@
 -- The encoding of an input in UTF-8 under way.
 use Rattle.std.proofs.Common.{◌≡◌, ◌≢◌, ◌⊎◌, ◌∙◌, ℕ, ◌+◌, ◌-◌, ◌≤◌, ◌<◌, List, [], ◌∷◌, ◌++◌, length, take, drop, take-append-drop, refl, sym, ap}
-use Rattle.std.proofs.Common.{subst, arith, append_assoc, append-nil, length-append, length-drop, Bool, true, false, Option, None, IsUtf8, inl}
-use Rattle.std.proofs.{Common.{drop-drop, take_all, zero-add}, lemmas.Str.{utf8_valid_len-IsValidUpTo, chars-nil}}
+use Rattle.std.proofs.Common.{subst, arith, append_assoc, append-nil, length-append, length-drop, Bool, true, false, Option, None, IsUtf8, inl, ⊎_elim}
+use Rattle.std.proofs.{Common.{drop-drop, take_all, zero-add}, lemmas.Str.{utf8_valid_len-IsValidUpTo, utf8_valid_len-IsUtf8, chars-nil}}
 use Rattle.std.proofs.{KnownBytes.{Appends-nil, Appends-trans, Consumes-nil, Consumes-trans}, lemmas.Grind.flat_map-append, lemmas.Bool.cases_lt}
 use Rattle.std.proofs.{lemmas.List.{drop_at, length-take-le, length-take, drop-take, nil_from_length}, lemmas.List.Edits.take-paste, Math.Seq.paste}
 use Rattle.std.specs.{Str.{chars, IsValidUpTo}, Str.Lossy.{utf8_valid_len, utf8_error_len}, Io.KnownBytes.{Appends, Consumes, IsAtEnd}}
@@ -10,9 +10,9 @@ use Rattle.legacy_base.proofs.EncoderLaws.{end-encoded}
 use Rattle.legacy_codecs.specs.{declared.results.CoderResult.CoderResult, declared.results.CoderResult.TheVariants.InputEmpty, References.event_bytes}
 use Rattle.legacy_codecs.specs.References.{ReplacingEncoderCall}
 use Rattle.legacy_codecs.proofs.WholeTexts.{wrote_last}
-use Rattle.legacy_streams.specs.{Utf8Texts.{utf8_text, IsChunk}, Encoding.{EncodesUpTo, EncodesText, EncodesFront, EncodesPiece, EncodesPieceFront, EncodesAll}}
-use Rattle.legacy_streams.specs.Encoding.{EncodesPartly, DecodesTo, EncodesBytes, Sends, end_scalars}
-use Rattle.legacy_streams.proofs.Utf8Pieces.{cut_chunk, malformed_chunk, malformed_back, text_of_cut, text_of_none}
+use Rattle.legacy_streams.specs.{Utf8Texts.{utf8_text, IsChunk, IsCutCharacter}, Encoding.{EncodesUpTo, EncodesText, EncodesFront, EncodesPiece}}
+use Rattle.legacy_streams.specs.Encoding.{EncodesPieceFront, EncodesAll, EncodesBeginning, EncodesPartly, DecodesTo, EncodesBytes, Sends, end_scalars}
+use Rattle.legacy_streams.proofs.Utf8Pieces.{cut_chunk, malformed_chunk, malformed_back, text_of_cut, text_of_none, utf8_cases}
 
 -- ---- bytes that wait
 
@@ -126,6 +126,24 @@ module _ {before now : EncoderState} {bytes middle waited : List ℕ} {old mid :
         → EncodesPieceFront before bytes after old new
     bytes_front f = record { scalars = d.scalars ++ scalars; rest = left; decodes = decodes_join; front = front_join d.text f }
 
+-- ---- bytes that the end cuts
+
+pub nothing_cut : (bs : List ℕ) → length bs ≡ 0 → IsCutCharacter bs
+unfolding utf8_valid_len utf8_error_len
+nothing_cut [] e = record { no_text = refl; not_malformed = refl }
+nothing_cut (b ∷ bs) e = absurd (omega arith)
+
+cut_valid : (b : ℕ) (bs : List ℕ) → IsCutCharacter (b ∷ bs) → IsValidUpTo (b ∷ bs) 0
+cut_valid b bs cut = ⊎_elim
+    (λ w. let whole = utf8_valid_len-IsUtf8 (b ∷ bs) w in let none = cut.no_text in absurd (omega arith))
+    (λ v. subst (IsValidUpTo (b ∷ bs)) cut.no_text v)
+    (utf8_cases (b ∷ bs))
+
+-- their text
+text_of_held : (held : List ℕ) → IsCutCharacter held → utf8_text held ≡ end_scalars (length held)
+text_of_held [] cut = text_of_none
+text_of_held (b ∷ bs) cut = text_of_cut (b ∷ bs) (cut_valid b bs cut) cut.not_malformed
+
 -- ---- a piece
 
 -- The piece is encoded up to a place.
@@ -161,7 +179,7 @@ module _ {before : EncoderState} {piece : List ℕ} {now : EncoderState} {passed
   -- the text is encoded, and nothing follows it, or what the end cuts
   pub chunk_end : {after : EncoderState} {waiting : List ℕ} {new : Option (List ℕ)} (held : ℕ)
       → EncodesText now (chars valid) false after middle waiting mid new
-      → length invalid ≡ held → length k.later ≡ 0 → held < 4 → utf8_text invalid ≡ end_scalars held → EncodesPiece before piece held after waiting old new
+      → length invalid ≡ held → length k.later ≡ 0 → held < 4 → IsCutCharacter invalid → EncodesPiece before piece held after waiting old new
   chunk_end held t len none short cut = grind (arith, chunk_lengths, at_invalid, bytes_join u.done decodes_valid, alone)
 
   -- what is malformed becomes U+FFFD
@@ -172,6 +190,9 @@ module _ {before : EncoderState} {piece : List ℕ} {now : EncoderState} {passed
 
       pub held_valid : IsValidUpTo invalid 0
       held_valid = subst (λ l. IsValidUpTo l 0) (alone held_nothing) (malformed_back k some)
+
+      pub held_cut : utf8_error_len invalid ≡ None → IsCutCharacter invalid
+      held_cut e = record { no_text = utf8_valid_len-IsValidUpTo invalid 0 held_valid; not_malformed = e }
 
     module _ (told : (passed + (length valid + length invalid) ≢ length piece) ⊎ (utf8_error_len invalid ≢ None)) where
       is_malformed : (0 < length k.later) ⊎ (utf8_error_len (invalid ++ k.later) ≢ None)
@@ -198,7 +219,9 @@ module _ {before : EncoderState} {piece : List ℕ} {now : EncoderState} {passed
 -- the piece is encoded
 pub piece_end : {before : EncoderState} {piece : List ℕ} {now : EncoderState} {passed : ℕ} {waiting : List ℕ} {old new : Option (List ℕ)}
     → PieceUnderWay before piece now passed waiting old new → length (drop passed piece) ≡ 0 → EncodesPiece before piece 0 now waiting old new
-piece_end u none = grind (arith, length-drop, nil_from_length, text_of_none)
+piece_end {piece = piece} u none =
+    let end = length piece - 0 in
+    grind (arith, length-drop, nil_from_length, nothing_cut (drop end piece) (omega (arith, length-drop end piece)))
 
 -- what waits is written
 pub piece_written : {before : EncoderState} {piece : List ℕ} {held : ℕ} {after : EncoderState} {waiting : List ℕ} {old mid new : Option (List ℕ)}
@@ -219,13 +242,28 @@ pub record InputUnderWay (before now : EncoderState) (held : List ℕ) (left_old
   pub read : Consumes left_old left bytes
   pub short : length held < 4
   pub done : EncodesBytes before bytes held now [] old new
-  pub cut : utf8_text held ≡ end_scalars (length held)
+  pub cut : IsCutCharacter held
 
 pub input_start : (before : EncoderState) (left old : Option (List ℕ)) → InputUnderWay before before [] left left old old
 input_start before left old =
-    record { bytes = []; read = Consumes-nil left; short = omega arith; done = bytes_start before [] old; cut = text_of_none }
+    record { bytes = []; read = Consumes-nil left; short = omega arith; done = bytes_start before [] old; cut = nothing_cut [] refl }
 
 module _ {before now : EncoderState} {held : List ℕ} {left_old left old mid : Option (List ℕ)} (u : InputUnderWay before now held left_old left old mid) where
+  -- what holds if no more can be read
+  input_beginning : EncodesBeginning before now left_old left old mid
+  input_beginning = record {
+    bytes = u.bytes;
+    read = u.read;
+    held = held;
+    short = u.short;
+    cut = u.cut;
+    scalars = u.done.scalars;
+    decodes = u.done.decodes;
+    events = u.done.text.done.events;
+    goes_on = u.done.text.done.goes_on;
+    written = sends_all u.done.text.done.sends;
+  }
+
   module _ {left_new : Option (List ℕ)} (piece : List ℕ) (r : Consumes left left_new piece) where
     -- a piece more
     pub input_step : (rest : List ℕ) {count : ℕ} {after : EncoderState} {new : Option (List ℕ)} → (p : EncodesPiece now (held ++ piece) count after [] mid new)
@@ -238,13 +276,14 @@ module _ {before now : EncoderState} {held : List ℕ} {left_old left old mid : 
           read = Consumes-trans _ _ _ _ _ u.read r;
           short = let s = p.short in omega arith;
           done = rw e (bytes_join (bytes_more u.done piece) p.done.decodes p.done.text);
-          cut = ap utf8_text e ∙ p.cut ∙ ap end_scalars (sym len);
+          cut = subst IsCutCharacter (sym e) p.cut;
         }
 
     -- what holds if writing a piece fails
-    pub input_partly : {after : EncoderState} {new : Option (List ℕ)} → EncodesPieceFront now (held ++ piece) after mid new
+    pub input_partly : {after : EncoderState} {new : Option (List ℕ)} → length piece ≤ 4096 → EncodesPieceFront now (held ++ piece) after mid new
         → EncodesPartly before after left_old left_new old new
-    input_partly p =
+    unfolding input_beginning
+    input_partly near p =
         let front = bytes_front (bytes_more u.done piece) p.decodes p.front in
         record {
           bytes = u.bytes ++ piece;
@@ -254,11 +293,20 @@ module _ {before now : EncoderState} {held : List ℕ} {left_old left old mid : 
           text = front.scalars;
           is_text = λ more h. (utf8_text (front.rest ++ more), front.decodes.text more, λ f. absurd (let no : false ≡ true = f in cc));
           front = front.front;
+          between = now;
+          input_between = left;
+          output_between = mid;
+          earlier = input_beginning;
+          piece = piece;
+          near = near;
+          parts = refl;
+          sent = p.front.2.sends.sent;
+          written = p.front.2.sends.written;
         }
 
   -- the text of all that was read
   whole_text : utf8_text u.bytes ≡ u.done.scalars ++ end_scalars (length held)
-  whole_text = grind (arith, append-nil, u.done.decodes.text [], u.cut)
+  whole_text = grind (arith, append-nil, u.done.decodes.text [], text_of_held held u.cut)
 
   module _ (left_new : Option (List ℕ)) (r : Consumes left left_new []) where
     read_all : Consumes left_old left_new u.bytes
@@ -284,11 +332,25 @@ module _ {before now : EncoderState} {held : List ℕ} {left_old left old mid : 
     -- what holds if writing the end fails
     pub input_end_partly : IsAtEnd left_new → (after : EncoderState) (new : Option (List ℕ))
         → EncodesFront now (end_scalars (length held)) true after [] mid new → EncodesPartly before after left_old left_new old new
-    input_end_partly at_end after new f = grind (arith, append-nil, read_all, whole_text, front_join u.done.text f)
-
--- the text of bytes that the end cuts
-pub text_of_held : (invalid : List ℕ) → IsValidUpTo invalid 0 → utf8_error_len invalid ≡ None → utf8_text invalid ≡ end_scalars (length invalid)
-text_of_held invalid valid e = grind (arith, text_of_cut)
+    unfolding input_beginning
+    input_end_partly at_end after new f = record {
+      bytes = u.bytes;
+      read = read_all;
+      last = true;
+      at_end = λ _. at_end;
+      text = u.done.scalars ++ end_scalars (length held);
+      is_text = λ more none. ([], rw (none refl, append-nil, append-nil) whole_text, λ _. refl);
+      front = front_join u.done.text f;
+      between = now;
+      input_between = left;
+      output_between = mid;
+      earlier = input_beginning;
+      piece = [];
+      near = omega arith;
+      parts = sym (append-nil u.bytes);
+      sent = f.2.sends.sent;
+      written = f.2.sends.written;
+    }
 
 -- no character begins with these bytes, so no text does
 pub no_text : (bs : List ℕ) → IsValidUpTo bs 0 → IsUtf8 bs → ⊥
@@ -318,6 +380,12 @@ kept_end l new filled left within long e =
     let room : left ≤ length (drop k l) = omega (arith, length-drop k l) in
     rw (e, kept, n) (ap (λ j. take j (paste l 0 (drop k l) left)) (sym (zero-add left)) ∙ take-paste l 0 (drop k l) left (omega arith) room)
 
+-- a piece fits into the buffer
+pub piece_near : (held count : ℕ) (old new piece : List ℕ) → take (held + count) new ≡ take held old ++ piece → held + count ≤ length new
+    → length new ≤ 4096 → length piece ≤ 4096
+piece_near held count old new piece e within long =
+    omega (arith, ap length e, length-append (take held old) piece, length-take-le (held + count) new within)
+
 -- a read of no bytes is the end, after the bytes that are held back
 pub read_end : (held count : ℕ) (old new : List ℕ) (left left_new : Option (List ℕ)) → held < 4 → length old ≡ 4096 → count ≡ 0 →
     (piece : List ℕ) × Consumes left left_new piece × (take (held + count) new ≡ take held old ++ piece) × (count ≡ 0 → IsAtEnd left_new)
@@ -327,7 +395,3 @@ read_end held count old new left left_new short long z (piece, r, e, at_end) =
     let total = ap length e ∙ length-append (take held old) piece in
     let none : piece ≡ [] = nil_from_length piece (omega (arith, front, total, length-take (held + count) new)) in
     (rw none at r, at_end z, front)
-
--- an empty input has no text
-pub end_of_none_text : (invalid : List ℕ) → length invalid ≡ 0 → utf8_text invalid ≡ end_scalars 0
-end_of_none_text invalid e = ap utf8_text (nil_from_length invalid e) ∙ text_of_none

@@ -4,7 +4,7 @@ use Rattle.std.specs.Io.KnownBytes.{Appends, Consumes, IsAtEnd}
 use Rattle.legacy_base.specs.declared.results.EncodeEvent.{EncodeEvent}
 use Rattle.legacy_base.specs.Encoders.{EncoderState, encoded, end_bytes}
 use Rattle.legacy_codecs.specs.References.{referenced_bytes}
-use Rattle.legacy_streams.specs.Utf8Texts.{utf8_text}
+use Rattle.legacy_streams.specs.Utf8Texts.{utf8_text, IsCutCharacter}
 
 -- The events of the text and whatever follows, ended or not, are `events`, and then those of what is left. After the
 -- last text nothing follows. The codec stays.
@@ -65,7 +65,7 @@ pub record EncodesPiece (before : EncoderState) (piece : List ℕ) (held : ℕ) 
   pub within : held ≤ length piece
   pub short : held < 4
   pub done : EncodesBytes before piece (drop (length piece - held) piece) after waiting old new
-  pub cut : utf8_text (drop (length piece - held) piece) ≡ end_scalars held
+  pub cut : IsCutCharacter (drop (length piece - held) piece)
 
 -- Some of the piece was encoded, and of its bytes and references a front was written, which may end inside a sequence.
 pub record EncodesPieceFront (before : EncoderState) (piece : List ℕ) (after : EncoderState) (old new : Option (List ℕ)) : Type 0 where
@@ -86,14 +86,15 @@ pub record EncodesAll (before after : EncoderState) (input_old input_new output_
   pub ended : end_bytes after ≡ []
   pub codec : after.codec ≡ before.codec
 
--- Some bytes of the input were read. All of them except up to three at their end were encoded, and their bytes and
--- references were written: the events are a beginning of all events, whatever else the input contains, and the encoder
--- continues after them.
+-- Some bytes of the input were read. All of them were encoded except for `held`, up to three at their end that begin a
+-- character. Their bytes and references were written: the events are a beginning of all events, whatever else the input
+-- contains, and the encoder continues after them.
 pub record EncodesBeginning (before after : EncoderState) (input_old input_new output_old output_new : Option (List ℕ)) : Type 0 where
   pub bytes : List ℕ
   pub read : Consumes input_old input_new bytes
   pub held : List ℕ
   pub short : length held < 4
+  pub cut : IsCutCharacter held
   pub scalars : List ℕ
   pub decodes : DecodesTo bytes scalars held
   pub events : List EncodeEvent
@@ -102,7 +103,8 @@ pub record EncodesBeginning (before after : EncoderState) (input_old input_new o
 
 -- Some bytes of the input were read, and a part of their text was encoded. The events of that part are a beginning of
 -- all events, whatever else the input contains if it was not read to its end. Of their bytes and references a front was
--- written, which may end inside a sequence.
+-- written, which may end inside a sequence. All bytes before the last piece, of at most 4096 bytes, were encoded and
+-- written as after a failed read, and `sent` after them.
 pub record EncodesPartly (before after : EncoderState) (input_old input_new output_old output_new : Option (List ℕ)) : Type 0 where
   pub bytes : List ℕ
   pub read : Consumes input_old input_new bytes
@@ -111,3 +113,12 @@ pub record EncodesPartly (before after : EncoderState) (input_old input_new outp
   pub text : List ℕ
   pub is_text : (more : List ℕ) → (IsTrue last → more ≡ []) → (later : List ℕ) × (utf8_text (bytes ++ more) ≡ text ++ later) × (IsTrue last → later ≡ [])
   pub front : EncodesFront before text last after [] output_old output_new
+  pub between : EncoderState
+  pub input_between : Option (List ℕ)
+  pub output_between : Option (List ℕ)
+  pub earlier : EncodesBeginning before between input_old input_between output_old output_between
+  pub piece : List ℕ
+  pub near : length piece ≤ 4096
+  pub parts : bytes ≡ earlier.bytes ++ piece
+  pub sent : List ℕ
+  pub written : Appends output_between output_new sent

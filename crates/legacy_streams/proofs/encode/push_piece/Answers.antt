@@ -1,7 +1,7 @@
 use Rattle.std.proofs.{Common.{◌≡◌, ◌<◌, ◌∙◌, ℕ, false, eqb, refl, sym, arith, inl, inr, ⊎_elim}, lemmas.Bool.{eqb-true, eqb-false}}
 use Rattle.std.proofs.lemmas.Result.{err_from_is_err_and}
 use Rattle.legacy_streams.proofs.{Utf8Pieces.replacement_chars, EncodingUnderWay.{piece_start, piece_end, chunk_front, chunk_end, malformed_front}}
-use Rattle.legacy_streams.proofs.EncodingUnderWay.{malformed_step, held_valid, held_nothing, text_of_held, end_of_none_text}
+use Rattle.legacy_streams.proofs.EncodingUnderWay.{malformed_step, held_valid, held_nothing, held_cut, nothing_cut}
 use Rattle.legacy_streams.proofs.encode.push_piece.Goals as goal
 
 some_invalid : (n : ℕ) → eqb n 0 ≡ false → 0 < n
@@ -22,7 +22,7 @@ pub returns-then-is_empty-clause-piece : goal.returns-then-is_empty-clause-piece
 returns-then-is_empty-clause-piece g c =
     let k = rw c.rest_of.ensures at c.in-Some.ensures in
     let none = eqb-true _ _ (sym c.is_empty.ensures ∙ c.if-is_empty.true) in
-    chunk_end c.chunks.invariant k 0 c.in_ok-push_text.ensures.text none (k.whole none) (omega arith) (end_of_none_text _ none)
+    chunk_end c.chunks.invariant k 0 c.in_ok-push_text.ensures.text none (k.whole none) (omega arith) (nothing_cut _ none)
 
 pub is_held-requires : goal.is_held-requires
 is_held-requires g c t =
@@ -37,7 +37,7 @@ returns-then-is_held-clause-piece g c =
     let held = c.is_held.ensures.held c.if-is_held.true in
     let e = eqb-true _ _ held.0 in
     chunk_end c.chunks.invariant k _ c.in_ok-push_text.ensures.text refl (held_nothing c.chunks.invariant k some e) held.2
-    (text_of_held _ (held_valid c.chunks.invariant k some e) held.1)
+    (held_cut c.chunks.invariant k some e held.1)
 
 pub returns-in_err-push_text-2-clause-err : goal.returns-in_err-push_text-2-clause-err
 returns-in_err-push_text-2-clause-err g c =
