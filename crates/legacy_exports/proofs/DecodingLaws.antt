@@ -26,7 +26,14 @@ use Rattle.legacy_exports.specs.declared.calls.CallEnd.TheVariants.{Read, Full, 
 replacing_decodes : {form : EncodingForm} {before : DecoderState} {source : List ℕ} {last : Bool} {free : ℕ} {after : DecoderState} {answer : CoderResult}
     {read : ℕ} {written : List ℕ} {found : Bool} →
     ReplacingDecoderCall form before source last free after answer read written found → Decodes form last before source after read written
-replacing_decodes c = record { within = c.within; passed = c.passed; out = c.out; progress = rw (← c.found_is) c.progress; text = c.text }
+replacing_decodes c = record {
+  within = c.within;
+  passed = c.passed;
+  out = c.out;
+  progress = rw (← c.found_is) c.progress;
+  allowed = λ _. c.allowed;
+  text = c.text;
+}
 
 -- nothing is left of a source that was read
 all_read : (source : List ℕ) (read : ℕ) → read ≡ length source → drop read source ≡ []
@@ -53,7 +60,18 @@ found-report last seen scalars answer left h = grind (arith, has_malformed-appen
 raw_decodes : {form : EncodingForm} {before : DecoderState} {source : List ℕ} {last : Bool} {free : ℕ} {after : DecoderState} {answer : DecoderResult}
     {read : ℕ} {scalars : List ℕ} (units : List ℕ) → units ≡ all_code_units form (scalars ++ reported_scalars answer) →
     DecoderCall form before source last free after answer read scalars → Decodes form last before source after read units
-raw_decodes units e c = grind (arith, found-report, at_less, replaced-out)
+raw_decodes {before = before} {source} {last} {after = after} {answer} {read} {scalars} units e c =
+    let seen = length before.held + read in
+    let left = drop read source in
+    let out = out_events seen scalars answer in
+    record {
+      within = c.within;
+      passed = c.passed;
+      out = out;
+      progress = at_less _ _ (found-report last seen scalars answer left) before source c.passed after left out c.progress;
+      allowed = λ _. c.allowed;
+      text = rw (replaced-out seen scalars answer) e;
+    }
 
 -- a result that reports nothing adds no code units
 quiet : (form : EncodingForm) (scalars units : List ℕ) → units ≡ all_code_units form scalars → units ≡ all_code_units form (scalars ++ [])
@@ -107,6 +125,7 @@ decodes_start form before source units e = record {
   passed = 0;
   out = [];
   progress = stay _ before source;
+  allowed = λ h. h;
   text = nil_from_length units e;
 }
 
@@ -143,6 +162,7 @@ module _ {form : EncodingForm} {last : Bool} {before : DecoderState} {source : L
     passed = r.passed + c.passed;
     out = out_after;
     progress = progress_after;
+    allowed = λ h. c.allowed (r.allowed h);
     text = grind (arith, replaced-append, replaced-shift, all_code_units-append, r.text, c.text);
   }
 

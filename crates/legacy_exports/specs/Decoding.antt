@@ -3,7 +3,7 @@ use Rattle.std.specs.Prelude.{◌≡◌, ℕ, ◌-◌, ◌≤◌, List, [], leng
 use Rattle.legacy_text.specs.EncodingForm.{EncodingForm, all_code_units}
 use Rattle.legacy_base.specs.declared.results.DecodeEvent.{DecodeEvent}
 use Rattle.legacy_base.specs.Grammar.{events_of}
-use Rattle.legacy_base.specs.States.{DecoderState}
+use Rattle.legacy_base.specs.States.{DecoderState, may_hold}
 use Rattle.legacy_base.specs.DecoderActs.{LacksRoom}
 use Rattle.legacy_base.specs.Calls.{Progress}
 use Rattle.legacy_codecs.specs.Replacing.{replaced_scalars, has_malformed, may_replace_end}
@@ -36,6 +36,8 @@ pub record Decodes (form : EncodingForm) (last : Bool) (before : DecoderState) (
   -- these, and then the events of what is left, are the grammar's events, whatever bytes follow; after a malformed
   -- sequence at the end of the input, only if the events with those bytes still begin so
   pub progress : Progress (may_replace_end last (has_malformed out) (drop read source)) before source passed after (drop read source) out
+  -- the held-back bytes are some that the codec may hold back, if those before were
+  pub allowed : IsTrue (may_hold before.grammar before.held) → IsTrue (may_hold after.grammar after.held)
   -- the code units are those of the events, with U+FFFD for each malformed sequence
   pub text : written ≡ all_code_units form (replaced_scalars out)
 
