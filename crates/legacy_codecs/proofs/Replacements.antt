@@ -95,6 +95,7 @@ pub record Replaces (form : EncodingForm) (before : DecoderState) (source : List
   pub text : written ≡ all_code_units form (replaced_scalars out)
   pub found_is : found ≡ has_malformed out
   pub untouched : LacksRoom form before source last free → (read ≡ 0) × (written ≡ []) × (found ≡ false) × (now ≡ before)
+  pub unfound : found ≡ false → (read ≡ 0) × (written ≡ []) × (now ≡ before)
   pub lowers : (more : ℕ) → (IsTrue last → more ≡ 0) →
       room (replacing_query form) now (length (drop read source) + more) + length written ≤ room (replacing_query form) before (length source + more)
 
@@ -112,6 +113,7 @@ replaces_start form before source last free old = record {
   text = refl;
   found_is = refl;
   untouched = λ _. (refl, refl, refl, refl);
+  unfound = λ _. (refl, refl, refl);
   lowers = λ more _. omega arith;
 }
 
@@ -218,6 +220,7 @@ module _ {form : EncodingForm} {before : DecoderState} {source : List ℕ} {last
             text = rw (all_code_units-append form scalars (0xFFFD ∷ []), append-nil fffd) at (text_after count scalars x);
             found_is = found_is_after count scalars x;
             untouched = λ h. let never : x ≡ OutputFull = (full_so c h).0 in cc;
+            unfound = λ e. cc;
             lowers = λ more h. omega (arith, lowers_after c more h, all, counted_units form, replacement_count form);
           }
 
@@ -249,6 +252,9 @@ module _ {form : EncodingForm} {before : DecoderState} {source : List ℕ} {last
             out = out_after count scalars answer;
             progress = rw (← same_found found result) at (progress_after c);
             allowed = c.allowed;
+            room_held = λ some none held.
+                let n = r.unfound none in
+                rw (n.2, left_now) at (c.room_held (omega (arith, some, n.0)) held);
             scalar = scalar_after c;
             text = rw (no_report result, append-nil scalars) at (text_after count scalars answer);
             found_is = same_found found result ∙ found_is_after count scalars answer;

@@ -1,5 +1,5 @@
 -- Calls of a decoder that write U+FFFD for each malformed sequence.
-use Rattle.std.specs.Prelude.{◌≡◌, ℕ, ◌+◌, ◌-◌, ◌≤◌, List, [], length, drop, map, Bool, true, false, IsTrue, All, Some, ◌&&◌}
+use Rattle.std.specs.Prelude.{◌≡◌, ◌≢◌, ℕ, ◌+◌, ◌-◌, ◌<◌, ◌≤◌, List, [], length, drop, map, Bool, true, false, IsTrue, All, Some, ◌&&◌}
 use Rattle.std.specs.Char.{IsScalar}
 use Rattle.std.specs.List.{list_any}
 use Rattle.legacy_base.specs.declared.results.DecodeEvent.{DecodeEvent}
@@ -8,7 +8,7 @@ use Rattle.legacy_text.specs.EncodingForm.{EncodingForm, Utf8, Utf16, all_code_u
 use Rattle.legacy_base.specs.Grammar.{events_of}
 use Rattle.legacy_base.specs.Profile.{is_empty}
 use Rattle.legacy_base.specs.States.{DecoderState, may_hold, rests}
-use Rattle.legacy_base.specs.DecoderActs.{LacksRoom}
+use Rattle.legacy_base.specs.DecoderActs.{LacksRoom, full_room_in}
 use Rattle.legacy_base.specs.Lengths.{LengthQuery, to_utf16, to_utf8, query_answer, room}
 use Rattle.legacy_base.specs.Calls.{Progress}
 use Rattle.legacy_codecs.specs.declared.results.CoderResult.{CoderResult}
@@ -58,6 +58,8 @@ pub record ReplacingDecoderCall (form : EncodingForm) (before : DecoderState) (s
   pub progress : Progress (may_replace_end last found (drop read source)) before source passed after (drop read source) out
   -- the held-back bytes are some that the codec may hold back
   pub allowed : IsTrue (may_hold after.grammar after.held)
+  -- if a byte was read, nothing was malformed and bytes are held back, there is room for reading a byte past ASCII
+  pub room_held : 0 < read → found ≡ false → after.held ≢ [] → full_room_in form before.grammar ≤ free - length written
   -- the written scalars are Unicode scalar values
   pub scalar : All IsScalar (replaced_scalars out)
   -- the code units are those of the events, with U+FFFD for each malformed sequence

@@ -1,12 +1,12 @@
 -- Calls of a decoder, one after another.
 use Rattle.std.proofs.Common.{◌≡◌, ◌∙◌, ℕ, ◌+◌, ◌-◌, ◌≤◌, ◌<◌, List, [], ◌∷◌, ◌++◌, length, drop, take, refl, sym, ap, arith}
-use Rattle.std.proofs.Common.{append-nil, length-append, length-drop, length-take, Bool, true, false, ◌||◌, IsTrue, inl, inr}
+use Rattle.std.proofs.Common.{◌≢◌, ◌⊎◌, append-nil, length-append, length-drop, length-take, Bool, true, false, ◌||◌, IsTrue, inl, inr, subst}
 use Rattle.std.proofs.{Common.nat_eq, lemmas.Bool.Decides.nat_tests, Math.Bool.{or-true}, Math.Seq.drop-nil, lemmas.List.Folds.drop_split}
 use Rattle.std.proofs.lemmas.List.{drop-drop, drop-append-le, drop_all, nil_from_length}
 use Rattle.legacy_base.specs.declared.results.DecodeEvent.{DecodeEvent}
 use Rattle.legacy_base.specs.declared.results.DecoderResult.{DecoderResult}
 use Rattle.legacy_base.specs.declared.results.DecoderResult.TheVariants.{InputEmpty, OutputFull, Malformed}
-use Rattle.legacy_base.specs.{Events.shift, Grammar.events_of, States.DecoderState, DecoderActs.LacksRoom}
+use Rattle.legacy_base.specs.{Events.shift, Grammar.{Grammar, events_of, as_new}, States.{DecoderState, rests}, DecoderActs.{LacksRoom, full_room_in}}
 use Rattle.legacy_base.specs.Calls.{Progress, DecoderCall, may_report_end, out_events}
 use Rattle.legacy_text.specs.EncodingForm.{EncodingForm, code_units, all_code_units, bmp_room}
 use Rattle.legacy_text.proofs.CodeUnits.{all_code_units-append}
@@ -16,17 +16,24 @@ use Rattle.legacy_codecs.specs.declared.results.CoderResult.{CoderResult}
 use Rattle.legacy_codecs.proofs.Replaced.{replaced-append, replaced-shift, replaced-of_scalars, has_malformed-append, has_malformed-shift, length-shift}
 use Rattle.legacy_codecs.proofs.Replacements.{reported_scalars, replacement_count}
 use Rattle.legacy_codecs.specs.declared.results.CoderResult.TheVariants as coder
-use Rattle.legacy_exports.specs.Decoding.{end_of, Decodes, DecodingCall, DecodesSource}
+use Rattle.legacy_exports.specs.Decoding.{end_of, Decodes, DecodingCall, DecodesSource, HadFullRoom}
 use Rattle.legacy_exports.specs.declared.calls.CallEnd.{CallEnd}
 use Rattle.legacy_exports.specs.declared.calls.CallEnd.TheVariants.{Read, Full, Replaced}
 
 -- ---- one call
 
 -- a call with replacement
-replacing_decodes : {form : EncodingForm} {before : DecoderState} {source : List ℕ} {last : Bool} {free : ℕ} {after : DecoderState} {answer : CoderResult}
-    {read : ℕ} {written : List ℕ} {found : Bool} →
+abbrev replacing_decodes : {form : EncodingForm} {before : DecoderState} {source : List ℕ} {last : Bool} {free : ℕ} {after : DecoderState}
+    {answer : CoderResult} {read : ℕ} {written : List ℕ} {found : Bool} →
     ReplacingDecoderCall form before source last free after answer read written found → Decodes form last before source after read written
-replacing_decodes c = record { within = c.within; passed = c.passed; out = c.out; progress = rw (← c.found_is) c.progress; text = c.text }
+replacing_decodes c = record {
+  within = c.within;
+  passed = c.passed;
+  out = c.out;
+  progress = rw (← c.found_is) c.progress;
+  allowed = λ _. c.allowed;
+  text = c.text;
+}
 
 -- nothing is left of a source that was read
 all_read : (source : List ℕ) (read : ℕ) → read ≡ length source → drop read source ≡ []
@@ -37,8 +44,19 @@ pub replacing_call : {form : EncodingForm} {before : DecoderState} {source : Lis
     ReplacingDecoderCall form before source last free after answer read written found →
     DecodingCall form before source last free after (end_of answer) read written
 replacing_call {source = source} coder.InputEmpty {read} c =
-    let e = c.input_empty refl in record { decodes = replacing_decodes c; ends = (all_read source read e.0, e.2) }
-replacing_call coder.OutputFull c = record { decodes = replacing_decodes c; ends = c.output_full refl }
+    let e = c.input_empty refl in
+    record {
+      decodes = replacing_decodes c;
+      ends = (all_read source read e.0, e.1, e.2);
+      replaced = λ f. cc;
+      room_held = λ some none held. c.room_held some (c.found_is ∙ none) held;
+    }
+replacing_call coder.OutputFull c = record {
+  decodes = replacing_decodes c;
+  ends = c.output_full refl;
+  replaced = λ f. cc;
+  room_held = λ some none held. c.room_held some (c.found_is ∙ none) held;
+}
 
 -- what is written for the events of a raw call
 replaced-out : (seen : ℕ) (scalars : List ℕ) (answer : DecoderResult) → replaced_scalars (out_events seen scalars answer) ≡ scalars ++ reported_scalars answer
@@ -49,11 +67,26 @@ found-report : (last : Bool) (seen : ℕ) (scalars : List ℕ) (answer : Decoder
     IsTrue (may_replace_end last (has_malformed (out_events seen scalars answer)) left)
 found-report last seen scalars answer left h = grind (arith, has_malformed-append, or-true)
 
+-- a report is one of a malformed sequence
+malformed-report : (seen : ℕ) (scalars : List ℕ) (a b : ℕ) → has_malformed (out_events seen scalars (Malformed a b)) ≡ true
+malformed-report seen scalars a b = grind (arith, has_malformed-append, or-true)
+
 -- a raw call, with U+FFFD after it if it reports a malformed sequence
-raw_decodes : {form : EncodingForm} {before : DecoderState} {source : List ℕ} {last : Bool} {free : ℕ} {after : DecoderState} {answer : DecoderResult}
+abbrev raw_decodes : {form : EncodingForm} {before : DecoderState} {source : List ℕ} {last : Bool} {free : ℕ} {after : DecoderState} {answer : DecoderResult}
     {read : ℕ} {scalars : List ℕ} (units : List ℕ) → units ≡ all_code_units form (scalars ++ reported_scalars answer) →
     DecoderCall form before source last free after answer read scalars → Decodes form last before source after read units
-raw_decodes units e c = grind (arith, found-report, at_less, replaced-out)
+raw_decodes {before = before} {source} {last} {after = after} {answer} {read} {scalars} units e c =
+    let seen = length before.held + read in
+    let left = drop read source in
+    let out = out_events seen scalars answer in
+    record {
+      within = c.within;
+      passed = c.passed;
+      out = out;
+      progress = at_less _ _ (found-report last seen scalars answer left) before source c.passed after left out c.progress;
+      allowed = λ _. c.allowed;
+      text = rw (replaced-out seen scalars answer) e;
+    }
 
 -- a result that reports nothing adds no code units
 quiet : (form : EncodingForm) (scalars units : List ℕ) → units ≡ all_code_units form scalars → units ≡ all_code_units form (scalars ++ [])
@@ -67,19 +100,36 @@ module _ {form : EncodingForm} {before : DecoderState} {source : List ℕ} {last
   pub raw_empty : units ≡ all_code_units form scalars → DecoderCall form before source last free after InputEmpty read scalars →
       DecodingCall form before source last free after Read read units
   raw_empty e c =
-      let all = c.input_empty refl in record { decodes = raw_decodes units (quiet form scalars units e) c; ends = (all_read source read all.0, all.2) }
+      let all = c.input_empty refl in
+      record {
+        decodes = raw_decodes units (quiet form scalars units e) c;
+        ends = (all_read source read all.0, all.1, all.2);
+        replaced = λ f. cc;
+        room_held = λ some none held. rw e (c.room_held some held);
+      }
 
   pub raw_full : units ≡ all_code_units form scalars → DecoderCall form before source last free after OutputFull read scalars →
       DecodingCall form before source last free after Full read units
-  raw_full e c = record { decodes = raw_decodes units (quiet form scalars units e) c; ends = rw e (c.output_full refl) }
+  raw_full e c = record {
+    decodes = raw_decodes units (quiet form scalars units e) c;
+    ends = rw e (c.output_full refl);
+    replaced = λ f. cc;
+    room_held = λ some none held. rw e (c.room_held some held);
+  }
 
   pub raw_malformed : {a b : ℕ} (marked : List ℕ) → units ≡ all_code_units form scalars → marked ≡ units ++ code_units form 0xFFFD →
       DecoderCall form before source last free after (Malformed a b) read scalars → DecodingCall form before source last free after Replaced read marked
-  raw_malformed marked e f c =
+  raw_malformed {a} {b} marked e f c =
       let one : all_code_units form (0xFFFD ∷ []) ≡ code_units form 0xFFFD = append-nil (code_units form 0xFFFD) in
       let all : marked ≡ all_code_units form (scalars ++ 0xFFFD ∷ []) = rw (all_code_units-append form scalars (0xFFFD ∷ []), one, ← e) f in
       let some : 1 ≤ length marked = omega (arith, ap length f, length-append units (code_units form 0xFFFD), replacement_count form, some_room form) in
-      record { decodes = raw_decodes marked all c; ends = some }
+      let found = malformed-report (length before.held + read) scalars a b in
+      record {
+        decodes = raw_decodes marked all c;
+        ends = some;
+        replaced = λ _. found;
+        room_held = λ _ none _. let never : true ≡ false = sym found ∙ none in cc;
+      }
 
 -- ---- calls one after another
 
@@ -101,12 +151,13 @@ found_now found more last left zs h i = grind (arith, or-true)
 found_last : (found last : Bool) (left zs : List ℕ) → (IsTrue last → zs ≡ []) → IsTrue (may_replace_end last found left) → zs ≡ []
 found_last found last left zs h i = grind arith
 
-pub decodes_start : (form : EncodingForm) (before : DecoderState) (source units : List ℕ) → length units ≡ 0 → Decodes form true before source before 0 units
+decodes_start : (form : EncodingForm) (before : DecoderState) (source units : List ℕ) → length units ≡ 0 → Decodes form true before source before 0 units
 decodes_start form before source units e = record {
   within = omega arith;
   passed = 0;
   out = [];
   progress = stay _ before source;
+  allowed = λ h. h;
   text = nil_from_length units e;
 }
 
@@ -123,6 +174,13 @@ module _ {form : EncodingForm} {last : Bool} {before : DecoderState} {source : L
   found_after : has_malformed out_after ≡ (has_malformed r.out || has_malformed c.out)
   found_after = has_malformed-append r.out (shift r.passed c.out) ∙ ap (λ b. has_malformed r.out || b) (has_malformed-shift r.passed c.out)
 
+  -- a malformed sequence was found by the calls before, or by this one
+  found_before : IsTrue (has_malformed r.out) → IsTrue (has_malformed out_after)
+  found_before h = rw (found_after, h) refl
+
+  found_by_it : IsTrue (has_malformed c.out) → IsTrue (has_malformed out_after)
+  found_by_it h = rw (found_after, h) (or-true (has_malformed r.out))
+
   progress_after : Progress (may_replace_end true (has_malformed out_after) (drop (read + count) source)) before source (r.passed + c.passed) after
       (drop (read + count) source) out_after
   progress_after =
@@ -137,13 +195,17 @@ module _ {form : EncodingForm} {last : Bool} {before : DecoderState} {source : L
       rw (found_after, left_is)
       (after_that ended before source r.passed now (piece ++ later) r.out c.passed after (unread ++ later) c.out (rw parts at one) two)
 
-  decodes_more : Decodes form true before source after (read + count) (written ++ units)
-  decodes_more = record {
+  text_after : written ++ units ≡ all_code_units form (replaced_scalars out_after)
+  text_after = grind (arith, replaced-append, replaced-shift, all_code_units-append, r.text, c.text)
+
+  abbrev decodes_more : (all : List ℕ) → all ≡ written ++ units → Decodes form true before source after (read + count) all
+  decodes_more all e = record {
     within = omega (arith, c.within, r.within, ap length parts, length-append piece later, length-drop read source);
     passed = r.passed + c.passed;
     out = out_after;
     progress = progress_after;
-    text = grind (arith, replaced-append, replaced-shift, all_code_units-append, r.text, c.text);
+    allowed = λ h. c.allowed (r.allowed h);
+    text = e ∙ text_after;
   }
 
   -- the events of the call are so many fewer than before it
@@ -176,16 +238,38 @@ none_later end source h = grind (arith, drop_all, nat_tests)
 pub at_length : (end : ℕ) (source : List ℕ) → end ≡ length source → IsTrue (nat_eq end (length source))
 at_length end source e = grind (arith, nat_tests)
 
+-- a byte past ASCII needs the same room as long as the codec stays
+full-as_new : (form : EncodingForm) (g : Grammar) → full_room_in form (as_new g) ≡ full_room_in form g
+full-as_new form g = grind arith
+
+same_room : (form : EncodingForm) (g h : Grammar) → as_new g ≡ as_new h → full_room_in form g ≡ full_room_in form h
+same_room form g h e = sym (full-as_new form g) ∙ ap (full_room_in form) e ∙ full-as_new form h
+
+none_or_some : (n : ℕ) → (n ≡ 0) ⊎ (0 < n)
+none_or_some n = grind arith
+
+true_or_false : (b : Bool) → IsTrue b ⊎ (b ≡ false)
+true_or_false b = grind arith
+
+-- a conversion up to the place `read`, with `total` code units in the output
+pub record Conversion (form : EncodingForm) (source : List ℕ) (total : ℕ) (before now : DecoderState) (read : ℕ) (done : List ℕ) : Type 0 where
+  pub decodes : Decodes form true before source now read done
+  -- no scalar is held back, but at the beginning or after a malformed sequence
+  pub rested : (read ≡ 0) ⊎ (IsTrue (has_malformed decodes.out) ⊎ IsTrue (rests now.grammar now.held))
+  pub room_held : now.held ≢ [] → (read ≡ 0) ⊎ (IsTrue (has_malformed decodes.out) ⊎ HadFullRoom form source total before now read)
+
+pub conversion_start : (form : EncodingForm) (source : List ℕ) (total : ℕ) (before : DecoderState) (units : List ℕ) → length units ≡ 0 →
+    Conversion form source total before before 0 units
+conversion_start form source total before units e =
+    record { decodes = decodes_start form before source units e; rested = inl refl; room_held = λ _. inl refl }
+
 -- a call in the piece that ends at `end`, after calls up to the place `read`
-module _ {form : EncodingForm} {before : DecoderState} {source : List ℕ} {now : DecoderState} {read : ℕ} {done : List ℕ}
-    (r : Decodes form true before source now read done) {end : ℕ} {last : Bool} {free : ℕ} {after : DecoderState} {answer : CallEnd} {count : ℕ}
+module _ {form : EncodingForm} {before : DecoderState} {source : List ℕ} {total : ℕ} {now : DecoderState} {read : ℕ} {done : List ℕ}
+    (k : Conversion form source total before now read done) {end : ℕ} {last : Bool} {free : ℕ} {after : DecoderState} {answer : CallEnd} {count : ℕ}
     {units : List ℕ} (c : DecodingCall form now (take (end - read) (drop read source)) last free after answer count units) (within : read ≤ end)
     (none : IsTrue last → drop end source ≡ []) where
   parts : drop read source ≡ take (end - read) (drop read source) ++ drop end source
   parts = drop_split source read end within
-
-  pub after_call : (all : List ℕ) → all ≡ done ++ units → Decodes form true before source after (read + count) all
-  after_call all e = rw e (decodes_more r c.decodes (drop end source) parts none)
 
   -- the call is in the piece
   pub in_piece : end ≤ length source → read + count ≤ end
@@ -198,22 +282,100 @@ module _ {form : EncodingForm} {before : DecoderState} {source : List ℕ} {now 
   -- no events are added
   pub no_more_events : length (events_of after.grammar (after.held ++ drop (read + count) source))
       ≤ length (events_of now.grammar (now.held ++ drop read source))
-  no_more_events = omega (arith, events_fewer r c.decodes (drop end source) parts none)
+  no_more_events = omega (arith, events_fewer k.decodes c.decodes (drop end source) parts none)
 
   -- a replacement is one event less
   pub fewer_events : answer ≡ Replaced → length (events_of after.grammar (after.held ++ drop (read + count) source))
       < length (events_of now.grammar (now.held ++ drop read source))
-  fewer_events e = grind (arith, c.ends, events_fewer r c.decodes (drop end source) parts none, some_event form c.decodes.out units c.decodes.text)
+  fewer_events e =
+      grind (arith, c.ends, events_fewer k.decodes c.decodes (drop end source) parts none, some_event form c.decodes.out units c.decodes.text)
 
-  -- the end of a conversion
-  pub at_end : (all : List ℕ) (total : ℕ) → all ≡ done ++ units → answer ≡ Read → IsTrue last → DecodesSource form source total before after all
-  at_end all total e f is_last = grind (arith, c.ends, left_is r c.decodes (drop end source) parts none, after_call)
+  -- bytes that are held back after a call that read none were held back before it
+  held_before : count ≡ 0 → after.held ≢ [] → now.held ≢ []
+  held_before z held e =
+      let piece = take (end - read) (drop read source) in
+      let no_bytes : length after.held ≡ 0 = omega (arith, z, ap length e, c.decodes.progress.counts, length-drop count piece) in
+      held (nil_from_length after.held no_bytes)
 
-  pub at_full : (all : List ℕ) (total : ℕ) → all ≡ done ++ units → free ≡ total - length done → answer ≡ Full → DecodesSource form source total before after all
-  at_full all total e f g =
-      let unread = drop count (take (end - read) (drop read source)) in
-      let lacks : LacksRoom form after unread last (free - length units) = rw g at c.ends in
-      let ahead = lacks_ahead form after unread (drop end source) last (free - length units) none lacks in
-      let left = left_is r c.decodes (drop end source) parts none in
-      let room : total - length all ≡ free - length units = omega (arith, ap length e, length-append done units) in
-      record { read = read + count; decodes = after_call all e; stops = inr (rw (left, room) ahead) }
+  -- the code units up to the end of the call
+  module _ (all : List ℕ) (e : all ≡ done ++ units) (rest : free ≡ total - length done) where
+    abbrev more : Decodes form true before source after (read + count) all
+    more = decodes_more k.decodes c.decodes (drop end source) parts none all e
+
+    sooner : IsTrue (has_malformed k.decodes.out) → IsTrue (has_malformed more.out)
+    sooner h = found_before k.decodes c.decodes (drop end source) parts none h
+
+    by_it : IsTrue (has_malformed c.decodes.out) → IsTrue (has_malformed more.out)
+    by_it h = found_by_it k.decodes c.decodes (drop end source) parts none h
+
+    -- the bytes held back were read by this call, with the room for them
+    held_now : 0 < count → after.held ≢ [] → IsTrue (has_malformed more.out) ⊎ HadFullRoom form source total before after (read + count)
+    held_now some held = elim (true_or_false (has_malformed c.decodes.out)) [
+      | inl found ↦ inl (by_it found)
+      | inr clean ↦
+          let enough = c.room_held some clean held in
+          let same = same_room form now.grammar before.grammar k.decodes.progress.codec in
+          let fits : full_room_in form before.grammar ≤ total - length all = omega (arith, enough, same, rest, ap length e, length-append done units) in
+          inr (record { stage = after; earlier = all; decodes = more; rested = inl refl; room = fits })
+    ]
+
+    -- or before it
+    stage_before : count ≡ 0 → IsTrue (rests now.grammar now.held) → HadFullRoom form source total before now read →
+        HadFullRoom form source total before after (read + count)
+    stage_before z resting s =
+        let place : read ≡ read + count = omega (arith, z) in
+        let so : IsTrue (rests s.stage.grammar s.stage.held) = elim s.rested [ inl same ↦ rw same resting | inr r ↦ r ] in
+        record {
+          stage = s.stage;
+          earlier = s.earlier;
+          decodes = subst (λ n. Decodes form true before source s.stage n s.earlier) place s.decodes;
+          rested = inr so;
+          room = s.room;
+        }
+
+    -- the bytes held back were held back before the call, which read none
+    held_sooner : count ≡ 0 → after.held ≢ [] →
+        (read + count ≡ 0) ⊎ (IsTrue (has_malformed more.out) ⊎ HadFullRoom form source total before after (read + count))
+    held_sooner z held = elim (k.room_held (held_before z held)) [
+      | inl n ↦ inl (omega (arith, n, z))
+      | inr was ↦ elim was [
+        | inl found ↦ inr (inl (sooner found))
+        | inr s ↦ elim k.rested [
+          | inl n ↦ inl (omega (arith, n, z))
+          | inr so ↦ elim so [
+            | inl found ↦ inr (inl (sooner found))
+            | inr resting ↦ inr (inr (stage_before z resting s))
+          ]
+        ]
+      ]
+    ]
+
+    room_after : after.held ≢ [] → (read + count ≡ 0) ⊎ (IsTrue (has_malformed more.out) ⊎ HadFullRoom form source total before after (read + count))
+    room_after held = elim (none_or_some count) [
+      | inl z ↦ held_sooner z held
+      | inr some ↦ inr (held_now some held)
+    ]
+
+    -- the calls go on
+    pub after_read : answer ≡ Read → Conversion form source total before after (read + count) all
+    after_read f = let ends = rw f at c.ends in record { decodes = more; rested = inr (inr ends.1); room_held = room_after }
+
+    pub after_replaced : answer ≡ Replaced → Conversion form source total before after (read + count) all
+    after_replaced f = record { decodes = more; rested = inr (inl (by_it (c.replaced f))); room_held = room_after }
+
+    -- the end of a conversion
+    pub at_end : answer ≡ Read → IsTrue last → DecodesSource form source total before after all
+    at_end f is_last =
+        let ends = rw f at c.ends in
+        let left = left_is k.decodes c.decodes (drop end source) parts none in
+        let nothing : drop (read + count) source ≡ [] = rw (left, ends.0, none is_last) refl in
+        record { read = read + count; decodes = more; stops = inl (nothing, ends.1, λ _. ends.2 is_last); room_held = room_after }
+
+    pub at_full : answer ≡ Full → DecodesSource form source total before after all
+    at_full g =
+        let unread = drop count (take (end - read) (drop read source)) in
+        let lacks : LacksRoom form after unread last (free - length units) = rw g at c.ends in
+        let ahead = lacks_ahead form after unread (drop end source) last (free - length units) none lacks in
+        let left = left_is k.decodes c.decodes (drop end source) parts none in
+        let room : total - length all ≡ free - length units = omega (arith, rest, ap length e, length-append done units) in
+        record { read = read + count; decodes = more; stops = inr (rw (left, room) ahead); room_held = room_after }

@@ -9,7 +9,7 @@ use Rattle.legacy_base.specs.declared.results.EncoderResult.TheVariants.{InputEm
 use Rattle.legacy_base.specs.Encoders.{EncoderState, encoded}
 use Rattle.legacy_base.specs.EncoderCalls.{EncoderCall, tells_end, reported}
 use Rattle.legacy_base.proofs.Beginnings.{begins_later}
-use Rattle.legacy_codecs.specs.References.{referenced_bytes, Gives, ReplacingEncoderCall}
+use Rattle.legacy_codecs.specs.References.{referenced_bytes, tells_text_end, Gives, ReplacingEncoderCall}
 use Rattle.legacy_codecs.specs.declared.results.CoderResult.{CoderResult}
 use Rattle.legacy_codecs.specs.declared.results.CoderResult.TheVariants as result
 use Rattle.legacy_exports.specs.declared.calls.CallEnd.TheVariants.{Read, Full, Replaced}
@@ -32,16 +32,26 @@ bytes-references (x ∷ events) = grind (arith, bytes-references events)
 
 -- ---- one call
 
+-- a call with replacement
+replacing_encodes : {before : EncoderState} {text : List ℕ} {last : Bool} {free : ℕ} {after : EncoderState} {answer : CoderResult}
+    {left written : List ℕ} {found : Bool} →
+    ReplacingEncoderCall before text last free after answer left written found →
+    Encodes numeric_reference (tells_text_end last answer) before text after left written []
+replacing_encodes {written = written} c = record {
+  taken = c.taken;
+  cut = c.cut;
+  out = c.out;
+  gives = c.gives;
+  bytes = bytes-references c.out ∙ sym c.text ∙ sym (append-nil written);
+}
+
 pub replacing_call : {before : EncoderState} {text : List ℕ} {last : Bool} {free : ℕ} {after : EncoderState} (answer : CoderResult)
     {left written : List ℕ} {found : Bool} →
     ReplacingEncoderCall before text last free after answer left written found →
     EncodingCall numeric_reference before text last free after (end_of answer) left written
-replacing_call result.InputEmpty {written = written} c =
-    let bytes = bytes-references c.out ∙ sym c.text ∙ sym (append-nil written) in
-    record { lost = []; encodes = record { out = c.out; gives = c.gives; bytes = bytes }; ends = (c.input_empty refl, refl) }
-replacing_call result.OutputFull {written = written} c =
-    let bytes = bytes-references c.out ∙ sym c.text ∙ sym (append-nil written) in
-    record { lost = []; encodes = record { out = c.out; gives = c.gives; bytes = bytes }; ends = let full = c.output_full refl in inl (refl, full.0, full.1) }
+replacing_call result.InputEmpty c = record { lost = []; encodes = replacing_encodes c; ends = (c.input_empty refl, refl) }
+replacing_call result.OutputFull c =
+    record { lost = []; encodes = replacing_encodes c; ends = let full = c.output_full refl in inl (refl, full.0, full.1) }
 
 -- the events of a raw call
 raw_gives : {before : EncoderState} {text : List ℕ} {last : Bool} {free : ℕ} {after : EncoderState} {answer : EncoderResult} {left written : List ℕ} →
@@ -58,14 +68,14 @@ module _ {before : EncoderState} {text : List ℕ} {last : Bool} {free : ℕ} {a
   pub raw_empty : EncoderCall before text last free after InputEmpty left written → EncodingCall question_mark before text last free after Read left written
   raw_empty c = record {
     lost = [];
-    encodes = record { out = map Byte written ++ []; gives = raw_gives c; bytes = raw_bytes written InputEmpty };
+    encodes = record { taken = c.taken; cut = c.cut; out = map Byte written ++ []; gives = raw_gives c; bytes = raw_bytes written InputEmpty };
     ends = (c.input_empty refl, refl);
   }
 
   pub raw_full : EncoderCall before text last free after OutputFull left written → EncodingCall question_mark before text last free after Full left written
   raw_full c = record {
     lost = [];
-    encodes = record { out = map Byte written ++ []; gives = raw_gives c; bytes = raw_bytes written OutputFull };
+    encodes = record { taken = c.taken; cut = c.cut; out = map Byte written ++ []; gives = raw_gives c; bytes = raw_bytes written OutputFull };
     ends = let l = c.output_full refl in inl (refl, omega arith, omega arith);
   }
 
@@ -75,6 +85,8 @@ module _ {before : EncoderState} {text : List ℕ} {last : Bool} {free : ℕ} {a
   raw_marked {c} call = record {
     lost = [];
     encodes = record {
+      taken = call.taken;
+      cut = call.cut;
       out = map Byte written ++ reported (Unmappable c);
       gives = raw_gives call;
       bytes = raw_bytes written (Unmappable c) ∙ sym (append-nil (written ++ 0x3F ∷ []));
@@ -86,7 +98,13 @@ module _ {before : EncoderState} {text : List ℕ} {last : Bool} {free : ℕ} {a
       EncodingCall question_mark before text last free after Full left written
   raw_lost {c} call h = record {
     lost = 0x3F ∷ [];
-    encodes = record { out = map Byte written ++ reported (Unmappable c); gives = raw_gives call; bytes = raw_bytes written (Unmappable c) };
+    encodes = record {
+      taken = call.taken;
+      cut = call.cut;
+      out = map Byte written ++ reported (Unmappable c);
+      gives = raw_gives call;
+      bytes = raw_bytes written (Unmappable c);
+    };
     ends = inr (refl, refl, omega arith);
   }
 
@@ -96,13 +114,17 @@ no_end : {A : Type 0} → IsTrue false → A
 no_end f = cc
 
 pub encodes_start : (kind : Replacement) (before : EncoderState) (text : List ℕ) → Encodes kind false before text before text [] []
-encodes_start kind before text = record { out = []; gives = λ more ended h. refl; bytes = refl }
+encodes_start kind before text = record { taken = []; cut = refl; out = []; gives = λ more ended h. refl; bytes = refl }
 
 module _ {kind : Replacement} {ended : Bool} {before : EncoderState} {text : List ℕ} {now : EncoderState} {piece later written : List ℕ}
     (r : Encodes kind false before text now (piece ++ later) written []) {after : EncoderState} {left bytes lost : List ℕ}
     (c : Encodes kind ended now piece after left bytes lost) (none : IsTrue ended → later ≡ []) where
   pub encodes_more : Encodes kind ended before text after (left ++ later) (written ++ bytes) lost
   encodes_more = record {
+    taken = r.taken ++ c.taken;
+    cut =
+        r.cut ∙ ap (λ l. r.taken ++ (l ++ later)) c.cut ∙ ap (λ l. r.taken ++ l) (append_assoc c.taken left later)
+        ∙ sym (append_assoc r.taken c.taken (left ++ later));
     out = r.out ++ c.out;
     gives = λ more end h.
         let all = encoded before (text ++ more) end in

@@ -1,10 +1,10 @@
 -- What a decoder writes, in one call and in conversions of a whole source.
-use Rattle.std.specs.Prelude.{◌≡◌, ℕ, ◌-◌, ◌≤◌, List, [], length, drop, Bool, true, IsTrue, ◌⊎◌}
+use Rattle.std.specs.Prelude.{◌≡◌, ◌≢◌, ℕ, ◌-◌, ◌<◌, ◌≤◌, List, [], length, drop, Bool, true, false, IsTrue, ◌⊎◌}
 use Rattle.legacy_text.specs.EncodingForm.{EncodingForm, all_code_units}
 use Rattle.legacy_base.specs.declared.results.DecodeEvent.{DecodeEvent}
 use Rattle.legacy_base.specs.Grammar.{events_of}
-use Rattle.legacy_base.specs.States.{DecoderState}
-use Rattle.legacy_base.specs.DecoderActs.{LacksRoom}
+use Rattle.legacy_base.specs.States.{DecoderState, may_hold, rests}
+use Rattle.legacy_base.specs.DecoderActs.{LacksRoom, full_room_in}
 use Rattle.legacy_base.specs.Calls.{Progress}
 use Rattle.legacy_codecs.specs.Replacing.{replaced_scalars, has_malformed, may_replace_end}
 use Rattle.legacy_codecs.specs.declared.results.CoderResult.{CoderResult}
@@ -36,12 +36,14 @@ pub record Decodes (form : EncodingForm) (last : Bool) (before : DecoderState) (
   -- these, and then the events of what is left, are the grammar's events, whatever bytes follow; after a malformed
   -- sequence at the end of the input, only if the events with those bytes still begin so
   pub progress : Progress (may_replace_end last (has_malformed out) (drop read source)) before source passed after (drop read source) out
+  -- the held-back bytes are some that the codec may hold back, if those before were
+  pub allowed : IsTrue (may_hold before.grammar before.held) → IsTrue (may_hold after.grammar after.held)
   -- the code units are those of the events, with U+FFFD for each malformed sequence
   pub text : written ≡ all_code_units form (replaced_scalars out)
 
--- all is read, and after a last piece no event is left
+-- all is read, no scalar is held back, and after a last piece no event is left
 abbrev pub IsDecoded : DecoderState → List ℕ → Bool → Type 0
-IsDecoded state unread last = (unread ≡ []) × (IsTrue last → events_of state.grammar state.held ≡ [])
+IsDecoded state unread last = (unread ≡ []) × IsTrue (rests state.grammar state.held) × (IsTrue last → events_of state.grammar state.held ≡ [])
 
 -- what the end of a call says of the bytes left, of the code units left free, and of the number that it wrote
 abbrev pub DecodingEnds : EncodingForm → DecoderState → List ℕ → Bool → ℕ → ℕ → CallEnd → Type 0
@@ -54,8 +56,20 @@ pub record DecodingCall (form : EncodingForm) (before : DecoderState) (source : 
     (end : CallEnd) (read : ℕ) (written : List ℕ) : Type 0 where
   pub decodes : Decodes form last before source after read written
   pub ends : DecodingEnds form after (drop read source) last (free - length written) (length written) end
+  -- what was replaced was malformed
+  pub replaced : end ≡ Replaced → IsTrue (has_malformed decodes.out)
+  -- if a byte was read, nothing was malformed and bytes are held back, there is room for reading a byte past ASCII
+  pub room_held : 0 < read → has_malformed decodes.out ≡ false → after.held ≢ [] → full_room_in form before.grammar ≤ free - length written
 
 -- ---- conversions
+
+-- a stage with these bytes read and room for reading a byte past ASCII; no scalar was held back, or it is the end
+pub record HadFullRoom (form : EncodingForm) (source : List ℕ) (free : ℕ) (before after : DecoderState) (read : ℕ) : Type 0 where
+  pub stage : DecoderState
+  pub earlier : List ℕ
+  pub decodes : Decodes form true before source stage read earlier
+  pub rested : (stage ≡ after) ⊎ IsTrue (rests stage.grammar stage.held)
+  pub room : full_room_in form before.grammar ≤ free - length earlier
 
 -- One conversion of a whole source writes these code units to an output of `free` code units. It stops if all is
 -- decoded, or if the next act lacks its room.
@@ -63,6 +77,8 @@ pub record DecodesSource (form : EncodingForm) (source : List ℕ) (free : ℕ) 
   pub read : ℕ
   pub decodes : Decodes form true before source after read written
   pub stops : IsDecoded after (drop read source) true ⊎ LacksRoom form after (drop read source) true (free - length written)
+  -- if bytes are held back, none was read, or a sequence was malformed, or the bytes were read with the room for them
+  pub room_held : after.held ≢ [] → (read ≡ 0) ⊎ (IsTrue (has_malformed decodes.out) ⊎ HadFullRoom form source free before after read)
 
 -- What a decoder function returns: the number of code units that it wrote, or `usize::MAX` if the number or the indexes
 -- are refused.

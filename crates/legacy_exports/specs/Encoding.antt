@@ -43,6 +43,9 @@ kept_room numeric_reference = reference_room
 -- bytes. `lost` is a question mark for which no byte was free.
 pub record Encodes (kind : Replacement) (ended : Bool) (before : EncoderState) (text : List ℕ) (after : EncoderState)
     (left written lost : List ℕ) : Type 0 where
+  -- the text is the scalars that were read, and then those that are left
+  pub taken : List ℕ
+  pub cut : text ≡ taken ++ left
   -- the events of the call
   pub out : List EncodeEvent
   -- these, and then the events of what is left, are the codec's events, whatever text follows; if the end of the text

@@ -1,0 +1,5 @@
+use Rattle.legacy_exports.proofs.DecodingLaws.{replacing_call}
+use Rattle.legacy_exports.proofs.calls.ReplacingDecoderCallsU8.decode.Goals as goal
+
+pub returns-clause-call : goal.returns-clause-call
+returns-clause-call g c = rw c.end_of.ensures (replacing_call _ c.decode_replacing_utf8-answer.ensures.call)
