@@ -1,6 +1,6 @@
 //! A registry that owns index data, and decodes and encodes by the Standard's name of the encoding.
 ghost use Rattle.std.specs.Prelude.{◌≡◌, ◌↔◌, [], string_bytes, Err, Some, None, true, IfOk, OnErr, MatchResult};
-ghost use Rattle.std.specs.Prelude.{find, bytes_eq};
+ghost use Rattle.std.specs.Prelude.{find, bytes_eq, vec_capacity};
 ghost use Rattle.std.specs.Option.{option_copied, option_map};
 ghost use Rattle.std.specs.Str.{chars};
 ghost use Rattle.legacy_base.specs.Encoders.{encoded};
@@ -8,7 +8,7 @@ ghost use Rattle.legacy_codecs.specs.References.{referenced_bytes};
 ghost use Rattle.legacy_tables.specs.TableChecks.{table_fault};
 ghost use Rattle.legacy_index_files.specs.Encodings.{encoding_name};
 ghost use Rattle.legacy_index_files.specs.IndexTexts.{no_text};
-ghost use Rattle.legacy_index_files.specs.OwnedIndexes.{owned_lists, HoldsTexts};
+ghost use Rattle.legacy_index_files.specs.OwnedIndexes.{owned_lists, HoldsTexts, IsUnallocated};
 ghost use Rattle.legacy_encodings.specs.SingleByteFiles.{IsSingleByteFault};
 ghost use Rattle.legacy_encodings.specs.Registries.{entries_of, IsReadTable, HasNoName, IsNameError};
 ghost use Rattle.legacy_encodings.specs.Registries.{IsDecoderOf, IsEncoderOf, LacksTable};
@@ -109,6 +109,7 @@ impl Registry {
         ensures indexes { HoldsTexts no_text result.indexes }
         ensures katakana { result.indexes.katakana.items ≡ [] }
         ensures single_bytes { result.single_bytes.items ≡ [] }
+        ensures unallocated { IsUnallocated result.indexes × (vec_capacity result.single_bytes ≡ 0) }
     {
         Registry {
             indexes: OwnedIndexes::new(alloc),
