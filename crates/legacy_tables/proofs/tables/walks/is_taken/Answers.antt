@@ -1,0 +1,5 @@
+use Rattle.std.proofs.{Common.arith, lemmas.Grind.common_steps}
+use Rattle.legacy_tables.proofs.tables.walks.is_taken.Goals as goal
+
+pub returns-then-free : goal.returns-then-free
+returns-then-free c = grind (arith, common_steps)
