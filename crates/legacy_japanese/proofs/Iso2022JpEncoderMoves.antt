@@ -8,7 +8,8 @@ use Rattle.legacy_base.specs.{EncoderProfile.{in_ascii, in_two_byte}, declared.r
 use Rattle.legacy_base.{specs.Encoders.{encoder_profile, iso_2022_jp, is_pending}, proofs.{SameUnits.some_unit, Iso2022JpEncoding.{mode_by, mode_for-by}}}
 use Rattle.legacy_base.proofs.Iso2022JpEncoding.{code-short, text_events, text_events-here, text_events-escape, text_events-end, text_events-open, mode_for}
 use Rattle.legacy_base.proofs.Iso2022JpEncoding.{mode_for-twice, at_special, at_neutral, IsWritten}
-use Rattle.legacy_encoder_engine.specs.{Moves.{differs, Moves, Finishes, IsCode}, ProfileSuffices.{Serves, mode_room}, UnfinishedCall.ReadsByte, UnitTurns.ReadsUnit}
+use Rattle.legacy_encoder_engine.specs.{Moves.{differs, Moves, Finishes, IsCode}, ProfileSuffices.{Serves, mode_room}}
+use Rattle.legacy_encoder_engine.specs.{UnfinishedCall.ReadsByte, UnitTurns.ReadsUnit}
 use Rattle.legacy_encoder_engine.specs.declared.moves.EncoderMove.{EncoderMove, TheVariants.{One, Two}}
 use Rattle.legacy_encoder_engine.proofs.PlainServes.{two_units, differs-same, here_moves}
 use Rattle.legacy_japanese.specs.{declared.iso_2022_jp.encoder.Mode.Mode, Iso2022JpPairs.IsPairOf, Iso2022JpEncoder.{mode_of, state_in}}
