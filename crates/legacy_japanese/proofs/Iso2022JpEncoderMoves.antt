@@ -1,6 +1,6 @@
 -- The length formulas of the ISO-2022-JP encoder are enough for its scalars and escapes. Its moves, by its tables and by a list of pairs.
-use Rattle.std.proofs.Common.{◌≡◌, ℕ, ◌+◌, ◌≤◌, List, arith, Bool, true, false, [], ◌∷◌, ◌++◌, refl, IsTrue, ◌||◌, Option, Some, eqb, map, ◌⊎◌}
-use Rattle.std.proofs.{Common.{inl, inr, ◌/◌, ◌%◌}, lemmas.Bool.{Decides.nat_tests, lt-ltb, cases_Bool}}
+use Rattle.std.proofs.Common.{◌≡◌, ◌∙◌, ℕ, ◌+◌, ◌≤◌, List, arith, Bool, true, false, [], ◌∷◌, ◌++◌, refl, sym, ap, IsTrue, ◌||◌, Option, Some, eqb}
+use Rattle.std.proofs.{Common.{inl, inr, map, ◌⊎◌, ◌/◌, ◌%◌}, lemmas.Bool.{Decides.nat_tests, lt-ltb, cases_Bool}}
 use Rattle.legacy_text.specs.EncodingForm.{EncodingForm, Utf8}
 use Rattle.legacy_base.specs.Iso2022Jp.{iso_2022_jp_encoder, iso_2022_jp_code, is_two_byte_scalar, is_roman_scalar, escape_between, iso_2022_jp_reported}
 use Rattle.legacy_base.specs.{Iso2022Jp.mode_behind, EncodeEvents.{code_events}, EncoderProfile.{EncoderProfile, EncoderMode}}
@@ -8,10 +8,11 @@ use Rattle.legacy_base.specs.{EncoderProfile.{in_ascii, in_two_byte}, declared.r
 use Rattle.legacy_base.{specs.Encoders.{encoder_profile, iso_2022_jp, is_pending}, proofs.{SameUnits.some_unit, Iso2022JpEncoding.{mode_by, mode_for-by}}}
 use Rattle.legacy_base.proofs.Iso2022JpEncoding.{code-short, text_events, text_events-here, text_events-escape, text_events-end, text_events-open, mode_for}
 use Rattle.legacy_base.proofs.Iso2022JpEncoding.{mode_for-twice, at_special, at_neutral, IsWritten}
-use Rattle.legacy_encoder_engine.specs.{Moves.{differs, Moves, Finishes, IsCode}, ProfileSuffices.{Serves, mode_room}, UnfinishedCall.ReadsByte, UnitTurns.ReadsUnit}
+use Rattle.legacy_encoder_engine.specs.{Moves.{differs, Moves, Finishes, IsCode}, ProfileSuffices.{Serves, mode_room}}
+use Rattle.legacy_encoder_engine.specs.{UnfinishedCall.ReadsByte, UnitTurns.ReadsUnit}
 use Rattle.legacy_encoder_engine.specs.declared.moves.EncoderMove.{EncoderMove, TheVariants.{One, Two}}
 use Rattle.legacy_encoder_engine.proofs.PlainServes.{two_units, differs-same, here_moves}
-use Rattle.legacy_japanese.specs.{declared.iso_2022_jp.encoder.Mode.Mode, Iso2022JpPairs.IsPairOf, Iso2022JpEncoder.{mode_of, state_in, is_same_mode}}
+use Rattle.legacy_japanese.specs.{declared.iso_2022_jp.encoder.Mode.Mode, Iso2022JpPairs.IsPairOf, Iso2022JpEncoder.{mode_of, state_in}}
 use Rattle.legacy_japanese.specs.Iso2022JpEncoder.{escape_move, Asks, IsOwnByte}
 use Rattle.legacy_base.specs.declared.results.EncodeEvent.TheVariants as events
 use Rattle.legacy_japanese.specs.declared.iso_2022_jp.encoder.Mode.TheVariants as modes
@@ -44,8 +45,8 @@ module _ (jis0208 katakana_index : List ℕ) where
 
 -- ---- modes
 
-pub same_false : (mode new : Mode) → is_same_mode mode new ≡ false → mode_of mode ≡ mode_of new → ⊥
-same_false mode new e f = grind arith
+pub other_mode : (mode new : Mode) → (mode ≡ new → ⊥) → mode_of mode ≡ mode_of new → ⊥
+other_mode mode new n e = grind arith
 
 module _ (jis0208 katakana_index : List ℕ) where
   -- ---- what the encoder's loop needs to know of the codec
@@ -111,9 +112,9 @@ module _ (jis0208 katakana_index : List ℕ) where
   asks w is = record { mode_is = w.mode_is; code_is = rw w.code_is is }
 
   -- a scalar that needs the mode of the encoder is read there
-  pub stays : {mode new : Mode} {c : ℕ} {move : EncoderMove} → Asks jis0208 katakana_index mode c new move → is_same_mode mode new ≡ true
+  pub stays : {mode new : Mode} {c : ℕ} {move : EncoderMove} → Asks jis0208 katakana_index mode c new move → mode ≡ new
       → Moves (state_in jis0208 katakana_index mode) c (state_in jis0208 katakana_index mode) move
-  stays {mode} {new} {c} {move} asks same = reads mode c (grind arith) move asks.code_is
+  stays {mode} {new} {c} {move} asks same = reads mode c (asks.mode_is ∙ ap mode_of (sym same)) move asks.code_is
 
   -- ---- ASCII in ASCII mode
 

@@ -1,5 +1,5 @@
 -- The state of the ISO-2022-JP encoder between two calls, and its moves.
-use Rattle.std.specs.Prelude.{◌≡◌, ◌<◌, ℕ, List, [], ◌∷◌, length, slice_index, Bool, true, false}
+use Rattle.std.specs.Prelude.{◌≡◌, ◌<◌, ℕ, List, [], ◌∷◌, length, slice_index, false}
 use Rattle.legacy_tables.specs.AcceptedTables.{AcceptedIndexes}
 use Rattle.legacy_base.specs.Iso2022Jp.{iso_2022_jp_code, iso_2022_jp_reported, is_mode_control, mode_behind}
 use Rattle.legacy_base.specs.EncoderProfile.{EncoderMode, in_ascii, in_roman, in_two_byte}
@@ -37,13 +37,6 @@ abbrev pub iso_2022_jp_encoder_state : Iso2022JpEncoder → EncoderState
 iso_2022_jp_encoder_state encoder = state_in encoder.tables.now.flat.jis0208 encoder.tables.now.flat.katakana encoder.mode
 
 -- ---- internal definitions
-
--- two modes are the same
-abbrev pub is_same_mode : Mode → Mode → Bool
-is_same_mode Ascii Ascii = true
-is_same_mode Roman Roman = true
-is_same_mode TwoByte TwoByte = true
-is_same_mode _ _ = false
 
 -- the escape to a mode
 abbrev pub escape_move : Mode → EncoderMove

@@ -23,13 +23,9 @@ fn pair<V: EncoderTables>(tables: &V, c: char) -> Option<(u8, u8)>
     ensures { option_map (λ pair. pair.0 ∷ pair.1 ∷ []) result ≡ option_map big5_bytes
         (big5_pointer_of (V.indexes tables.now).flat.big5 c) }
 {
-    match tables.big5_pointer(c) {
-        Some(p) => {
-            let offset = if p % 157 < 0x3F { 0x40 } else { 0x62 };
-            Some(((p / 157 + 0x81) as u8, (p % 157 + offset) as u8))
-        }
-        None => None,
-    }
+    let p = tables.big5_pointer(c)?;
+    let offset = if p % 157 < 0x3F { 0x40 } else { 0x62 };
+    Some(((p / 157 + 0x81) as u8, (p % 157 + offset) as u8))
 }
 
 /// The lead and the trail of a pointer, as one number.

@@ -56,13 +56,9 @@ fn pair_of<V: EncoderTables>(tables: &V, c: char) -> Option<(u8, u8)>
     if let Some(row) = tables.gb18030_pua_bytes(c) {
         return Some(row);
     }
-    match tables.gb18030_pointer(c) {
-        Some(p) => {
-            let offset = if p % 190 < 0x3F { 0x40 } else { 0x41 };
-            Some(((p / 190 + 0x81) as u8, (p % 190 + offset) as u8))
-        }
-        None => None,
-    }
+    let p = tables.gb18030_pointer(c)?;
+    let offset = if p % 190 < 0x3F { 0x40 } else { 0x41 };
+    Some(((p / 190 + 0x81) as u8, (p % 190 + offset) as u8))
 }
 
 /// Checks whether a scalar is for private use, as those of the rows are.
@@ -107,10 +103,8 @@ fn range_bytes_of<V: EncoderTables>(tables: &V, c: char) -> Option<(u8, u8, u8, 
     ensures { option_map (λ four. four.0 ∷ four.1 ∷ four.2 ∷ four.3 ∷ []) result
         ≡ option_map gb18030_range_bytes (range_pointer_of (V.indexes tables.now).flat.ranges c) }
 {
-    match tables.ranges().pointer(c) {
-        Some(pointer) => Some(range_bytes(pointer)),
-        None => None,
-    }
+    let pointer = tables.ranges().pointer(c)?;
+    Some(range_bytes(pointer))
 }
 
 /// Returns the pointer of a scalar outside the range of `near`, and sets `near` to its range.
@@ -146,10 +140,8 @@ fn near_range_bytes_of<V: EncoderTables>(
     if let Some(pointer) = tables.ranges().pointer_in(*near, c) {
         return Some(range_bytes(pointer));
     }
-    match far_pointer(tables, near, c) {
-        Some(pointer) => Some(range_bytes(pointer)),
-        None => None,
-    }
+    let pointer = far_pointer(tables, near, c)?;
+    Some(range_bytes(pointer))
 }
 
 /// Returns the four bytes of a scalar that has no lead and trail in index gb18030.

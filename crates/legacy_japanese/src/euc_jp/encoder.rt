@@ -27,10 +27,8 @@ fn pair<V: EncoderTables>(tables: &V, c: char) -> Option<(u8, u8)>
     ensures { option_map (λ pair. pair.0 ∷ pair.1 ∷ []) result ≡ option_map euc_jp_bytes
         (euc_jp_pointer_of (V.indexes tables.now).flat.jis0208 (minus_as_hyphen c)) }
 {
-    match tables.euc_jp_pointer(minus_as_hyphen(c)) {
-        Some(p) => Some(((p / 94 + 0xA1) as u8, (p % 94 + 0xA1) as u8)),
-        None => None,
-    }
+    let p = tables.euc_jp_pointer(minus_as_hyphen(c))?;
+    Some(((p / 94 + 0xA1) as u8, (p % 94 + 0xA1) as u8))
 }
 
 /// The lead and the trail of a pointer, as one number.

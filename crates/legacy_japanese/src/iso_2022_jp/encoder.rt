@@ -3,7 +3,7 @@ ghost use Rattle.std.specs.Prelude.{◌≡◌, ◌==◌, ◌||◌, ◌<◌, ℕ,
 ghost use Rattle.legacy_base.specs.{Encoders.{iso_2022_jp, is_pending, new_encoder}, Iso2022Jp.{iso_2022_jp_fold, iso_2022_jp_pointer_of}};
 ghost use Rattle.legacy_base.specs.Iso2022Jp.{roman_or_ascii};
 ghost use Rattle.legacy_encoder_engine.specs.Moves.{Moves};
-ghost use Rattle.legacy_japanese.specs.Iso2022JpEncoder.{Asks, escape_move, is_same_mode, iso_2022_jp_encoder_state, mode_of, state_in};
+ghost use Rattle.legacy_japanese.specs.Iso2022JpEncoder.{Asks, escape_move, iso_2022_jp_encoder_state, mode_of, state_in};
 
 use crate::folded_scalars::minus_as_hyphen;
 use crate::iso_2022_jp::ascii::{AsciiCodes, is_control};
@@ -15,7 +15,7 @@ use legacy_encoder_engine::read_ahead::read_runs;
 use legacy_tables::{EncoderTables, RangePart};
 
 /// The mode of the encoder: how the next bytes are read.
-#[derive(Clone, Copy)]
+#[derive(Clone, Copy, PartialEq, Eq)]
 pub enum Mode {
     Ascii,
     Roman,
@@ -23,19 +23,6 @@ pub enum Mode {
 }
 
 impl Mode {
-    /// Checks whether the modes are the same.
-    #[inline]
-    pub fn is(self, other: Mode) -> bool
-        ensures { result ≡ is_same_mode self other }
-    {
-        match (self, other) {
-            (Mode::Ascii, Mode::Ascii)
-            | (Mode::Roman, Mode::Roman)
-            | (Mode::TwoByte, Mode::TwoByte) => true,
-            _ => false,
-        }
-    }
-
     /// Returns the mode after a scalar that is in both ASCII and Roman mode, or has no bytes.
     #[inline]
     fn settled(self) -> Mode
@@ -82,10 +69,7 @@ fn pointer<V: EncoderTables>(tables: &V, c: char) -> Option<usize>
         (V.indexes tables.now).flat.katakana c }
     ensures within { IfSome result (λ p. p < 8836) }
 {
-    match folded(tables, c) {
-        Some(found) => tables.euc_jp_pointer(found),
-        None => None,
-    }
+    tables.euc_jp_pointer(folded(tables, c)?)
 }
 
 /// Returns the mode that a scalar needs after this one, and the move that reads it there.
@@ -129,7 +113,7 @@ pub fn go_to(mode: &mut Mode, target: Mode, own: EncoderMove) -> EncoderMove
     ensures { (jis0208 katakana : List ℕ) (c : ℕ) → Asks jis0208 katakana mode.old c target own →
         Moves (state_in jis0208 katakana mode.old) c (state_in jis0208 katakana mode.new) result }
 {
-    if mode.is(target) {
+    if *mode == target {
         return own;
     }
     *mode = target;
@@ -232,7 +216,7 @@ impl AheadCodes for Iso2022JpEncoder<'_> {
     #[inline(always)]
     fn put_code(&self, _near: &mut RangePart, dst: &mut [u8], at: usize, c: char) -> Option<usize> {
         let (mode, own) = asked(self.tables, self.mode, c);
-        if !self.mode.is(mode) {
+        if self.mode != mode {
             return None;
         }
         if !own.has_bytes() {

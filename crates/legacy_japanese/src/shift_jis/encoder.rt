@@ -25,14 +25,10 @@ fn pair<V: EncoderTables>(tables: &V, c: char) -> Option<(u8, u8)>
     ensures { option_map (λ pair. pair.0 ∷ pair.1 ∷ []) result ≡ option_map shift_jis_bytes
         (shift_jis_pointer_of (V.indexes tables.now).flat.jis0208 (minus_as_hyphen c)) }
 {
-    match tables.shift_jis_pointer(minus_as_hyphen(c)) {
-        Some(p) => {
-            let first = if p / 188 < 0x1F { 0x81 } else { 0xC1 };
-            let second = if p % 188 < 0x3F { 0x40 } else { 0x41 };
-            Some(((p / 188 + first) as u8, (p % 188 + second) as u8))
-        }
-        None => None,
-    }
+    let p = tables.shift_jis_pointer(minus_as_hyphen(c))?;
+    let first = if p / 188 < 0x1F { 0x81 } else { 0xC1 };
+    let second = if p % 188 < 0x3F { 0x40 } else { 0x41 };
+    Some(((p / 188 + first) as u8, (p % 188 + second) as u8))
 }
 
 /// The lead and the trail of a pointer, as one number.

@@ -23,10 +23,8 @@ fn pair<V: EncoderTables>(tables: &V, c: char) -> Option<(u8, u8)>
     ensures { option_map (λ pair. pair.0 ∷ pair.1 ∷ []) result ≡ option_map euc_kr_bytes
         (euc_kr_pointer_of (V.indexes tables.now).flat.euc_kr c) }
 {
-    match tables.euc_kr_pointer(c) {
-        Some(p) => Some(((p / 190 + 0x81) as u8, (p % 190 + 0x41) as u8)),
-        None => None,
-    }
+    let p = tables.euc_kr_pointer(c)?;
+    Some(((p / 190 + 0x81) as u8, (p % 190 + 0x41) as u8))
 }
 
 /// The lead and the trail of a pointer as one number.

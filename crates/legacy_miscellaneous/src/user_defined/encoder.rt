@@ -55,12 +55,6 @@ impl PlainCodes for UserDefinedEncoder {
         }
     }
 
-    #[inline(always)]
-    fn pair_of(&self, c: char) -> Option<(u8, u8)> {
-        let _ = c;
-        None
-    }
-
     const GOES_PAST_PAIRS: bool = true;
 
     const GOES_BY_UNITS: bool = true;

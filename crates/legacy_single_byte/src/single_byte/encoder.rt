@@ -46,15 +46,6 @@ fn ascii_or(unit: u16, byte: u8) -> u8
     if unit < 0x80 { unit as u8 } else { byte }
 }
 
-/// Checks whether one of two tests holds. Both are made, without a branch.
-#[inline(always)]
-fn either(first: bool, second: bool) -> bool
-    ensures some { result ≡ true → first ≡ false → second ≡ true }
-    ensures none { result ≡ false → (first ≡ false) × (second ≡ false) }
-{
-    first | second
-}
-
 impl<'a> SingleByteEncoder<'a> {
     ghost use Rattle.legacy_single_byte.specs.SingleByteEncoder.{single_byte_encoder_state};
 
@@ -183,19 +174,13 @@ impl PlainCodes for SingleByteEncoder<'_> {
     fn code_of(&self, c: char) -> EncoderMove {
         let code = c as u32;
         let place = self.run_place(code);
-        if either(code < 0x80, place < u32::from(self.run_length)) {
+        if (code < 0x80) | (place < u32::from(self.run_length)) {
             return EncoderMove::One(self.byte_at(code, place));
         }
         match place_of(self.table, c) {
             Some(place) => EncoderMove::One((0x80 + place) as u8),
             None => EncoderMove::Unmappable(c),
         }
-    }
-
-    #[inline(always)]
-    fn pair_of(&self, c: char) -> Option<(u8, u8)> {
-        let _ = c;
-        None
     }
 
     const GOES_PAST_PAIRS: bool = true;
@@ -208,7 +193,7 @@ impl PlainCodes for SingleByteEncoder<'_> {
         let place = self.unit_place(unit);
         let byte = ascii_or(unit, self.run_byte(place));
         let is_in_run = place < u16::from(self.run_length);
-        (byte, either(unit < 0x80, is_in_run))
+        (byte, (unit < 0x80) | is_in_run)
     }
 }
 
