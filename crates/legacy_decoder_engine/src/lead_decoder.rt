@@ -8,13 +8,10 @@ ghost use Rattle.legacy_decoder_engine.specs.{Steps.{Step, finish, trail_step}, 
 ghost use Rattle.legacy_decoder_engine.specs.LeadCodecs.{IsLeadCodec, held_bytes, lead_state};
 
 use crate::drive::{count_malformed_bytes, drive_decoder};
-use crate::lane_blocks::LaneBlocks;
 use crate::lane_codec::LaneCodec;
 use crate::moves::{DecoderMoves, Fed, Room};
-use crate::near_malformed::{AFTER_MALFORMED, read_common};
-use crate::read_ahead::read_ascii;
+use crate::near_malformed::{AFTER_MALFORMED, read_by_tables};
 use legacy_base::{DecoderStep, Destination, RawDecoder, Tables};
-use legacy_tables::DecoderTables;
 use std::cell::Cell;
 
 /// A codec whose forms have one byte, or a lead and a trail: the parts that it does not share with the others.
@@ -203,21 +200,14 @@ impl<'a, C: LeadCodec> DecoderMoves for LeadDecoder<'a, C> {
         }
     }
 
-    // Over packed tables only ASCII is read ahead.
     #[inline(always)]
     #[tactic(auto, using(crate::proofs::WrittenRuns::no_bytes))]
     fn read_runs<T: Destination>(&mut self, src: &[u8], dst: &mut T) -> usize {
         if self.held.is_some() {
             return 0;
         }
-        match self.tables.flat() {
-            Some(tables) => {
-                let guess = Cell::new(0);
-                let blocks = LaneBlocks::<C>::new(tables, &guess);
-                read_common(&blocks, &mut self.without_lanes, src, dst)
-            }
-            None => read_ascii(src, dst),
-        }
+        let guess = Cell::new(0);
+        read_by_tables::<C, T>(self.tables, &guess, &mut self.without_lanes, src, dst)
     }
 }
 

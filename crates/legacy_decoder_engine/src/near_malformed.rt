@@ -8,7 +8,9 @@ ghost use Rattle.legacy_decoder_engine.specs.ReadAhead.{HasAscii, ReadsAhead};
 use crate::lane_blocks::{LaneBlocks, begins_uncommon, read_any_longer, read_in_turn};
 use crate::lane_codec::LaneCodec;
 use crate::read_ahead::{read_ascii, read_blocks};
-use legacy_base::Destination;
+use legacy_base::{Destination, Tables};
+use legacy_tables::DecoderTables;
+use std::cell::Cell;
 
 /// Returns whether an uncommon byte follows the form at the front, which is taken to be one ASCII byte or two bytes.
 ///
@@ -61,7 +63,7 @@ fn read_without_lanes<C: LaneCodec, T: Destination>(
 // Malformed sequences often follow one another, or have a single form between them. Neither costs a call.
 #[inline(always)]
 #[tactic(auto, using(crate::proofs::WrittenRuns::no_bytes))]
-pub fn read_common<C: LaneCodec, T: Destination>(
+fn read_common<C: LaneCodec, T: Destination>(
     blocks: &LaneBlocks<'_, '_, C>,
     without_lanes: &mut usize,
     src: &[u8],
@@ -85,4 +87,29 @@ pub fn read_common<C: LaneCodec, T: Destination>(
         return read;
     }
     read_blocks(blocks, src, dst)
+}
+
+/// Reads common forms of a codec from the front, or only ASCII over packed tables.
+///
+/// Returns the number of bytes read, which may be 0. If it reads any, three code units stay free. `guess` is what the
+/// codec keeps from one form of more than two bytes to the next. `without_lanes` is the number of bytes that are still to
+/// be read without lanes.
+#[inline(always)]
+pub fn read_by_tables<C: LaneCodec, T: Destination>(
+    tables: &Tables<'_>,
+    guess: &Cell<usize>,
+    without_lanes: &mut usize,
+    src: &[u8],
+    dst: &mut T,
+) -> usize
+    requires { HasAscii (C.grammar tables.now.flat) }
+    ensures { ReadsAhead T.Destination (new_state (C.grammar tables.now.flat)) src.now result dst.old dst.new }
+{
+    match tables.flat() {
+        Some(tables) => {
+            let blocks = LaneBlocks::<C>::new(tables, guess);
+            read_common(&blocks, without_lanes, src, dst)
+        }
+        None => read_ascii(src, dst),
+    }
 }

@@ -11,12 +11,10 @@ use super::pair_places::TRAILS;
 use legacy_base::{DecoderStep, Destination, IndexName, RawDecoder, Tables};
 use legacy_decoder_engine::drive::{count_malformed_bytes, drive_decoder};
 use legacy_decoder_engine::held_lead::Lead;
-use legacy_decoder_engine::lane_blocks::LaneBlocks;
 use legacy_decoder_engine::lead_and_trail::{malformed_through, unmapped};
 use legacy_decoder_engine::moves::{DecoderMoves, Fed, Room};
-use legacy_decoder_engine::near_malformed::{AFTER_MALFORMED, read_common};
+use legacy_decoder_engine::near_malformed::{AFTER_MALFORMED, read_by_tables};
 use legacy_decoder_engine::places::{ROWS_OF_190, pair_pointer};
-use legacy_decoder_engine::read_ahead::read_ascii;
 use legacy_tables::DecoderTables;
 use std::cell::Cell;
 
@@ -349,20 +347,13 @@ impl DecoderMoves for Gb18030Decoder<'_> {
         at
     }
 
-    // Over packed tables only ASCII is read ahead.
     #[inline(always)]
     #[tactic(auto, using(crate::proofs::Gb18030Held::idle_reads))]
     fn read_runs<T: Destination>(&mut self, src: &[u8], dst: &mut T) -> usize {
         if !self.in_neutral_state() {
             return 0;
         }
-        match self.tables.flat() {
-            Some(tables) => {
-                let blocks = LaneBlocks::<Gb18030>::new(tables, &self.guess);
-                read_common(&blocks, &mut self.without_lanes, src, dst)
-            }
-            None => read_ascii(src, dst),
-        }
+        read_by_tables::<Gb18030, T>(self.tables, &self.guess, &mut self.without_lanes, src, dst)
     }
 }
 

@@ -10,13 +10,11 @@ use crate::shift_jis::decoder::katakana;
 use legacy_base::{DecoderStep, Destination, IndexName, RawDecoder, Tables};
 use legacy_decoder_engine::common_forms::CommonForm;
 use legacy_decoder_engine::drive::{count_malformed_bytes, drive_decoder};
-use legacy_decoder_engine::lane_blocks::LaneBlocks;
 use legacy_decoder_engine::lane_codec::LaneCodec;
 use legacy_decoder_engine::lane_places::{late_places, lead_places, place_sums};
 use legacy_decoder_engine::lead_and_trail::{malformed_through, unmapped};
 use legacy_decoder_engine::moves::{DecoderMoves, Fed, Room};
-use legacy_decoder_engine::near_malformed::{AFTER_MALFORMED, read_common};
-use legacy_decoder_engine::read_ahead::read_ascii;
+use legacy_decoder_engine::near_malformed::{AFTER_MALFORMED, read_by_tables};
 use legacy_tables::{DecoderTables, FlatTables};
 use std::cell::Cell;
 use std::simd::prelude::*;
@@ -279,18 +277,13 @@ impl DecoderMoves for EucJpDecoder<'_> {
         }
     }
 
-    // Over packed tables only ASCII is read ahead.
     #[inline(always)]
     fn read_runs<T: Destination>(&mut self, src: &[u8], dst: &mut T) -> usize {
         match self.held {
-            Held::Nothing => match self.tables.flat() {
-                Some(tables) => {
-                    let guess = Cell::new(0);
-                    let blocks = LaneBlocks::<EucJp>::new(tables, &guess);
-                    read_common(&blocks, &mut self.without_lanes, src, dst)
-                }
-                None => read_ascii(src, dst),
-            },
+            Held::Nothing => {
+                let guess = Cell::new(0);
+                read_by_tables::<EucJp, T>(self.tables, &guess, &mut self.without_lanes, src, dst)
+            }
             _ => 0,
         }
     }
