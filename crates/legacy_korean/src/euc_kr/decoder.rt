@@ -13,8 +13,8 @@ use super::places::TRAILS;
 use legacy_base::{IndexName, Tables};
 use legacy_decoder_engine::common_forms::CommonForm;
 use legacy_decoder_engine::held_lead::Lead;
-use legacy_decoder_engine::lane_places::{late_places, lead_places, place_sums};
 use legacy_decoder_engine::lane_codec::LaneCodec;
+use legacy_decoder_engine::lane_places::{late_places, lead_places, place_sums};
 use legacy_decoder_engine::lead_and_trail::{read_first, read_trail};
 use legacy_decoder_engine::lead_decoder::{LeadCodec, LeadDecoder};
 use legacy_decoder_engine::moves::{Fed, Room};
@@ -67,12 +67,9 @@ impl LaneCodec for EucKr {
     }
 
     #[inline]
-    #[tactic(auto, using(crate::proofs::EucKrPlaces::pair_form))]
+    #[tactic(auto, using(crate::proofs::EucKrPlaces::pair_form, legacy_decoder_engine::proofs::CommonPairs::common_pair))]
     fn front(tables: &FlatTables<'_>, lead: u8, trail: u8) -> CommonForm {
-        match form_scalar(tables, lead, trail) {
-            Some(scalar) => CommonForm::Pair(scalar),
-            None => CommonForm::Other,
-        }
+        CommonForm::of_pair(form_scalar(tables, lead, trail))
     }
 
     #[inline(always)]
