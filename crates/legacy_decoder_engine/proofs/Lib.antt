@@ -10,6 +10,7 @@ pub mod RunForms
 pub mod LeadHeld
 pub mod OneByteMeets
 pub mod OneByteShown
+pub mod CommonPairs
 pub mod PairPlaces
 pub mod Widths
 pub mod RoomMoves

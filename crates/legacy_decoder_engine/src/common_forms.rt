@@ -2,7 +2,7 @@
 //! malformed sequences, held-back bytes, small outputs.
 // The functions that run for each form are always inlined, and so are all between them and a decoder's call: a call
 // would store the destination's place there for each form.
-ghost use Rattle.std.specs.Prelude.{◌+◌, ◌*◌, ◌≤◌, length, take};
+ghost use Rattle.std.specs.Prelude.{◌≡◌, ◌+◌, ◌*◌, ◌≤◌, length, take, MatchOption};
 ghost use Rattle.legacy_base.specs.{Grammar.Grammar, States.new_state};
 ghost use Rattle.legacy_decoder_engine.specs.ReadAhead.{IsCommonForm, Writes, ReadsAhead};
 
@@ -18,6 +18,19 @@ pub enum CommonForm {
     Pair(char),
     /// Anything else.
     Other,
+}
+
+impl CommonForm {
+    /// Returns the form of two bytes that give this scalar up to U+FFFF, or none that is common.
+    #[inline(always)]
+    pub fn of_pair(scalar: Option<char>) -> CommonForm
+        ensures { MatchOption scalar (result ≡ CommonForm.Other) (λ c. result ≡ CommonForm.Pair c) }
+    {
+        match scalar {
+            Some(scalar) => CommonForm::Pair(scalar),
+            None => CommonForm::Other,
+        }
+    }
 }
 
 /// The common forms of a codec, with nothing held back between two of them.

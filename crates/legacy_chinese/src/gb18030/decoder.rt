@@ -11,7 +11,7 @@ use super::pair_places::TRAILS;
 use legacy_base::{DecoderStep, Destination, IndexName, RawDecoder, Tables};
 use legacy_decoder_engine::drive::{count_malformed_bytes, drive_decoder};
 use legacy_decoder_engine::held_lead::Lead;
-use legacy_decoder_engine::lead_and_trail::{malformed_through, unmapped};
+use legacy_decoder_engine::lead_and_trail::{malformed_through, read_trail};
 use legacy_decoder_engine::moves::{DecoderMoves, Fed, Room};
 use legacy_decoder_engine::near_malformed::{AFTER_MALFORMED, read_by_tables};
 use legacy_decoder_engine::places::{ROWS_OF_190, pair_pointer};
@@ -93,11 +93,8 @@ fn read_second(tables: &Tables, first: Lead, byte: u8) -> (Fed, Held)
     if byte >= 0x30 && byte <= 0x39 {
         return (Fed::Nothing, Held::Second(first, Digit { byte }));
     }
-    let fed = match pair_scalar(tables, first, byte) {
-        Some(scalar) => Fed::One(scalar),
-        None => unmapped(1, byte),
-    };
-    (fed, Held::Nothing)
+    let scalar = pair_scalar(tables, first, byte);
+    (read_trail(scalar, byte), Held::Nothing)
 }
 
 /// Returns what a byte leads to after a lead and a digit.

@@ -116,10 +116,7 @@ impl LaneCodec for Gb18030 {
     #[inline]
     fn front(tables: &FlatTables<'_>, lead: u8, trail: u8) -> CommonForm {
         let pointer = pair_pointer(&ROWS_OF_190, &TRAILS, lead, trail);
-        match tables.idx(IndexName::Gb18030, pointer) {
-            Some(scalar) => CommonForm::Pair(scalar),
-            None => CommonForm::Other,
-        }
+        CommonForm::of_pair(tables.idx(IndexName::Gb18030, pointer))
     }
 
     #[inline(always)]

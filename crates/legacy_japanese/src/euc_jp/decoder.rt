@@ -12,7 +12,7 @@ use legacy_decoder_engine::common_forms::CommonForm;
 use legacy_decoder_engine::drive::{count_malformed_bytes, drive_decoder};
 use legacy_decoder_engine::lane_codec::LaneCodec;
 use legacy_decoder_engine::lane_places::{late_places, lead_places, place_sums};
-use legacy_decoder_engine::lead_and_trail::{malformed_through, unmapped};
+use legacy_decoder_engine::lead_and_trail::{malformed_through, read_trail, unmapped};
 use legacy_decoder_engine::moves::{DecoderMoves, Fed, Room};
 use legacy_decoder_engine::near_malformed::{AFTER_MALFORMED, read_by_tables};
 use legacy_tables::{DecoderTables, FlatTables};
@@ -131,10 +131,7 @@ fn read_jis0208_trail(tables: &Tables, lead: EucJpLead, byte: u8) -> Fed
     ensures { Took (euc_jp_step tables.now.flat.jis0208 [] (lead.byte ∷ []) byte)
         (lead.byte ∷ []) byte result [] }
 {
-    match pair_scalar(tables, IndexName::Jis0208, lead, byte) {
-        Some(scalar) => Fed::One(scalar),
-        None => unmapped(1, byte),
-    }
+    read_trail(pair_scalar(tables, IndexName::Jis0208, lead, byte), byte)
 }
 
 /// Returns what a byte leads to after 8F and a lead.
@@ -307,15 +304,12 @@ impl LaneCodec for EucJp {
     }
 
     #[inline(always)]
-    #[tactic(auto, using(crate::proofs::EucJpShown::pair))]
+    #[tactic(auto, using(crate::proofs::EucJpShown::pair, legacy_decoder_engine::proofs::CommonPairs::common_pair))]
     fn front(tables: &FlatTables<'_>, lead: u8, trail: u8) -> CommonForm {
         let Some(lead) = EucJpLead::new(lead) else {
             return CommonForm::Other;
         };
-        match pair_scalar(tables, IndexName::Jis0208, lead, trail) {
-            Some(scalar) => CommonForm::Pair(scalar),
-            None => CommonForm::Other,
-        }
+        CommonForm::of_pair(pair_scalar(tables, IndexName::Jis0208, lead, trail))
     }
 
     #[inline(always)]

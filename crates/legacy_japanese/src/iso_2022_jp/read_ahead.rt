@@ -30,10 +30,7 @@ impl CommonForms for Jis0208Pairs<'_, '_> {
     #[inline(always)]
     fn form(&self, first: u8, second: u8) -> CommonForm {
         let pointer = pair_pointer(&LEADS, &TRAILS, first, second);
-        match self.tables.idx(IndexName::Jis0208, pointer) {
-            Some(scalar) => CommonForm::Pair(scalar),
-            None => CommonForm::Other,
-        }
+        CommonForm::of_pair(self.tables.idx(IndexName::Jis0208, pointer))
     }
 }
 

@@ -67,12 +67,9 @@ impl LaneCodec for EucKr {
     }
 
     #[inline]
-    #[tactic(auto, using(crate::proofs::EucKrPlaces::pair_form))]
+    #[tactic(auto, using(crate::proofs::EucKrPlaces::pair_form, legacy_decoder_engine::proofs::CommonPairs::common_pair))]
     fn front(tables: &FlatTables<'_>, lead: u8, trail: u8) -> CommonForm {
-        match form_scalar(tables, lead, trail) {
-            Some(scalar) => CommonForm::Pair(scalar),
-            None => CommonForm::Other,
-        }
+        CommonForm::of_pair(form_scalar(tables, lead, trail))
     }
 
     #[inline(always)]

@@ -32,10 +32,8 @@ impl CommonForms for Units {
 
     #[inline(always)]
     fn form(&self, first: u8, second: u8) -> CommonForm {
-        match char::from_u32(u32::from(unit(self.big_endian, first, second))) {
-            Some(scalar) => CommonForm::Pair(scalar),
-            None => CommonForm::Other,
-        }
+        let unit = unit(self.big_endian, first, second);
+        CommonForm::of_pair(char::from_u32(u32::from(unit)))
     }
 }
 
@@ -248,7 +246,7 @@ impl Blocks for Units {
         if at > 0 {
             return (at, true);
         }
-        let read = read_forms(self, &src[at..], 16, dst);
-        (at + read, read > 0)
+        let read = read_forms(self, src, 16, dst);
+        (read, read > 0)
     }
 }
