@@ -2,8 +2,9 @@
 use Rattle.std.proofs.{Common.{◌≡◌, List, ℕ, Bool, Option, inl, inr, refl, arith, Result, Ok, Err, OnErr, OnOk, IfOk}, KnownBytes.Appends-kept}
 use Rattle.std.specs.Io.KnownBytes.{Keeps}
 use Rattle.legacy_base.specs.{declared.results.DecodeEvent.DecodeEvent, Encoders.EncoderState, States.DecoderState}
-use Rattle.legacy_streams.specs.{declared.recode.RecodeError.RecodeError, declared.recode.RecodeError.TheVariants.{Read, Write}, Streams.AppendsFront}
-use Rattle.legacy_streams.specs.{Streams.{DecodesAll, DecodesBeginning, DecodesPartly}, Encoding.{EncodesAll, EncodesBeginning, EncodesPartly, EncodesUpTo}}
+use Rattle.legacy_streams.specs.{declared.recode.RecodeError.RecodeError, declared.recode.RecodeError.TheVariants.{Read, Write}}
+use Rattle.legacy_streams.specs.Streams.{AppendsFront, AppendsAtLeast, DecodesAll, DecodesBeginning, DecodesPartly}
+use Rattle.legacy_streams.specs.Encoding.{EncodesAll, EncodesBeginning, EncodesPartly, EncodesUpTo}
 use Rattle.legacy_command.specs.{declared.words.OutputKind.OutputKind, declared.words.OutputKind.TheVariants.{Lines, Text}, declared.host.Program.Program}
 use Rattle.legacy_command.specs.{declared.host.Program.TheVariants.{Recode, Encode}, Host.IsStoppedBy, Program.{Untouched, RecodesInput, RecodesSome}}
 use Rattle.legacy_command.specs.Program.{EncodesSome}
@@ -47,14 +48,45 @@ module _ {b a : DecoderState} {i j : Option (List ℕ)} {Shown Weaker : List Dec
   weaker_all r = grind (arith, weaker)
 
   weaker_beginning : DecodesBeginning b a i j Shown → DecodesBeginning b a i j Weaker
-  weaker_beginning r = grind (arith, weaker)
+  weaker_beginning r = record {
+    bytes = r.bytes;
+    read = r.read;
+    passed = r.passed;
+    events = r.events;
+    progress = r.progress;
+    shown = weaker r.events r.shown;
+    beginning = r.beginning;
+  }
 
-  weaker_partly : DecodesPartly b a i j Shown → DecodesPartly b a i j Weaker
-  weaker_partly r = grind (arith, weaker)
+weaker_partly : {b a : DecoderState} {i j : Option (List ℕ)} {Done Less Shown Weaker : List DecodeEvent → Type 0}
+    → ((events : List DecodeEvent) → Done events → Less events) → ((events : List DecodeEvent) → Shown events → Weaker events)
+    → DecodesPartly b a i j Done Shown → DecodesPartly b a i j Less Weaker
+unfolding weaker_beginning
+weaker_partly less weaker r = record {
+  bytes = r.bytes;
+  read = r.read;
+  last = r.last;
+  at_end = r.at_end;
+  passed = r.passed;
+  left = r.left;
+  events = r.events;
+  progress = r.progress;
+  shown = weaker r.events r.shown;
+  beginning = r.beginning;
+  between = r.between;
+  input_between = r.input_between;
+  earlier = weaker_beginning less r.earlier;
+  piece = r.piece;
+  near = r.near;
+  parts = r.parts;
+}
 
 module _ (i j o p q : Option (List ℕ)) (k : Keeps p q) where
   front_kept : {bytes : List ℕ} → AppendsFront o p bytes → AppendsFront o q bytes
   front_kept f = record { sent = f.sent; unsent = f.unsent; parts = f.parts; written = Appends-kept o p q _ f.written k }
+
+  at_least_kept : {bytes : List ℕ} → AppendsAtLeast o p bytes → AppendsAtLeast o q bytes
+  at_least_kept f = record { more = f.more; written = Appends-kept o p q _ f.written k }
 
   pub input_kept : (kind : OutputKind) (b : DecoderState) → RecodesInput kind b i j o p → RecodesInput kind b i j o q
   input_kept Lines b (a, r) = (a, weaker_all (λ e w. Appends-kept o p q _ w k) r)
@@ -63,10 +95,10 @@ module _ (i j o p q : Option (List ℕ)) (k : Keeps p q) where
   pub some_kept : (kind : OutputKind) (b : DecoderState) → RecodesSome kind b i j o p → RecodesSome kind b i j o q
   some_kept Lines b (a, inl r) = (a, inl (weaker_all (λ e w. Appends-kept o p q _ w k) r))
   some_kept Lines b (a, inr (inl r)) = (a, inr (inl (weaker_beginning (λ e w. Appends-kept o p q _ w k) r)))
-  some_kept Lines b (a, inr (inr r)) = (a, inr (inr (weaker_partly (λ e w. front_kept w) r)))
+  some_kept Lines b (a, inr (inr r)) = (a, inr (inr (weaker_partly (λ e w. at_least_kept w) (λ e w. front_kept w) r)))
   some_kept Text b (a, inl (found, r)) = (a, inl (found, weaker_all (λ e w. (w.0, Appends-kept o p q _ w.1 k)) r))
   some_kept Text b (a, inr (inl r)) = (a, inr (inl (weaker_beginning (λ e w. Appends-kept o p q _ w k) r)))
-  some_kept Text b (a, inr (inr r)) = (a, inr (inr (weaker_partly (λ e w. front_kept w) r)))
+  some_kept Text b (a, inr (inr r)) = (a, inr (inr (weaker_partly (λ e w. at_least_kept w) (λ e w. front_kept w) r)))
 
   up_to_kept : {b a : EncoderState} {text left waited waiting : List ℕ} {last : Bool} → EncodesUpTo b text last a left waited waiting o p
       → EncodesUpTo b text last a left waited waiting o q
@@ -79,7 +111,24 @@ module _ (i j o p q : Option (List ℕ)) (k : Keeps p q) where
   beginning_kept r = grind (arith, Appends-kept, k)
 
   partly_kept : {b a : EncoderState} → EncodesPartly b a i j o p → EncodesPartly b a i j o q
-  partly_kept r = grind (arith, up_to_kept)
+  partly_kept r = record {
+    bytes = r.bytes;
+    read = r.read;
+    last = r.last;
+    at_end = r.at_end;
+    text = r.text;
+    is_text = r.is_text;
+    front = (r.front.0, r.front.1, up_to_kept r.front.2);
+    between = r.between;
+    input_between = r.input_between;
+    output_between = r.output_between;
+    earlier = r.earlier;
+    piece = r.piece;
+    near = r.near;
+    parts = r.parts;
+    sent = r.sent;
+    written = Appends-kept r.output_between p q _ r.written k;
+  }
 
   pub encoded_kept : (b : EncoderState) → EncodesSome b i j o p → EncodesSome b i j o q
   encoded_kept b (a, inl r) = (a, inl (all_kept r))

@@ -10,8 +10,8 @@ use Rattle.legacy_base.proofs.EncoderLaws.{end-encoded}
 use Rattle.legacy_codecs.specs.{declared.results.CoderResult.CoderResult, declared.results.CoderResult.TheVariants.InputEmpty, References.event_bytes}
 use Rattle.legacy_codecs.specs.References.{ReplacingEncoderCall}
 use Rattle.legacy_codecs.proofs.WholeTexts.{wrote_last}
-use Rattle.legacy_streams.specs.{Utf8Texts.{utf8_text, IsChunk, IsCutCharacter}, Encoding.{EncodesUpTo, EncodesText, EncodesFront, EncodesPiece, EncodesPieceFront, EncodesAll}}
-use Rattle.legacy_streams.specs.Encoding.{EncodesPartly, DecodesTo, EncodesBytes, Sends, end_scalars}
+use Rattle.legacy_streams.specs.{Utf8Texts.{utf8_text, IsChunk, IsCutCharacter}, Encoding.{EncodesUpTo, EncodesText, EncodesFront, EncodesPiece}}
+use Rattle.legacy_streams.specs.Encoding.{EncodesPieceFront, EncodesAll, EncodesBeginning, EncodesPartly, DecodesTo, EncodesBytes, Sends, end_scalars}
 use Rattle.legacy_streams.proofs.Utf8Pieces.{cut_chunk, malformed_chunk, malformed_back, text_of_cut, text_of_none, utf8_cases}
 
 -- ---- bytes that wait
@@ -247,6 +247,21 @@ input_start before left old =
     record { bytes = []; read = Consumes-nil left; short = omega arith; done = bytes_start before [] old; cut = nothing_cut [] refl }
 
 module _ {before now : EncoderState} {held : List ℕ} {left_old left old mid : Option (List ℕ)} (u : InputUnderWay before now held left_old left old mid) where
+  -- what holds if no more can be read
+  input_beginning : EncodesBeginning before now left_old left old mid
+  input_beginning = record {
+    bytes = u.bytes;
+    read = u.read;
+    held = held;
+    short = u.short;
+    cut = u.cut;
+    scalars = u.done.scalars;
+    decodes = u.done.decodes;
+    events = u.done.text.done.events;
+    goes_on = u.done.text.done.goes_on;
+    written = sends_all u.done.text.done.sends;
+  }
+
   module _ {left_new : Option (List ℕ)} (piece : List ℕ) (r : Consumes left left_new piece) where
     -- a piece more
     pub input_step : (rest : List ℕ) {count : ℕ} {after : EncoderState} {new : Option (List ℕ)} → (p : EncodesPiece now (held ++ piece) count after [] mid new)
@@ -263,9 +278,10 @@ module _ {before now : EncoderState} {held : List ℕ} {left_old left old mid : 
         }
 
     -- what holds if writing a piece fails
-    pub input_partly : {after : EncoderState} {new : Option (List ℕ)} → EncodesPieceFront now (held ++ piece) after mid new
+    pub input_partly : {after : EncoderState} {new : Option (List ℕ)} → length piece ≤ 4096 → EncodesPieceFront now (held ++ piece) after mid new
         → EncodesPartly before after left_old left_new old new
-    input_partly p =
+    unfolding input_beginning
+    input_partly near p =
         let front = bytes_front (bytes_more u.done piece) p.decodes p.front in
         record {
           bytes = u.bytes ++ piece;
@@ -275,6 +291,15 @@ module _ {before now : EncoderState} {held : List ℕ} {left_old left old mid : 
           text = front.scalars;
           is_text = λ more h. (utf8_text (front.rest ++ more), front.decodes.text more, λ f. absurd (let no : false ≡ true = f in cc));
           front = front.front;
+          between = now;
+          input_between = left;
+          output_between = mid;
+          earlier = input_beginning;
+          piece = piece;
+          near = near;
+          parts = refl;
+          sent = p.front.2.sends.sent;
+          written = p.front.2.sends.written;
         }
 
   -- the text of all that was read
@@ -298,7 +323,25 @@ module _ {before now : EncoderState} {held : List ℕ} {left_old left old mid : 
     -- what holds if writing the end fails
     pub input_end_partly : IsAtEnd left_new → (after : EncoderState) (new : Option (List ℕ))
         → EncodesFront now (end_scalars (length held)) true after [] mid new → EncodesPartly before after left_old left_new old new
-    input_end_partly at_end after new f = grind (arith, append-nil, read_all, whole_text, front_join u.done.text f)
+    unfolding input_beginning
+    input_end_partly at_end after new f = record {
+      bytes = u.bytes;
+      read = read_all;
+      last = true;
+      at_end = λ _. at_end;
+      text = u.done.scalars ++ end_scalars (length held);
+      is_text = λ more none. ([], rw (none refl, append-nil, append-nil) whole_text, λ _. refl);
+      front = front_join u.done.text f;
+      between = now;
+      input_between = left;
+      output_between = mid;
+      earlier = input_beginning;
+      piece = [];
+      near = omega arith;
+      parts = sym (append-nil u.bytes);
+      sent = f.2.sends.sent;
+      written = f.2.sends.written;
+    }
 
 -- no character begins with these bytes, so no text does
 pub no_text : (bs : List ℕ) → IsValidUpTo bs 0 → IsUtf8 bs → ⊥
@@ -327,6 +370,12 @@ kept_end l new filled left within long e =
     let kept : drop k (take filled l) ≡ take left (drop k l) = ap (λ j. drop k (take j l)) is ∙ drop-take k left l in
     let room : left ≤ length (drop k l) = omega (arith, length-drop k l) in
     rw (e, kept, n) (ap (λ j. take j (paste l 0 (drop k l) left)) (sym (zero-add left)) ∙ take-paste l 0 (drop k l) left (omega arith) room)
+
+-- a piece fits into the buffer
+pub piece_near : (held count : ℕ) (old new piece : List ℕ) → take (held + count) new ≡ take held old ++ piece → held + count ≤ length new
+    → length new ≤ 4096 → length piece ≤ 4096
+piece_near held count old new piece e within long =
+    omega (arith, ap length e, length-append (take held old) piece, length-take-le (held + count) new within)
 
 -- a read of no bytes is the end, after the bytes that are held back
 pub read_end : (held count : ℕ) (old new : List ℕ) (left left_new : Option (List ℕ)) → held < 4 → length old ≡ 4096 → count ≡ 0 →

@@ -1,11 +1,11 @@
 -- Decoding a whole input: what holds after each piece.
 use Rattle.std.proofs.Common.{◌≡◌, ◌∙◌, ◌≤◌, ℕ, ◌+◌, List, [], ◌++◌, length, refl, sym, ap, arith, append-nil, length-append, Bool, true, false, IsTrue}
-use Rattle.std.proofs.{Common.{append_assoc, take, drop, take-append-drop, Option, inl}, lemmas.List.length-take-le}
-use Rattle.std.proofs.KnownBytes.{Appends-trans, Consumes-nil, Consumes-trans, Consumes-kept}
+use Rattle.std.proofs.{Common.{append_assoc, take, drop, take-append-drop, Option, inl}, lemmas.List.{length-take, length-take-le}}
+use Rattle.std.proofs.KnownBytes.{Appends-trans, Consumes-nil, Consumes-trans, Consumes-kept, Keeps-refl}
 use Rattle.std.specs.Io.KnownBytes.{Appends, Consumes, IsAtEnd, Keeps}
 use Rattle.legacy_base.specs.{declared.results.DecodeEvent.DecodeEvent, Events.shift, Grammar.events_of, States.DecoderState, Calls.Progress}
 use Rattle.legacy_base.proofs.Progress.{stay, after_that, at_last, behind}
-use Rattle.legacy_streams.specs.Streams.{AppendsFront, DecodesPiece, DecodesFront, DecodesAll, DecodesBeginning, DecodesPartly}
+use Rattle.legacy_streams.specs.Streams.{AppendsFront, AppendsAtLeast, DecodesPiece, DecodesFront, DecodesAll, DecodesBeginning, DecodesPartly}
 
 -- ---- a front of some bytes
 
@@ -13,10 +13,18 @@ pub front_of : {old new : Option (List ℕ)} {bytes : List ℕ} (count : ℕ) �
 front_of {bytes = bytes} count w =
     record { sent = take count bytes; unsent = drop count bytes; parts = sym (take-append-drop count bytes); written = w }
 
+pub front_near : (buffer : List ℕ) (count : ℕ) → length buffer ≤ 4096 → length (take count buffer) ≤ 4096
+front_near buffer count l = omega (arith, length-take count buffer)
+
 -- after bytes that were written
 pub front_after : {old new : Option (List ℕ)} (mid : Option (List ℕ)) (bytes : List ℕ) {more : List ℕ} → Appends old mid bytes → AppendsFront mid new more
     → AppendsFront old new (bytes ++ more)
 front_after mid bytes w f = grind (arith, append_assoc, Appends-trans)
+
+-- at least those
+pub at_least : {old new : Option (List ℕ)} (mid : Option (List ℕ)) {bytes more : List ℕ} → Appends old mid bytes → AppendsFront mid new more
+    → AppendsAtLeast old new bytes
+at_least mid w f = record { more = f.sent; written = Appends-trans _ _ _ _ _ w f.written }
 
 -- ---- the input
 
@@ -99,9 +107,11 @@ module _ {before now : DecoderState} {total : ℕ} {left_old left_mid : Option (
         }
 
     -- what holds after a failed write
-    pub whole_partly : (last : Bool) → (IsTrue last → IsAtEnd left) → DecodesFront now piece last after Second
-        → DecodesPartly before after left_old left Both
-    whole_partly last at_end p =
+    pub whole_partly : {Done : List DecodeEvent → Type 0} (last : Bool) → (IsTrue last → IsAtEnd left) → length piece ≤ 4096
+        → ((xs ys : List DecodeEvent) → First xs → Second ys → Done xs) → DecodesFront now piece last after Second
+        → DecodesPartly before after left_old left Done Both
+    unfolding whole_beginning
+    whole_partly {Done} last at_end near d p =
         let way = way_on last piece p.progress in
         record {
           bytes = w.bytes ++ piece;
@@ -114,6 +124,12 @@ module _ {before now : DecoderState} {total : ℕ} {left_old left_mid : Option (
           progress = way;
           shown = j.join w.passed w.events p.events place w.shown p.shown;
           beginning = λ more e. (shift (w.passed + p.passed) (events_of after.grammar (after.held ++ (p.left ++ more))), way.events more (λ l. inl (e l)));
+          between = now;
+          input_between = left_mid;
+          earlier = whole_beginning Done (λ xs first. d xs p.events first p.shown) (Keeps-refl left_mid);
+          piece = piece;
+          near = near;
+          parts = refl;
         }
 
   -- the next piece is the front of a buffer

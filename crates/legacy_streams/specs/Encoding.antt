@@ -101,7 +101,8 @@ pub record EncodesBeginning (before after : EncoderState) (input_old input_new o
 
 -- Some bytes of the input were read, and a part of their text was encoded. The events of that part are a beginning of
 -- all events, whatever else the input contains if it was not read to its end. Of their bytes and references a front was
--- written, which may end inside a sequence.
+-- written, which may end inside a sequence. All bytes before the last piece, of at most 4096 bytes, were encoded and
+-- written as after a failed read, and `sent` after them.
 pub record EncodesPartly (before after : EncoderState) (input_old input_new output_old output_new : Option (List ℕ)) : Type 0 where
   pub bytes : List ℕ
   pub read : Consumes input_old input_new bytes
@@ -110,3 +111,12 @@ pub record EncodesPartly (before after : EncoderState) (input_old input_new outp
   pub text : List ℕ
   pub is_text : (more : List ℕ) → (IsTrue last → more ≡ []) → (later : List ℕ) × (utf8_text (bytes ++ more) ≡ text ++ later) × (IsTrue last → later ≡ [])
   pub front : EncodesFront before text last after [] output_old output_new
+  pub between : EncoderState
+  pub input_between : Option (List ℕ)
+  pub output_between : Option (List ℕ)
+  pub earlier : EncodesBeginning before between input_old input_between output_old output_between
+  pub piece : List ℕ
+  pub near : length piece ≤ 4096
+  pub parts : bytes ≡ earlier.bytes ++ piece
+  pub sent : List ℕ
+  pub written : Appends output_between output_new sent

@@ -6,7 +6,7 @@ use Rattle.legacy_base.specs.Events.{shift}
 use Rattle.legacy_base.specs.States.{DecoderState}
 use Rattle.legacy_codecs.specs.Runs.{placed}
 use Rattle.legacy_streams.specs.Lines.{event_lines}
-use Rattle.legacy_streams.specs.Streams.{AppendsFront, DecodesPiece, DecodesFront, DecodesAll, DecodesBeginning, DecodesPartly}
+use Rattle.legacy_streams.specs.Streams.{AppendsFront, AppendsAtLeast, DecodesPiece, DecodesFront, DecodesAll, DecodesBeginning, DecodesPartly}
 
 -- ---- one piece of the input
 
@@ -44,7 +44,8 @@ RecodesBeginning before after input_old input_new output_old output_new =
     DecodesBeginning before after input_old input_new (λ events. Appends output_old output_new (lines_of before events))
 
 -- Some bytes of the input were read, and a part of them was decoded. A front of the lines of its events was written,
--- which may end inside a line.
+-- which may end inside a line. The lines of all pieces before the last one were written.
 abbrev pub RecodesPartly : DecoderState → DecoderState → Option (List ℕ) → Option (List ℕ) → Option (List ℕ) → Option (List ℕ) → Type 0
 RecodesPartly before after input_old input_new output_old output_new =
-    DecodesPartly before after input_old input_new (λ events. AppendsFront output_old output_new (lines_of before events))
+    DecodesPartly before after input_old input_new (λ events. AppendsAtLeast output_old output_new (lines_of before events))
+    (λ events. AppendsFront output_old output_new (lines_of before events))

@@ -1,5 +1,5 @@
 -- Decoding a stream: which events were decoded, and what is true of them.
-use Rattle.std.specs.Prelude.{◌≡◌, ℕ, List, [], ◌++◌, Bool, true, false, IsTrue, Option}
+use Rattle.std.specs.Prelude.{◌≡◌, ◌≤◌, ℕ, List, [], ◌++◌, length, Bool, true, false, IsTrue, Option}
 use Rattle.std.specs.Io.KnownBytes.{Appends, Consumes, IsAtEnd}
 use Rattle.legacy_base.specs.declared.results.DecodeEvent.{DecodeEvent}
 use Rattle.legacy_base.specs.Grammar.{events_of}
@@ -12,6 +12,11 @@ pub record AppendsFront (old new : Option (List ℕ)) (bytes : List ℕ) : Type 
   pub unsent : List ℕ
   pub parts : bytes ≡ sent ++ unsent
   pub written : Appends old new sent
+
+-- The bytes were written, and perhaps more after them.
+pub record AppendsAtLeast (old new : Option (List ℕ)) (bytes : List ℕ) : Type 0 where
+  pub more : List ℕ
+  pub written : Appends old new (bytes ++ more)
 
 -- ---- one piece of the input
 
@@ -56,8 +61,9 @@ pub record DecodesBeginning (before after : DecoderState) (input_old input_new :
   pub beginning : (more : List ℕ) → (rest : List DecodeEvent) × (events_of before.grammar (before.held ++ (bytes ++ more)) ≡ events ++ rest)
 
 -- Some bytes of the input were read, and a part of them was decoded. `Shown` is true of the events of that part. All
--- events begin with these, whatever follows if the input was not read to its end.
-pub record DecodesPartly (before after : DecoderState) (input_old input_new : Option (List ℕ)) (Shown : List DecodeEvent → Type 0) : Type 0 where
+-- events begin with these, whatever follows if the input was not read to its end. All bytes before the last piece, of at
+-- most 4096 bytes, were decoded, and `Done` is true of their events.
+pub record DecodesPartly (before after : DecoderState) (input_old input_new : Option (List ℕ)) (Done Shown : List DecodeEvent → Type 0) : Type 0 where
   pub bytes : List ℕ
   pub read : Consumes input_old input_new bytes
   pub last : Bool
@@ -69,3 +75,9 @@ pub record DecodesPartly (before after : DecoderState) (input_old input_new : Op
   pub shown : Shown events
   pub beginning : (more : List ℕ) → (IsTrue last → more ≡ [])
       → (rest : List DecodeEvent) × (events_of before.grammar (before.held ++ (bytes ++ more)) ≡ events ++ rest)
+  pub between : DecoderState
+  pub input_between : Option (List ℕ)
+  pub earlier : DecodesBeginning before between input_old input_between Done
+  pub piece : List ℕ
+  pub near : length piece ≤ 4096
+  pub parts : bytes ≡ earlier.bytes ++ piece

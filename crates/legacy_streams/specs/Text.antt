@@ -5,7 +5,7 @@ use Rattle.legacy_base.specs.declared.results.DecodeEvent.{DecodeEvent}
 use Rattle.legacy_text.specs.EncodingForm.{Utf8, all_code_units}
 use Rattle.legacy_base.specs.States.{DecoderState}
 use Rattle.legacy_codecs.specs.Replacing.{replaced_scalars, has_malformed}
-use Rattle.legacy_streams.specs.Streams.{AppendsFront, DecodesPiece, DecodesFront, DecodesAll, DecodesBeginning, DecodesPartly}
+use Rattle.legacy_streams.specs.Streams.{AppendsFront, AppendsAtLeast, DecodesPiece, DecodesFront, DecodesAll, DecodesBeginning, DecodesPartly}
 
 -- the text of events in UTF-8, with U+FFFD for each malformed sequence
 unfoldable pub text_of : List DecodeEvent → List ℕ
@@ -37,7 +37,8 @@ WritesBeginning before after input_old input_new output_old output_new =
     DecodesBeginning before after input_old input_new (λ events. Appends output_old output_new (text_of events))
 
 -- Some bytes of the input were read, and a part of them was decoded. A front of the text of its events was written,
--- which may end inside a scalar.
+-- which may end inside a scalar. The text of all pieces before the last one was written.
 abbrev pub WritesPartly : DecoderState → DecoderState → Option (List ℕ) → Option (List ℕ) → Option (List ℕ) → Option (List ℕ) → Type 0
 WritesPartly before after input_old input_new output_old output_new =
-    DecodesPartly before after input_old input_new (λ events. AppendsFront output_old output_new (text_of events))
+    DecodesPartly before after input_old input_new (λ events. AppendsAtLeast output_old output_new (text_of events))
+    (λ events. AppendsFront output_old output_new (text_of events))

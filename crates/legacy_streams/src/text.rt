@@ -1,5 +1,5 @@
 //! Decodes a stream of bytes to text in UTF-8.
-ghost use Rattle.std.specs.Prelude.{◌≡◌, ◌≤◌, length, ◌||◌, IfOk, OnErr};
+ghost use Rattle.std.specs.Prelude.{◌≡◌, ◌≤◌, length, IfOk, OnErr};
 ghost use Rattle.legacy_streams.specs.Text.{WritesPiece, WritesFront, WritesAll, WritesBeginning, WritesPartly};
 
 use crate::pieces::{PIECE, read_piece, rest_of, write_whole};
@@ -9,14 +9,6 @@ use std::io::{self, Read, Write};
 
 /// The maximum number of bytes of text before a write: for a piece and the bytes held back before.
 const TEXT: usize = 3 * PIECE + 32;
-
-/// Returns whether at least one of the two is true.
-#[inline]
-fn either(one: bool, other: bool) -> bool
-    ensures { result ≡ (one || other) }
-{
-    one || other
-}
 
 /// Decodes a whole piece, and writes its text.
 ///
@@ -44,7 +36,7 @@ fn write_piece<D: RawDecoder, W: Write>(
         let (answer, read, written, found) = decode_replacing_utf8(decoder, unread, text, last);
         write_whole(output, &text[..written])?;
         offset += read;
-        replaced = either(replaced, found);
+        replaced |= found;
         if let CoderResult::InputEmpty = answer {
             return Ok(replaced);
         }
@@ -91,7 +83,7 @@ pub fn recode_text<D: RawDecoder, R: Read, W: Write>(
         let Ok(found) = write_piece(decoder, &buffer[..count], last, &mut text, output) else {
             return Err(RecodeError::Write);
         };
-        any_replaced = either(any_replaced, found);
+        any_replaced |= found;
         if last {
             return Ok(any_replaced);
         }

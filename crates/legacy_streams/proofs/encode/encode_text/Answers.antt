@@ -1,5 +1,6 @@
 use Rattle.std.proofs.{Common.{◌≡◌, ◌+◌, length, take, arith, refl}, lemmas.List.length-take-le}
-use Rattle.legacy_streams.proofs.EncodingUnderWay.{input_start, input_step, input_partly, input_end, input_end_partly, piece_unwritten, piece_written, read_end}
+use Rattle.legacy_streams.proofs.EncodingUnderWay.{input_start, input_step, input_partly, input_end, input_end_partly}
+use Rattle.legacy_streams.proofs.EncodingUnderWay.{piece_near, piece_unwritten, piece_written, read_end}
 use Rattle.legacy_streams.proofs.encode.encode_text.Goals as goal
 
 pub pieces-init : goal.pieces-init
@@ -18,13 +19,15 @@ returns-in-Err-clause-write g c e =
 pub returns-in_default-push_piece-clause-write : goal.returns-in_default-push_piece-clause-write
 returns-in_default-push_piece-clause-write g c e =
     let bytes = c.in-Some.ensures.bytes in
-    input_partly c.pieces.invariant.so_far bytes.0 bytes.1 (rw bytes.2 at c.in_default-push_piece.ensures.err)
+    let near = piece_near _ _ _ _ _ bytes.2 c.in-Some.ensures.count.0 (omega (arith, c.pieces.invariant.long)) in
+    input_partly c.pieces.invariant.so_far bytes.0 bytes.1 near (rw bytes.2 at c.in_default-push_piece.ensures.err)
 
 pub returns-in_default-write_to-clause-write : goal.returns-in_default-write_to-clause-write
 returns-in_default-write_to-clause-write g c e =
     let bytes = c.in-Some.ensures.bytes in
     let unwritten = piece_unwritten c.in-Ok-push_piece.ensures.piece c.in_default-write_to.ensures.err in
-    input_partly c.pieces.invariant.so_far bytes.0 bytes.1 (rw bytes.2 at unwritten)
+    let near = piece_near _ _ _ _ _ bytes.2 c.in-Some.ensures.count.0 (omega (arith, c.pieces.invariant.long)) in
+    input_partly c.pieces.invariant.so_far bytes.0 bytes.1 near (rw bytes.2 at unwritten)
 
 pub pieces-preserved : goal.pieces-preserved
 pieces-preserved g c =

@@ -1,10 +1,10 @@
-use Rattle.std.proofs.{Common.{arith, eq-eqb}, lemmas.Bool.{ne_eqb, eqb-true}, KnownBytes.Appends-nil}
-use Rattle.legacy_streams.proofs.{Whole.{whole_start, whole_next, whole_end, whole_beginning, whole_partly}, PieceUnderWay.{lines_of_none, lines_join}}
-use Rattle.legacy_streams.proofs.PieceUnderWay.{lines_front_join}
+use Rattle.std.proofs.{Common.{◌≤◌, length, take, arith, eq-eqb, refl}, lemmas.Bool.{ne_eqb, eqb-true}, KnownBytes.Appends-nil}
+use Rattle.legacy_streams.proofs.Whole.{whole_start, whole_next, whole_end, whole_beginning, whole_partly, at_least, front_near}
+use Rattle.legacy_streams.proofs.PieceUnderWay.{lines_of_none, lines_join, lines_front_join}
 use Rattle.legacy_streams.proofs.recode.recode.Goals as goal
 
 pub pieces-init : goal.pieces-init
-pieces-init g c = record { whole = whole_start _ _ _ (rw lines_of_none (Appends-nil _)); small = omega arith; empty = c.new-lines.ensures }
+pieces-init g c = record { whole = whole_start _ _ _ (rw lines_of_none (Appends-nil _)); long = refl; small = omega arith; empty = c.new-lines.ensures }
 
 pub returns-in_default-clause-read : goal.returns-in_default-clause-read
 returns-in_default-clause-read g c e = whole_beginning c.pieces.invariant.whole _ (λ _ shown. shown) c.in_default.ensures.kept
@@ -21,6 +21,7 @@ pieces-preserved g c =
     record {
       whole =
           whole_next c.pieces.invariant.whole _ _ read.count.0 read.bytes.0 (lines_join _ _ _ _ _ _) (ne_eqb _ 0 c.if-last.false) c.in-Ok.ensures.piece;
+      long = omega arith;
       small = read.count.1;
       empty = c.in-Ok.ensures.empty;
     }
@@ -28,4 +29,6 @@ pieces-preserved g c =
 pub returns-in_default-recode_piece-clause-write : goal.returns-in_default-recode_piece-clause-write
 returns-in_default-recode_piece-clause-write g c e =
     let read = c.in-Some.ensures.bytes in
-    whole_partly c.pieces.invariant.whole _ read.0 (lines_front_join _ _ _ _ _ _) _ (λ l. read.1 (eqb-true _ _ l)) c.in_default-recode_piece.ensures.err
+    let near : length (take c.in-Some.count c.read_piece.new.buffer) ≤ 4096 = front_near _ _ (omega (arith, c.pieces.invariant.long)) in
+    whole_partly c.pieces.invariant.whole _ read.0 (lines_front_join _ _ _ _ _ _) _ (λ l. read.1 (eqb-true _ _ l)) near
+    (λ _ _ first front. at_least _ first front) c.in_default-recode_piece.ensures.err

@@ -1,10 +1,10 @@
-use Rattle.std.proofs.{Common.{arith, eq-eqb}, lemmas.Bool.{ne_eqb, eqb-true}}
-use Rattle.legacy_streams.proofs.{Whole.{whole_start, whole_next, whole_end, whole_beginning, whole_partly}, TextUnderWay.{whole_text_start, text_join}}
-use Rattle.legacy_streams.proofs.TextUnderWay.{text_front_join}
+use Rattle.std.proofs.{Common.{◌≤◌, length, take, arith, eq-eqb, refl}, lemmas.Bool.{ne_eqb, eqb-true}}
+use Rattle.legacy_streams.proofs.Whole.{whole_start, whole_next, whole_end, whole_beginning, whole_partly, at_least, front_near}
+use Rattle.legacy_streams.proofs.TextUnderWay.{whole_text_start, text_join, text_front_join}
 use Rattle.legacy_streams.proofs.text.recode_text.Goals as goal
 
 pub pieces-init : goal.pieces-init
-pieces-init g c = record { whole = whole_start _ _ _ (whole_text_start _); small = omega arith }
+pieces-init g c = record { whole = whole_start _ _ _ (whole_text_start _); long = refl; small = omega arith }
 
 pub returns-in_default-clause-read : goal.returns-in_default-clause-read
 returns-in_default-clause-read g c e = whole_beginning c.pieces.invariant.whole _ (λ _ shown. shown.1) c.in_default.ensures.kept
@@ -12,21 +12,22 @@ returns-in_default-clause-read g c e = whole_beginning c.pieces.invariant.whole 
 pub returns-then-last-clause-ok : goal.returns-then-last-clause-ok
 returns-then-last-clause-ok g c =
     let read = c.in-Some.ensures.bytes in
-    rw c.either-any_replaced.ensures
-    (whole_end c.pieces.invariant.whole _ read.0 (text_join _ _ _ _ _ _ _ _) (read.1 c.if-last.true) (eq-eqb c.in-Some.count 0 c.if-last.true)
-    c.in-Ok.ensures.piece)
+    whole_end c.pieces.invariant.whole _ read.0 (text_join _ _ _ _ _ _ _ _) (read.1 c.if-last.true) (eq-eqb c.in-Some.count 0 c.if-last.true)
+    c.in-Ok.ensures.piece
 
 pub pieces-preserved : goal.pieces-preserved
 pieces-preserved g c =
     let read = c.in-Some.ensures in
     record {
       whole =
-          rw c.either-any_replaced.ensures
-          (whole_next c.pieces.invariant.whole _ _ read.count.0 read.bytes.0 (text_join _ _ _ _ _ _ _ _) (ne_eqb _ 0 c.if-last.false) c.in-Ok.ensures.piece);
+          whole_next c.pieces.invariant.whole _ _ read.count.0 read.bytes.0 (text_join _ _ _ _ _ _ _ _) (ne_eqb _ 0 c.if-last.false) c.in-Ok.ensures.piece;
+      long = omega arith;
       small = read.count.1;
     }
 
 pub returns-in_default-write_piece-clause-write : goal.returns-in_default-write_piece-clause-write
 returns-in_default-write_piece-clause-write g c e =
     let read = c.in-Some.ensures.bytes in
-    whole_partly c.pieces.invariant.whole _ read.0 (text_front_join _ _ _ _ _ _ _) _ (λ l. read.1 (eqb-true _ _ l)) c.in_default-write_piece.ensures.err
+    let near : length (take c.in-Some.count c.read_piece.new.buffer) ≤ 4096 = front_near _ _ (omega (arith, c.pieces.invariant.long)) in
+    whole_partly c.pieces.invariant.whole _ read.0 (text_front_join _ _ _ _ _ _ _) _ (λ l. read.1 (eqb-true _ _ l)) near
+    (λ _ _ first front. at_least _ first.1 front) c.in_default-write_piece.ensures.err

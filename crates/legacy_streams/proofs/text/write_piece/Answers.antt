@@ -8,12 +8,12 @@ calls-init g c = text_start _ c.args.piece.now c.args.last _
 pub returns-in-InputEmpty-clause-piece : goal.returns-in-InputEmpty-clause-piece
 returns-in-InputEmpty-clause-piece g c =
     let call = rw c.rest_of-unread.ensures at c.decode_replacing_utf8-answer.ensures.call in
-    rw c.either-replaced.ensures (text_end c.calls.invariant call _ c.in_ok-write_whole.ensures.ok c.in-InputEmpty.is)
+    text_end c.calls.invariant call _ c.in_ok-write_whole.ensures.ok c.in-InputEmpty.is
 
 pub calls-preserved : goal.calls-preserved
 calls-preserved g c =
     let call = rw c.rest_of-unread.ensures at c.decode_replacing_utf8-answer.ensures.call in
-    rw c.either-replaced.ensures (text_step c.calls.invariant call c.in_ok-write_whole.ensures.ok)
+    text_step c.calls.invariant call c.in_ok-write_whole.ensures.ok
 
 pub calls-smaller : goal.calls-smaller
 calls-smaller g c =
