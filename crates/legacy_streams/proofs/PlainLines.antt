@@ -1,5 +1,5 @@
 -- The lines of scalars of one code unit, and the scalars of code units.
-use Rattle.std.proofs.Common.{◌≡◌, ◌∙◌, ℕ, suc, ◌+◌, ◌*◌, ◌-◌, ◌/◌, ◌%◌, ◌≤◌, ◌<◌, List, [], ◌∷◌, ◌++◌, length, take, drop, map, get_or, refl, sym, ap, arith}
+use Rattle.std.proofs.Common.{◌≡◌, ◌∙◌, ℕ, suc, ◌+◌, ◌*◌, ◌/◌, ◌%◌, ◌≤◌, ◌<◌, List, [], ◌∷◌, ◌++◌, length, take, drop, map, get_or, refl, sym, ap, arith}
 use Rattle.std.proofs.{Common.{inl, inr, ◌⊎◌, All, Some, slice_get, append_assoc, append-nil, take-suc, add-one, None, ◌^◌}, lemmas.Bool.cases_lt}
 use Rattle.std.proofs.{lemmas.Bool.Decides.nat_tests, lemmas.List.map-append, lemmas.Nat.le_bytes_8, lemmas.Str.{utf16_chars-nil, utf16_chars_lone}}
 use Rattle.std.proofs.{lemmas.Str.utf16_chars_pair, str.Utf16.{IsPair, lone_unit_char_low, lone_unit_char_high}}
