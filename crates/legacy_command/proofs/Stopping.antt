@@ -48,12 +48,38 @@ module _ {b a : DecoderState} {i j : Option (List ℕ)} {Shown Weaker : List Dec
   weaker_all r = grind (arith, weaker)
 
   weaker_beginning : DecodesBeginning b a i j Shown → DecodesBeginning b a i j Weaker
-  weaker_beginning r = grind (arith, weaker)
+  weaker_beginning r = record {
+    bytes = r.bytes;
+    read = r.read;
+    passed = r.passed;
+    events = r.events;
+    progress = r.progress;
+    shown = weaker r.events r.shown;
+    beginning = r.beginning;
+  }
 
 weaker_partly : {b a : DecoderState} {i j : Option (List ℕ)} {Done Less Shown Weaker : List DecodeEvent → Type 0}
     → ((events : List DecodeEvent) → Done events → Less events) → ((events : List DecodeEvent) → Shown events → Weaker events)
     → DecodesPartly b a i j Done Shown → DecodesPartly b a i j Less Weaker
-weaker_partly less weaker r = grind (arith, weaker, weaker_beginning less r.earlier)
+unfolding weaker_beginning
+weaker_partly less weaker r = record {
+  bytes = r.bytes;
+  read = r.read;
+  last = r.last;
+  at_end = r.at_end;
+  passed = r.passed;
+  left = r.left;
+  events = r.events;
+  progress = r.progress;
+  shown = weaker r.events r.shown;
+  beginning = r.beginning;
+  between = r.between;
+  input_between = r.input_between;
+  earlier = weaker_beginning less r.earlier;
+  piece = r.piece;
+  near = r.near;
+  parts = r.parts;
+}
 
 module _ (i j o p q : Option (List ℕ)) (k : Keeps p q) where
   front_kept : {bytes : List ℕ} → AppendsFront o p bytes → AppendsFront o q bytes
@@ -85,7 +111,24 @@ module _ (i j o p q : Option (List ℕ)) (k : Keeps p q) where
   beginning_kept r = grind (arith, Appends-kept, k)
 
   partly_kept : {b a : EncoderState} → EncodesPartly b a i j o p → EncodesPartly b a i j o q
-  partly_kept r = grind (arith, up_to_kept, Appends-kept, k)
+  partly_kept r = record {
+    bytes = r.bytes;
+    read = r.read;
+    last = r.last;
+    at_end = r.at_end;
+    text = r.text;
+    is_text = r.is_text;
+    front = (r.front.0, r.front.1, up_to_kept r.front.2);
+    between = r.between;
+    input_between = r.input_between;
+    output_between = r.output_between;
+    earlier = r.earlier;
+    piece = r.piece;
+    near = r.near;
+    parts = r.parts;
+    sent = r.sent;
+    written = Appends-kept r.output_between p q _ r.written k;
+  }
 
   pub encoded_kept : (b : EncoderState) → EncodesSome b i j o p → EncodesSome b i j o q
   encoded_kept b (a, inl r) = (a, inl (all_kept r))
