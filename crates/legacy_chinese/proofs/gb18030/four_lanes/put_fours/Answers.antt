@@ -29,6 +29,6 @@ loop-at-preserved g c =
           (omega (arith, c.loop-at-test.true, c.requires.front)) (omega (arith, c.loop-at-test.true, c.requires.back)) long
           (λ k h. c.known_count.ensures.known k (omega (arith, h, c.min-few.ensures, c.if-few-lt8.false)))
           (c.units_of-units.ensures.units c.args.tables.now.flat.ranges c.requires.part) i.writes (rw all e.contents) (rw all e.room) e.loan;
-      slack = λ h. omega (arith, n, long, e.room, c.free.ensures, c.if-free-ge35.true);
-      had = λ h. omega (arith, i.writes.room, i.had, c.free.ensures, c.if-free-ge35.true);
+      slack = λ h. omega (arith, n, long, e.room, c.free.ensures, c.if-free.true);
+      had = λ h. omega (arith, i.writes.room, i.had, c.free.ensures, c.if-free.true);
     }

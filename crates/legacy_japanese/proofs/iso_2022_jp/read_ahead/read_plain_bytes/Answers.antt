@@ -13,6 +13,6 @@ loop-at-preserved g c =
       omega (arith, c.loop-at-test.true),
       λ jis0208. reads_more (c.loop-at.invariant.1 jis0208)
           (reads_plain_byte g.T.Destination jis0208 c.args.src.now c.loop-at.at c.loop-at-test.true (c.is_plain.ensures c.if-is_plain.true)
-          (omega (arith, c.if-free-ge4.true, c.free.ensures)) (rw c.from.ensures at e.contents)
+          (omega (arith, c.if-free.true, c.free.ensures)) (rw c.from.ensures at e.contents)
           (rw c.from.ensures at e.room) e.loan),
     )

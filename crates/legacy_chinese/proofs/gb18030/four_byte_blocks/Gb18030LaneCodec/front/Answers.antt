@@ -7,5 +7,5 @@ pub returns : goal.returns
 returns c =
     let tables = c.args.tables.now in
     let place = c.pair_pointer-pointer.ensures lead_place gb18030_trail_place rows_are gb18030_trails_are in
-    common_pair (gb18030 tables.flat.gb18030 tables.flat.ranges) c.args.lead c.args.trail c.result c.idx.result c.of_pair.ensures
+    common_pair (gb18030 tables.flat.gb18030 tables.flat.ranges) c.args.lead c.args.trail c.of_pair.result c.idx.result c.of_pair.ensures
     (λ x is. let pair = pair_at tables c.args.lead c.args.trail x in grind (arith, pair))

@@ -8,5 +8,5 @@ pub returns : goal.returns
 returns c =
     let tables = c.args.self.now.tables.now in
     let place = c.pair_pointer-pointer.ensures jis_lead_place jis_trail_place jis_leads_are jis_trails_are in
-    common_pair (iso_2022_jp tables.flat.jis0208 two_byte) c.args.first c.args.second c.result c.idx.result c.of_pair.ensures
+    common_pair (iso_2022_jp tables.flat.jis0208 two_byte) c.args.first c.args.second c.of_pair.result c.idx.result c.of_pair.ensures
     (λ x is. placed_scalar tables c.args.first c.args.second x (rw place at (sym c.idx.ensures ∙ is)))

@@ -4,8 +4,8 @@ use Rattle.legacy_miscellaneous.proofs.utf16.unit_blocks.AsciiUnitsBlocks.read_b
 pub put_block-requires-clause-ascii : goal.put_block-requires-clause-ascii
 put_block-requires-clause-ascii g c = ascii_block _ _ _ 64 c.narrow.ensures (c.are_below.ensures c.if-not-are_below.false) (omega arith)
 
-pub returns-then-free-ge67-clause-ahead : goal.returns-then-free-ge67-clause-ahead
-returns-then-free-ge67-clause-ahead g c =
+pub returns-then-free-clause-ahead : goal.returns-then-free-clause-ahead
+returns-then-free-clause-ahead g c =
     let e = c.put_block.ensures in
     let ascii = ascii_block _ _ _ 64 c.narrow.ensures (c.are_below.ensures c.if-not-are_below.false) (omega arith) in
     reads_block _ _ _ _ _ _ 64 (λ k. (c.type_inv.src k).fits) (omega arith) c.narrow.ensures (omega arith)

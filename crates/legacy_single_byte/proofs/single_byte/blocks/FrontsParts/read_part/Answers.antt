@@ -36,7 +36,7 @@ loop-at-preserved g c =
       within = omega (arith, n, i.within, c.if-at-end.false);
       most = i.most;
       long = omega (arith, c.if-src-at-lt64.false);
-      room = omega (arith, c.free.ensures, c.if-free-lt70.false);
+      room = omega (arith, c.free.ensures, c.if-free.false);
       writes = writes_one g.T.Destination _ _ c.in-Some.scalar (omega (arith, n, i.within, i.most, c.requires.source)) (grind (arith, ascii_next, ascii))
           c.in-Some.ensures.single.1 p.contents p.room p.loan;
       past = c.past_after-past.ensures c.args.src.now c.loop-at.at i.past;
