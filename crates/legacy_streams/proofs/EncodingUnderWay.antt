@@ -40,7 +40,11 @@ sends_all {a = a} {b = b} s = subst (Appends a b) (sym (s.parts ∙ append-nil s
 
 pub text_start : (before : EncoderState) (text : List ℕ) (last : Bool) (waiting : List ℕ) (old : Option (List ℕ))
     → EncodesUpTo before text last before text waiting waiting old old
-text_start before text last waiting old = record { events = []; goes_on = record { gives = λ more ended h. refl; codec = refl }; sends = sends_none waiting old }
+text_start before text last waiting old = record {
+  events = [];
+  goes_on = record { gives = λ more ended h. refl; codec = refl };
+  sends = sends_none waiting old;
+}
 
 module _ {before now : EncoderState} {text rest waited waiting : List ℕ} {last : Bool} {old mid new : Option (List ℕ)}
     (u : EncodesUpTo before text last now rest waited waiting old mid) where
