@@ -10,5 +10,6 @@ use std::alloc::{AllocError, Global};
 pub fn pair_room(alloc: Global) -> Result<Vec<u16>, AllocError>
     ensures { IfOk result (λ room. room.items ≡ replicate 65536 0) }
 {
-    vec![in alloc; 0; PAIR_ROOM]
+    let room = vec![in alloc; 0; PAIR_ROOM]?;
+    Ok(room)
 }
