@@ -5,7 +5,7 @@ use Rattle.legacy_base.specs.{declared.results.DecodeEvent.DecodeEvent, Fronts.F
 use Rattle.legacy_base.specs.{EucJp.{euc_jp_second, euc_jp_pair, euc_jp_front}, Grammar.{euc_jp, events_of}}
 use Rattle.legacy_base.proofs.FrontLaws.{euc_jp_front-of}
 use Rattle.legacy_tables.specs.{Unicode.{is_katakana_byte, katakana_of}}
-use Rattle.legacy_standard.specs.{Processing.process, EucJp.{euc_jp_state, euc_jp_initial, euc_jp_handler}}
+use Rattle.legacy_standard.specs.{Processing.{all_read, process}, EucJp.{euc_jp_state, euc_jp_initial, euc_jp_handler}}
 use Rattle.legacy_standard.proofs.{Turns.{goes_on, error_at_end}, Fronts.{Reads, whole, by_test, one, malformed_one, trailing, third_trailing}}
 use Rattle.legacy_standard.proofs.{Fronts.{lead_alone, pair}, Turns.{Runs, IsDecodedBy}}
 
@@ -14,8 +14,8 @@ module _ (jis0208 jis0212 : List ℕ) where
   Has = Reads (euc_jp_handler jis0208 jis0212) euc_jp_initial
 
   -- at the end of the queue the jis0212 flag does not matter
-  flag_at_end : (place : ℕ) (es : List DecodeEvent) → Runs (euc_jp_handler jis0208 jis0212) euc_jp_initial place 0 [] es →
-      Runs (euc_jp_handler jis0208 jis0212) (euc_jp_state true 0) place 0 [] es
+  flag_at_end : (place : ℕ) (es : List DecodeEvent) → Runs (euc_jp_handler jis0208 jis0212) all_read euc_jp_initial place 0 [] es →
+      Runs (euc_jp_handler jis0208 jis0212) all_read (euc_jp_state true 0) place 0 [] es
   unfolding process euc_jp_handler
   flag_at_end place es h = record { turns = h.turns; run = λ more. grind (arith, h.run more) }
 

@@ -13,7 +13,8 @@ abbrev pub offset_pointer : List (ℕ × ℕ) → ℕ → Option ℕ
 offset_pointer [] c = None
 offset_pointer (r ∷ ranges) c = option_or (offset_pointer ranges c) (if nat_le r.1 c then Some (r.0 + (c - r.1)) else None)
 
--- "index gb18030 ranges pointer"; no list of ranges contains the last range of the Standard's index (189000, U+10000)
+-- "index gb18030 ranges pointer"; no accepted list of ranges contains the last range of the Standard's index (189000,
+-- U+10000)
 unfoldable pub ranges_pointer : List (ℕ × ℕ) → ℕ → Option ℕ
 ranges_pointer ranges c =
     if c == 0xE7C7 then Some 7457

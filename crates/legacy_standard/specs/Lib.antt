@@ -12,7 +12,6 @@ pub mod EucJp
 pub mod Gb18030
 pub mod Utf16
 pub mod Iso2022Jp
-pub mod Iso2022JpPlaces
 pub mod DecoderLaw
 pub mod TextQueue
 pub mod IndexPointers

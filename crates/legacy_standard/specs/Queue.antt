@@ -1,4 +1,4 @@
--- The items that a decoder's handler reads, and its results (Encoding Standard, "Encodings").
+-- The items that a decoder's handler reads, and its results (Encoding Standard, "Encoders and decoders").
 use Rattle.std.specs.Prelude.{ℕ, ◌==◌, List, [], ◌∷◌, Option, Some, None, not, if◌then◌else◌}
 use Rattle.std.specs.Int.{is_in_range}
 use Rattle.std.specs.Char.{is_ascii}

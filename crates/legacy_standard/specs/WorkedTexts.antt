@@ -39,9 +39,15 @@ pub record ComputeWorkedTexts : Type 0 where
       (0xAC02 ∷ 0xAC00 ∷ [], Byte 0x82 ∷ Byte 0x41 ∷ Unmappable 0xAC00 ∷ []) ∷ [])
   pub big5 : Computes (by_scalar (big5_encodes (0x4E00 ∷ []))) tt (
       (0x7F ∷ 0x4E00 ∷ [], Byte 0x7F ∷ Unmappable 0x4E00 ∷ []) ∷ [])
+  -- two scalars with two pointers each, 5024 to 5027: the last one is written for U+2550, the first one for U+4E00
+  pub big5_pointers : Computes (by_scalar (big5_encodes (replicate 5024 0 ++ 0x2550 ∷ 0x2550 ∷ 0x4E00 ∷ 0x4E00 ∷ []))) tt (
+      (0x2550 ∷ 0x4E00 ∷ [], Byte 0xA1 ∷ Byte 0x41 ∷ Byte 0xA1 ∷ Byte 0x42 ∷ []) ∷ [])
   pub shift_jis : Computes (by_scalar (shift_jis_encodes (entry_at 60 0xFF0D))) tt (
       (0x80 ∷ 0xA5 ∷ 0x203E ∷ 0xFF9F ∷ [], Byte 0x80 ∷ Byte 0x5C ∷ Byte 0x7E ∷ Byte 0xDF ∷ [])
       ∷ (0x2212 ∷ 0xFF0D ∷ [], Byte 0x81 ∷ Byte 0x7C ∷ Byte 0x81 ∷ Byte 0x7C ∷ []) ∷ [])
+  -- pointers 8272 to 8835 are not used
+  pub shift_jis_pointers : Computes (by_scalar (shift_jis_encodes (entry_at 8272 0x4E00))) tt (
+      (0x4E00 ∷ [], Unmappable 0x4E00 ∷ []) ∷ [])
   pub euc_jp : Computes (by_scalar (euc_jp_encodes (entry_at 60 0xFF0D))) tt (
       (0xA5 ∷ 0x203E ∷ 0xFF61 ∷ 0x2212 ∷ 0x80 ∷ [], Byte 0x5C ∷ Byte 0x7E ∷ Byte 0x8E ∷ Byte 0xA1 ∷ Byte 0xA1 ∷ Byte 0xDD ∷ Unmappable 0x80 ∷ []) ∷ [])
   pub gb18030 : Computes (by_scalar (gb18030_encodes false (0x4E02 ∷ []) ((39394, 0xFFE6) ∷ []) ((0xE81E, 0xFE, 0x59) ∷ []))) tt (

@@ -1,21 +1,21 @@
-use Rattle.std.proofs.Common.{◌≡◌, ◌∙◌, ℕ, ◌+◌, ◌-◌, ◌/◌, ◌%◌, ◌≤◌, ◌<◌, true, false, List, [], ◌∷◌, ◌++◌, length, Some, None, nat_lt, inl, inr, refl, sym, ap}
+use Rattle.std.proofs.Common.{◌≡◌, ◌∙◌, ℕ, Bool, ◌+◌, ◌-◌, ◌/◌, ◌%◌, ◌≤◌, ◌<◌, true, false, List, [], ◌∷◌, ◌++◌, length, Some, None, inl, inr, refl, sym, ap}
 use Rattle.std.proofs.{Common.{subst, arith, rules}, lemmas.List.{get_or-replicate, get_or-append_right, length-replicate, length-append}}
 use Rattle.std.proofs.{Math.ListN.get_or-append, lemmas.Bool.{and_right, cases_lt}, lemmas.Bool.Decides.nat_tests}
 use Rattle.std.specs.{Prelude.{replicate, slice_index, option_map}, Int.is_in_range}
 use borrow.Author.Tests.{lt-ltb, le-ltb}
 use Rattle.legacy_base.specs.{declared.results.EncodeEvent.EncodeEvent, declared.results.EncodeEvent.TheVariants.{Byte, Unmappable}, Encoders.new_encoder}
 use Rattle.legacy_base.specs.{Encoders.encoded, Gb18030.gb18030_code, EncodeEvents.{code_events, plain_events}, ShiftJis.shift_jis_code, EucJp.euc_jp_bytes}
-use Rattle.legacy_base.specs.{EucJp.euc_jp_code, Iso2022Jp.{iso_2022_jp_code, settled_mode, mode_behind, iso_2022_jp_text_events, part_mode}}
+use Rattle.legacy_base.specs.{EucJp.euc_jp_code, Iso2022Jp.{iso_2022_jp_code, settled_mode, mode_behind, iso_2022_jp_text_events}}
 use Rattle.legacy_tables.specs.{Indexes.{entry_scalar, range}, TableChecks.range_order_fault, Pointers.{every_pointer, is_jis0208_pointer, first_pointer}}
-use Rattle.legacy_tables.specs.Pointers.{last_pointer, euc_jp_pointer_of, range_pointer_of}
+use Rattle.legacy_tables.specs.Pointers.{is_shift_jis_pointer, last_pointer, last_below, euc_jp_pointer_of, range_pointer_of}
 use Rattle.legacy_tables.proofs.{Pointers.{first-alike, first-is, first-none}, RangePointers.pointer-past}
 use Rattle.legacy_standard.specs.{Processing.process, SingleByte.single_byte_handler, UserDefined.user_defined_handler, Replacement.replacement_handler}
 use Rattle.legacy_standard.specs.{EucKr.euc_kr_handler, Big5.big5_handler, ShiftJis.shift_jis_handler, EucJp.euc_jp_handler, Gb18030.gb18030_handler}
-use Rattle.legacy_standard.specs.{Utf16.utf16_handler, Iso2022Jp.iso_2022_jp_handler, Iso2022JpPlaces.mode_after, TextQueue.by_scalar}
+use Rattle.legacy_standard.specs.{Utf16.utf16_handler, Iso2022Jp.iso_2022_jp_handler, TextQueue.by_scalar}
 use Rattle.legacy_standard.specs.{IndexPointers.{index_pointer, ranges_pointer}, SingleByteEncoder.single_byte_encodes, UserDefinedEncoder.user_defined_encodes}
-use Rattle.legacy_standard.specs.{EucKrEncoder.euc_kr_encodes, Big5Encoder.big5_encodes, ShiftJisEncoder.shift_jis_encodes, EucJpEncoder.euc_jp_at}
-use Rattle.legacy_standard.specs.{EucJpEncoder.euc_jp_encodes, Gb18030Encoder.gb18030_encodes, Iso2022JpEncoder.iso_2022_jp_encodes, EncoderLaw.IsFold}
-use Rattle.legacy_standard.specs.WorkedTexts.{entry_at, Parts}
+use Rattle.legacy_standard.specs.{EucKrEncoder.euc_kr_encodes, Big5Encoder.big5_encodes, ShiftJisEncoder.{shift_jis_encodes, shift_jis_pointer_bytes}}
+use Rattle.legacy_standard.specs.{EucJpEncoder.{euc_jp_at, euc_jp_encodes}, Gb18030Encoder.gb18030_encodes, Iso2022JpEncoder.iso_2022_jp_encodes}
+use Rattle.legacy_standard.specs.{EncoderLaw.IsFold, WorkedTexts.{entry_at, Computes, Parts}}
 use Rattle.legacy_base.specs.Encoders as codecs
 use Rattle.legacy_standard.specs.TextQueue as text_queue
 use Rattle.legacy_standard.proofs.worked_rows.Goals as goal
@@ -42,11 +42,20 @@ entry_pointer n =
     (slice-entry n 0x4E00)
     (λ k h. let empty = slice-before n 0x4E00 k h in rw empty refl)
 
-entry_past : (n : ℕ) → 8836 ≤ n → euc_jp_pointer_of (entry_at n 0x4E00) 0x4E00 ≡ None
-entry_past n past = first-none is_jis0208_pointer (entry_at n 0x4E00) 0x4E00 (λ k h. elim (cases_lt k n) [
-  | inl l ↦ let empty = slice-before n 0x4E00 k l in rw empty (and_right (is_jis0208_pointer k) false refl)
-  | inr r ↦ let out : nat_lt k 8836 ≡ false = le-ltb k 8836 (omega arith) in rw out refl
+entry_unused : (may : ℕ → Bool) (n : ℕ) → may n ≡ false → first_pointer may (entry_at n 0x4E00) 0x4E00 ≡ None
+entry_unused may n unused = first-none may (entry_at n 0x4E00) 0x4E00 (λ k h. elim (cases_lt k n) [
+  | inl l ↦ let empty = slice-before n 0x4E00 k l in rw empty (and_right (may k) false refl)
+  | inr r ↦ let is : k ≡ n = omega (arith, length-append {A = ℕ}, length-replicate {A = ℕ}) in rw (is, unused) refl
 ])
+
+unused_row : (n : ℕ) → is_shift_jis_pointer n ≡ false →
+    Computes (by_scalar (shift_jis_encodes (entry_at n 0x4E00))) tt ((0x4E00 ∷ [], Unmappable 0x4E00 ∷ []) ∷ [])
+unfolding text_queue.process shift_jis_encodes
+unused_row n unused =
+    let handler = by_scalar (shift_jis_encodes (entry_at n 0x4E00)) in
+    let handled : List EncodeEvent = Unmappable 0x4E00 ∷ [] in
+    subst (λ o. text_queue.act_on (text_queue.process handler 19) (text_queue.bytes_or_error shift_jis_pointer_bytes o 0x4E00) tt [] ∷ []
+    ≡ Some handled ∷ []) (sym (entry_unused is_shift_jis_pointer n unused)) refl
 
 past_rows : (n : ℕ) → 8836 ≤ n → Parts (by_scalar (euc_jp_encodes (entry_at n 0x4E00))) tt (codecs.euc_jp (entry_at n 0x4E00) []) 0x4E00
     (Byte (n / 94 + 0xA1) ∷ Byte (n % 94 + 0xA1) ∷ []) (Unmappable 0x4E00 ∷ [])
@@ -56,7 +65,8 @@ past_rows n past =
     let handled : List EncodeEvent = Byte (n / 94 + 0xA1) ∷ Byte (n % 94 + 0xA1) ∷ [] in (
       subst (λ o. text_queue.act_on (text_queue.process (by_scalar (euc_jp_encodes index)) 19) (euc_jp_at o 0x4E00) tt [] ≡ Some handled)
           (sym (entry_pointer n)) refl,
-      subst (λ o. code_events 0x4E00 (option_map euc_jp_bytes o) ++ [] ≡ Unmappable 0x4E00 ∷ []) (sym (entry_past n past)) refl,
+      subst (λ o. code_events 0x4E00 (option_map euc_jp_bytes o) ++ [] ≡ Unmappable 0x4E00 ∷ [])
+          (sym (entry_unused is_jis0208_pointer n (le-ltb n 8836 past))) refl,
     )
 
 -- all pointers are in the 94 rows of 94 if the index has at most that many entries
@@ -76,13 +86,25 @@ fold c h =
 
 pub returns-clause-bytes : goal.returns-clause-bytes
 unfolding process single_byte_handler user_defined_handler replacement_handler euc_kr_handler big5_handler shift_jis_handler euc_jp_handler gb18030_handler
-    utf16_handler iso_2022_jp_handler range mode_after part_mode
+    utf16_handler iso_2022_jp_handler range
 returns-clause-bytes c = search rules
 
 pub returns-clause-texts : goal.returns-clause-texts
 unfolding text_queue.process single_byte_encodes user_defined_encodes euc_kr_encodes big5_encodes shift_jis_encodes euc_jp_encodes gb18030_encodes
-    iso_2022_jp_encodes ranges_pointer first_pointer last_pointer
-returns-clause-texts c = search rules
+    iso_2022_jp_encodes ranges_pointer first_pointer last_pointer last_below
+returns-clause-texts c = record {
+  single_byte = refl;
+  user_defined = refl;
+  euc_kr = refl;
+  big5 = refl;
+  big5_pointers = refl;
+  shift_jis = refl;
+  shift_jis_pointers = unused_row 8272 refl;
+  euc_jp = refl;
+  gb18030 = refl;
+  gbk = refl;
+  iso_2022_jp = refl;
+}
 
 pub returns-clause-without_pointers : goal.returns-clause-without_pointers
 unfolding text_queue.process shift_jis_encodes euc_jp_encodes gb18030_encodes ranges_pointer iso_2022_jp_encodes first_pointer plain_events
