@@ -323,7 +323,7 @@ fn form_at<C: LaneCodec>(
 // Any block is longer, so one loop reads every form.
 #[inline(always)]
 #[tactic(auto, using(crate::proofs::WrittenRuns::writes_none, crate::proofs::WrittenRuns::four_fit))]
-fn read_last<C: LaneCodec, T: Destination>(
+pub(crate) fn read_last<C: LaneCodec, T: Destination>(
     blocks: &LaneBlocks<'_, '_, C>,
     src: &[u8],
     dst: &mut T,

@@ -5,9 +5,9 @@ ghost use Rattle.legacy_tables.specs.AcceptedTables.{AcceptedIndexes};
 ghost use Rattle.legacy_base.specs.States.{new_state};
 ghost use Rattle.legacy_decoder_engine.specs.ReadAhead.{HasAscii, ReadsAhead};
 
-use crate::lane_blocks::{LaneBlocks, begins_uncommon, read_any_longer, read_in_turn};
+use crate::lane_blocks::{LaneBlocks, begins_uncommon, read_any_longer, read_in_turn, read_last};
 use crate::lane_codec::LaneCodec;
-use crate::read_ahead::{read_ascii, read_blocks};
+use crate::read_ahead::{SHORT_BLOCK, read_ascii, read_ascii_nearby, read_blocks};
 use legacy_base::{Destination, Tables};
 use legacy_tables::DecoderTables;
 use std::cell::Cell;
@@ -45,11 +45,17 @@ fn read_without_lanes<C: LaneCodec, T: Destination>(
 {
     let mut at = 0;
     while at < most {
+        at += read_ascii_nearby(&src[at..], dst);
+        if src.len() - at < SHORT_BLOCK {
+            return at + read_last(blocks, &src[at..], dst);
+        }
+        if begins_uncommon::<C>(&src[at..]) {
+            return at;
+        }
+        let before = at;
         at += read_any_longer::<C, T>(blocks.tables, blocks.guess, &src[at..], dst);
         at += read_in_turn::<C, T>(blocks.tables, &src[at..], most, dst);
-        let ascii = read_ascii(&src[at..], dst);
-        at += ascii;
-        if ascii == 0 {
+        if at == before || at == src.len() || src[at] >= 0x80 {
             return at;
         }
     }

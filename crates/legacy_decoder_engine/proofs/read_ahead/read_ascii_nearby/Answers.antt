@@ -1,0 +1,5 @@
+use Rattle.legacy_decoder_engine.proofs.{JoinedRuns.reads_more}
+use Rattle.legacy_decoder_engine.proofs.read_ahead.read_ascii_nearby.Goals as goal
+
+pub returns-clause-ahead : goal.returns-clause-ahead
+returns-clause-ahead g c grammar law = reads_more (c.read_short_block-front.ensures.ahead grammar law) (c.read_ascii.ensures.ahead grammar law)
