@@ -86,6 +86,10 @@ fn read_parts<P: Parts, T: Destination>(parts: &P, src: &[u8], most: usize, dst:
     at
 }
 
+/// The greatest number of bytes past ASCII in a block that is stored whole.
+// Each of them costs a block. In French text one byte of twenty is past ASCII.
+const MANY: u32 = 16;
+
 /// ASCII, and bytes past it without another one beside them.
 // A whole block is stored after each byte past ASCII, and the output after the next ASCII bytes is overwritten. So no
 // branch depends on the place of the next byte past ASCII, which no processor predicts.
@@ -97,10 +101,13 @@ struct Fronts<'a> {
 impl Parts for Fronts<'_> {
     ghost grammar = { λ fronts. single_byte fronts.scalars.now.table.now.entries };
 
-    /// Reads up to 64 bytes, up to two bytes past ASCII beside each other.
+    /// Reads up to 64 bytes, up to two bytes past ASCII beside each other, or nothing if many are past ASCII.
     #[inline(always)]
     fn read_part<T: Destination>(&self, src: &[u8], most: usize, dst: &mut T) -> (usize, bool) {
         let mut past = past_ascii(u8x64::from_slice(src));
+        if past.count_ones() > MANY {
+            return (0, false);
+        }
         let end = most.min(64);
         let mut at = 0;
         loop {
