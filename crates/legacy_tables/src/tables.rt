@@ -235,7 +235,7 @@ impl<'a> Tables<'a> {
     ghost use Rattle.legacy_tables.specs.Pointers.{shift_jis_pointer_of, euc_jp_pointer_of};
     ghost use Rattle.legacy_tables.specs.Pointers.{gb18030_pointer_of, range_pointer_of};
     ghost use Rattle.std.specs.Option.{IfSome};
-    ghost use Rattle.std.specs.Prelude.{◌<◌, length, true, MatchOption};
+    ghost use Rattle.std.specs.Prelude.{◌<◌, ◌≤◌, length, true, MatchOption};
     ghost use Rattle.legacy_tables.specs.Packed.{packed_fault, ArePackedTables};
 
     /// Returns the tables of the indexes, or the first fault.
@@ -280,7 +280,7 @@ impl<'a> Tables<'a> {
     #[tactic(auto, using(crate::proofs::PackedAccepted::entry_bounds))]
     pub fn unpack_big5<'b>(&self, room: &'b mut [u32]) -> Option<&'b [u32]>
         ensures { MatchOption result (length room.old < length self.now.flat.big5)
-            (λ flat. flat.now ≡ self.now.flat.big5) }
+            (λ flat. (flat.now ≡ self.now.flat.big5) × (length self.now.flat.big5 ≤ length room.old)) }
     {
         match &self.kept {
             KeptTables::Flat(tables) => unpack(&tables.wide(), room),
@@ -296,7 +296,8 @@ impl<'a> Tables<'a> {
     pub fn unpack<'b>(&self, name: IndexName, room: &'b mut [u16]) -> Option<&'b [u16]>
         requires { is_narrow_index name ≡ true }
         ensures { MatchOption result (length room.old < length (index_list self.now.flat name))
-            (λ flat. flat.now ≡ index_list self.now.flat name) }
+            (λ flat. (flat.now ≡ index_list self.now.flat name)
+            × (length (index_list self.now.flat name) ≤ length room.old)) }
     {
         match &self.kept {
             KeptTables::Flat(tables) => unpack(&tables.narrow(name), room),

@@ -51,7 +51,7 @@ impl<'a> Model for PackedTables<'a> {
 
 impl<'a> PackedTables<'a> {
     ghost use Rattle.legacy_tables.specs.Tables.{flat_indexes, index_list, is_narrow_index};
-    ghost use Rattle.std.specs.Prelude.{◌<◌, length, slice_index, true, MatchOption};
+    ghost use Rattle.std.specs.Prelude.{◌<◌, ◌≤◌, length, slice_index, true, MatchOption};
     ghost use Rattle.legacy_tables.specs.Packed.{packed_fault, ArePackedTables};
 
     /// Returns what `Tables::packed_of` does.
@@ -78,7 +78,7 @@ impl<'a> PackedTables<'a> {
     /// Returns what `Tables::unpack_big5` does.
     pub(super) fn unpack_big5<'b>(&self, room: &'b mut [u32]) -> Option<&'b [u32]>
         ensures { MatchOption result (length room.old < length self.now.flat.big5)
-            (λ flat. flat.now ≡ self.now.flat.big5) }
+            (λ flat. (flat.now ≡ self.now.flat.big5) × (length self.now.flat.big5 ≤ length room.old)) }
     {
         unpack(&self.runs.big5, room)
     }
@@ -91,7 +91,8 @@ impl<'a> PackedTables<'a> {
     ) -> Option<&'b [u16]>
         requires { is_narrow_index name ≡ true }
         ensures { MatchOption result (length room.old < length (index_list self.now.flat name))
-            (λ flat. flat.now ≡ index_list self.now.flat name) }
+            (λ flat. (flat.now ≡ index_list self.now.flat name)
+            × (length (index_list self.now.flat name) ≤ length room.old)) }
     {
         match name {
             IndexName::EucKr => unpack(&self.runs.euc_kr, room),

@@ -50,7 +50,8 @@ pub(super) fn unpack<'b, N: Numbers, E: Entry>(index: &N, room: &'b mut [E]) -> 
     requires { (p : ℕ) → slice_index (N.numbers index.now) p < E.limit }
     ensures { MatchOption result
         (length room.old < length (N.numbers index.now))
-        (λ flat. E.numbers flat.now ≡ N.numbers index.now) }
+        (λ flat. (E.numbers flat.now ≡ N.numbers index.now)
+        × (length (N.numbers index.now) ≤ length room.old)) }
 {
     let count = index.count();
     if room.len() < count {
