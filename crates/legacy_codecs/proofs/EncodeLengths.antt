@@ -30,6 +30,7 @@ fills-room begun h = h
 fills-room (called before to_come room f after answer read bytes n e) h = next-lowers n (fills-room f h) e
 
 pub encode_queried_length_suffices : (form : EncodingForm) → EncodeQueriedLengthSuffices form
-encode_queried_length_suffices form from units k free e h before to_come room f after answer read bytes n =
-    let start = encoder_room-answer form from units k e in
-    next-suffices n (fills-room f (omega arith))
+encode_queried_length_suffices form from units n k free more e h before to_come room f after answer read bytes next =
+    let rises = encoder_room-rises form from units n more in
+    let start = encoder_room-answer form from n k e in
+    next-suffices next (fills-room f (omega arith))

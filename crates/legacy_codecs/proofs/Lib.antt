@@ -13,7 +13,11 @@ pub mod Replaced
 pub mod Replacements
 pub mod ReferenceTexts
 pub mod ReferencingCalls
+pub mod ReferenceRoundTrips
+pub mod ByteRoundTrips
 pub mod StandardRuns
+pub mod StandardTexts
+pub mod OneResult
 pub mod MalformedSequences
 pub mod WholePieces
 pub mod WholeTexts

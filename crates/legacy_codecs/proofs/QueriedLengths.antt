@@ -1,20 +1,24 @@
 -- Calls that fill one output leave the room that the rest of the bytes needs.
-use Rattle.std.proofs.Common.{◌≡◌, ◌≢◌, ℕ, ◌+◌, ◌-◌, ◌≤◌, List, length, drop, length-drop, refl, arith}
+use Rattle.std.proofs.Common.{◌≡◌, ◌≢◌, ℕ, ◌+◌, ◌-◌, ◌≤◌, Bool, List, length, drop, length-drop, refl, arith}
 use Rattle.legacy_base.specs.{declared.results.DecoderResult.DecoderResult, declared.results.DecoderResult.TheVariants.OutputFull, States.DecoderState}
 use Rattle.legacy_base.specs.Lengths.{LengthQuery, query_form, answer_units, room}
-use Rattle.legacy_text.specs.EncodingForm.{total_unit_count}
+use Rattle.legacy_text.specs.EncodingForm.{EncodingForm, total_unit_count}
 use Rattle.legacy_base.proofs.Enough.{room-rises, room-answer}
+use Rattle.legacy_codecs.specs.{declared.results.CoderResult.CoderResult, declared.results.CoderResult.TheVariants.InputEmpty}
 use Rattle.legacy_codecs.specs.{QueriedOutput.{NextCall, Fills, QueriedLengthSuffices}, QueriedOutput.Fills.{begun, called}}
+use Rattle.legacy_codecs.specs.{QueriedOutput.{NextReplacingCall, ReplacingFills, ReplacingQueriedLengthSuffices}, Replacing.replacing_query}
+use Rattle.legacy_codecs.specs.QueriedOutput.ReplacingFills.{begun as begun_replacing, called as called_replacing}
+
+-- the bytes that are left to come after a call with a source of some of them
+rest-of : (source : List ℕ) (read bytes : ℕ) → read ≤ length source → length source ≤ bytes →
+    (length (drop read source) + (bytes - length source) ≡ bytes - read) × (length source + (bytes - length source) ≡ bytes)
+rest-of source read bytes within some = let behind = length-drop read source in (omega arith, omega arith)
 
 module _ (query : LengthQuery) (before : DecoderState) (bytes free : ℕ) (after : DecoderState) (answer : DecoderResult) (read : ℕ) (scalars : List ℕ)
     (n : NextCall query before bytes free after answer read scalars) where
   next-lowers : room query after (bytes - read) + (total_unit_count (query_form query) scalars + answer_units query answer) ≤ room query before bytes
   next-lowers =
-      let some = n.some in
-      let within = n.call.within in
-      let behind = length-drop read n.source in
-      let rest : length (drop read n.source) + (bytes - length n.source) ≡ bytes - read = omega arith in
-      let all : length n.source + (bytes - length n.source) ≡ bytes = omega arith in
+      let (rest, all) = rest-of n.source read bytes n.call.within n.some in
       rw (rest, all) at (n.call.lowers query refl (bytes - length n.source) (λ l. let e = n.all l in omega arith))
 
   next-suffices : room query before bytes ≤ free → answer ≢ OutputFull
@@ -29,8 +33,34 @@ fills-room {query = query} (called before to_come left f after answer read scala
     omega arith
 
 pub queried_length_suffices : (query : LengthQuery) → QueriedLengthSuffices query
-queried_length_suffices query from bytes units free e h before to_come left f after answer read scalars n =
-    let start = room-answer query from bytes bytes units (omega arith) e in
+queried_length_suffices query from bytes n units free more e h before to_come left f after answer read scalars next =
+    let start = room-answer query from bytes n units more e in
     let r : room query before to_come ≤ left = fills-room f (omega arith) in
-    let low = next-lowers query before to_come left after answer read scalars n in
-    (next-suffices query before to_come left after answer read scalars n r, omega arith)
+    let low = next-lowers query before to_come left after answer read scalars next in
+    (next-suffices query before to_come left after answer read scalars next r, omega arith)
+
+-- ---- calls with replacement
+
+module _ {form : EncodingForm} {before : DecoderState} {bytes free : ℕ} {after : DecoderState} {answer : CoderResult} {read : ℕ} {written : List ℕ}
+    {found : Bool} (n : NextReplacingCall form before bytes free after answer read written found) where
+  replacing-lowers : room (replacing_query form) after (bytes - read) + length written ≤ room (replacing_query form) before bytes
+  replacing-lowers =
+      let (rest, all) = rest-of n.source read bytes n.call.within n.some in
+      rw (rest, all) at (n.call.lowers (bytes - length n.source) (λ l. let e = n.all l in omega arith))
+
+  replacing-suffices : room (replacing_query form) before bytes ≤ free → answer ≡ InputEmpty
+  replacing-suffices h =
+      let rises = room-rises (replacing_query form) before (length n.source) bytes n.some in n.call.suffices (omega arith)
+
+replacing_fills-room : {form : EncodingForm} {from : DecoderState} {bytes free : ℕ} {s : DecoderState} {to_come left : ℕ} →
+    ReplacingFills form from bytes free s to_come left → room (replacing_query form) from bytes ≤ free → room (replacing_query form) s to_come ≤ left
+replacing_fills-room begun_replacing h = h
+replacing_fills-room (called_replacing before to_come left f after answer read written found n) h =
+    let r = replacing_fills-room f h in
+    let low = replacing-lowers n in
+    omega arith
+
+pub replacing_queried_length_suffices : (form : EncodingForm) → ReplacingQueriedLengthSuffices form
+replacing_queried_length_suffices form from bytes n units free more e h before to_come left f after answer read written found next =
+    let start = room-answer (replacing_query form) from bytes n units more e in
+    replacing-suffices next (replacing_fills-room f (omega arith))

@@ -25,7 +25,8 @@ pub runs_are_decoded : RunsAreDecodedByHandlers
 runs_are_decoded decoder bytes all answered run =
     subst (HandlerDecodes decoder bytes) (sym (placed-zero _) ∙ finished_gives run) (all_decoders decoder bytes all)
 
-accepted_ranges : (codec : Codec) → HasAcceptedLists codec → HasAcceptedRanges codec
+-- accepted tables have accepted ranges
+pub accepted_ranges : (codec : Codec) → HasAcceptedLists codec → HasAcceptedRanges codec
 accepted_ranges (gb18030 index ranges pua) (indexes, _, same, _) =
     let p = parts indexes.flat indexes.accepted in
     subst AreAcceptedRanges (sym same) (record { ordered = p.ordered; valued = p.valued })
@@ -33,8 +34,8 @@ accepted_ranges _ lists = tt
 
 pub run_is_encoded : (before : EncoderState) (pieces : List (List ℕ)) {finished : Bool} {answered : List EncodeEvent} →
     IsEncodeBeginning before pieces finished answered → RunIsEncodedByHandler before pieces finished answered
-run_is_encoded before pieces {answered = answered} b codec lists has new done all = grind (arith, append-nil, all_encoders, accepted_ranges)
+run_is_encoded before pieces {answered = answered} b codec ranges has new done all = grind (arith, append-nil, all_encoders)
 
 pub runs_are_encoded : RunsAreEncodedByHandlers
-runs_are_encoded codec lists has text all answered run =
-    subst (HandlerEncodes codec text) (finished_encodes run) (all_encoders codec (accepted_ranges codec lists) has text all)
+runs_are_encoded codec ranges has text all answered run =
+    subst (HandlerEncodes codec text) (finished_encodes run) (all_encoders codec ranges has text all)

@@ -28,11 +28,11 @@ pub data EncodeFills (form : EncodingForm) (from : EncoderState) (units free : �
       (answer ≡ InputEmpty → n.last ≡ false) →
       EncodeFills form from units free after (to_come - read) (room - length bytes)
 
--- An output of at least the length queried for all code units to come suffices: no call returns OutputFull, however the
--- text is cut. Nothing is written for unmappable scalars.
+-- An output of at least the length queried for at least the code units to come suffices: no call returns OutputFull,
+-- however the text is cut. Nothing is written for unmappable scalars.
 abbrev pub EncodeQueriedLengthSuffices : EncodingForm → Type 0
 EncodeQueriedLengthSuffices form =
-    (from : EncoderState) (units k free : ℕ) → encoder_answer form from units ≡ Some k → k ≤ free →
+    (from : EncoderState) (units n k free : ℕ) → units ≤ n → encoder_answer form from n ≡ Some k → k ≤ free →
     (before : EncoderState) (to_come room : ℕ) → EncodeFills form from units free before to_come room →
     (after : EncoderState) (answer : EncoderResult) (read : ℕ) (bytes : List ℕ) →
     NextEncodeCall form before to_come room after answer read bytes → answer ≢ OutputFull

@@ -9,6 +9,9 @@ pub mod EncodeFilling
 pub mod Replacing
 pub mod References
 pub mod StandardRuns
+pub mod StandardTexts
+pub mod ReferenceRoundTrips
+pub mod ByteRoundTrips
 pub mod MalformedSequences
 pub mod WholeTexts
 pub mod RunResults

@@ -31,7 +31,8 @@ pub record RunEncodes (before : EncoderState) (pieces : List (List ℕ)) (length
   pub calls : IsEncodeRun (place_before before pieces) lengths run.calls run.finished run.events.items after
   -- the events are a prefix of those of all pieces, and all of them if the run is finished
   pub beginning : IsEncodeBeginning before pieces run.finished run.events.items
-  -- if the encoder was new, its tables lack no pointer and the run is finished, the Standard's handler gives these events
+  -- if the encoder was new, its ranges are accepted, no pointer is missing and the run is finished, the Standard's handler
+  -- gives these events
   pub standard : RunIsEncodedByHandler before pieces run.finished run.events.items
   -- if the run is finished, the encoder has no end left to write
   pub none_left : IsTrue run.finished → HasNoEnd after

@@ -5,9 +5,8 @@ use Rattle.legacy_base.specs.declared.results.EncodeEvent.{EncodeEvent}
 use Rattle.legacy_tables.specs.Unicode.{AreBytes, AreScalars}
 use Rattle.legacy_base.specs.States.{DecoderState, new_state}
 use Rattle.legacy_base.specs.Encoders.{Codec, EncoderState, new_encoder}
-use Rattle.legacy_base.specs.RoundTrips.{HasAcceptedLists}
 use Rattle.legacy_standard.specs.DecoderLaw.{Decoder, grammar_of, HandlerDecodes}
-use Rattle.legacy_standard.specs.EncoderLaw.{HasPointers, HandlerEncodes}
+use Rattle.legacy_standard.specs.EncoderLaw.{HasAcceptedRanges, HasPointers, HandlerEncodes}
 use Rattle.legacy_codecs.specs.Pieces.{joined}
 use Rattle.legacy_codecs.specs.Runs.{FinishedRun}
 use Rattle.legacy_codecs.specs.EncodeRuns.{FinishedEncodeRun}
@@ -21,11 +20,11 @@ RunIsDecodedByHandler before pieces finished answered =
     (decoder : Decoder) → before ≡ new_state (grammar_of decoder) → IsTrue finished → AreBytes (joined pieces) →
     HandlerDecodes decoder (joined pieces) answered
 
--- Let the encoder be new, its tables accepted and without a missing pointer, and the run finished. Then its events are
--- what the handler of the Standard's encoder gives for all pieces together.
+-- Let the encoder be new, its ranges accepted, no pointer missing, and the run finished. Then its events are what the
+-- handler of the Standard's encoder gives for all pieces together.
 abbrev pub RunIsEncodedByHandler : EncoderState → List (List ℕ) → Bool → List EncodeEvent → Type 0
 RunIsEncodedByHandler before pieces finished answered =
-    (codec : Codec) → HasAcceptedLists codec → HasPointers codec → before ≡ new_encoder codec →
+    (codec : Codec) → HasAcceptedRanges codec → HasPointers codec → before ≡ new_encoder codec →
     IsTrue finished → AreScalars (joined pieces) →
     HandlerEncodes codec (joined pieces) answered
 
@@ -41,7 +40,7 @@ RunsAreDecodedByHandlers =
 -- the same for any finished run of a new encoder over a text
 abbrev pub RunsAreEncodedByHandlers : Type 0
 RunsAreEncodedByHandlers =
-    (codec : Codec) → HasAcceptedLists codec → HasPointers codec →
+    (codec : Codec) → HasAcceptedRanges codec → HasPointers codec →
     (text : List ℕ) → AreScalars text →
     (answered : List EncodeEvent) → FinishedEncodeRun (new_encoder codec) text answered →
     HandlerEncodes codec text answered

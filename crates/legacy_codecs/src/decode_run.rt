@@ -164,7 +164,7 @@ fn decode_run<D: RawDecoder, F: OutputForm>(
 ///
 /// If the decoder was new, the events of a finished run are those of the Standard's decoder: the
 /// code points and errors of its handler for all pieces together, with the place and length of each
-/// error. In ISO-2022-JP an error of the handler ends as late as `lateness` says.
+/// error.
 ///
 /// A run is always finished if each length is at least 4 and there are enough of them: as many as
 /// the whole input has events and pieces together, or more.

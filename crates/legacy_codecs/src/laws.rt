@@ -2,12 +2,15 @@
 ghost use Rattle.legacy_base.specs.Lengths.{to_utf16, to_utf8, to_utf8_without_replacement};
 ghost use Rattle.legacy_text.specs.EncodingForm.{Utf8, Utf16};
 ghost use Rattle.legacy_base.specs.RoundTrips.{RoundTrips, EscapesAreInPlace, ReencodesToTheSame, EncodesWellFormed, EscapesStayApart, ReencodesAnyText};
-ghost use Rattle.legacy_codecs.specs.QueriedOutput.{QueriedLengthSuffices};
+ghost use Rattle.legacy_codecs.specs.QueriedOutput.{QueriedLengthSuffices, ReplacingQueriedLengthSuffices};
 ghost use Rattle.legacy_codecs.specs.EncodeFilling.{EncodeQueriedLengthSuffices};
 ghost use Rattle.legacy_codecs.specs.EncodeRuns.{EncodeCutsDoNotMatter};
 ghost use Rattle.legacy_codecs.specs.RoundTripRuns.{RunsEncode, RunsRoundTrip, RunsReencodeToTheSame, RunsEncodeWellFormed};
 ghost use Rattle.legacy_codecs.specs.Runs.{CutsDoNotMatter};
+ghost use Rattle.legacy_codecs.specs.ReferenceRoundTrips.{ReferencesRoundTrip, ReferencesKeepEscapesApart, ReencodesReferences, RunsReadReferences};
+ghost use Rattle.legacy_codecs.specs.ByteRoundTrips.{BytesRoundTrip, RunsKeepBytes};
 ghost use Rattle.legacy_codecs.specs.StandardRuns.{RunsAreDecodedByHandlers, RunsAreEncodedByHandlers};
+ghost use Rattle.legacy_codecs.specs.StandardTexts.{TextsAreDecodedByHandlers, TextsAreEncodedByHandlers};
 
 pub use legacy_decoders::laws::{
     events_are_sound, lists_are_read_by_fronts, nothing_has_no_events,
@@ -21,11 +24,11 @@ pub use legacy_standard::{
 /// Let a new decoder, as `new` makes it, read bytes to their end in a finished run. Run over all
 /// these bytes, the handler of the Standard's decoder finishes with the same code points and
 /// errors, however the bytes were cut. Each error has the place and length of the malformed
-/// sequence. In ISO-2022-JP it ends as late as `lateness` says.
+/// sequence.
 ///
-/// Let a new encoder with accepted tables write a text to its end in a finished run. Run over the
-/// whole text, the handler of the Standard's encoder finishes with the same bytes and errors. For
-/// that the tables need these pointers, which the Standard's indexes have:
+/// Let a new encoder write a text to its end in a finished run. Run over the whole text, the handler
+/// of the Standard's encoder finishes with the same bytes and errors. For that, the ranges of
+/// GB18030 must be accepted, and the tables need these pointers, which the Standard's indexes have:
 ///
 /// - in Shift_JIS one for U+FF0D;
 /// - in EUC-JP and ISO-2022-JP one below 8836 for U+FF0D and for each scalar of index jis0208;
@@ -41,16 +44,37 @@ pub fn runs_are_the_standards()
     // A finished run returns all events of its input, and the handlers give the same ones.
 }
 
+/// Shows that calls over whole inputs and texts return what the Standard's coders give.
+///
+/// Let a new decoder read a whole input, as `decode_whole`, `malformed_sequences` and `transcode`
+/// do. The handler of the Standard's decoder gives the same text in error mode "replacement". The
+/// malformed sequences are its errors, as in `runs_are_the_standards`.
+///
+/// Let a new encoder write a whole text, as `encode_whole` and `transcode` do, with ranges and
+/// pointers as in `runs_are_the_standards`. The handler of the Standard's encoder gives the same
+/// bytes in error mode "html".
+pub fn texts_are_the_standards()
+    ensures decoders { TextsAreDecodedByHandlers }
+    ensures encoders { TextsAreEncodedByHandlers }
+{
+    // These calls return all events of their input, and the handlers give the same ones.
+}
+
 /// Shows that a length queried of a decoder for all bytes to come suffices for all calls over them.
 ///
 /// Let an output have at least the length that one of a decoder's three length queries returned for
-/// `n` bytes. Let calls write into that output, each into its free part, until `n` bytes are read
-/// in pieces of any lengths. If the query counts U+FFFD, let it be written after each `Malformed`.
-/// Then no call returns `OutputFull`, and what is written always fits.
+/// at least the bytes to come. Let calls write into that output, each into its free part, until
+/// these bytes are read in pieces of any lengths. If the query counts U+FFFD, let it be written
+/// after each `Malformed`. Then no call returns `OutputFull`, and what is written always fits.
+///
+/// The same holds of calls with replacement, such as `decode_replacing_utf8`, and the two queries
+/// that count U+FFFD.
 pub fn queried_length_suffices()
     ensures utf16 { QueriedLengthSuffices to_utf16 }
     ensures utf8 { QueriedLengthSuffices to_utf8 }
     ensures utf8_without_replacement { QueriedLengthSuffices to_utf8_without_replacement }
+    ensures replacing_utf16 { ReplacingQueriedLengthSuffices Utf16 }
+    ensures replacing_utf8 { ReplacingQueriedLengthSuffices Utf8 }
 {
     // Each call lowers the room that the rest needs by at least what it writes.
 }
@@ -69,9 +93,9 @@ pub fn cuts_do_not_matter()
 /// Shows that a length queried of an encoder for all code units to come suffices for all calls.
 ///
 /// Let an output have at least the length that one of an encoder's two length queries returned for
-/// `n` code units of UTF-8 or UTF-16. Let calls write into that output, each into its free part,
-/// until the text is at its end, in pieces of any lengths. Let nothing be written for an unmappable
-/// scalar. Then no call returns `OutputFull`.
+/// at least the code units of UTF-8 or UTF-16 to come. Let calls write into that output, each into
+/// its free part, until the text is at its end, in pieces of any lengths. Let nothing be written
+/// for an unmappable scalar. Then no call returns `OutputFull`.
 pub fn encode_queried_length_suffices()
     ensures from_utf16 { EncodeQueriedLengthSuffices Utf16 }
     ensures from_utf8 { EncodeQueriedLengthSuffices Utf8 }
@@ -147,11 +171,9 @@ pub fn reencodes_to_the_same()
 /// in all encodings but three:
 ///
 /// - In GB18030 and GBK the text must have no scalar of a private-use row whose bytes have no
-///   scalar in index gb18030. The Standard's rows contain no such scalar.
-/// - In ISO-2022-JP no two escapes may meet in the bytes: the first of two is malformed. They meet
-///   only at unmappable scalars between a scalar of two bytes and one of two bytes or of Roman
-///   mode: after two bytes, an unmappable scalar is reported in ASCII mode. So they never meet if
-///   nothing is unmappable.
+///   scalar in index gb18030. In the Standard's own tables there is none, which is not proved here.
+/// - In ISO-2022-JP no two escapes may meet in the bytes: the first of two is malformed. They never
+///   meet if nothing is unmappable.
 ///
 /// The same holds of runs: any finished run of a decoder over the bytes of a finished run of an
 /// encoder.
@@ -161,4 +183,45 @@ pub fn encodes_well_formed()
     ensures runs { RunsEncodeWellFormed }
 {
     // An unmappable scalar leaves no bytes, so what is read are the codes of the others.
+}
+
+/// Shows that a text encoded with references decodes to itself, with the references.
+///
+/// Let a new encoder write any text to its end, with a decimal reference for each unmappable scalar
+/// (`&#233;`, the Standard's error mode "html"), as `encode_whole` does. Then the decoder of the
+/// same encoding and tables reads each scalar that has a code, and for each other one the characters
+/// of its reference. Nothing is malformed. A fold is read as the scalar with whose bytes it is
+/// written. In ISO-2022-JP the reference for U+000E, U+000F and U+001B is that of U+FFFD.
+///
+/// In GB18030 and GBK the text must have no scalar of a private-use row whose bytes have no scalar
+/// in index gb18030. In all other encodings this holds of every text. In ISO-2022-JP the bytes end
+/// in ASCII mode, and no two escapes in them are adjacent.
+///
+/// The text that is read is encoded as the same bytes again, if each fold has the code of the scalar
+/// that it is read as (`reencodes_to_the_same`).
+///
+/// Runs read the same: any finished run of a decoder over the bytes and references of a finished run
+/// of an encoder.
+pub fn references_round_trip()
+    ensures texts { ReferencesRoundTrip }
+    ensures escapes { ReferencesKeepEscapesApart }
+    ensures again { ReencodesReferences }
+    ensures runs { RunsReadReferences }
+{
+    // Every encoder writes the characters of a reference as themselves.
+}
+
+/// Shows that well-formed bytes are encoded to themselves again, in encodings of single bytes.
+///
+/// Let the decoder of a single-byte encoding with an accepted table, or of x-user-defined, read
+/// bytes with nothing malformed. Then a new encoder with the same table writes the text that it
+/// read as exactly these bytes, and no scalar is unmappable. The same holds of finished runs,
+/// however the bytes and the text are cut.
+///
+/// `docs/DIFFERENCES.md` has the smallest counterexamples in other encodings.
+pub fn bytes_round_trip()
+    ensures texts { BytesRoundTrip }
+    ensures runs { RunsKeepBytes }
+{
+    // No two bytes are read as the same scalar.
 }

@@ -34,7 +34,7 @@ fn sequence_at(read: usize, length: u8, back: u8) -> MalformedSequence
 ///
 /// The sequences are those of the bytes that the decoder held back and all of `input`, whose end is
 /// the end of the input. A place counts bytes of `input` from 0. The text is not kept, and no event
-/// is left.
+/// is left. Those of a new decoder are the Standard's errors (`laws::texts_are_the_standards`).
 ///
 /// - `TooLong`: exactly if `max_utf8_buffer_length_without_replacement` returns `None` for the
 ///   length of `input`.

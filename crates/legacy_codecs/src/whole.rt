@@ -4,6 +4,7 @@ ghost use Rattle.std.specs.Str.{chars};
 ghost use Rattle.legacy_text.specs.EncodingForm.{Utf8};
 ghost use Rattle.legacy_base.specs.Encoders.{encoded, end_bytes};
 ghost use Rattle.legacy_base.specs.Lengths.{query_answer, to_utf8};
+ghost use Rattle.legacy_base.specs.States.{rests};
 ghost use Rattle.legacy_codecs.specs.References.{referenced_bytes};
 ghost use Rattle.legacy_codecs.specs.WholeTexts.{text_of, TextGoesOn};
 
@@ -39,7 +40,8 @@ impl From<AllocError> for SizedError {
 ///
 /// The result has the characters of the bytes that the decoder held back and of all of `input`,
 /// whose end is the end of the input (Encoding Standard, error mode "replacement"). Then nothing is
-/// left to write. Take a new decoder for the next input.
+/// left to write. Take a new decoder for the next input. The text of a new decoder is that of the
+/// Standard's (`laws::texts_are_the_standards`).
 ///
 /// - `TooLong`: exactly if `max_utf8_buffer_length` returns `None` for the length of `input`.
 /// - `Memory`: the allocation of that many bytes failed.
@@ -78,7 +80,7 @@ pub fn decode_whole<D: RawDecoder>(
 ///
 /// Returns the number of bytes written to the beginning of `output`. The whole piece is read: pass
 /// the next piece in the next call. If the piece ends inside a sequence, the decoder holds its
-/// bytes back. Set `last` for the final piece and for no other. After it nothing is left to write.
+/// bytes back, and never a whole character. Set `last` for the final piece and for no other. After it nothing is left to write.
 /// The bytes of `output` after those written may change.
 ///
 /// `output` must be at least as long as the result of `max_utf8_buffer_length` for the length of
@@ -95,6 +97,7 @@ pub fn decode_piece<D: RawDecoder>(
     ensures within { result ≤ length output.new }
     ensures text { TextGoesOn Utf8 last (D.state decoder.old) piece.now (D.state decoder.new)
         (take result output.new) }
+    ensures rests { let after = D.state decoder.new in IsTrue (rests after.grammar after.held) }
     ensures end { IsTrue last → text_of (D.state decoder.new) [] ≡ [] }
 {
     let (_, _, written, _) = decode_replacing_utf8(decoder, piece, output, last);
@@ -105,7 +108,8 @@ pub fn decode_piece<D: RawDecoder>(
 ///
 /// The result has the bytes of all of `text` and of its end, for ISO-2022-JP with the escape back
 /// to ASCII. A reference is written as `&#128169;` (Encoding Standard, error mode "html"). Then
-/// the encoder can take another.
+/// the encoder can take another. The bytes of a new encoder are those of the Standard's, with tables
+/// as in `laws::texts_are_the_standards`.
 ///
 /// If an allocation fails, the result is `AllocError`. The encoder may then have read a part of the
 /// text: take a new one.
@@ -166,6 +170,7 @@ pub fn transcode<D: RawDecoder, E: RawEncoder>(
         bytes.items ≡ referenced_bytes (encoded (E.state encoder.old) text true)) }
     ensures end { IfOk result (λ bytes. (text_of (D.state decoder.new) [] ≡ [])
         × (end_bytes (E.state encoder.new) ≡ [])) }
+    ensures codec { IfOk result (λ bytes. (E.state encoder.new).codec ≡ (E.state encoder.old).codec) }
     ensures too_long { (result ≡ Err SizedError.TooLong)
         ↔ query_answer to_utf8 (D.state decoder.old) (length input.now) ≡ None }
 {
