@@ -55,6 +55,7 @@ module _ {b a : DecoderState} {i j : Option (List ℕ)} {Shown Weaker : List Dec
     events = r.events;
     progress = r.progress;
     shown = weaker r.events r.shown;
+    settled = r.settled;
     beginning = r.beginning;
   }
 

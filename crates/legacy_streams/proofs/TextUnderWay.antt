@@ -81,7 +81,14 @@ module _ {before : DecoderState} {piece : List ℕ} {last : Bool} {now : Decoder
       let s = text_step w in
       let done = c.input_empty e in
       let none : drop (offset + read) piece ≡ [] = drop_of_length-le piece (let l = done.0 in omega (arith, length-drop offset piece)) in
-      record { passed = s.passed; events = s.events; progress = rw (← none) s.progress; shown = (s.found_is, s.written); ended = done.2 }
+      record {
+        passed = s.passed;
+        events = s.events;
+        progress = rw (← none) s.progress;
+        shown = (s.found_is, s.written);
+        settled = (c.allowed, done.1);
+        ended = done.2;
+      }
 
   -- each call that fills the output gives an event
   gave_event : 4 ≤ free → answer ≡ OutputFull → 1 ≤ length c.out

@@ -1,11 +1,11 @@
 -- Decoding a whole input: what holds after each piece.
 use Rattle.std.proofs.Common.{◌≡◌, ◌∙◌, ◌≤◌, ℕ, ◌+◌, List, [], ◌++◌, length, refl, sym, ap, arith, append-nil, length-append, Bool, true, false, IsTrue}
-use Rattle.std.proofs.{Common.{append_assoc, take, drop, take-append-drop, Option, inl}, lemmas.List.{length-take, length-take-le}}
+use Rattle.std.proofs.{Common.{append_assoc, take, drop, take-append-drop, Option, ◌⊎◌, inl, inr}, lemmas.List.{length-take, length-take-le}}
 use Rattle.std.proofs.KnownBytes.{Appends-trans, Consumes-nil, Consumes-trans, Consumes-kept, Keeps-refl}
 use Rattle.std.specs.Io.KnownBytes.{Appends, Consumes, IsAtEnd, Keeps}
 use Rattle.legacy_base.specs.{declared.results.DecodeEvent.DecodeEvent, Events.shift, Grammar.events_of, States.DecoderState, Calls.Progress}
 use Rattle.legacy_base.proofs.Progress.{stay, after_that, at_last, behind}
-use Rattle.legacy_streams.specs.Streams.{AppendsFront, AppendsAtLeast, DecodesPiece, DecodesFront, DecodesAll, DecodesBeginning, DecodesPartly}
+use Rattle.legacy_streams.specs.Streams.{AppendsFront, AppendsAtLeast, IsSettled, DecodesPiece, DecodesFront, DecodesAll, DecodesBeginning, DecodesPartly}
 
 -- ---- a front of some bytes
 
@@ -32,6 +32,7 @@ at_least mid w f = record { more = f.sent; written = Appends-trans _ _ _ _ _ w f
 pub record Whole (before : DecoderState) (total : ℕ) (now : DecoderState) (left_old left : Option (List ℕ)) (Shown : List DecodeEvent → Type 0) : Type 0 where
   pub bytes : List ℕ
   pub count : length bytes ≡ total
+  pub settled : (bytes ≡ []) ⊎ IsSettled now
   pub read : Consumes left_old left bytes
   pub passed : ℕ
   pub events : List DecodeEvent
@@ -40,7 +41,7 @@ pub record Whole (before : DecoderState) (total : ℕ) (now : DecoderState) (lef
 
 pub whole_start : (before : DecoderState) (left : Option (List ℕ)) (Shown : List DecodeEvent → Type 0) → Shown [] → Whole before 0 before left left Shown
 whole_start before left Shown none =
-    record { bytes = []; count = refl; read = Consumes-nil left; passed = 0; events = []; progress = stay false before []; shown = none }
+    record { bytes = []; count = refl; read = Consumes-nil left; passed = 0; events = []; progress = stay false before []; shown = none; settled = inl refl }
 
 -- What is true of all events, if this is true of those before a piece and of those of the piece.
 pub record Joins (before now : DecoderState) (total : ℕ) (First Second Both : List DecodeEvent → Type 0) : Type 0 where
@@ -59,6 +60,7 @@ module _ {before now : DecoderState} {total : ℕ} {left_old left_mid : Option (
     events = w.events;
     progress = w.progress;
     shown = weaker w.events w.shown;
+    settled = w.settled;
     beginning = λ more. (shift w.passed (events_of _ (_ ++ ([] ++ more))), w.progress.events more (λ f. absurd (let no : false ≡ true = f in cc)));
   }
 
@@ -87,6 +89,7 @@ module _ {before now : DecoderState} {total : ℕ} {left_old left_mid : Option (
           events = all_events p.events;
           progress = way_on false piece p.progress;
           shown = j.join w.passed w.events p.events place w.shown p.shown;
+          settled = inr p.settled;
         }
 
     pub whole_end : {last : Bool} → IsAtEnd left → last ≡ true → DecodesPiece now piece last after Second → DecodesAll before after left_old left Both

@@ -1,9 +1,9 @@
 -- Decoding a stream: which events were decoded, and what is true of them.
-use Rattle.std.specs.Prelude.{◌≡◌, ◌≤◌, ℕ, List, [], ◌++◌, length, Bool, true, false, IsTrue, Option}
+use Rattle.std.specs.Prelude.{◌≡◌, ◌≤◌, ◌⊎◌, ℕ, List, [], ◌++◌, length, Bool, true, false, IsTrue, Option}
 use Rattle.std.specs.Io.KnownBytes.{Appends, Consumes, IsAtEnd}
 use Rattle.legacy_base.specs.declared.results.DecodeEvent.{DecodeEvent}
 use Rattle.legacy_base.specs.Grammar.{events_of}
-use Rattle.legacy_base.specs.States.{DecoderState}
+use Rattle.legacy_base.specs.States.{DecoderState, may_hold, rests}
 use Rattle.legacy_base.specs.Calls.{Progress}
 
 -- A front of the bytes was written.
@@ -20,12 +20,17 @@ pub record AppendsAtLeast (old new : Option (List ℕ)) (bytes : List ℕ) : Typ
 
 -- ---- one piece of the input
 
+-- The decoder holds back only bytes that its codec may hold back, and no scalar.
+abbrev pub IsSettled : DecoderState → Type 0
+IsSettled state = IsTrue (may_hold state.grammar state.held) × IsTrue (rests state.grammar state.held)
+
 -- The whole piece was decoded, and `Shown` is true of its events.
 pub record DecodesPiece (before : DecoderState) (piece : List ℕ) (last : Bool) (after : DecoderState) (Shown : List DecodeEvent → Type 0) : Type 0 where
   pub passed : ℕ
   pub events : List DecodeEvent
   pub progress : Progress last before piece passed after [] events
   pub shown : Shown events
+  pub settled : IsSettled after
   pub ended : IsTrue last → events_of after.grammar after.held ≡ []
 
 -- A part of the piece was decoded, and `Shown` is true of its events.
@@ -50,7 +55,7 @@ pub record DecodesAll (before after : DecoderState) (input_old input_new : Optio
   pub ended : events_of after.grammar after.held ≡ []
 
 -- Some bytes of the input were read and decoded, and `Shown` is true of their events. All events begin with these,
--- whatever the rest of the input is. The decoder has read exactly those bytes.
+-- whatever the rest of the input is. The decoder has read exactly those bytes, and holds back no scalar of them.
 pub record DecodesBeginning (before after : DecoderState) (input_old input_new : Option (List ℕ)) (Shown : List DecodeEvent → Type 0) : Type 0 where
   pub bytes : List ℕ
   pub read : Consumes input_old input_new bytes
@@ -58,6 +63,7 @@ pub record DecodesBeginning (before after : DecoderState) (input_old input_new :
   pub events : List DecodeEvent
   pub progress : Progress false before bytes passed after [] events
   pub shown : Shown events
+  pub settled : (bytes ≡ []) ⊎ IsSettled after
   pub beginning : (more : List ℕ) → (rest : List DecodeEvent) × (events_of before.grammar (before.held ++ (bytes ++ more)) ≡ events ++ rest)
 
 -- Some bytes of the input were read, and a part of them was decoded. `Shown` is true of the events of that part. All
