@@ -1,11 +1,11 @@
 -- What is known of a single-byte table that was read of a file.
-use Rattle.std.proofs.Common.{◌≡◌, ◌↔◌, ℕ, List, Some, Result, Ok, Err}
+use Rattle.std.proofs.Common.{◌≡◌, ◌≢◌, ◌↔◌, ℕ, List, Some, Result, Ok, Err}
 use Rattle.legacy_index_files.specs.{declared.index_file.FileIndex.TheVariants.SingleByte, declared.index_file.EncoderIndex.TheVariants.Of}
 use Rattle.legacy_index_files.specs.{declared.index_file.IndexFileError.IndexFileError, declared.index_file.IndexFileError.TheVariants.{Line, Memory}}
 use Rattle.legacy_index_files.specs.{declared.index_file.FileTable.FileTable, declared.index_file.FileTable.TheVariants.{Wide, Narrow, Ranges, Bytes}}
 use Rattle.legacy_index_files.specs.{declared.owned_indexes.OwnedIndexes.OwnedIndexes, IndexLine.lines, IndexTable.{entries_of, first_malformed, IsTableOf}}
 use Rattle.legacy_index_files.specs.{IndexTable.IsSingleByteIndexOf, OwnedIndexes.{HoldsFile, with_table}}
-use Rattle.legacy_index_files.proofs.WellFormed.{well_formed_ok, well_formed_memory}
+use Rattle.legacy_index_files.proofs.WellFormed.{well_formed_ok}
 use Rattle.legacy_encodings.specs.{declared.registry.RegistryError.TheVariants.File, SingleByteFiles.{IsSingleByteFile, IsSingleByteFault}}
 
 -- the set has what the file of the single-byte index says
@@ -31,6 +31,6 @@ module _ {T : Type 0} (text : List ℕ) (result : Result T IndexFileError)
   }
 
   -- and why it was not
-  pub single_byte_fault_of : (error : IndexFileError) → result ≡ Err error → IsSingleByteFault text (File error)
-  single_byte_fault_of (Line n) e = (line n).0 e
-  single_byte_fault_of Memory e = well_formed_memory (Of SingleByte) text result line e
+  pub single_byte_fault_of : result ≢ Err Memory → (error : IndexFileError) → result ≡ Err error → IsSingleByteFault text (File error)
+  single_byte_fault_of never (Line n) e = (line n).0 e
+  single_byte_fault_of never Memory e = absurd (never e)

@@ -14,11 +14,11 @@ pub record IsSingleByteFile (file entries : List ℕ) : Type 0 where
   pub well_formed : first_malformed SingleByte 1 (lines file) ≡ None
   pub says : IsSingleByteIndexOf (entries_of SingleByte (lines file)) entries
 
--- The condition of each error for such a file. Any two exclude each other, except a failed allocation, which is
--- possible if the steps before it succeeded.
+-- The condition of each error for such a file. Any two exclude each other. Only the list of tables is allocated, after
+-- the file was read and its table passed the check.
 abbrev pub IsSingleByteFault : List ℕ → RegistryError → Type 0
 IsSingleByteFault file (File (reading.Line n)) = first_malformed SingleByte 1 (lines file) ≡ Some n
-IsSingleByteFault file (File reading.Memory) = first_malformed SingleByte 1 (lines file) ≡ None
+IsSingleByteFault file (File reading.Memory) = ⊥
 IsSingleByteFault file (Tables fault) = (entries : List ℕ) × IsSingleByteFile file entries × (single_byte_fault entries ≡ Some fault)
 IsSingleByteFault file (Sized sized.Memory) = (entries : List ℕ) × IsSingleByteFile file entries × IsAcceptedTable entries
 IsSingleByteFault file _ = ⊥

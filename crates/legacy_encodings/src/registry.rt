@@ -122,7 +122,7 @@ impl Registry {
     /// A table that was read earlier for the encoding is used no more. For a multi-byte encoding it
     /// adds a table that no coder uses. The indexes are unchanged, and after an error the tables too.
     ///
-    /// - `File`: `text` has a malformed line (`read_index`), or an allocation failed.
+    /// - `File(Line)`: `text` has a malformed line (`read_index`).
     /// - `Tables`: the entries of `text` are refused (`SingleByteTable::new`).
     /// - `Sized(Memory)`: the allocation for the list of tables failed.
     pub fn read_single_byte(

@@ -1,5 +1,5 @@
 //! The reader of an index file.
-ghost use Rattle.std.specs.Prelude.{◌≡◌, ℕ, ◌↔◌, List, Some, None, Err, IfOk};
+ghost use Rattle.std.specs.Prelude.{◌≡◌, ◌≢◌, ℕ, ◌↔◌, List, Some, None, Err, IfOk};
 ghost use Rattle.legacy_index_files.specs.IndexLine.{lines, line_kind};
 ghost use Rattle.legacy_index_files.specs.IndexGrammar.{IsOfKind};
 ghost use Rattle.legacy_index_files.specs.IndexTable.{first_malformed, entries_of, IsTableOf};
@@ -88,12 +88,13 @@ pub enum IndexFileError {
 ///
 /// Returns the table of the lines. If a pointer occurs twice, the later value counts; the ranges
 /// keep both lines. Returns `Line` for the first line that does not have this form, and `Memory`
-/// only if there is no such line.
+/// only if there is no such line. A single-byte index allocates nothing, so it never gives `Memory`.
 #[tactic(auto, using(crate::proofs::IndexGrammars::kind_by_grammar))]
 pub fn read_index(alloc: Global, name: FileIndex, text: &[u8]) -> Result<FileTable, IndexFileError>
     ensures table { IfOk result (λ table. IsTableOf name (entries_of name (lines text.now)) table) }
     ensures line { (n : ℕ) → (result ≡ Err (IndexFileError.Line n))
         ↔ (first_malformed name 1 (lines text.now) ≡ Some n) }
+    ensures memory { name ≡ FileIndex.SingleByte → result ≢ Err IndexFileError.Memory }
     ensures grammar { (line : List ℕ) → IsOfKind line (line_kind line) }
 {
     let length = match check_lines(EncoderIndex::Of(name), text) {

@@ -1,5 +1,5 @@
 //! An owning set of indexes, read from index files, which lends its tables.
-ghost use Rattle.std.specs.Prelude.{◌≡◌, ℕ, ◌↔◌, List, [], Some, Err, IfOk, OnErr, MatchResult};
+ghost use Rattle.std.specs.Prelude.{◌≡◌, ◌≢◌, ℕ, ◌↔◌, List, [], Some, Err, IfOk, OnErr, MatchResult};
 ghost use Rattle.legacy_tables.specs.Tables.{flat_indexes};
 ghost use Rattle.legacy_tables.specs.TableChecks.{table_fault, single_byte_fault};
 ghost use Rattle.legacy_index_files.specs.IndexLine.{lines};
@@ -121,6 +121,7 @@ impl OwnedIndexes {
             → IfOk result (λ _. HoldsTexts (with_text texts name text.now) self.new) }
         ensures line { (n : ℕ) → (result ≡ Err (IndexFileError.Line n))
             ↔ (first_malformed name 1 (lines text.now) ≡ Some n) }
+        ensures memory { name ≡ FileIndex.SingleByte → result ≢ Err IndexFileError.Memory }
         ensures unchanged { OnErr result (self.new ≡ self.old) }
     {
         match read_index(alloc, name, text) {

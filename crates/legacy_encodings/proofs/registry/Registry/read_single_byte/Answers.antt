@@ -5,7 +5,7 @@ use Rattle.legacy_encodings.proofs.registry.Registry.read_single_byte.Goals as g
 pub returns-in_err-read-clause-table : goal.returns-in_err-read-clause-table
 returns-in_err-read-clause-table c =
     let p = err_from_is_err_and c.from_residual.result c.from_residual.ensures.1 in
-    rw (p.1, p.2) (single_byte_fault_of c.args.text.now _ c.in_err-read.ensures.line _ refl)
+    rw (p.1, p.2) (single_byte_fault_of c.args.text.now _ c.in_err-read.ensures.line (c.in_err-read.ensures.memory refl) _ refl)
 
 pub returns-in_err-table-clause-table : goal.returns-in_err-table-clause-table
 returns-in_err-table-clause-table c =
