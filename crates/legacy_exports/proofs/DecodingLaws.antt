@@ -1,22 +1,26 @@
 -- Calls of a decoder, one after another.
 use Rattle.std.proofs.Common.{◌≡◌, ◌∙◌, ℕ, ◌+◌, ◌-◌, ◌≤◌, ◌<◌, List, [], ◌∷◌, ◌++◌, length, drop, take, refl, sym, ap, arith}
-use Rattle.std.proofs.Common.{◌≢◌, ◌⊎◌, append-nil, length-append, length-drop, length-take, Bool, true, false, ◌||◌, IsTrue, inl, inr, subst}
+use Rattle.std.proofs.Common.{◌≢◌, ◌⊎◌, Bool, true, false, ◌||◌, IsTrue, inl, inr, subst}
+use Rattle.std.proofs.Common.{map, append-nil, append_assoc, length-append, length-drop, length-take}
 use Rattle.std.proofs.{Common.nat_eq, lemmas.Bool.Decides.nat_tests, Math.Bool.{or-true}, Math.Seq.drop-nil, lemmas.List.Folds.drop_split}
 use Rattle.std.proofs.lemmas.List.{drop-drop, drop-append-le, drop_all, nil_from_length}
 use Rattle.legacy_base.specs.declared.results.DecodeEvent.{DecodeEvent}
+use Rattle.legacy_base.specs.declared.results.DecodeEvent.TheVariants.{Scalar, Bad}
 use Rattle.legacy_base.specs.declared.results.DecoderResult.{DecoderResult}
 use Rattle.legacy_base.specs.declared.results.DecoderResult.TheVariants.{InputEmpty, OutputFull, Malformed}
 use Rattle.legacy_base.specs.{Events.shift, Grammar.{Grammar, events_of, as_new}, States.{DecoderState, rests}, DecoderActs.{LacksRoom, full_room_in}}
-use Rattle.legacy_base.specs.Calls.{Progress, DecoderCall, may_report_end, out_events}
+use Rattle.legacy_base.specs.Calls.{Progress, DecoderCall, IsMalformedSequence, may_report_end, out_events}
 use Rattle.legacy_text.specs.EncodingForm.{EncodingForm, code_units, all_code_units, bmp_room}
 use Rattle.legacy_text.proofs.CodeUnits.{all_code_units-append}
+use Rattle.legacy_base.proofs.Shifts.{shift-append}
 use Rattle.legacy_base.proofs.Progress.{stay, at_less, behind, after_that}
 use Rattle.legacy_codecs.specs.Replacing.{replaced_scalars, has_malformed, may_replace_end, ReplacingDecoderCall}
 use Rattle.legacy_codecs.specs.declared.results.CoderResult.{CoderResult}
 use Rattle.legacy_codecs.proofs.Replaced.{replaced-append, replaced-shift, replaced-of_scalars, has_malformed-append, has_malformed-shift, length-shift}
 use Rattle.legacy_codecs.proofs.Replacements.{reported_scalars, replacement_count}
 use Rattle.legacy_codecs.specs.declared.results.CoderResult.TheVariants as coder
-use Rattle.legacy_exports.specs.Decoding.{end_of, Decodes, DecodingCall, DecodesSource, HadFullRoom}
+use Rattle.legacy_exports.specs.Decoding.{DecoderKind, raw_calls, replacing_calls, end_of, Decodes, DecodingCall, DecodesSource, HadFullRoom}
+use Rattle.legacy_exports.specs.Decoding.{EndsMalformed, FoundMalformed, HadReport, HadMalformed}
 use Rattle.legacy_exports.specs.declared.calls.CallEnd.{CallEnd}
 use Rattle.legacy_exports.specs.declared.calls.CallEnd.TheVariants.{Read, Full, Replaced}
 
@@ -39,23 +43,33 @@ replacing_decodes c = record {
 all_read : (source : List ℕ) (read : ℕ) → read ≡ length source → drop read source ≡ []
 all_read source read e = drop_all read source (omega (arith, e))
 
+true_or_false : (b : Bool) → IsTrue b ⊎ (b ≡ false)
+true_or_false b = grind arith
+
+-- it found a malformed sequence, or has room for the bytes held back
+replacing_held : {form : EncodingForm} {before : DecoderState} {source : List ℕ} {last : Bool} {free : ℕ} {after : DecoderState} {answer : CoderResult}
+    {read : ℕ} {written : List ℕ} {found : Bool} (c : ReplacingDecoderCall form before source last free after answer read written found) →
+    0 < read → after.held ≢ [] → IsTrue (has_malformed c.out) ⊎ (full_room_in form before.grammar ≤ free - length written)
+replacing_held c some held =
+    elim (true_or_false (has_malformed c.out)) [ inl found ↦ inl found | inr none ↦ inr (c.room_held some (c.found_is ∙ none) held) ]
+
 pub replacing_call : {form : EncodingForm} {before : DecoderState} {source : List ℕ} {last : Bool} {free : ℕ} {after : DecoderState} (answer : CoderResult)
     {read : ℕ} {written : List ℕ} {found : Bool} →
     ReplacingDecoderCall form before source last free after answer read written found →
-    DecodingCall form before source last free after (end_of answer) read written
+    DecodingCall replacing_calls form before source last free after (end_of answer) read written
 replacing_call {source = source} coder.InputEmpty {read} c =
     let e = c.input_empty refl in
     record {
       decodes = replacing_decodes c;
       ends = (all_read source read e.0, e.1, e.2);
       replaced = λ f. cc;
-      room_held = λ some none held. c.room_held some (c.found_is ∙ none) held;
+      room_held = replacing_held c;
     }
 replacing_call coder.OutputFull c = record {
   decodes = replacing_decodes c;
   ends = c.output_full refl;
   replaced = λ f. cc;
-  room_held = λ some none held. c.room_held some (c.found_is ∙ none) held;
+  room_held = replacing_held c;
 }
 
 -- what is written for the events of a raw call
@@ -67,9 +81,16 @@ found-report : (last : Bool) (seen : ℕ) (scalars : List ℕ) (answer : Decoder
     IsTrue (may_replace_end last (has_malformed (out_events seen scalars answer)) left)
 found-report last seen scalars answer left h = grind (arith, has_malformed-append, or-true)
 
--- a report is one of a malformed sequence
-malformed-report : (seen : ℕ) (scalars : List ℕ) (a b : ℕ) → has_malformed (out_events seen scalars (Malformed a b)) ≡ true
-malformed-report seen scalars a b = grind (arith, has_malformed-append, or-true)
+-- a report is the last event, and the bytes after the malformed sequence are those held back
+ends_malformed : (before after : DecoderState) (read : ℕ) (scalars : List ℕ) (a b : ℕ) → IsMalformedSequence (length before.held + read) after a b →
+    EndsMalformed before after read (out_events (length before.held + read) scalars (Malformed a b))
+ends_malformed before after read scalars a b m = record {
+  earlier = map Scalar scalars;
+  place = length before.held + read - b - a;
+  size = a;
+  is = refl;
+  seen = omega (arith, m.held, m.within);
+}
 
 -- a raw call, with U+FFFD after it if it reports a malformed sequence
 abbrev raw_decodes : {form : EncodingForm} {before : DecoderState} {source : List ℕ} {last : Bool} {free : ℕ} {after : DecoderState} {answer : DecoderResult}
@@ -98,37 +119,38 @@ some_room form = grind arith
 module _ {form : EncodingForm} {before : DecoderState} {source : List ℕ} {last : Bool} {free : ℕ} {after : DecoderState} {read : ℕ}
     {scalars units : List ℕ} where
   pub raw_empty : units ≡ all_code_units form scalars → DecoderCall form before source last free after InputEmpty read scalars →
-      DecodingCall form before source last free after Read read units
+      DecodingCall raw_calls form before source last free after Read read units
   raw_empty e c =
       let all = c.input_empty refl in
       record {
         decodes = raw_decodes units (quiet form scalars units e) c;
         ends = (all_read source read all.0, all.1, all.2);
         replaced = λ f. cc;
-        room_held = λ some none held. rw e (c.room_held some held);
+        room_held = λ some held. inr (rw e (c.room_held some held));
       }
 
   pub raw_full : units ≡ all_code_units form scalars → DecoderCall form before source last free after OutputFull read scalars →
-      DecodingCall form before source last free after Full read units
+      DecodingCall raw_calls form before source last free after Full read units
   raw_full e c = record {
     decodes = raw_decodes units (quiet form scalars units e) c;
     ends = rw e (c.output_full refl);
     replaced = λ f. cc;
-    room_held = λ some none held. rw e (c.room_held some held);
+    room_held = λ some held. inr (rw e (c.room_held some held));
   }
 
   pub raw_malformed : {a b : ℕ} (marked : List ℕ) → units ≡ all_code_units form scalars → marked ≡ units ++ code_units form 0xFFFD →
-      DecoderCall form before source last free after (Malformed a b) read scalars → DecodingCall form before source last free after Replaced read marked
+      DecoderCall form before source last free after (Malformed a b) read scalars →
+      DecodingCall raw_calls form before source last free after Replaced read marked
   raw_malformed {a} {b} marked e f c =
       let one : all_code_units form (0xFFFD ∷ []) ≡ code_units form 0xFFFD = append-nil (code_units form 0xFFFD) in
       let all : marked ≡ all_code_units form (scalars ++ 0xFFFD ∷ []) = rw (all_code_units-append form scalars (0xFFFD ∷ []), one, ← e) f in
       let some : 1 ≤ length marked = omega (arith, ap length f, length-append units (code_units form 0xFFFD), replacement_count form, some_room form) in
-      let found = malformed-report (length before.held + read) scalars a b in
+      let reported = ends_malformed before after read scalars a b c.malformed_sequence in
       record {
         decodes = raw_decodes marked all c;
         ends = some;
-        replaced = λ _. found;
-        room_held = λ _ none _. let never : true ≡ false = sym found ∙ none in cc;
+        replaced = λ _. reported;
+        room_held = λ _ _. inl reported;
       }
 
 -- ---- calls one after another
@@ -180,6 +202,18 @@ module _ {form : EncodingForm} {last : Bool} {before : DecoderState} {source : L
 
   found_by_it : IsTrue (has_malformed c.out) → IsTrue (has_malformed out_after)
   found_by_it h = rw (found_after, h) (or-true (has_malformed r.out))
+
+  -- if the call ended with a malformed sequence, the calls up to it did
+  ends_after : EndsMalformed now after count c.out → EndsMalformed before after (read + count) out_after
+  ends_after m = record {
+    earlier = r.out ++ shift r.passed m.earlier;
+    place = r.passed + m.place;
+    size = m.size;
+    is =
+        ap (λ l. r.out ++ shift r.passed l) m.is ∙ ap (λ l. r.out ++ l) (shift-append r.passed m.earlier (Bad m.place m.size ∷ []))
+        ∙ sym (append_assoc r.out (shift r.passed m.earlier) (Bad (r.passed + m.place) m.size ∷ []));
+    seen = omega (arith, m.seen, r.progress.counts, length-drop read source, r.within);
+  }
 
   progress_after : Progress (may_replace_end true (has_malformed out_after) (drop (read + count) source)) before source (r.passed + c.passed) after
       (drop (read + count) source) out_after
@@ -248,25 +282,41 @@ same_room form g h e = sym (full-as_new form g) ∙ ap (full_room_in form) e ∙
 none_or_some : (n : ℕ) → (n ≡ 0) ⊎ (0 < n)
 none_or_some n = grind arith
 
-true_or_false : (b : Bool) → IsTrue b ⊎ (b ≡ false)
-true_or_false b = grind arith
+-- a malformed sequence of the calls before one that read nothing
+had_sooner : (kind : DecoderKind) (form : EncodingForm) (source : List ℕ) (before : DecoderState) {read : ℕ} (done : List ℕ) (out : List DecodeEvent)
+    (n : ℕ) (all : List ℕ) (found : List DecodeEvent) → read ≡ n → length done ≤ length all → (IsTrue (has_malformed out) → IsTrue (has_malformed found)) →
+    HadMalformed kind form source before read done out → HadMalformed kind form source before n all found
+had_sooner raw_calls form source before done out n all found same longer f h =
+    let moved = subst (λ m. HadReport form source before m done) same h in
+    record { stage = moved.stage; earlier = moved.earlier; decodes = moved.decodes; reported = moved.reported; sooner = omega (arith, moved.sooner, longer) }
+had_sooner replacing_calls form source before done out n all found same longer f h = f h
+
+-- a malformed sequence of the last call
+had_now : (kind : DecoderKind) {form : EncodingForm} {source : List ℕ} {before now after : DecoderState} {n count : ℕ} {all : List ℕ}
+    {out : List DecodeEvent} (more : Decodes form true before source after n all) →
+    (EndsMalformed now after count out → EndsMalformed before after n more.out) → (IsTrue (has_malformed out) → IsTrue (has_malformed more.out)) →
+    FoundMalformed kind now after count out → HadMalformed kind form source before n all more.out
+had_now raw_calls {after = after} {all = all} more e f h = record { stage = after; earlier = all; decodes = more; reported = e h; sooner = omega arith }
+had_now replacing_calls more e f h = f h
 
 -- a conversion up to the place `read`, with `total` code units in the output
-pub record Conversion (form : EncodingForm) (source : List ℕ) (total : ℕ) (before now : DecoderState) (read : ℕ) (done : List ℕ) : Type 0 where
+pub record Conversion (kind : DecoderKind) (form : EncodingForm) (source : List ℕ) (total : ℕ) (before now : DecoderState) (read : ℕ) (done : List ℕ)
+    : Type 0 where
   pub decodes : Decodes form true before source now read done
   -- no scalar is held back, but at the beginning or after a malformed sequence
-  pub rested : (read ≡ 0) ⊎ (IsTrue (has_malformed decodes.out) ⊎ IsTrue (rests now.grammar now.held))
-  pub room_held : now.held ≢ [] → (read ≡ 0) ⊎ (IsTrue (has_malformed decodes.out) ⊎ HadFullRoom form source total before now read)
+  pub rested : (read ≡ 0) ⊎ (HadMalformed kind form source before read done decodes.out ⊎ IsTrue (rests now.grammar now.held))
+  pub room_held : now.held ≢ [] →
+      (read ≡ 0) ⊎ (HadMalformed kind form source before read done decodes.out ⊎ HadFullRoom form source total before now read)
 
-pub conversion_start : (form : EncodingForm) (source : List ℕ) (total : ℕ) (before : DecoderState) (units : List ℕ) → length units ≡ 0 →
-    Conversion form source total before before 0 units
-conversion_start form source total before units e =
+pub conversion_start : (kind : DecoderKind) (form : EncodingForm) (source : List ℕ) (total : ℕ) (before : DecoderState) (units : List ℕ) → length units ≡ 0 →
+    Conversion kind form source total before before 0 units
+conversion_start kind form source total before units e =
     record { decodes = decodes_start form before source units e; rested = inl refl; room_held = λ _. inl refl }
 
 -- a call in the piece that ends at `end`, after calls up to the place `read`
-module _ {form : EncodingForm} {before : DecoderState} {source : List ℕ} {total : ℕ} {now : DecoderState} {read : ℕ} {done : List ℕ}
-    (k : Conversion form source total before now read done) {end : ℕ} {last : Bool} {free : ℕ} {after : DecoderState} {answer : CallEnd} {count : ℕ}
-    {units : List ℕ} (c : DecodingCall form now (take (end - read) (drop read source)) last free after answer count units) (within : read ≤ end)
+module _ {kind : DecoderKind} {form : EncodingForm} {before : DecoderState} {source : List ℕ} {total : ℕ} {now : DecoderState} {read : ℕ} {done : List ℕ}
+    (k : Conversion kind form source total before now read done) {end : ℕ} {last : Bool} {free : ℕ} {after : DecoderState} {answer : CallEnd} {count : ℕ}
+    {units : List ℕ} (c : DecodingCall kind form now (take (end - read) (drop read source)) last free after answer count units) (within : read ≤ end)
     (none : IsTrue last → drop end source ≡ []) where
   parts : drop read source ≡ take (end - read) (drop read source) ++ drop end source
   parts = drop_split source read end within
@@ -302,18 +352,22 @@ module _ {form : EncodingForm} {before : DecoderState} {source : List ℕ} {tota
     abbrev more : Decodes form true before source after (read + count) all
     more = decodes_more k.decodes c.decodes (drop end source) parts none all e
 
-    sooner : IsTrue (has_malformed k.decodes.out) → IsTrue (has_malformed more.out)
-    sooner h = found_before k.decodes c.decodes (drop end source) parts none h
+    sooner : count ≡ 0 → HadMalformed kind form source before read done k.decodes.out → HadMalformed kind form source before (read + count) all more.out
+    sooner z h =
+        let longer : length done ≤ length all = omega (arith, ap length e, length-append done units) in
+        let found = found_before k.decodes c.decodes (drop end source) parts none in
+        had_sooner kind form source before done k.decodes.out (read + count) all more.out (omega (arith, z)) longer found h
 
-    by_it : IsTrue (has_malformed c.decodes.out) → IsTrue (has_malformed more.out)
-    by_it h = found_by_it k.decodes c.decodes (drop end source) parts none h
+    by_it : FoundMalformed kind now after count c.decodes.out → HadMalformed kind form source before (read + count) all more.out
+    by_it h =
+        had_now kind more (ends_after k.decodes c.decodes (drop end source) parts none) (found_by_it k.decodes c.decodes (drop end source) parts none) h
 
     -- the bytes held back were read by this call, with the room for them
-    held_now : 0 < count → after.held ≢ [] → IsTrue (has_malformed more.out) ⊎ HadFullRoom form source total before after (read + count)
-    held_now some held = elim (true_or_false (has_malformed c.decodes.out)) [
+    held_now : 0 < count → after.held ≢ [] →
+        HadMalformed kind form source before (read + count) all more.out ⊎ HadFullRoom form source total before after (read + count)
+    held_now some held = elim (c.room_held some held) [
       | inl found ↦ inl (by_it found)
-      | inr clean ↦
-          let enough = c.room_held some clean held in
+      | inr enough ↦
           let same = same_room form now.grammar before.grammar k.decodes.progress.codec in
           let fits : full_room_in form before.grammar ≤ total - length all = omega (arith, enough, same, rest, ap length e, length-append done units) in
           inr (record { stage = after; earlier = all; decodes = more; rested = inl refl; room = fits })
@@ -335,43 +389,45 @@ module _ {form : EncodingForm} {before : DecoderState} {source : List ℕ} {tota
 
     -- the bytes held back were held back before the call, which read none
     held_sooner : count ≡ 0 → after.held ≢ [] →
-        (read + count ≡ 0) ⊎ (IsTrue (has_malformed more.out) ⊎ HadFullRoom form source total before after (read + count))
+        (read + count ≡ 0)
+        ⊎ (HadMalformed kind form source before (read + count) all more.out ⊎ HadFullRoom form source total before after (read + count))
     held_sooner z held = elim (k.room_held (held_before z held)) [
       | inl n ↦ inl (omega (arith, n, z))
       | inr was ↦ elim was [
-        | inl found ↦ inr (inl (sooner found))
+        | inl found ↦ inr (inl (sooner z found))
         | inr s ↦ elim k.rested [
           | inl n ↦ inl (omega (arith, n, z))
           | inr so ↦ elim so [
-            | inl found ↦ inr (inl (sooner found))
+            | inl found ↦ inr (inl (sooner z found))
             | inr resting ↦ inr (inr (stage_before z resting s))
           ]
         ]
       ]
     ]
 
-    room_after : after.held ≢ [] → (read + count ≡ 0) ⊎ (IsTrue (has_malformed more.out) ⊎ HadFullRoom form source total before after (read + count))
+    room_after : after.held ≢ [] → (read + count ≡ 0)
+        ⊎ (HadMalformed kind form source before (read + count) all more.out ⊎ HadFullRoom form source total before after (read + count))
     room_after held = elim (none_or_some count) [
       | inl z ↦ held_sooner z held
       | inr some ↦ inr (held_now some held)
     ]
 
     -- the calls go on
-    pub after_read : answer ≡ Read → Conversion form source total before after (read + count) all
+    pub after_read : answer ≡ Read → Conversion kind form source total before after (read + count) all
     after_read f = let ends = rw f at c.ends in record { decodes = more; rested = inr (inr ends.1); room_held = room_after }
 
-    pub after_replaced : answer ≡ Replaced → Conversion form source total before after (read + count) all
+    pub after_replaced : answer ≡ Replaced → Conversion kind form source total before after (read + count) all
     after_replaced f = record { decodes = more; rested = inr (inl (by_it (c.replaced f))); room_held = room_after }
 
     -- the end of a conversion
-    pub at_end : answer ≡ Read → IsTrue last → DecodesSource form source total before after all
+    pub at_end : answer ≡ Read → IsTrue last → DecodesSource kind form source total before after all
     at_end f is_last =
         let ends = rw f at c.ends in
         let left = left_is k.decodes c.decodes (drop end source) parts none in
         let nothing : drop (read + count) source ≡ [] = rw (left, ends.0, none is_last) refl in
         record { read = read + count; decodes = more; stops = inl (nothing, ends.1, λ _. ends.2 is_last); room_held = room_after }
 
-    pub at_full : answer ≡ Full → DecodesSource form source total before after all
+    pub at_full : answer ≡ Full → DecodesSource kind form source total before after all
     at_full g =
         let unread = drop count (take (end - read) (drop read source)) in
         let lacks : LacksRoom form after unread last (free - length units) = rw g at c.ends in

@@ -40,6 +40,7 @@ replacing_encodes : {before : EncoderState} {text : List ℕ} {last : Bool} {fre
 replacing_encodes {written = written} c = record {
   taken = c.taken;
   cut = c.cut;
+  codec = c.codec;
   out = c.out;
   gives = c.gives;
   bytes = bytes-references c.out ∙ sym c.text ∙ sym (append-nil written);
@@ -64,49 +65,42 @@ raw_bytes : (written : List ℕ) (answer : EncoderResult) →
     bytes_of question_mark (map Byte written ++ reported answer) ≡ written ++ bytes_of question_mark (reported answer)
 raw_bytes written answer = rw (bytes-append question_mark (map Byte written) (reported answer), bytes-of_bytes question_mark written) refl
 
+-- a raw call, of whose bytes these were written and those are lost
+raw_encodes : {before : EncoderState} {text : List ℕ} {last : Bool} {free : ℕ} {after : EncoderState} {answer : EncoderResult} {left bytes : List ℕ}
+    (written lost : List ℕ) → bytes ++ bytes_of question_mark (reported answer) ≡ written ++ lost →
+    EncoderCall before text last free after answer left bytes → Encodes question_mark (tells_end last answer) before text after left written lost
+raw_encodes {answer = answer} {bytes = bytes} written lost e c = record {
+  taken = c.taken;
+  cut = c.cut;
+  codec = c.codec;
+  out = map Byte bytes ++ reported answer;
+  gives = raw_gives c;
+  bytes = raw_bytes bytes answer ∙ e;
+}
+
 module _ {before : EncoderState} {text : List ℕ} {last : Bool} {free : ℕ} {after : EncoderState} {left written : List ℕ} where
   pub raw_empty : EncoderCall before text last free after InputEmpty left written → EncodingCall question_mark before text last free after Read left written
-  raw_empty c = record {
-    lost = [];
-    encodes = record { taken = c.taken; cut = c.cut; out = map Byte written ++ []; gives = raw_gives c; bytes = raw_bytes written InputEmpty };
-    ends = (c.input_empty refl, refl);
-  }
+  raw_empty c = record { lost = []; encodes = raw_encodes written [] refl c; ends = (c.input_empty refl, refl) }
 
   pub raw_full : EncoderCall before text last free after OutputFull left written → EncodingCall question_mark before text last free after Full left written
   raw_full c = record {
     lost = [];
-    encodes = record { taken = c.taken; cut = c.cut; out = map Byte written ++ []; gives = raw_gives c; bytes = raw_bytes written OutputFull };
+    encodes = raw_encodes written [] refl c;
     ends = let l = c.output_full refl in inl (refl, omega arith, omega arith);
   }
 
   -- a question mark is written for an unmappable scalar, or lost
   pub raw_marked : {c : ℕ} → EncoderCall before text last free after (Unmappable c) left written →
       EncodingCall question_mark before text last free after Replaced left (written ++ 0x3F ∷ [])
-  raw_marked {c} call = record {
+  raw_marked call = record {
     lost = [];
-    encodes = record {
-      taken = call.taken;
-      cut = call.cut;
-      out = map Byte written ++ reported (Unmappable c);
-      gives = raw_gives call;
-      bytes = raw_bytes written (Unmappable c) ∙ sym (append-nil (written ++ 0x3F ∷ []));
-    };
+    encodes = let marked = written ++ 0x3F ∷ [] in raw_encodes marked [] (sym (append-nil marked)) call;
     ends = (omega (arith, length-append written (0x3F ∷ [])), refl);
   }
 
   pub raw_lost : {c : ℕ} → EncoderCall before text last free after (Unmappable c) left written → free ≤ length written →
       EncodingCall question_mark before text last free after Full left written
-  raw_lost {c} call h = record {
-    lost = 0x3F ∷ [];
-    encodes = record {
-      taken = call.taken;
-      cut = call.cut;
-      out = map Byte written ++ reported (Unmappable c);
-      gives = raw_gives call;
-      bytes = raw_bytes written (Unmappable c);
-    };
-    ends = inr (refl, refl, omega arith);
-  }
+  raw_lost call h = record { lost = 0x3F ∷ []; encodes = raw_encodes written (0x3F ∷ []) refl call; ends = inr (refl, refl, omega arith) }
 
 -- ---- calls one after another
 
@@ -114,7 +108,7 @@ no_end : {A : Type 0} → IsTrue false → A
 no_end f = cc
 
 pub encodes_start : (kind : Replacement) (before : EncoderState) (text : List ℕ) → Encodes kind false before text before text [] []
-encodes_start kind before text = record { taken = []; cut = refl; out = []; gives = λ more ended h. refl; bytes = refl }
+encodes_start kind before text = record { taken = []; cut = refl; codec = refl; out = []; gives = λ more ended h. refl; bytes = refl }
 
 module _ {kind : Replacement} {ended : Bool} {before : EncoderState} {text : List ℕ} {now : EncoderState} {piece later written : List ℕ}
     (r : Encodes kind false before text now (piece ++ later) written []) {after : EncoderState} {left bytes lost : List ℕ}
@@ -125,6 +119,7 @@ module _ {kind : Replacement} {ended : Bool} {before : EncoderState} {text : Lis
     cut =
         r.cut ∙ ap (λ l. r.taken ++ (l ++ later)) c.cut ∙ ap (λ l. r.taken ++ l) (append_assoc c.taken left later)
         ∙ sym (append_assoc r.taken c.taken (left ++ later));
+    codec = c.codec ∙ r.codec;
     out = r.out ++ c.out;
     gives = λ more end h.
         let all = encoded before (text ++ more) end in

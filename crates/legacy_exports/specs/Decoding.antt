@@ -1,7 +1,8 @@
 -- What a decoder writes, in one call and in conversions of a whole source.
-use Rattle.std.specs.Prelude.{◌≡◌, ◌≢◌, ℕ, ◌-◌, ◌<◌, ◌≤◌, List, [], length, drop, Bool, true, false, IsTrue, ◌⊎◌}
+use Rattle.std.specs.Prelude.{◌≡◌, ◌≢◌, ℕ, ◌+◌, ◌-◌, ◌<◌, ◌≤◌, List, [], ◌∷◌, ◌++◌, length, drop, Bool, true, IsTrue, ◌⊎◌}
 use Rattle.legacy_text.specs.EncodingForm.{EncodingForm, all_code_units}
 use Rattle.legacy_base.specs.declared.results.DecodeEvent.{DecodeEvent}
+use Rattle.legacy_base.specs.declared.results.DecodeEvent.TheVariants.{Bad}
 use Rattle.legacy_base.specs.Grammar.{events_of}
 use Rattle.legacy_base.specs.States.{DecoderState, may_hold, rests}
 use Rattle.legacy_base.specs.DecoderActs.{LacksRoom, full_room_in}
@@ -18,6 +19,10 @@ use Rattle.legacy_exports.specs.declared.calls.CallEnd.{CallEnd}
 use Rattle.legacy_exports.specs.declared.calls.CallEnd.TheVariants.{Read, Full, Replaced}
 
 -- ---- one call
+
+-- the calls of a decoder: raw ones, or those with replacement
+pub data DecoderKind : Type 0 where
+  raw_calls replacing_calls : DecoderKind
 
 -- how a call with replacement ended
 abbrev pub end_of : CoderResult → CallEnd
@@ -51,15 +56,30 @@ DecodingEnds form state unread last free count Read = IsDecoded state unread las
 DecodingEnds form state unread last free count Full = LacksRoom form state unread last free
 DecodingEnds form state unread last free count Replaced = 1 ≤ count
 
+-- the events end with a malformed sequence, and the bytes read after it are those held back
+pub record EndsMalformed (before after : DecoderState) (read : ℕ) (out : List DecodeEvent) : Type 0 where
+  pub earlier : List DecodeEvent
+  pub place : ℕ
+  pub size : ℕ
+  pub is : out ≡ earlier ++ Bad place size ∷ []
+  pub seen : place + size + length after.held ≡ length before.held + read
+
+-- what lets a call hold bytes back without room for reading a byte past ASCII: a raw call ended with a malformed
+-- sequence, after which it read these bytes; a call with replacement found one
+abbrev pub FoundMalformed : DecoderKind → DecoderState → DecoderState → ℕ → List DecodeEvent → Type 0
+FoundMalformed raw_calls before after read out = EndsMalformed before after read out
+FoundMalformed replacing_calls before after read out = IsTrue (has_malformed out)
+
 -- a call with `free` code units free
-pub record DecodingCall (form : EncodingForm) (before : DecoderState) (source : List ℕ) (last : Bool) (free : ℕ) (after : DecoderState)
+pub record DecodingCall (kind : DecoderKind) (form : EncodingForm) (before : DecoderState) (source : List ℕ) (last : Bool) (free : ℕ) (after : DecoderState)
     (end : CallEnd) (read : ℕ) (written : List ℕ) : Type 0 where
   pub decodes : Decodes form last before source after read written
   pub ends : DecodingEnds form after (drop read source) last (free - length written) (length written) end
   -- what was replaced was malformed
-  pub replaced : end ≡ Replaced → IsTrue (has_malformed decodes.out)
-  -- if a byte was read, nothing was malformed and bytes are held back, there is room for reading a byte past ASCII
-  pub room_held : 0 < read → has_malformed decodes.out ≡ false → after.held ≢ [] → full_room_in form before.grammar ≤ free - length written
+  pub replaced : end ≡ Replaced → FoundMalformed kind before after read decodes.out
+  -- if a byte was read and bytes are held back, there is room for reading a byte past ASCII, or a sequence was malformed
+  pub room_held : 0 < read → after.held ≢ [] →
+      FoundMalformed kind before after read decodes.out ⊎ (full_room_in form before.grammar ≤ free - length written)
 
 -- ---- conversions
 
@@ -71,19 +91,34 @@ pub record HadFullRoom (form : EncodingForm) (source : List ℕ) (free : ℕ) (b
   pub rested : (stage ≡ after) ⊎ IsTrue (rests stage.grammar stage.held)
   pub room : full_room_in form before.grammar ≤ free - length earlier
 
+-- a stage with these bytes read, at which a malformed sequence was reported; the bytes held back were read with it
+pub record HadReport (form : EncodingForm) (source : List ℕ) (before : DecoderState) (read : ℕ) (written : List ℕ) : Type 0 where
+  pub stage : DecoderState
+  pub earlier : List ℕ
+  pub decodes : Decodes form true before source stage read earlier
+  pub reported : EndsMalformed before stage read decodes.out
+  pub sooner : length earlier ≤ length written
+
+-- what lets a conversion hold bytes back without room for reading a byte past ASCII
+abbrev pub HadMalformed : DecoderKind → EncodingForm → List ℕ → DecoderState → ℕ → List ℕ → List DecodeEvent → Type 0
+HadMalformed raw_calls form source before read written out = HadReport form source before read written
+HadMalformed replacing_calls form source before read written out = IsTrue (has_malformed out)
+
 -- One conversion of a whole source writes these code units to an output of `free` code units. It stops if all is
 -- decoded, or if the next act lacks its room.
-pub record DecodesSource (form : EncodingForm) (source : List ℕ) (free : ℕ) (before after : DecoderState) (written : List ℕ) : Type 0 where
+pub record DecodesSource (kind : DecoderKind) (form : EncodingForm) (source : List ℕ) (free : ℕ) (before after : DecoderState) (written : List ℕ) : Type 0 where
   pub read : ℕ
   pub decodes : Decodes form true before source after read written
   pub stops : IsDecoded after (drop read source) true ⊎ LacksRoom form after (drop read source) true (free - length written)
-  -- if bytes are held back, none was read, or a sequence was malformed, or the bytes were read with the room for them
-  pub room_held : after.held ≢ [] → (read ≡ 0) ⊎ (IsTrue (has_malformed decodes.out) ⊎ HadFullRoom form source free before after read)
+  -- if bytes are held back, none was read, or they were read with a sequence that was reported as malformed (after calls
+  -- with replacement: there was one), or with the room for them
+  pub room_held : after.held ≢ [] →
+      (read ≡ 0) ⊎ (HadMalformed kind form source before read written decodes.out ⊎ HadFullRoom form source free before after read)
 
 -- What a decoder function returns: the number of code units that it wrote, or `usize::MAX` if the number or the indexes
 -- are refused.
-pub record ReturnsText (number : ℕ) (slices : IndexSlices) (form : EncodingForm) (source : List ℕ) (times free : ℕ) (written : List ℕ)
+pub record ReturnsText (kind : DecoderKind) (number : ℕ) (slices : IndexSlices) (form : EncodingForm) (source : List ℕ) (times free : ℕ) (written : List ℕ)
     (result : ℕ) : Type 0 where
   pub either : (result ≤ free) ⊎ (result ≡ 0xFFFF_FFFF_FFFF_FFFF)
-  pub taken : IsTaken number slices → (result ≤ free) × HoldsByNumber decoder_of number slices (RepeatsFrom (DecodesSource form source free) times written)
+  pub taken : IsTaken number slices → (result ≤ free) × HoldsByNumber decoder_of number slices (RepeatsFrom (DecodesSource kind form source free) times written)
   pub refused : IsRefused number slices → result ≡ 0xFFFF_FFFF_FFFF_FFFF

@@ -46,6 +46,8 @@ pub record Encodes (kind : Replacement) (ended : Bool) (before : EncoderState) (
   -- the text is the scalars that were read, and then those that are left
   pub taken : List ℕ
   pub cut : text ≡ taken ++ left
+  -- the codec and its lists stay
+  pub codec : after.codec ≡ before.codec
   -- the events of the call
   pub out : List EncodeEvent
   -- these, and then the events of what is left, are the codec's events, whatever text follows; if the end of the text

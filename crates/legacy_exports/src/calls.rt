@@ -4,7 +4,7 @@ ghost use Rattle.legacy_base.specs.States.{DecoderState};
 ghost use Rattle.legacy_base.specs.Encoders.{EncoderState};
 ghost use Rattle.legacy_base.specs.Calls.{IsDecoderCall};
 ghost use Rattle.legacy_base.specs.EncoderCalls.{EncoderCall};
-ghost use Rattle.legacy_exports.specs.Decoding.{DecodingCall, end_of};
+ghost use Rattle.legacy_exports.specs.Decoding.{DecoderKind, raw_calls, replacing_calls, DecodingCall, end_of};
 ghost use Rattle.legacy_exports.specs.Encoding.{EncodingCall, Replacement, question_mark, numeric_reference};
 
 use crate::source_texts::Text;
@@ -28,6 +28,9 @@ pub enum CallEnd {
 
 /// A kind of calls of a decoder, with outputs of these code units.
 pub trait DecoderCalls<U: CodeUnit>: Copy {
+    /// The kind of the calls.
+    ghost kind: { DecoderKind };
+
     /// Calls a decoder, with U+FFFD for each malformed sequence.
     ///
     /// Returns how the call ended, the number of bytes read, and the number of code units written.
@@ -38,7 +41,7 @@ pub trait DecoderCalls<U: CodeUnit>: Copy {
         output: &mut [U],
         last: bool,
     ) -> (CallEnd, usize, usize)
-        ensures call { DecodingCall U.form (D.state decoder.old) source.now last (length output.old)
+        ensures call { DecodingCall kind U.form (D.state decoder.old) source.now last (length output.old)
             (D.state decoder.new) result.0 result.1 (U.units (take result.2 output.new)) }
         ensures read { result.1 ≤ length source.now }
         ensures written { result.2 ≤ length output.new };
@@ -88,7 +91,7 @@ fn replace_malformed<U: CodeUnit>(
     ensures call { (before : DecoderState) (source : List ℕ) (last : Bool) (after : DecoderState) (read : ℕ)
         → IsDecoderCall U.form before source last (length output.old) after answer read []
         (U.units (take written output.old))
-        → DecodingCall U.form before source last (length output.old) after result.0 read
+        → DecodingCall raw_calls U.form before source last (length output.old) after result.0 read
         (U.units (take result.1 output.new)) }
     ensures written { result.1 ≤ length output.new }
 {
@@ -150,6 +153,8 @@ fn end_of(answer: CoderResult) -> CallEnd
 }
 
 impl DecoderCalls<u8> for Raw {
+    ghost kind = { raw_calls };
+
     #[inline(always)]
     fn decode<D: RawDecoder>(
         self,
@@ -165,6 +170,8 @@ impl DecoderCalls<u8> for Raw {
 }
 
 impl DecoderCalls<u16> for Raw {
+    ghost kind = { raw_calls };
+
     #[inline(always)]
     fn decode<D: RawDecoder>(
         self,
@@ -214,6 +221,8 @@ impl<'a> EncoderCalls<&'a [u16]> for Raw {
 }
 
 impl DecoderCalls<u8> for Replacing {
+    ghost kind = { replacing_calls };
+
     #[inline(always)]
     fn decode<D: RawDecoder>(
         self,
@@ -228,6 +237,8 @@ impl DecoderCalls<u8> for Replacing {
 }
 
 impl DecoderCalls<u16> for Replacing {
+    ghost kind = { replacing_calls };
+
     #[inline(always)]
     fn decode<D: RawDecoder>(
         self,

@@ -17,7 +17,7 @@ use legacy_index_files::Codec;
 
 impl<C: DecoderCalls<U>, U: CodeUnit> DecoderTask<U> for Reading<C, &[u8]> {
     ghost gives = { λ reading before after old new written. (written ≤ length new)
-        × Repeats (DecodesSource U.form reading.source.now (length old)) before reading.times after
+        × Repeats (DecodesSource C.kind U.form reading.source.now (length old)) before reading.times after
         (U.units (take written new)) };
 
     // `decode_once` is inlined here, so a decoder's loop is compiled together with its own.
@@ -44,7 +44,7 @@ fn decode_over<'a, C: DecoderCalls<U>, U: CodeUnit>(
     ensures units { IfSome result (λ written. written ≤ length output.new) }
     ensures text { IfSome result (λ written. HoldsOfNew decoder_of codec tables.now.flat
         (option_map (λ table. table.now.entries) single_byte.entry)
-        (RepeatsFrom (DecodesSource U.form reading.now.source.now (length output.old))
+        (RepeatsFrom (DecodesSource C.kind U.form reading.now.source.now (length output.old))
         reading.now.times (U.units (take written output.new)))) }
     ensures unchanged { IfNone result (output.new ≡ output.old) }
     ensures taken { IsSome result ↔ (codec ≡ Codec.SingleByte → IsSome single_byte.entry) }
@@ -64,7 +64,7 @@ pub fn decode_by_number<C: DecoderCalls<U>, U: CodeUnit>(
 ) -> Option<usize>
     ensures units { IfSome result (λ written. written ≤ length output.new) }
     ensures text { IfSome result (λ written. HoldsByNumber decoder_of number indexes.now
-        (RepeatsFrom (DecodesSource U.form reading.entry.source.now (length output.old))
+        (RepeatsFrom (DecodesSource C.kind U.form reading.entry.source.now (length output.old))
         reading.entry.times (U.units (take written output.new)))) }
     ensures unchanged { IfNone result (output.new ≡ output.old) }
     ensures taken { IsSome result ↔ IsTaken number indexes.now }

@@ -19,7 +19,7 @@ ghost use Rattle.std.specs.Str.{chars};
 ghost use Rattle.legacy_text.specs.EncodingForm.{Utf8, Utf16};
 ghost use Rattle.legacy_text.specs.Texts.{unit_scalars};
 ghost use Rattle.legacy_exports.specs.AcceptedIndexes.{IsRefused, IsRefusedToEncode, IsTakenToEncode};
-ghost use Rattle.legacy_exports.specs.Decoding.{ReturnsText};
+ghost use Rattle.legacy_exports.specs.Decoding.{ReturnsText, raw_calls, replacing_calls};
 ghost use Rattle.legacy_exports.specs.Encoding.{ReturnsBytes, numeric_reference, question_mark};
 
 mod calls;
@@ -47,7 +47,7 @@ pub extern "C" fn legacy_decode_to_utf8(
     piece: usize,
     times: usize,
 ) -> usize
-    ensures text { ReturnsText codec indexes.now Utf8 source.now times (length output.old)
+    ensures text { ReturnsText raw_calls codec indexes.now Utf8 source.now times (length output.old)
         (take result output.new) result }
     ensures unchanged { IsRefused codec indexes.now → output.new ≡ output.old }
 {
@@ -65,7 +65,7 @@ pub extern "C" fn legacy_decode_to_utf16(
     piece: usize,
     times: usize,
 ) -> usize
-    ensures text { ReturnsText codec indexes.now Utf16 source.now times (length output.old)
+    ensures text { ReturnsText raw_calls codec indexes.now Utf16 source.now times (length output.old)
         (take result output.new) result }
     ensures unchanged { IsRefused codec indexes.now → output.new ≡ output.old }
 {
@@ -129,7 +129,7 @@ pub extern "C" fn legacy_decode_replacing_to_utf8(
     piece: usize,
     times: usize,
 ) -> usize
-    ensures text { ReturnsText codec indexes.now Utf8 source.now times (length output.old)
+    ensures text { ReturnsText replacing_calls codec indexes.now Utf8 source.now times (length output.old)
         (take result output.new) result }
     ensures unchanged { IsRefused codec indexes.now → output.new ≡ output.old }
 {
@@ -147,7 +147,7 @@ pub extern "C" fn legacy_decode_replacing_to_utf16(
     piece: usize,
     times: usize,
 ) -> usize
-    ensures text { ReturnsText codec indexes.now Utf16 source.now times (length output.old)
+    ensures text { ReturnsText replacing_calls codec indexes.now Utf16 source.now times (length output.old)
         (take result output.new) result }
     ensures unchanged { IsRefused codec indexes.now → output.new ≡ output.old }
 {

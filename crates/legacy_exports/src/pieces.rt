@@ -58,7 +58,7 @@ pub fn decode_once<C: DecoderCalls<U>, U: CodeUnit, D: RawDecoder>(
     reading: &Reading<C, &[u8]>,
     output: &mut [U],
 ) -> usize
-    ensures text { DecodesSource U.form reading.now.source.now (length output.old)
+    ensures text { DecodesSource C.kind U.form reading.now.source.now (length output.old)
         (D.state decoder.old) (D.state decoder.new) (U.units (take result output.new)) }
     ensures within { result ≤ length output.new }
 {

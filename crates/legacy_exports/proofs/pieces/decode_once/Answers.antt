@@ -6,7 +6,7 @@ use Rattle.legacy_exports.proofs.pieces.decode_once.Goals as goal
 
 pub pieces-init : goal.pieces-init
 pieces-init g c = record {
-  conversion = conversion_start _ _ _ _ _ (g.met.U.CodeUnit.units_length []);
+  conversion = conversion_start _ _ _ _ _ _ (g.met.U.CodeUnit.units_length []);
   within_piece = omega arith;
   within_source = omega arith;
   within_output = omega arith;

@@ -6,7 +6,8 @@ use Rattle.legacy_exports.proofs.pieces.decode_once.Given as goal
 -- what was read up to now was decoded, and its code units are at the beginning of the output
 abbrev pub invariant-pieces : goal.invariant-pieces
 invariant-pieces g l = record {
-  conversion : Conversion g.U.CodeUnit.form l.reading.source.now (length l.fn.output) (g.D.RawDecoder.state l.fn.decoder) (g.D.RawDecoder.state l.decoder)
+  conversion : Conversion g.C.DecoderCalls.kind g.U.CodeUnit.form l.reading.source.now (length l.fn.output) (g.D.RawDecoder.state l.fn.decoder)
+      (g.D.RawDecoder.state l.decoder)
       l.read
       (g.U.CodeUnit.units (take l.written l.output));
   within_piece : l.read ≤ l.end;
