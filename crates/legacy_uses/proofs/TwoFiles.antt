@@ -7,7 +7,8 @@ use Rattle.legacy_index_files.proofs.EncodingNames.{named}
 use Rattle.legacy_encodings.specs.{declared.registry.EncodingTable.EncodingTable, declared.registry.RegistryError.RegistryError}
 use Rattle.legacy_encodings.specs.{declared.registry.RegistryError.TheVariants.{NoIndex, Sized, Unknown}, SingleByteFiles.IsSingleByteFault}
 use Rattle.legacy_encodings.specs.Registries.{IsDecodeError, IsDecoderOf, IsReadTable, IsText}
-use Rattle.legacy_uses.specs.IndexData.{IsEucKrFile, IsEucKrIndex, IsTextByFile, IsFaultByFile, IsFaultBySingleByteFile, only_euc_kr}
+use Rattle.legacy_uses.specs.IndexData.{IsEucKrFile, IsEucKrIndex, IsTextByFile, IsFaultByFile, only_euc_kr}
+use Rattle.legacy_uses.specs.IndexData.{IsTextBySingleByteFile, IsFaultBySingleByteFile}
 use Rattle.legacy_codecs.specs.declared.whole.SizedError.TheVariants.{TooLong, Memory}
 use Rattle.legacy_index_files.specs.declared.encodings.Encoding.TheVariants as encoding
 
@@ -54,6 +55,17 @@ module _ (flat : FlatIndexes) (tables : List EncodingTable) (file input : List �
   windows_1252_state : (state : DecoderState) → IsDecoderOf flat tables (codes "windows-1252") state → state ≡ new_state (single_byte read.table.table.entries)
   windows_1252_state state is =
       let made = rw (is_windows_1252 is.encoding is.named, read.first, read.of) at is.made in cc
+
+  pub windows_1252_by_file : (text : List ℕ) → IsText flat tables (codes "windows-1252") input text → IsTextBySingleByteFile file input text
+  windows_1252_by_file text is =
+      let made = windows_1252_state is.state is.decoder in
+      record {
+        entries = read.table.table.entries;
+        of_file = read.of_file;
+        accepted = read.table.table.accepted;
+        short = rw made at is.short;
+        decodes = rw made at is.decodes;
+      }
 
   -- why an input in windows-1252 was not decoded
   pub not_decoded_by_table : (error : RegistryError) → IsDecodeError flat tables (codes "windows-1252") input error → IsFaultBySingleByteFile file input error

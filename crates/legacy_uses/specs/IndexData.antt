@@ -20,9 +20,13 @@ use Rattle.legacy_codecs.specs.WholeTexts.{text_of}
 
 -- ---- the file of index EUC-KR
 
+-- no line of the file is malformed
+abbrev pub IsWellFormedEucKr : List ℕ → Type 0
+IsWellFormedEucKr file = first_malformed EucKr 1 (lines file) ≡ None
+
 -- no line of the file is malformed, and its lines say this index
 pub record IsEucKrFile (file index : List ℕ) : Type 0 where
-  pub well_formed : first_malformed EucKr 1 (lines file) ≡ None
+  pub well_formed : IsWellFormedEucKr file
   pub says : IsIndexOf (entries_of EucKr (lines file)) index
 
 -- the lists of indexes of which only index EUC-KR was read
@@ -51,7 +55,7 @@ pub record IsTooLongByFile (file input : List ℕ) : Type 0 where
 -- is possible if the steps before it succeeded.
 abbrev pub IsFaultByFile : List ℕ → List ℕ → RegistryError → Type 0
 IsFaultByFile file input (File (reading.Line n)) = first_malformed EucKr 1 (lines file) ≡ Some n
-IsFaultByFile file input (File reading.Memory) = first_malformed EucKr 1 (lines file) ≡ None
+IsFaultByFile file input (File reading.Memory) = IsWellFormedEucKr file
 IsFaultByFile file input (Tables fault) = (index : List ℕ) × IsEucKrFile file index × (table_fault (only_euc_kr index) ≡ Some fault)
 IsFaultByFile file input (Sized sized.TooLong) = IsTooLongByFile file input
 IsFaultByFile file input (Sized sized.Memory) =
@@ -65,6 +69,7 @@ pub record IsTextBySingleByteFile (file input text : List ℕ) : Type 0 where
   pub entries : List ℕ
   pub of_file : IsSingleByteFile file entries
   pub accepted : IsAcceptedTable entries
+  pub short : query_answer to_utf8 (new_state (single_byte entries)) (length input) ≢ None
   pub decodes : text ≡ text_of (new_state (single_byte entries)) input
 
 -- the length query of a new decoder of a single-byte encoding, by the table that a file says, returns `None` for the input

@@ -15,6 +15,7 @@ use Rattle.legacy_encodings.specs.Registries.{IsDecoderOf, IsNameError}
 pub record AreMalformedIn (coders : Coders) (name message : List ℕ) (found : List MalformedSequence) : Type 0 where
   pub state : DecoderState
   pub decoder : IsDecoderOf coders.tables.flat coders.single_bytes.now name state
+  pub short : query_answer to_utf8_without_replacement state (length message) ≢ None
   pub found_is : found ≡ malformed_of (length state.held) (events_of state.grammar (state.held ++ message))
 
 -- The error if no malformed sequences are returned. An allocation can fail if there is a decoder and a length.

@@ -1,7 +1,7 @@
 //! The code pages of an old program: index files, and decoding by them.
 ghost use Rattle.std.specs.Prelude.{◌⊎◌, string_bytes, IfErr, IfOk, MatchResult};
 ghost use Rattle.std.specs.Str.{chars};
-ghost use Rattle.legacy_uses.specs.IndexData.{IsTextByFile, IsFaultByFile};
+ghost use Rattle.legacy_uses.specs.IndexData.{IsTextByFile, IsFaultByFile, IsWellFormedEucKr};
 ghost use Rattle.legacy_uses.specs.IndexData.{IsTextBySingleByteFile, IsFaultBySingleByteFile};
 
 use legacy_codecs::{EucKrDecoder, decode_whole};
@@ -42,7 +42,8 @@ pub fn decode_two(
         IsTextBySingleByteFile files.now.windows_1252.now western.now (chars (string_bytes texts.1))) }
     ensures fault { IfErr result (λ error.
         IsFaultByFile files.now.euc_kr.now korean.now error
-        ⊎ IsFaultBySingleByteFile files.now.windows_1252.now western.now error) }
+        ⊎ (IsWellFormedEucKr files.now.euc_kr.now
+        × IsFaultBySingleByteFile files.now.windows_1252.now western.now error)) }
 {
     let mut registry = Registry::new(alloc);
     registry
