@@ -54,7 +54,8 @@ ReferencesKeepEscapesApart =
     EndsInAscii jis0208 (read_with_references codec text) (written_with_references codec text)
     × (holds_adjacent_escapes (written_with_references codec text) ≡ false)
 
--- The text that these bytes decode to is encoded as the same bytes. That has the conditions of `ReencodesAnyText`.
+-- The text that these bytes decode to is encoded as the same bytes, if each fold has the code of the scalar that it is
+-- read as.
 abbrev pub ReencodesReferences : Type 0
 ReencodesReferences =
     (codec : Codec) → HasAcceptedLists codec → (text : List ℕ) → HasNoLostRow codec text → KeepsCodes codec text →

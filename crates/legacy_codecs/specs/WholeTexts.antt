@@ -2,7 +2,7 @@
 use Rattle.std.specs.Prelude.{◌≡◌, ℕ, List, [], ◌++◌, Bool, IsTrue}
 use Rattle.legacy_text.specs.EncodingForm.{EncodingForm, all_code_units}
 use Rattle.legacy_base.specs.Grammar.{events_of}
-use Rattle.legacy_base.specs.States.{DecoderState}
+use Rattle.legacy_base.specs.States.{DecoderState, may_hold, rests}
 use Rattle.legacy_codecs.specs.Replacing.{replaced_scalars}
 
 -- The text of the bytes that a decoder held back and of these, which are the last ones: its characters, with U+FFFD for
@@ -13,6 +13,10 @@ text_of state bytes = replaced_scalars (events_of state.grammar (state.held ++ b
 -- the same in an encoding form
 abbrev pub units_of : EncodingForm → DecoderState → List ℕ → List ℕ
 units_of form state bytes = all_code_units form (text_of state bytes)
+
+-- The decoder holds back only bytes that its codec may hold back, and no scalar.
+abbrev pub IsSettled : DecoderState → Type 0
+IsSettled state = IsTrue (may_hold state.grammar state.held) × IsTrue (rests state.grammar state.held)
 
 -- What was written for a piece, and then the text of any later bytes, is the text of the piece and those bytes. No
 -- bytes come after the last piece.

@@ -218,7 +218,7 @@ pub fn references_round_trip()
 /// read as exactly these bytes, and no scalar is unmappable. The same holds of finished runs,
 /// however the bytes and the text are cut.
 ///
-/// `docs/DIFFERENCES.md` has the smallest counterexamples in other encodings.
+/// `docs/DIFFERENCES.md` has counterexamples in ISO-2022-JP and gb18030.
 pub fn bytes_round_trip()
     ensures texts { BytesRoundTrip }
     ensures runs { RunsKeepBytes }

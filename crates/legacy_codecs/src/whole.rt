@@ -4,9 +4,8 @@ ghost use Rattle.std.specs.Str.{chars};
 ghost use Rattle.legacy_text.specs.EncodingForm.{Utf8};
 ghost use Rattle.legacy_base.specs.Encoders.{encoded, end_bytes};
 ghost use Rattle.legacy_base.specs.Lengths.{query_answer, to_utf8};
-ghost use Rattle.legacy_base.specs.States.{rests};
 ghost use Rattle.legacy_codecs.specs.References.{referenced_bytes};
-ghost use Rattle.legacy_codecs.specs.WholeTexts.{text_of, TextGoesOn};
+ghost use Rattle.legacy_codecs.specs.WholeTexts.{text_of, IsSettled, TextGoesOn};
 
 use crate::character_references::encode_replacing_utf8;
 use crate::replacing::decode_replacing_utf8;
@@ -41,7 +40,7 @@ impl From<AllocError> for SizedError {
 /// The result has the characters of the bytes that the decoder held back and of all of `input`,
 /// whose end is the end of the input (Encoding Standard, error mode "replacement"). Then nothing is
 /// left to write. Take a new decoder for the next input. The text of a new decoder is that of the
-/// Standard's (`laws::texts_are_the_standards`).
+/// Standard's decoder (`laws::texts_are_the_standards`).
 ///
 /// - `TooLong`: exactly if `max_utf8_buffer_length` returns `None` for the length of `input`.
 /// - `Memory`: the allocation of that many bytes failed.
@@ -80,8 +79,8 @@ pub fn decode_whole<D: RawDecoder>(
 ///
 /// Returns the number of bytes written to the beginning of `output`. The whole piece is read: pass
 /// the next piece in the next call. If the piece ends inside a sequence, the decoder holds its
-/// bytes back, and never a whole character. Set `last` for the final piece and for no other. After it nothing is left to write.
-/// The bytes of `output` after those written may change.
+/// bytes back, and never a whole character. Set `last` for the final piece and for no other. After
+/// it nothing is left to write. The bytes of `output` after those written may change.
 ///
 /// `output` must be at least as long as the result of `max_utf8_buffer_length` for the length of
 /// `piece` or more, queried after the previous piece. `docs/USING.md` has an example, `show_piece`.
@@ -97,7 +96,7 @@ pub fn decode_piece<D: RawDecoder>(
     ensures within { result ≤ length output.new }
     ensures text { TextGoesOn Utf8 last (D.state decoder.old) piece.now (D.state decoder.new)
         (take result output.new) }
-    ensures rests { let after = D.state decoder.new in IsTrue (rests after.grammar after.held) }
+    ensures settled { IsSettled (D.state decoder.new) }
     ensures end { IsTrue last → text_of (D.state decoder.new) [] ≡ [] }
 {
     let (_, _, written, _) = decode_replacing_utf8(decoder, piece, output, last);
@@ -108,8 +107,8 @@ pub fn decode_piece<D: RawDecoder>(
 ///
 /// The result has the bytes of all of `text` and of its end, for ISO-2022-JP with the escape back
 /// to ASCII. A reference is written as `&#128169;` (Encoding Standard, error mode "html"). Then
-/// the encoder can take another. The bytes of a new encoder are those of the Standard's, with tables
-/// as in `laws::texts_are_the_standards`.
+/// the encoder can take another. The bytes of a new encoder are those of the Standard's encoder,
+/// with tables as in `laws::texts_are_the_standards`.
 ///
 /// If an allocation fails, the result is `AllocError`. The encoder may then have read a part of the
 /// text: take a new one.

@@ -91,7 +91,7 @@ pub record HadFullRoom (form : EncodingForm) (source : List ℕ) (free : ℕ) (b
   pub rested : (stage ≡ after) ⊎ IsTrue (rests stage.grammar stage.held)
   pub room : full_room_in form before.grammar ≤ free - length earlier
 
--- a stage with these bytes read, at which a malformed sequence was reported; the bytes held back were read with it
+-- a stage with these bytes read, whose events end with a malformed sequence; the bytes after it are those held back
 pub record HadReport (form : EncodingForm) (source : List ℕ) (before : DecoderState) (read : ℕ) (written : List ℕ) : Type 0 where
   pub stage : DecoderState
   pub earlier : List ℕ
@@ -110,8 +110,8 @@ pub record DecodesSource (kind : DecoderKind) (form : EncodingForm) (source : Li
   pub read : ℕ
   pub decodes : Decodes form true before source after read written
   pub stops : IsDecoded after (drop read source) true ⊎ LacksRoom form after (drop read source) true (free - length written)
-  -- if bytes are held back, none was read, or they were read with a sequence that was reported as malformed (after calls
-  -- with replacement: there was one), or with the room for them
+  -- if bytes are held back, none was read, or at some stage those held back directly follow a malformed sequence (after
+  -- calls with replacement: there was one), or there was the room for them
   pub room_held : after.held ≢ [] →
       (read ≡ 0) ⊎ (HadMalformed kind form source before read written decodes.out ⊎ HadFullRoom form source free before after read)
 

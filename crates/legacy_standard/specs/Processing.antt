@@ -6,7 +6,7 @@ use Rattle.legacy_standard.specs.Queue.{Item, byte, end_of_queue, Outcome, conti
 
 -- The malformed sequence of an error, by the state before the item, the item, and what is read. The handler has read
 -- `size` bytes from `place` on since it last returned anything but continue, without those that it restored. The
--- Standard does not count bytes; only the place and length of an error depend on this number.
+-- Standard does not count bytes; only the place and length of an error depend on these two numbers.
 abbrev pub Malformed : Type 0 → Type 0
 Malformed State = State → Item → (place size : ℕ) → DecodeEvent
 

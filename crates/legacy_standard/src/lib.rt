@@ -15,10 +15,10 @@ ghost use Rattle.legacy_standard.specs.WorkedTexts.{ComputeWorkedTexts, PartWith
 /// Shows that each decoder's grammar gives the events of the Standard's handler.
 ///
 /// The handler of each decoder finishes over every list of bytes, with any indexes. Its code points
-/// and errors are the grammar's events, with the place and length of each malformed sequence. That
-/// sequence consists of the bytes that the handler has read since it last returned anything but
-/// continue, without those that it restored. In ISO-2022-JP `length_and_after` says how long it is,
-/// and how many bytes the handler has read after it.
+/// and errors are the grammar's events, with the place and length of each malformed sequence. In
+/// nine decoders that sequence consists of the bytes that the handler has read since it last
+/// returned anything but continue, without those that it restored. In ISO-2022-JP
+/// `length_and_after` says how long it is, and how many bytes the handler has read after it.
 #[tactic(auto, using(crate::proofs::AllCodecs::all_decoders))]
 pub fn decoders_are_the_standards()
     ensures { AreDecodedByHandlers }

@@ -4,8 +4,9 @@ use Rattle.std.proofs.{Common.{append_assoc, take, drop, take-append-drop, Optio
 use Rattle.std.proofs.KnownBytes.{Appends-trans, Consumes-nil, Consumes-trans, Consumes-kept, Keeps-refl}
 use Rattle.std.specs.Io.KnownBytes.{Appends, Consumes, IsAtEnd, Keeps}
 use Rattle.legacy_base.specs.{declared.results.DecodeEvent.DecodeEvent, Events.shift, Grammar.events_of, States.DecoderState, Calls.Progress}
+use Rattle.legacy_codecs.specs.WholeTexts.{IsSettled}
 use Rattle.legacy_base.proofs.Progress.{stay, after_that, at_last, behind}
-use Rattle.legacy_streams.specs.Streams.{AppendsFront, AppendsAtLeast, IsSettled, DecodesPiece, DecodesFront, DecodesAll, DecodesBeginning, DecodesPartly}
+use Rattle.legacy_streams.specs.Streams.{AppendsFront, AppendsAtLeast, DecodesPiece, DecodesFront, DecodesAll, DecodesBeginning, DecodesPartly}
 
 -- ---- a front of some bytes
 

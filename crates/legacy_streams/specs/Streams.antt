@@ -3,8 +3,9 @@ use Rattle.std.specs.Prelude.{◌≡◌, ◌≤◌, ◌⊎◌, ℕ, List, [], �
 use Rattle.std.specs.Io.KnownBytes.{Appends, Consumes, IsAtEnd}
 use Rattle.legacy_base.specs.declared.results.DecodeEvent.{DecodeEvent}
 use Rattle.legacy_base.specs.Grammar.{events_of}
-use Rattle.legacy_base.specs.States.{DecoderState, may_hold, rests}
+use Rattle.legacy_base.specs.States.{DecoderState}
 use Rattle.legacy_base.specs.Calls.{Progress}
+use Rattle.legacy_codecs.specs.WholeTexts.{IsSettled}
 
 -- A front of the bytes was written.
 pub record AppendsFront (old new : Option (List ℕ)) (bytes : List ℕ) : Type 0 where
@@ -19,10 +20,6 @@ pub record AppendsAtLeast (old new : Option (List ℕ)) (bytes : List ℕ) : Typ
   pub written : Appends old new (bytes ++ more)
 
 -- ---- one piece of the input
-
--- The decoder holds back only bytes that its codec may hold back, and no scalar.
-abbrev pub IsSettled : DecoderState → Type 0
-IsSettled state = IsTrue (may_hold state.grammar state.held) × IsTrue (rests state.grammar state.held)
 
 -- The whole piece was decoded, and `Shown` is true of its events.
 pub record DecodesPiece (before : DecoderState) (piece : List ℕ) (last : Bool) (after : DecoderState) (Shown : List DecodeEvent → Type 0) : Type 0 where

@@ -1,8 +1,7 @@
 //! A page that a browser shows while it arrives.
 ghost use Rattle.std.specs.Prelude.{◌≡◌, ◌↔◌, List, ℕ, ◌++◌, [], Err, OnOk, OnErr, IsTrue};
 ghost use Rattle.legacy_base.specs.Lengths.{query_form, to_utf8};
-ghost use Rattle.legacy_base.specs.States.{rests};
-ghost use Rattle.legacy_codecs.specs.WholeTexts.{text_of, TextGoesOn};
+ghost use Rattle.legacy_codecs.specs.WholeTexts.{text_of, IsSettled, TextGoesOn};
 ghost use Rattle.legacy_uses.specs.Pages.{IsPageTooLong};
 
 use legacy_codecs::{RawDecoder, SizedError, decode_piece};
@@ -20,7 +19,7 @@ pub fn show_piece<D: RawDecoder>(
     ensures text { OnOk result ((written : List ℕ)
         × TextGoesOn (query_form to_utf8) last (D.state decoder.old) piece.now (D.state decoder.new) written
         × (page.new.items ≡ page.old.items ++ written)) }
-    ensures rests { OnOk result (let after = D.state decoder.new in IsTrue (rests after.grammar after.held)) }
+    ensures settled { OnOk result (IsSettled (D.state decoder.new)) }
     ensures end { OnOk result (IsTrue last → text_of (D.state decoder.new) [] ≡ []) }
     ensures too_long { (result ≡ Err SizedError.TooLong)
         ↔ IsPageTooLong (D.state decoder.old) piece.now page.old.items }

@@ -13,8 +13,8 @@ returns-clause-end g c is_last =
     let room = c.requires in
     none_left call (call.enough room.0 room.1 room.2 room.3 room.4) is_last
 
-pub returns-clause-rests : goal.returns-clause-rests
-returns-clause-rests g c =
+pub returns-clause-settled : goal.returns-clause-settled
+returns-clause-settled g c =
     let call = c.decode_replacing_utf8-written.ensures.call in
     let room = c.requires in
-    (call.input_empty (call.enough room.0 room.1 room.2 room.3 room.4)).1
+    (call.allowed, (call.input_empty (call.enough room.0 room.1 room.2 room.3 room.4)).1)
