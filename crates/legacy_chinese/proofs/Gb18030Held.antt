@@ -3,14 +3,15 @@ use Rattle.std.proofs.Common.{◌≡◌, ◌≢◌, ◌∙◌, ℕ, ◌+◌, ◌
 use Rattle.std.{proofs.lemmas.{Bool.Decides.nat_tests, List.Elements.{All-nil, All-cons}}, specs.{Prelude.option_to_list, Char.{IsScalar, is_ascii_digit}}}
 use Rattle.{legacy_text.specs.EncodingForm.{EncodingForm, wide_room}, legacy_tables.specs.{Unicode.{IsByte, AreBytes}, Indexes.{idx, range}}}
 use Rattle.legacy_tables.{specs.AcceptedTables.AcceptedIndexes, proofs.Accepted.{gb18030-below, gb18030-scalars, range-scalar}}
-use Rattle.legacy_base.specs.{Calls.IsMalformedByte, Gb18030.{gb18030_scalars, gb18030_range_pointer}, States.{is_lead, gb18030_may_hold, is_neutral, rests}}
+use Rattle.legacy_base.specs.{Gb18030.{gb18030_scalars, gb18030_range_pointer}, States.{is_lead, gb18030_may_hold, is_neutral, rests}}
 use Rattle.legacy_base.specs.{States.{DecoderState, state_of}, Grammar.{Grammar, gb18030, events_of}}
 use Rattle.legacy_chinese.specs.declared.gb18030.{decoder.{Gb18030Decoder.Gb18030Decoder, Held.{Held, TheVariants.Nothing}}, digit.Digit.Digit as HeldDigit}
 use Rattle.legacy_chinese.specs.{Gb18030Decoder.gb18030_state, Gb18030Machine.{gb18030_step, gb18030_machine}, Gb18030Held.{held_bytes, is_resting}}
 use Rattle.legacy_chinese.{specs.Gb18030Places.{gb18030_place, gb18030_trail_place}, proofs.{Gb18030Places.{gb18030_entry, short}, EntryScalars.scalar_at}}
 use Rattle.{legacy_chinese.proofs.Gb18030Shown.{lead_other, gb18030_shown}, legacy_decoder_engine.specs.declared.{held_lead.Lead.Lead, moves.Fed.Fed}}
 use Rattle.legacy_decoder_engine.specs.{declared.moves.Fed.TheVariants.One, ReadAhead.{Runs, HasAscii, IsIdle, IsPair}, Moves.{IsCovered, Feeds, Releases}}
-use Rattle.legacy_decoder_engine.{specs.{Moves.{Reports, read_room}, Feeding.Took, Places.lead_place, Shown.IsShown}, proofs.LeadHeld.neutral_empty}
+use Rattle.legacy_decoder_engine.specs.{Moves.{FeedsMalformedByte, Reports, read_room}, Feeding.Took, Places.lead_place, Shown.IsShown}
+use Rattle.legacy_decoder_engine.proofs.LeadHeld.{neutral_empty}
 use Rattle.legacy_decoder_engine.proofs.{RunForms.{pair_runs, four_runs, has_ascii, ascii_is}, Widths.idx_below, LanePlaces.entry_is, PairPlaces.found}
 use Rattle.legacy_tables.specs.declared.tables.IndexName.TheVariants as names
 use Rattle.legacy_decoder_engine.proofs.{JoinedRuns.reads_idle, WrittenRuns.no_bytes}
@@ -42,8 +43,8 @@ module _ (tables : AcceptedIndexes) where
   shown : IsShown g (gb18030_machine tables.flat.gb18030 tables.flat.ranges)
   shown = gb18030_shown tables.flat.gb18030 tables.flat.ranges
 
-  pub malformed_byte : (b : ℕ) → b ≡ 0xFF → IsMalformedByte (state_of g []) b
-  malformed_byte b e = moves.malformed_byte shown b (rw e refl) refl
+  pub malformed_byte : (b : ℕ) → IsByte b → b ≡ 0xFF → FeedsMalformedByte (state_of g []) b
+  malformed_byte b is_byte e = moves.malformed_byte shown b is_byte (rw e refl) refl
 
   pub covered : (held : Held) → IsCovered (state held)
   covered held = moves.covered shown _ (may held) (are_bytes held)

@@ -1,14 +1,14 @@
 -- A run of common sequences within a call in progress.
 use Rattle.std.proofs.Common.{◌≡◌, ◌∙◌, ℕ, ◌+◌, ◌-◌, ◌≤◌, ◌<◌, List, [], ◌∷◌, ◌++◌, length, take, drop, sym, ap, subst, arith, add-zero, append_assoc}
 use Rattle.std.proofs.{Common.{append-nil, true, false, get_or, length-append, length-drop, Bool, Some, None, Option}, lemmas.List.length-map}
-use Rattle.std.proofs.{lemmas.List.{take-append-drop, length-take-le, nil_from_length}, lemmas.Bool.{cases_lt, true≢false}}
+use Rattle.std.proofs.{lemmas.List.{take-append-drop, length-take-le, nil_from_length, get_or-drop}, lemmas.Bool.{cases_lt, true≢false}}
 use Rattle.std.specs.Prelude.{if◌then◌else◌}
 use Rattle.legacy_text.specs.{EncodingForm.{EncodingForm, unit_count, all_code_units, total_unit_count, wide_room}, declared.destination.Destination.Ghosts}
 use Rattle.legacy_text.proofs.CodeUnits.{all_code_units-append, total_unit_count-append}
 use Rattle.legacy_base.specs.{States.{DecoderState, new_state, rests, may_hold}, Grammar.Grammar, DecoderActs.HadRoom, Calls.{DecoderCall, IsDecoderCall}}
 use Rattle.legacy_base.specs.{declared.results.DecoderResult.DecoderResult, declared.results.DecoderResult.TheVariants.{InputEmpty, OutputFull, Malformed}}
 use Rattle.legacy_base.proofs.{Shifts.shift-zero, GrammarLaws.{rests-none, may_none}, Rooms.{lacks_small, full_most}, SameUnits.some_unit}
-use Rattle.legacy_decoder_engine.specs.{ReadAhead.{RunsTo, Runs, ReadsTo}, Moves.{HoldsBytes, GoesOn, EndsAt, Feeds, fed_scalars, read_room}}
+use Rattle.legacy_decoder_engine.specs.{ReadAhead.{RunsTo, Runs, ReadsTo}, Moves.{HoldsBytes, HasMalformedByte, GoesOn, EndsAt, Feeds, fed_scalars, read_room}}
 use Rattle.legacy_decoder_engine.specs.declared.moves.Fed.TheVariants.{MalformedSequence}
 use Rattle.legacy_decoder_engine.proofs.{CallUnderWay.{Going, going_then, going_feed, held_going, call_lacks, call_read, call_unread}, WrittenRuns.rest_of}
 
@@ -106,9 +106,12 @@ module _ {D : Type 0} {T : Ghosts D} where
         let j = read_going i reads in
         (j.0, held_going j.1 _ j.3 h (rw (rest_of source (read + r)) at within) (rw (rest_of source (read + r)) at holds), j.2, j.3, j.4)
 
--- if the rest of a source has a byte, so has the source at that place
-pub some_left : (source : List ℕ) (read : ℕ) → read ≤ length source → 0 < length (take (length source - read) (drop read source)) → read < length source
-some_left source read within some = omega (arith, within, rw (rest_of source read, length-drop read source) at some)
+-- a malformed byte in the rest of a source is one of the source
+pub left_malformed : {state : DecoderState} {at : ℕ} (source : List ℕ) (read : ℕ) → HasMalformedByte state (take (length source - read) (drop read source)) at
+    → HasMalformedByte state source (read + at)
+left_malformed {state} {at} source read has =
+    let here = rw (rest_of source read, length-drop read source, get_or-drop read source at 0) at has in
+    (omega (arith, here.0), here.1)
 
 -- a call in progress goes on with a byte, or ends at it
 module _ {D : Type 0} (T : Ghosts D) {last : Bool} {before : DecoderState} {source : List ℕ} (first : D) {now next : DecoderState} {read : ℕ} {old : D}

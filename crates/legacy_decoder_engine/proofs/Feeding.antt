@@ -5,11 +5,13 @@ use Rattle.std.proofs.{lemmas.List.nil_from_length, lemmas.List.Elements.{All-ni
 use Rattle.std.specs.Char.{IsScalar, is_ascii}
 use Rattle.legacy_text.specs.EncodingForm.{EncodingForm, Utf8, Utf16, unit_count, total_unit_count, bmp_room}
 use Rattle.legacy_tables.specs.Unicode.{IsByte, AreBytes}
-use Rattle.legacy_base.specs.{States.{rests, may_hold, state_of}, DecoderActs.{act_room, takes, full_room, has_short_ascii, has_reported, has_marks}}
-use Rattle.legacy_base.specs.{DecoderActs.{full_room_in, HadRoom}, Lengths.{LengthQuery, to_utf16, to_utf8, query_form, room}, Fronts.{reads, malformed}}
-use Rattle.legacy_base.specs.{declared.results.DecodeEvent.TheVariants.Scalar, Grammar.{Grammar, events_of}, Calls.{IsMalformedByte, Progress}}
-use Rattle.legacy_decoder_engine.specs.{Moves.{IsCovered, read_room, fed_scalars, Feeds, Releases, Reports}, Steps.{Step, finish, step_held, step_length}}
-use Rattle.legacy_decoder_engine.specs.{Steps.{StepMeets, DecoderMachine}, Feeding.{fed_of, Took}, StepUnits.{units, step_units}, declared.moves.Fed.Fed}
+use Rattle.legacy_base.specs.{States.{rests, may_hold, state_of}, DecoderActs.{act_room, takes, full_room, has_short_ascii, has_reported}}
+use Rattle.legacy_base.specs.{DecoderActs.{has_marks, full_room_in, HadRoom}, Lengths.{LengthQuery, to_utf16, to_utf8, query_form, room}}
+use Rattle.legacy_base.specs.Fronts.{reads, malformed}
+use Rattle.legacy_base.specs.{declared.results.DecodeEvent.TheVariants.Scalar, Grammar.{Grammar, events_of}, Calls.Progress}
+use Rattle.legacy_decoder_engine.specs.{Moves.{IsCovered, read_room, fed_scalars, Feeds, FeedsMalformedByte, Releases, Reports}, Feeding.{fed_of, Took}}
+use Rattle.legacy_decoder_engine.specs.{Steps.{Step, finish, step_held, step_length, StepMeets, DecoderMachine}, StepUnits.{units, step_units}}
+use Rattle.legacy_decoder_engine.specs.declared.moves.Fed.{Fed, TheVariants.MalformedSequence}
 use Rattle.legacy_decoder_engine.specs.{StatesAfterSteps.{IsOneOrMarked, Settles}, Shown.IsShown}
 use Rattle.legacy_base.proofs.{Rooms.release-full, GrammarLaws.{may_none, rests-none}}
 use Rattle.legacy_decoder_engine.proofs.{RoomMoves.all_needs, CallUnderWay.same_rooms}
@@ -130,6 +132,8 @@ module _ {g : Grammar} {m : DecoderMachine} (shown : IsShown g m) (held : List �
       grind (arith, append-nil, ends_some, first)
 
 -- a byte that is malformed by itself in the machine, if nothing is held back
-pub malformed_byte : {g : Grammar} {m : DecoderMachine} → IsShown g m → (b : ℕ) → m.step [] b ≡ finish (malformed 1) → m.to [] b ≡ g →
-    IsMalformedByte (state_of g []) b
-malformed_byte shown b e t = grind (arith, meets, may_none, rests-none)
+pub malformed_byte : {g : Grammar} {m : DecoderMachine} → IsShown g m → (b : ℕ) → IsByte b → m.step [] b ≡ finish (malformed 1) → m.to [] b ≡ g →
+    FeedsMalformedByte (state_of g []) b
+malformed_byte {g} {m} shown b byte e t =
+    let took : Took (m.step [] b) [] b (MalformedSequence 1 0 false) [] = grind arith in
+    (refl, rw t at (feeds shown [] (may_none g) (All-nil _) b byte (rests-none g) (MalformedSequence 1 0 false) [] took))

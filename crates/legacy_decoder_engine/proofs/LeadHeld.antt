@@ -3,10 +3,10 @@ use Rattle.std.proofs.Common.{arith, ◌≡◌, ◌≢◌, ◌∙◌, ℕ, List,
 use Rattle.std.proofs.lemmas.List.Elements.{All-nil, All-cons}
 use Rattle.std.specs.Char.{IsScalar}
 use Rattle.legacy_tables.specs.{Unicode.{IsByte, AreBytes}, AcceptedTables.AcceptedIndexes, Indexes.FlatIndexes}
-use Rattle.legacy_base.specs.{States.{may_hold, is_empty}, Grammar.{Grammar, events_of}, Calls.IsMalformedByte, Fronts.malformed}
-use Rattle.legacy_decoder_engine.specs.{declared.moves.Fed.Fed, Steps.{Step, finish}, Moves.{IsCovered, Feeds, Reports}, LeadMachines.two_byte_step}
-use Rattle.legacy_decoder_engine.specs.{LeadMachines.two_byte_machine, Shown.IsShown, Feeding.Took, ReadAhead.{Runs, HasAscii, IsIdle}, LeadCodecs.IsLeadCodec}
-use Rattle.legacy_decoder_engine.specs.LeadCodecs.{held_bytes, lead_state}
+use Rattle.legacy_base.specs.{States.{may_hold, is_empty}, Grammar.{Grammar, events_of}, Fronts.malformed}
+use Rattle.legacy_decoder_engine.specs.{declared.moves.Fed.Fed, Steps.{Step, finish}, Moves.{IsCovered, Feeds, FeedsMalformedByte, Reports}}
+use Rattle.legacy_decoder_engine.specs.{LeadMachines.{two_byte_machine, two_byte_step}, Shown.IsShown, Feeding.Took, ReadAhead.{Runs, HasAscii, IsIdle}}
+use Rattle.legacy_decoder_engine.specs.LeadCodecs.{IsLeadCodec, held_bytes, lead_state}
 use Rattle.legacy_decoder_engine.proofs.RunForms.{has_ascii, pair_runs, ascii_is}
 use Rattle.legacy_decoder_engine.proofs.Feeding as feeding
 
@@ -53,8 +53,8 @@ module _ {L : Type 0} {grammar : FlatIndexes → Grammar} {is_lead_byte : ℕ �
   pub reports : (lead : L) → Reports (lead_state grammar byte tables (Some lead)) (lead_state grammar byte tables None) 1 0
   reports lead = feeding.reports_all shown _ (may (Some lead)) (are_bytes (Some lead)) (is.rests_is tables.flat _) (λ e. cc)
 
-  pub malformed_byte : (b : ℕ) → first b ≡ finish (malformed 1) → IsMalformedByte (lead_state grammar byte tables None) b
-  malformed_byte b e = feeding.malformed_byte shown b e refl
+  pub malformed_byte : (b : ℕ) → IsByte b → first b ≡ finish (malformed 1) → FeedsMalformedByte (lead_state grammar byte tables None) b
+  malformed_byte b is_byte e = feeding.malformed_byte shown b is_byte e refl
 
   pub idle : (held : Option L) → is_some held ≡ false → IsIdle (lead_state grammar byte tables held)
   idle held e = record { empty = grind arith; ascii = ascii is tables }

@@ -1,6 +1,6 @@
 -- The small moves of a decoder, which make up its calls. A move is the same in both encoding forms.
 use Rattle.std.specs.Prelude.{◌≡◌, ◌≢◌, ℕ, ◌+◌, ◌-◌, ◌<◌, ◌≤◌, List, [], ◌∷◌, ◌++◌, length, map, true, false, IsTrue, Bool, Option, None, ◌⊎◌, All}
-use Rattle.std.specs.{Prelude.if◌then◌else◌, Char.IsScalar}
+use Rattle.std.specs.{Prelude.{if◌then◌else◌, get_or}, Char.IsScalar}
 use Rattle.legacy_base.specs.{declared.results.DecoderResult.TheVariants.{InputEmpty, OutputFull, Malformed}, States.{DecoderState, may_hold, rests}}
 use Rattle.legacy_base.specs.{DecoderActs.{act_room, full_room_in, release_room_in, room_needed, wants_full_room, HadRoom}, Lengths.{LengthQuery, query_form}}
 use Rattle.legacy_base.specs.{Lengths.{replacement_units, room}, declared.results.DecodeEvent.DecodeEvent, declared.results.DecodeEvent.TheVariants.Scalar}
@@ -89,6 +89,14 @@ pub record Feeds (before : DecoderState) (byte : ℕ) (after : DecoderState) (fe
   pub lowers : (query : LengthQuery) (n : ℕ) →
       room query after (n + length (unread_byte byte fed)) +
       (total_unit_count (query_form query) (fed_scalars fed) + fed_units query fed) ≤ room query before (n + 1)
+
+-- a byte that is malformed by itself if nothing is held back, whatever bytes follow; it leaves the state unchanged
+abbrev pub FeedsMalformedByte : DecoderState → ℕ → Type 0
+FeedsMalformedByte state byte = (state.held ≡ []) × Feeds state byte state (MalformedSequence 1 0 false)
+
+-- the source has such a byte at a place
+abbrev pub HasMalformedByte : DecoderState → List ℕ → ℕ → Type 0
+HasMalformedByte state source at = (at < length source) × FeedsMalformedByte state (get_or source at 0)
 
 -- bytes that were read one after another, each with its room, and are held back
 unfoldable pub HoldsBytes : EncodingForm → ℕ → DecoderState → List ℕ → DecoderState → Type 0

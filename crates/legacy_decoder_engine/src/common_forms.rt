@@ -41,9 +41,6 @@ pub trait CommonForms {
     /// What a form requires of the grammar.
     ghost ready: { Self → Type 0 } = { λ _. Unit {0} };
 
-    /// The smallest number of bytes of four forms.
-    const FOUR_AT_LEAST: usize = 4;
-
     /// Returns what is at the front of the input, given a byte and the byte after it.
     ///
     /// It is a scalar up to U+FFFF, or `Other` for an uncommon form, which the machine reads.
@@ -66,9 +63,10 @@ fn fitting(bytes: usize, units: usize) -> usize
     }
 }
 
-/// Reads at most `most` forms, up to an uncommon one or past two ASCII bytes in a row, and returns the number of bytes read.
+/// Reads at most `most` forms, up to an uncommon one or past two ASCII bytes in a row.
 ///
-/// The input has bytes for `most` forms, and the output has room for them and three more code units.
+/// Returns the number of bytes read, and whether it read `most` forms. The input has bytes for `most` forms, and the
+/// output has room for them and three more code units.
 #[inline(always)]
 #[tactic(auto, using(crate::proofs::WrittenRuns::one_by_one))]
 fn read_turns<F: CommonForms, T: Destination>(
@@ -76,12 +74,12 @@ fn read_turns<F: CommonForms, T: Destination>(
     src: &[u8],
     dst: &mut T,
     most: usize,
-) -> usize
+) -> (usize, bool)
     requires ready { F.ready forms.now }
     requires source { 2 * most ≤ length src.now }
     requires room { 3 * most + 3 ≤ T.room dst.old }
-    ensures read { result ≤ 2 * most }
-    ensures writes { Writes T.Destination (F.grammar forms.now) (take result src.now) dst.old dst.new }
+    ensures read { result.0 ≤ 2 * most }
+    ensures writes { Writes T.Destination (F.grammar forms.now) (take result.0 src.now) dst.old dst.new }
     ensures slack { T.room dst.old ≤ T.room dst.new + 3 * most }
 {
     let mut at = 0;
@@ -98,14 +96,14 @@ fn read_turns<F: CommonForms, T: Destination>(
                 dst.put(c);
                 at += 1;
                 if (byte | next) < 0x80 {
-                    return at;
+                    return (at, false);
                 }
             }
-            CommonForm::Other => return at,
+            CommonForm::Other => return (at, false),
         }
         left -= 1;
     }
-    at
+    (at, true)
 }
 
 /// Reads a run of forms from the front, up to an uncommon one, and returns the number of bytes read, which may be 0.
@@ -126,14 +124,14 @@ fn read_run<F: CommonForms, T: Destination>(forms: &F, src: &[u8], dst: &mut T) 
     let mut at = 0;
     let mut left = turns / 4;
     while left > 0 {
-        let read = read_turns(forms, &src[at..], dst, 4);
+        let (read, goes_on) = read_turns(forms, &src[at..], dst, 4);
         at += read;
-        if read < F::FOUR_AT_LEAST {
+        if !goes_on {
             return at;
         }
         left -= 1;
     }
-    at + read_turns(forms, &src[at..], dst, turns % 4)
+    at + read_turns(forms, &src[at..], dst, turns % 4).0
 }
 
 /// Reads common forms from the front of at most `most` bytes, up to an uncommon one.

@@ -2,7 +2,8 @@
 ghost use Rattle.std.specs.Prelude.{◌≡◌, ℕ, ◌+◌, ◌<◌, ◌≤◌, ◌++◌, length, slice_index, true, false, MatchOption};
 ghost use Rattle.legacy_text.specs.EncodingForm.{all_code_units, total_unit_count};
 ghost use Rattle.legacy_base.specs.{States.rests, Calls.{IsDecoderCall, IsMalformedByte}};
-ghost use Rattle.legacy_decoder_engine.specs.{Moves.{room_units, fed_scalars, GoesOn, EndsAt, Finishes}, ReadAhead.ReadsTo};
+ghost use Rattle.legacy_decoder_engine.specs.ReadAhead.{ReadsTo};
+ghost use Rattle.legacy_decoder_engine.specs.Moves.{room_units, fed_scalars, FeedsMalformedByte, HasMalformedByte, GoesOn, EndsAt, Finishes};
 
 use crate::moves::{DecoderMoves, Fed, Room};
 use legacy_base::{DecoderResult, Destination};
@@ -73,24 +74,49 @@ fn read_byte<D: DecoderMoves, T: Destination>(
 /// Returns whether the first byte is known to be malformed by itself.
 #[inline(always)]
 fn begins_malformed<D: DecoderMoves>(decoder: &D, src: &[u8]) -> bool
-    ensures { result ≡ true → 0 < length src.now }
+    ensures { result ≡ true → HasMalformedByte (D.state decoder.now) src.now 0 }
 {
     !src.is_empty() && decoder.is_malformed_byte(src[0])
 }
 
 /// Reads a run from the front, but nothing if the byte there is known to be malformed.
 ///
-/// Returns the number of bytes read.
+/// Returns the number of bytes read, and whether the byte after them is known to be malformed.
 // Malformed bytes often follow one another. None of them costs a test for a block.
 #[inline(always)]
 #[tactic(auto, using(crate::proofs::WrittenRuns::no_bytes))]
-fn read_ahead<D: DecoderMoves, T: Destination>(decoder: &mut D, src: &[u8], dst: &mut T) -> usize
-    ensures { ReadsTo T.Destination (D.state decoder.old) (D.state decoder.new) src.now result dst.old dst.new }
+fn read_ahead<D: DecoderMoves, T: Destination>(
+    decoder: &mut D,
+    src: &[u8],
+    dst: &mut T,
+) -> (usize, bool)
+    ensures read { ReadsTo T.Destination (D.state decoder.old) (D.state decoder.new) src.now result.0 dst.old dst.new }
+    ensures malformed { result.1 ≡ true → HasMalformedByte (D.state decoder.new) src.now result.0 }
 {
     if begins_malformed(decoder, src) {
-        return 0;
+        return (0, true);
     }
-    decoder.read_runs(src, dst)
+    let read = decoder.read_runs(src, dst);
+    (read, read > 0 && begins_malformed(decoder, &src[read..]))
+}
+
+/// Reports a byte that is known to be malformed by itself.
+///
+/// Returns the result of the call, and the number of bytes read, which is 0 without room and otherwise 1.
+#[inline(always)]
+fn report_malformed<D: DecoderMoves, T: Destination>(
+    decoder: &mut D,
+    byte: u8,
+    dst: &T,
+) -> (DecoderResult, usize)
+    requires { FeedsMalformedByte (D.state decoder.old) byte }
+    ensures { EndsAt T.form (T.room dst.now) (D.state decoder.old) byte (D.state decoder.new) result.0 result.1 }
+{
+    if !has_room(dst, decoder.reading_room(byte)) {
+        return (DecoderResult::OutputFull, 0);
+    }
+    decoder.after_malformed();
+    (DecoderResult::Malformed(1, 0), 1)
 }
 
 /// Ends a call after its input: on the last call, reports the held-back bytes.
@@ -141,15 +167,11 @@ pub fn drive_decoder<D: DecoderMoves, T: Destination>(
     }
     let mut read = 0;
     loop {
-        read += read_ahead(decoder, &src[read..], dst);
-        // A copy of the turn below without `hold_back`, for a byte that is known to be malformed. The compiler drops all
-        // other cases of `feed` from it.
-        if begins_malformed(decoder, &src[read..]) {
-            if let Some((result, count)) = read_byte(decoder, src[read], dst) {
-                return (result, read + count);
-            }
-            read += 1;
-            continue;
+        let (count, is_malformed) = read_ahead(decoder, &src[read..], dst);
+        read += count;
+        if is_malformed {
+            let (result, count) = report_malformed(decoder, src[read], dst);
+            return (result, read + count);
         }
         read += decoder.hold_back(&src[read..], dst);
         if read == src.len() {

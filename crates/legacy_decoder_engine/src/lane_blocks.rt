@@ -14,7 +14,7 @@ use crate::eights::read_eights;
 use crate::lane_codec::LaneCodec;
 use crate::lanes::{byte_total, put_codes};
 use crate::past_ascii::past_ascii;
-use crate::read_ahead::{Blocks, SLACK, read_ascii};
+use crate::read_ahead::{Blocks, SHORT_BLOCK, SLACK, read_ascii};
 use legacy_base::Destination;
 use legacy_tables::FlatTables;
 use std::cell::Cell;
@@ -389,7 +389,7 @@ fn read_few<C: LaneCodec, T: Destination>(
     loop {
         let ascii = read_ascii(&src[at..], dst);
         at += ascii;
-        if src.len() - at < 16 {
+        if src.len() - at < SHORT_BLOCK {
             return (at + read_last(blocks, &src[at..], dst), false);
         }
         let delay = blocks.delay_after(ascii);

@@ -1,8 +1,9 @@
 //! The small moves of each decoder, and the runs that it reads ahead of them.
 ghost use Rattle.std.specs.Prelude.{◌≡◌, ◌≢◌, ◌≤◌, [], length, take, true, false, MatchOption};
 ghost use Rattle.legacy_text.specs.EncodingForm.{EncodingForm};
-ghost use Rattle.legacy_base.specs.{Grammar.events_of, States.{DecoderState, may_hold, rests}, Calls.IsMalformedByte, DecoderActs.release_room_in};
-ghost use Rattle.legacy_decoder_engine.specs.{Moves.{room_units, read_room, IsCovered, Releases, Feeds, Reports, HoldsBytes}, ReadAhead.ReadsTo};
+ghost use Rattle.legacy_base.specs.{Grammar.events_of, States.{DecoderState, may_hold, rests}, DecoderActs.release_room_in};
+ghost use Rattle.legacy_decoder_engine.specs.ReadAhead.{ReadsTo};
+ghost use Rattle.legacy_decoder_engine.specs.Moves.{room_units, read_room, IsCovered, Releases, Feeds, FeedsMalformedByte, Reports, HoldsBytes};
 
 use legacy_base::Destination;
 
@@ -95,7 +96,7 @@ pub trait DecoderMoves {
     /// It may return false for such a byte. Nothing changes.
     #[inline(always)]
     fn is_malformed_byte(&self, byte: u8) -> bool
-        ensures { result ≡ true → IsMalformedByte (state self.now) byte }
+        ensures { result ≡ true → FeedsMalformedByte (state self.now) byte }
     {
         let _ = byte;
         false

@@ -1,7 +1,5 @@
 //! Common forms near malformed sequences, where no block is begun for nothing.
 // The functions are always inlined, because they run in each call.
-ghost use Rattle.std.specs.Prelude.{◌≡◌, true};
-ghost use Rattle.legacy_tables.specs.AcceptedTables.{AcceptedIndexes};
 ghost use Rattle.legacy_base.specs.States.{new_state};
 ghost use Rattle.legacy_decoder_engine.specs.ReadAhead.{HasAscii, ReadsAhead};
 
@@ -16,9 +14,7 @@ use std::cell::Cell;
 ///
 /// Returns false if there are fewer than three bytes.
 #[inline(always)]
-fn stands_alone<C: LaneCodec>(src: &[u8]) -> bool
-    ensures { result ≡ true → (tables : AcceptedIndexes) → HasAscii (C.grammar tables.flat) }
-{
+fn stands_alone<C: LaneCodec>(src: &[u8]) -> bool {
     if src.len() < 3 {
         return false;
     }
@@ -75,13 +71,11 @@ fn read_common<C: LaneCodec, T: Destination>(
     src: &[u8],
     dst: &mut T,
 ) -> usize
+    requires { HasAscii (C.grammar blocks.now.tables.now.flat) }
     ensures { ReadsAhead T.Destination (new_state (C.grammar blocks.now.tables.now.flat)) src.now result dst.old dst.new }
 {
     if stands_alone::<C>(src) {
         return read_in_turn::<C, T>(blocks.tables, src, 2, dst);
-    }
-    if begins_uncommon::<C>(src) {
-        return 0;
     }
     if *without_lanes > 0 {
         let read = read_without_lanes::<C, T>(blocks, src, *without_lanes, dst);

@@ -4,9 +4,9 @@ use Rattle.std.{proofs.lemmas.{Bool.{false≢true, ltb-true, Decides.nat_tests},
 use Rattle.std.specs.Int.{is_in_range}
 use Rattle.legacy_base.specs.{EucJp.{euc_jp_front, euc_jp_katakana, euc_jp_second, euc_jp_third, euc_jp_pair, euc_jp_scalars, euc_jp_weight}, Fronts.Front}
 use Rattle.legacy_base.specs.{Fronts.{cut, malformed}, Grammar.{Grammar, euc_jp, events_of}, DecoderActs.{act_room, takes}, States.{euc_jp_may_hold, state_of}}
-use Rattle.legacy_base.{specs.{States.is_euc_jp_lead, Calls.IsMalformedByte}, proofs.{Cuts.cut-nil, FrontLaws.euc_jp_front-of}}
+use Rattle.legacy_base.{specs.States.is_euc_jp_lead, proofs.{Cuts.cut-nil, FrontLaws.euc_jp_front-of}}
 use Rattle.legacy_decoder_engine.specs.{Steps.{DecoderMachine, end_events, Meets, finish}, StepUnits.{units, IsWidth, IsNarrowIndex, Cost}}
-use Rattle.legacy_decoder_engine.specs.{StatesAfterSteps.{Settles}, Shown.IsShown, Moves.{IsCovered, Feeds, Reports}, Feeding.Took}
+use Rattle.legacy_decoder_engine.specs.{StatesAfterSteps.{Settles}, Shown.IsShown, Moves.{IsCovered, Feeds, FeedsMalformedByte, Reports}, Feeding.Took}
 use Rattle.legacy_decoder_engine.specs.{ReadAhead.{HasAscii, IsPair}, LaneCodes.ArePairs, LanePlaces.row_place, declared.moves.Fed.Fed}
 use Rattle.legacy_decoder_engine.proofs.{FrontMoves.{Fits, fits_test, fits_trail, fits_meets, end_meets, report_meets}, SettledSteps.{one_test, one_option}}
 use Rattle.legacy_decoder_engine.proofs.{SettledSteps.{settles_test, trail_settles}, RoomMoves.{first_room, held_room_is, HasCosts, sloped_rooms}}
@@ -106,8 +106,8 @@ module _ (tables : AcceptedIndexes) where
   shown : IsShown (euc_jp tables.flat.jis0208 tables.flat.jis0212) (euc_jp_machine tables.flat.jis0208 tables.flat.jis0212)
   shown = euc_jp_shown tables.flat.jis0208 tables.flat.jis0212 (jis0208-below tables.flat tables.accepted) (jis0212-below tables.flat tables.accepted)
 
-  pub malformed_byte : (b : ℕ) → euc_jp_first b ≡ finish (malformed 1) → IsMalformedByte (state_of grammar []) b
-  malformed_byte b e = moves.malformed_byte shown b e refl
+  pub malformed_byte : (b : ℕ) → IsByte b → euc_jp_first b ≡ finish (malformed 1) → FeedsMalformedByte (state_of grammar []) b
+  malformed_byte b is_byte e = moves.malformed_byte shown b is_byte e refl
 
   pub covered : (held : Held) → IsCovered (state_of grammar (held_bytes held))
   covered held = moves.covered shown (held_bytes held) (may held) (are_bytes held)

@@ -25,8 +25,6 @@ struct Jis0208Pairs<'a, 'b> {
 impl CommonForms for Jis0208Pairs<'_, '_> {
     ghost grammar = { λ pairs. iso_2022_jp pairs.tables.now.flat.jis0208 two_byte };
 
-    const FOUR_AT_LEAST: usize = 8;
-
     #[inline(always)]
     fn form(&self, first: u8, second: u8) -> CommonForm {
         let pointer = pair_pointer(&LEADS, &TRAILS, first, second);

@@ -28,8 +28,6 @@ impl CommonForms for Units {
 
     ghost grammar = { units_grammar };
 
-    const FOUR_AT_LEAST: usize = 8;
-
     #[inline(always)]
     fn form(&self, first: u8, second: u8) -> CommonForm {
         let unit = unit(self.big_endian, first, second);

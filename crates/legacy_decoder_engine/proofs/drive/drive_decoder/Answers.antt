@@ -1,44 +1,41 @@
 use Rattle.std.proofs.Common.{◌∙◌, ◌++◌, [], ◌∷◌, arith, refl, sym, ap, append-nil, add-zero, length-append}
 use Rattle.legacy_text.specs.EncodingForm.{code_units}
 use Rattle.legacy_decoder_engine.proofs.CallUnderWay.{going_start, going_release, call_full_release, call_end}
-use Rattle.legacy_decoder_engine.proofs.AheadRuns.{read_going, front_going, some_left, byte_going, byte_ends}
+use Rattle.legacy_decoder_engine.proofs.AheadRuns.{read_going, front_going, left_malformed, byte_going, byte_ends}
 use Rattle.legacy_decoder_engine.proofs.drive.drive_decoder.Goals.{then-not-rests+else-not-has_room+in-Some, else-not-rests}
 use Rattle.legacy_decoder_engine.proofs.drive.drive_decoder.Goals as goal
 
+pub report_malformed-result-requires : goal.report_malformed-result-requires
+report_malformed-result-requires g c = (left_malformed _ _ (c.read_ahead-count.ensures.malformed c.if-is_malformed.true)).1
+
+pub returns-then-is_malformed-clause-call : goal.returns-then-is_malformed-clause-call
+returns-then-is_malformed-clause-call g c =
+    let i = read_going c.args.dst.now c.loop-decoder.invariant c.read_ahead-count.ensures.read in
+    let some = (left_malformed _ _ (c.read_ahead-count.ensures.malformed c.if-is_malformed.true)).0 in
+    byte_ends g.T.Destination c.args.dst.now i some c.report_malformed-result.result.0 c.report_malformed-result.result.1 refl c.report_malformed-result.ensures
+
 pub read_byte-requires : goal.read_byte-requires
-read_byte-requires g c = (read_going c.args.dst.now c.loop-decoder.invariant c.read_ahead-read.ensures).1.resting
+read_byte-requires g c =
+    (front_going c.args.dst.now c.loop-decoder.invariant c.read_ahead-count.ensures.read c.hold_back-read.ensures.within
+    c.hold_back-read.ensures.holds).1.resting
 
 pub returns-in-Some-read_byte-clause-call : goal.returns-in-Some-read_byte-clause-call
 returns-in-Some-read_byte-clause-call g c =
-    let i = read_going c.args.dst.now c.loop-decoder.invariant c.read_ahead-read.ensures in
-    let some = some_left _ _ i.1.within (c.begins_malformed.ensures c.if-begins_malformed.true) in
+    let i = front_going c.args.dst.now c.loop-decoder.invariant c.read_ahead-count.ensures.read c.hold_back-read.ensures.within
+    c.hold_back-read.ensures.holds in
     let ends = c.in-Some-read_byte.ensures in
-    byte_ends g.T.Destination c.args.dst.now i some c.in-Some-read_byte.result c.in-Some-read_byte.count ends.1 ends.0
-
-pub loop-decoder-preserved-then-begins_malformed : goal.loop-decoder-preserved-then-begins_malformed
-loop-decoder-preserved-then-begins_malformed g c =
-    let i = read_going c.args.dst.now c.loop-decoder.invariant c.read_ahead-read.ensures in
-    let some = some_left _ _ i.1.within (c.begins_malformed.ensures c.if-begins_malformed.true) in
-    byte_going g.T.Destination c.args.dst.now i some c.in_default-read_byte.ensures
-
-pub read_byte-requires-in-loop-decoder : goal.read_byte-requires-in-loop-decoder
-read_byte-requires-in-loop-decoder g c =
-    (front_going c.args.dst.now c.loop-decoder.invariant c.read_ahead-read.ensures c.hold_back-read.ensures.within c.hold_back-read.ensures.holds).1.resting
-
-pub returns-in-Some-read_byte-2-clause-call : goal.returns-in-Some-read_byte-2-clause-call
-returns-in-Some-read_byte-2-clause-call g c =
-    let i = front_going c.args.dst.now c.loop-decoder.invariant c.read_ahead-read.ensures c.hold_back-read.ensures.within c.hold_back-read.ensures.holds in
-    let ends = c.in-Some-read_byte-2.ensures in
-    byte_ends g.T.Destination c.args.dst.now i (omega arith) c.in-Some-read_byte-2.result c.in-Some-read_byte-2.count ends.1 ends.0
+    byte_ends g.T.Destination c.args.dst.now i (omega arith) c.in-Some-read_byte.result c.in-Some-read_byte.count ends.1 ends.0
 
 pub loop-decoder-preserved : goal.loop-decoder-preserved
 loop-decoder-preserved g c =
-    let i = front_going c.args.dst.now c.loop-decoder.invariant c.read_ahead-read.ensures c.hold_back-read.ensures.within c.hold_back-read.ensures.holds in
-    byte_going g.T.Destination c.args.dst.now i (omega arith) c.in_default-read_byte-2.ensures
+    let i = front_going c.args.dst.now c.loop-decoder.invariant c.read_ahead-count.ensures.read c.hold_back-read.ensures.within
+    c.hold_back-read.ensures.holds in
+    byte_going g.T.Destination c.args.dst.now i (omega arith) c.in_default-read_byte.ensures
 
 pub finish-requires : goal.finish-requires
 finish-requires g c =
-    (front_going c.args.dst.now c.loop-decoder.invariant c.read_ahead-read.ensures c.hold_back-read.ensures.within c.hold_back-read.ensures.holds).1.resting
+    (front_going c.args.dst.now c.loop-decoder.invariant c.read_ahead-count.ensures.read c.hold_back-read.ensures.within
+    c.hold_back-read.ensures.holds).1.resting
 
 pub loop-decoder-init : goal.loop-decoder-init
 loop-decoder-init g c =
@@ -74,5 +71,6 @@ returns-then-not-has_room-clause-call g c =
 
 pub returns-clause-call : goal.returns-clause-call
 returns-clause-call g c =
-    let i = front_going c.args.dst.now c.loop-decoder.invariant c.read_ahead-read.ensures c.hold_back-read.ensures.within c.hold_back-read.ensures.holds in
+    let i = front_going c.args.dst.now c.loop-decoder.invariant c.read_ahead-count.ensures.read c.hold_back-read.ensures.within
+    c.hold_back-read.ensures.holds in
     (i.0, rw (← c.if-read-src.true) (call_end i.1 _ i.3 c.if-read-src.true c.finish.ensures), i.2)

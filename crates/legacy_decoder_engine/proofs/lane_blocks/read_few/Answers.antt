@@ -2,8 +2,9 @@ use Rattle.std.proofs.Common.{arith}
 use Rattle.legacy_decoder_engine.proofs.{JoinedRuns.reads_more}
 use Rattle.legacy_decoder_engine.proofs.lane_blocks.read_few.Goals as goal
 
-pub returns-then-src-at-lt16-clause-ahead : goal.returns-then-src-at-lt16-clause-ahead
-returns-then-src-at-lt16-clause-ahead g c = reads_more (reads_more c.loop-at.invariant (c.read_ascii-ascii.ensures.ahead _ c.requires)) c.read_last.ensures
+pub returns-then-src-at-lt-SHORT_BLOCK-clause-ahead : goal.returns-then-src-at-lt-SHORT_BLOCK-clause-ahead
+returns-then-src-at-lt-SHORT_BLOCK-clause-ahead g c =
+    reads_more (reads_more c.loop-at.invariant (c.read_ascii-ascii.ensures.ahead _ c.requires)) c.read_last.ensures
 
 pub returns-then-few-eq0-clause-ahead : goal.returns-then-few-eq0-clause-ahead
 returns-then-few-eq0-clause-ahead g c = reads_more (reads_more c.loop-at.invariant (c.read_ascii-ascii.ensures.ahead _ c.requires)) c.read_one_kind-few.ensures
