@@ -1,14 +1,16 @@
 -- The machine's steps, as the decoders' loop sees them.
-use Rattle.std.{specs.Char.IsScalar, proofs.Common.{◌≡◌, ◌∙◌, ℕ, ◌+◌, ◌-◌, ◌*◌, ◌<◌, Option, true, length-append, None, Some, List, [], ◌∷◌, length, sym, arith, ◌≤◌, cond, ◌==◌, take, refl}}
+use Rattle.std.{specs.Char.IsScalar, proofs.Common.{◌≡◌, ◌∙◌, ℕ, ◌+◌, ◌-◌, ◌*◌, ◌<◌, ◌≤◌, Option, true, false, None, Some, List, [], ◌∷◌}}
+use Rattle.std.proofs.Common.{length-append, length, sym, arith, cond, ◌==◌, take, refl}
 use Rattle.std.proofs.lemmas.{List.Elements.{All-cons, All-nil}, Bool.Decides.nat_tests}
 use Rattle.legacy_base.specs.{DecoderActs.HadRoom, States.{DecoderState, rests}, Grammar.{iso_2022_jp, events_of}, Lengths.query_form, Iso2022Jp.esc}
 use Rattle.legacy_text.specs.EncodingForm.{total_unit_count, EncodingForm, bmp_room}
 use Rattle.legacy_tables.specs.{AcceptedTables.AcceptedIndexes, Indexes.idx}
-use Rattle.legacy_decoder_engine.specs.{Moves.{fed_scalars, fed_units, unread_byte, Feeds, HoldsBytes}, declared.moves.Fed.{Fed, TheVariants.{Nothing as Kept, One, Two}}}
+use Rattle.legacy_decoder_engine.specs.Moves.{fed_scalars, fed_units, unread_byte, Feeds, FeedsMalformedByte, HoldsBytes}
+use Rattle.legacy_decoder_engine.specs.declared.moves.Fed.{Fed, TheVariants.{Nothing as Kept, One, Two}}
 use Rattle.legacy_japanese.specs.declared.iso_2022_jp.steps.{Mode.Mode, Held.{Held, TheVariants.{Begun, Byte}}, Escape.Escape}
 use Rattle.legacy_japanese.specs.declared.iso_2022_jp.steps.Start.{Start, TheVariants.{Nothing, EscapeByte, Dollar, Paren}}
-use Rattle.legacy_japanese.specs.Iso2022JpMachine.{mode_meaning, bytes_of, is_held, read, read_pair, second_of, third_of, state_in}
-use Rattle.legacy_japanese.{specs.Iso2022JpRuns.{run_state, HasEscape}, proofs.Iso2022JpStep.{done, step_events, IsStep, read_step}}
+use Rattle.legacy_japanese.specs.Iso2022JpMachine.{mode_meaning, bytes_of, is_held, malformed, read, read_pair, second_of, third_of, state_in}
+use Rattle.legacy_japanese.{specs.Iso2022JpRuns.{run_state, BeginsEscape}, proofs.Iso2022JpStep.{done, step_events, IsStep, read_step}}
 use Rattle.legacy_japanese.proofs.Iso2022JpRooms.{read_room-is, one_fits, room-falls, replacement_fits, times_one, held_allowed, held_rests, same_rooms}
 use Rattle.legacy_japanese.proofs.Iso2022JpRooms.{single_narrow, entry_narrow}
 
@@ -67,6 +69,12 @@ module _ (tables : AcceptedIndexes) (mode : Mode) (held : Held) (byte : ℕ) (o 
             (grind (arith, times_one, one_fits, replacement_fits));
       }
 
+-- a byte past ASCII is malformed in each mode
+pub malformed_byte : (tables : AcceptedIndexes) (mode : Mode) (byte : ℕ) → 0x80 ≤ byte → FeedsMalformedByte (run_state tables.flat.jis0208 mode) byte
+malformed_byte tables mode byte past =
+    let is : malformed 1 false mode (Begun None Nothing) ≡ read tables.flat.jis0208 mode (Begun None Nothing) byte = grind (arith, nat_tests) in
+    (refl, feeds tables mode (Begun None Nothing) byte _ refl (held_rests tables.flat.jis0208 mode (Begun None Nothing) refl) is)
+
 -- ---- a whole escape is held back at once
 
 -- the start of an escape: its first two bytes
@@ -96,6 +104,6 @@ module _ (form : EncodingForm) (free : ℕ) (enough : bmp_room form ≤ free) (t
       (holds_byte (second_start e) (third_of e) (Begun (Some e) Nothing) [] (Begun (Some e) Nothing) (grind arith) refl))
 
   -- the escape at the beginning of the source
-  pub holds_escape : (e : Escape) (source : List ℕ) → HasEscape e source →
+  pub holds_escape : (e : Escape) (source : List ℕ) → BeginsEscape e source →
       HoldsBytes form free (run_state tables.flat.jis0208 mode) (take 3 source) (state_in tables.flat.jis0208 mode (Begun (Some e) Nothing))
   holds_escape e source has = grind (arith, holds_whole)

@@ -1,5 +1,5 @@
 -- The runs of the ISO-2022-JP decoder.
-use Rattle.std.specs.Prelude.{None, ◌≡◌, ◌≢◌, ℕ, ◌<◌, ◌-◌, ◌*◌, if◌then◌else◌, List, [], ◌∷◌, length, take, get_or, slice_index}
+use Rattle.std.specs.Prelude.{None, ◌≡◌, ◌≢◌, ℕ, ◌<◌, ◌≤◌, ◌-◌, ◌*◌, if◌then◌else◌, List, [], ◌∷◌, length, take, get_or, slice_index}
 use Rattle.std.specs.Int.{is_in_range}
 use Rattle.legacy_base.specs.{Iso2022Jp.esc, States.DecoderState}
 use Rattle.legacy_text.specs.declared.destination.Destination.{Ghosts}
@@ -27,6 +27,11 @@ ReadsModes T jis0208 first last source read old new = ReadsTo T (run_state jis02
 -- plain bytes at the front of the source are read in ASCII mode, and their scalars are written
 abbrev pub ReadsPlain : {D : Type 0} → Ghosts D → List ℕ → ℕ → D → D → Type 0
 ReadsPlain T source read old new = (jis0208 : List ℕ) → ReadsModes T jis0208 Ascii Ascii source read old new
+
+-- the bytes begin with the escape
+pub record BeginsEscape (escape : Escape) (bytes : List ℕ) : Type 0 where
+  pub within : 3 ≤ length bytes
+  pub begins : take 3 bytes ≡ esc ∷ second_of escape ∷ third_of escape ∷ []
 
 -- the bytes begin with the escape, and the byte after it is not the escape byte
 pub record HasEscape (escape : Escape) (bytes : List ℕ) : Type 0 where

@@ -3,7 +3,7 @@ ghost use Rattle.std.specs.Prelude.{◌≡◌, true};
 ghost use Rattle.legacy_base.specs.{Grammar.iso_2022_jp, Iso2022Jp.ascii, States.{is_neutral, new_state}};
 ghost use Rattle.legacy_japanese.specs.Iso2022JpMachine.{is_held};
 
-use super::read_ahead::{escape_at, read_modes};
+use super::read_ahead::{front_escape, read_modes};
 use super::steps::{Held, Mode, NOTHING, Start, finish, pending, read};
 use legacy_base::{DecoderStep, Destination, RawDecoder, Tables};
 use legacy_decoder_engine::drive::drive_decoder;
@@ -122,6 +122,12 @@ impl<'a> DecoderMoves for Iso2022JpDecoder<'a> {
     }
 
     #[inline(always)]
+    #[tactic(auto, using(crate::proofs::Iso2022JpFeeding::malformed_byte))]
+    fn is_malformed_byte(&self, byte: u8) -> bool {
+        byte >= 0x80 && self.held.is_nothing()
+    }
+
+    #[inline(always)]
     fn read_runs<T: Destination>(&mut self, src: &[u8], dst: &mut T) -> usize {
         if !self.held.is_nothing() {
             return 0;
@@ -138,7 +144,7 @@ impl<'a> DecoderMoves for Iso2022JpDecoder<'a> {
         if !self.held.is_nothing() {
             return 0;
         }
-        let Some(escape) = escape_at(src) else {
+        let Some(escape) = front_escape(src) else {
             return 0;
         };
         if dst.free() < T::narrow() {

@@ -3,7 +3,7 @@
 // Functions that run for each sequence or block are always inlined, and so are their callers. A call would pass vectors
 // through memory, and keep the destination's place there.
 ghost use Rattle.std.specs.Prelude.{◌≡◌, ◌≤◌, IfSome, length, true};
-ghost use Rattle.legacy_japanese.specs.Iso2022JpRuns.{ArePlain, HasEscape, IsPlain, ReadsModes, ReadsPlain};
+ghost use Rattle.legacy_japanese.specs.Iso2022JpRuns.{ArePlain, BeginsEscape, HasEscape, IsPlain, ReadsModes, ReadsPlain};
 ghost use Rattle.legacy_base.specs.{Grammar.iso_2022_jp, Iso2022Jp.two_byte};
 
 use super::places::{LEADS, TRAILS};
@@ -105,6 +105,9 @@ fn read_plain_bytes<T: Destination>(src: &[u8], dst: &mut T) -> usize
 fn read_plain<T: Destination>(src: &[u8], dst: &mut T) -> usize
     ensures { ReadsPlain T.Destination src.now result dst.old dst.new }
 {
+    if src.len() > 1 && src[1] >= 0x80 {
+        return read_plain_bytes(&src[..1], dst);
+    }
     let blocks = read_plain_blocks(src, dst);
     blocks + read_plain_bytes(&src[blocks..], dst)
 }
@@ -129,8 +132,7 @@ fn may_begin(mode: Mode, src: &[u8]) -> bool {
         return false;
     }
     match mode {
-        // A byte from 80 on is malformed in every mode.
-        Mode::Ascii => is_plain(src[0]) && (src.len() == 1 || src[1] < 0x80),
+        Mode::Ascii => is_plain(src[0]),
         Mode::TwoByte => src[0] >= 0x21,
         Mode::Roman | Mode::Katakana => false,
     }
@@ -151,12 +153,12 @@ fn read_begun<T: Destination>(tables: &Tables, mode: Mode, src: &[u8], dst: &mut
     }
 }
 
-/// Returns the valid escape at the front, if a byte follows that is not the escape byte.
-#[inline]
-pub fn escape_at(src: &[u8]) -> Option<Escape>
-    ensures { IfSome result (λ escape. HasEscape escape src.now) }
+/// Returns the valid escape at the front.
+#[inline(always)]
+pub fn front_escape(src: &[u8]) -> Option<Escape>
+    ensures { IfSome result (λ escape. BeginsEscape escape src.now) }
 {
-    if src.len() < 4 || src[0] != ESCAPE || src[3] == ESCAPE {
+    if src.len() < 3 || src[0] != ESCAPE {
         return None;
     }
     match src[1] {
@@ -164,6 +166,17 @@ pub fn escape_at(src: &[u8]) -> Option<Escape>
         PAREN => completed(Start::Paren, src[2]),
         _ => None,
     }
+}
+
+/// Returns the valid escape at the front, if a byte follows that is not the escape byte.
+#[inline(always)]
+fn lone_escape(src: &[u8]) -> Option<Escape>
+    ensures { IfSome result (λ escape. HasEscape escape src.now) }
+{
+    if src.len() < 4 || src[3] == ESCAPE {
+        return None;
+    }
+    front_escape(src)
 }
 
 /// Reads a run of the mode from the front, and then each escape that has a run of its mode after it.
@@ -180,7 +193,7 @@ pub fn read_modes<T: Destination>(
 {
     let mut mode = first;
     let mut at = read_begun(tables, mode, src, dst);
-    while let Some(escape) = escape_at(&src[at..]) {
+    while let Some(escape) = lone_escape(&src[at..]) {
         let next = escape.mode();
         let read = read_begun(tables, next, &src[at + 3..], dst);
         if read == 0 {

@@ -221,6 +221,9 @@ pub fn completed(start: Start, byte: u8) -> Option<Escape>
 fn read_plain(mode: Mode, byte: u8) -> Outcome
     ensures { result ≡ machine.read_plain mode byte }
 {
+    if byte >= 0x80 {
+        return malformed(1, false, mode, NOTHING);
+    }
     if matches!(mode, Mode::TwoByte) && byte >= 0x21 && byte <= 0x7E {
         return (Fed::Nothing, mode, Held::Byte(byte));
     }
