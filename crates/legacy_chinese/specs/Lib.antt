@@ -1,4 +1,5 @@
--- The internal definitions of the codecs. The promises of the codecs are in legacy_base and do not depend on these.
+-- Internal definitions of the codecs. The promises are in legacy_base; `new` says which state of legacy_base a coder
+-- begins with. `Gb18030Codec` is part of a promise: it says whether an encoder is gb18030's (true) or GBK's.
 pub mod Big5Codes
 pub mod Big5Machine
 pub mod Big5Places

@@ -1,3 +1,4 @@
--- The internal definitions of the codecs. The promises of the codecs are in legacy_base and do not depend on these.
+-- Internal definitions of the codecs. The promises are in legacy_base; `new` says which state of legacy_base a coder
+-- begins with.
 pub mod EucKrCodes
 pub mod EucKrShown
