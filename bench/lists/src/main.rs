@@ -6,7 +6,7 @@ mod ours;
 #[path = "../../driver/src/packing.rs"]
 mod packing;
 
-use legacy_encoders::{
+use legacy_codecs::{
     Big5Encoder, CachedEncoder, CachedIso2022JpEncoder, EncodesPairs, EucJpEncoder, EucKrEncoder, Gb18030Encoder,
     Iso2022JpEncoder, ShiftJisEncoder, PAIR_ROOM,
 };

@@ -1,4 +1,5 @@
--- Laws of runs.
+-- Laws of the grammars and of runs.
+pub mod SoundEvents
 pub mod KeptAsWritten
 pub mod Places
 pub mod RunEvents

@@ -1,8 +1,8 @@
 //! The legacy codecs of the WHATWG Encoding Standard, under one name.
 //!
-//! The crate names what a user calls of `legacy_base`, `legacy_decoders` and `legacy_encoders`. It
-//! adds calls that replace what is malformed or unmappable, calls for whole inputs and texts, runs
-//! that return events, and laws.
+//! The crate names what a user calls of `legacy_base`, and the decoders and encoders, each of which is
+//! in the crate of its chapter of the Encoding Standard. It adds calls that replace what is malformed
+//! or unmappable, calls for whole inputs and texts, runs that return events, and laws.
 #![tactic(auto)]
 
 mod character_references;
@@ -26,14 +26,18 @@ pub use legacy_base::{
     Run, SingleByteTable, Source, TableError, Tables, Utf8Destination, Utf8Source,
     Utf16Destination, Utf16Source,
 };
-pub use legacy_decoders::{
-    Big5Decoder, EucJpDecoder, EucKrDecoder, Gb18030Decoder, Iso2022JpDecoder, ReplacementDecoder,
-    ShiftJisDecoder, SingleByteDecoder, UserDefinedDecoder, Utf16Decoder,
+pub use legacy_chinese::{Big5Decoder, Big5Encoder, Gb18030Decoder, Gb18030Encoder};
+pub use legacy_encoder_engine::cached::{CachedEncoder, EncodesPairs, PAIR_ROOM};
+pub use legacy_japanese::{
+    CachedIso2022JpEncoder, EucJpDecoder, EucJpEncoder, Iso2022JpDecoder, Iso2022JpEncoder,
+    ShiftJisDecoder, ShiftJisEncoder,
 };
-pub use legacy_encoders::{
-    Big5Encoder, CachedEncoder, CachedIso2022JpEncoder, EncodesPairs, EucJpEncoder, EucKrEncoder,
-    Gb18030Encoder, Iso2022JpEncoder, PAIR_ROOM, ShiftJisEncoder, SingleByteEncoder, SingleByteRun,
-    SingleByteRunError, UserDefinedEncoder,
+pub use legacy_korean::{EucKrDecoder, EucKrEncoder};
+pub use legacy_miscellaneous::{
+    ReplacementDecoder, UserDefinedDecoder, UserDefinedEncoder, Utf16Decoder,
+};
+pub use legacy_single_byte::{
+    SingleByteDecoder, SingleByteEncoder, SingleByteRun, SingleByteRunError,
 };
 pub use malformed::{MalformedSequence, malformed_sequences};
 pub use replacing::{decode_replacing_utf8, decode_replacing_utf16};

@@ -1,6 +1,6 @@
 //! Encoders that cache the pairs of another encoder.
 use crate::encoder_rows::{EncoderRow, TestedEncoder, follow_encoder};
-use legacy_encoders::{CachedEncoder, EncodesPairs, PAIR_ROOM};
+use legacy_codecs::{CachedEncoder, EncodesPairs, PAIR_ROOM};
 use std::process::Abort;
 
 impl<'a, E: EncodesPairs> TestedEncoder for CachedEncoder<'a, E> {

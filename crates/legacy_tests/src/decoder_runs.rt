@@ -9,8 +9,7 @@ use crate::units::Form::{Utf8, Utf16};
 use legacy_base::DecodeEvent::Scalar;
 use legacy_base::DecoderResult::{InputEmpty, OutputFull};
 use legacy_base::{DecoderResult, Destination, RawDecoder};
-use legacy_codecs::{OutputForm, RunError, ScalarBuffer, Utf8Form, Utf16Form};
-use legacy_decoders::UserDefinedDecoder;
+use legacy_codecs::{OutputForm, RunError, ScalarBuffer, UserDefinedDecoder, Utf8Form, Utf16Form};
 use std::process::Abort;
 
 /// Runs with small outputs, and refused runs.

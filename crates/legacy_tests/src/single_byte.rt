@@ -12,7 +12,7 @@ use crate::rows::Row::{
 use legacy_base::DecodeEvent;
 use legacy_base::DecodeEvent::{Bad, Scalar};
 use legacy_base::DecoderResult::{InputEmpty, Malformed};
-use legacy_decoders::SingleByteDecoder;
+use legacy_codecs::SingleByteDecoder;
 use legacy_index_files::Codec;
 
 pub(crate) const WITHOUT_ENTRIES: &[Row] = &[

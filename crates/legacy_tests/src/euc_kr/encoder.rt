@@ -6,7 +6,7 @@ use crate::encoder_rows::EncoderRow::{Encoder, Encodes, FromUtf8, FromUtf16, Ful
 use crate::indexes::{Filled, Flat, flat, tables_of};
 use crate::source_texts::Text;
 use legacy_base::EncoderResult::{InputEmpty, OutputFull, Unmappable};
-use legacy_encoders::EucKrEncoder;
+use legacy_codecs::EucKrEncoder;
 use std::process::Abort;
 
 /// The rows with U+AC02 at pointer 0, and no other scalar.

@@ -7,7 +7,7 @@ use crate::encoder_rows::EncoderRow::{
 };
 use crate::indexes::{EMPTY, Filled, Flat, flat, tables_of};
 use legacy_base::EncoderResult::{InputEmpty, OutputFull, Unmappable};
-use legacy_encoders::Gb18030Encoder;
+use legacy_codecs::Gb18030Encoder;
 use std::process::Abort;
 
 /// The rows of gb18030 without entries, but with the private-use rows of the Standard.

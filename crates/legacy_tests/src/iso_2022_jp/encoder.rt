@@ -10,7 +10,7 @@ use crate::encoder_rows::{EncoderRow, TestedEncoder, follow_encoder};
 use crate::indexes::{EMPTY, Filled, Flat, flat, packed_of, packed_tables_of, tables_of};
 use crate::source_texts::Text;
 use legacy_base::EncoderResult::{InputEmpty, OutputFull, Unmappable};
-use legacy_encoders::{CachedIso2022JpEncoder, Iso2022JpEncoder};
+use legacy_codecs::{CachedIso2022JpEncoder, Iso2022JpEncoder};
 use legacy_index_files::Codec;
 use std::process::Abort;
 

@@ -8,8 +8,8 @@ use crate::encoder_rows::EncoderRow::{
 use crate::indexes::{Flat, byte_table_of, entries_of, flat};
 use crate::source_texts::Text;
 use legacy_base::EncoderResult::{InputEmpty, OutputFull, Unmappable};
-use legacy_encoders::SingleByteRunError::{RunMismatch, RunPastEnd, RunStart};
-use legacy_encoders::{SingleByteEncoder, SingleByteRunError};
+use legacy_codecs::SingleByteRunError::{RunMismatch, RunPastEnd, RunStart};
+use legacy_codecs::{SingleByteEncoder, SingleByteRunError};
 
 pub(crate) const GREEK: &[EncoderRow] = &[
     Encoder("a scalar is the byte of its place, and a pair of surrogates is one scalar"),

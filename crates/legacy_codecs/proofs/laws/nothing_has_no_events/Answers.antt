@@ -1,5 +1,5 @@
 use Rattle.legacy_base.proofs.GrammarLaws.{none_of_nothing as law}
-use Rattle.legacy_decoders.proofs.laws.nothing_has_no_events.Goals as goal
+use Rattle.legacy_codecs.proofs.laws.nothing_has_no_events.Goals as goal
 
 pub returns : goal.returns
 returns c = law

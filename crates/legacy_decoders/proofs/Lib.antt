@@ -1,2 +1,0 @@
--- Laws of the grammars of all ten codecs.
-pub mod SoundEvents
