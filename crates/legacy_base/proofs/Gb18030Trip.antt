@@ -6,7 +6,7 @@ use Rattle.std.specs.{Option.{option_or, option_map_or}, Char.{is_ascii, is_asci
 use Rattle.legacy_base.specs.{Fronts.reads, Profile.is_empty, Gb18030.{gb18030_scalars, gb18030_fourth, gb18030_third, gb18030_second, gb18030_front}}
 use Rattle.legacy_base.specs.{Gb18030.{gb18030_pair_bytes, gb18030_range_bytes, gb18030_pair_code, gb18030_code, gbk_code}, RoundTrips.is_private_use_fold}
 use Rattle.legacy_base.specs.RoundTrips.{private_use_scalar, has_lost_row}
-use Rattle.legacy_tables.specs.{Indexes.{idx, range, gb18030_pua_of}, Pointers.{every_pointer, gb18030_pointer_of, range_pointer_of}, TableChecks.is_row_scalar}
+use Rattle.legacy_tables.specs.{Indexes.{idx, range, gb18030_pua_of}, Pointers.{every_pointer, index_pointer_of, range_pointer_of}, TableChecks.is_row_scalar}
 use Rattle.legacy_tables.specs.TableChecks.{are_row_bytes}
 use Rattle.legacy_tables.proofs.Pointers.{first-taken, range-taken}
 use Rattle.legacy_base.proofs.{PointersBack.{LeadsBack, leads_back}, Trips.Decodes, TwoByteTrips.{mapped, one_byte, two_bytes}}
@@ -23,9 +23,9 @@ unfolding gb18030_front gb18030_second
 pair_back index ranges p c more short back = grind arith
 
 pair_decodes : (index : List ℕ) (ranges : List (ℕ × ℕ)) (c : ℕ) (bytes : List ℕ) → length index ≤ 23940
-    → option_map gb18030_pair_bytes (gb18030_pointer_of index c) ≡ Some bytes → Decodes (gb18030_front index ranges) bytes c
+    → option_map gb18030_pair_bytes (index_pointer_of index c) ≡ Some bytes → Decodes (gb18030_front index ranges) bytes c
 pair_decodes index ranges c bytes short h =
-    let m = mapped gb18030_pair_bytes (gb18030_pointer_of index c) bytes h in
+    let m = mapped gb18030_pair_bytes (index_pointer_of index c) bytes h in
     two_bytes (gb18030_front index ranges) _ _ c bytes m.2 (λ more. pair_back index ranges m.0 c more short
     (leads_back every_pointer index c _ (first-taken every_pointer index c) m.0 m.1))
 

@@ -9,7 +9,7 @@ use Rattle.legacy_base.specs.{UserDefined.user_defined_code, Big5.{big5_pair, bi
 use Rattle.legacy_base.specs.{EucKr.{euc_kr_pointer, euc_kr_bytes, euc_kr_code}, ShiftJis.{is_shift_jis_lead, shift_jis_lead_part, shift_jis_pointer}}
 use Rattle.legacy_base.specs.{ShiftJis.{shift_jis_scalars, shift_jis_pair, shift_jis_front, shift_jis_bytes, shift_jis_code}, EucJp.euc_jp_katakana}
 use Rattle.legacy_base.specs.{EucJp.{euc_jp_pair, euc_jp_front, euc_jp_bytes, euc_jp_code}, RoundTrips.{is_japanese_fold, japanese_scalar}}
-use Rattle.legacy_tables.specs.{Indexes.idx, Pointers.{every_pointer, is_big5_pointer, big5_pointer_of, euc_kr_pointer_of, minus_as_hyphen}}
+use Rattle.legacy_tables.specs.{Indexes.idx, Pointers.{every_pointer, is_big5_pointer, big5_pointer_of, index_pointer_of, minus_as_hyphen}}
 use Rattle.legacy_tables.specs.Pointers.{is_shift_jis_pointer, is_jis0208_pointer}
 use Rattle.legacy_tables.proofs.Pointers.{first-taken, big5-taken}
 use Rattle.legacy_base.proofs.{PointersBack.{LeadsBack, leads_back}, Trips.Decodes}
@@ -61,7 +61,7 @@ pub euc_kr-decodes : (index : List ℕ) (c : ℕ) (bytes : List ℕ) → length 
     → euc_kr_code index c ≡ Some bytes → Decodes (lead_front is_lead euc_kr_pointer index) bytes c
 unfolding euc_kr_code lead_front
 euc_kr-decodes index c bytes short =
-    ascii_or_mapped (lead_front is_lead euc_kr_pointer index) c bytes euc_kr_bytes (euc_kr_pointer_of index c) (λ e more. rw e refl)
+    ascii_or_mapped (lead_front is_lead euc_kr_pointer index) c bytes euc_kr_bytes (index_pointer_of index c) (λ e more. rw e refl)
     (λ e p has is. two_bytes (lead_front is_lead euc_kr_pointer index) _ _ c bytes is (λ more. euc_kr_pair_back index p c more short
     (leads_back every_pointer index c _ (first-taken every_pointer index c) p has)))
 

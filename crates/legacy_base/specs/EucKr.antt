@@ -1,7 +1,7 @@
 -- EUC-KR (WHATWG Encoding Standard, "EUC-KR decoder" and "EUC-KR encoder"): a plain codec.
 use Rattle.std.specs.Prelude.{ℕ, ◌+◌, ◌-◌, ◌*◌, ◌/◌, ◌%◌, List, [], ◌∷◌, Option, Some, None, if◌then◌else◌}
 use Rattle.std.specs.Int.{is_in_range}
-use Rattle.legacy_tables.specs.Pointers.{euc_kr_pointer_of}
+use Rattle.legacy_tables.specs.Pointers.{index_pointer_of}
 use Rattle.legacy_base.specs.Profile.{is_lead}
 use Rattle.legacy_base.specs.EncoderProfile.{EncoderProfile, pointer_code, pair_encoder}
 use Rattle.legacy_base.specs.Grammar.{Grammar, plain}
@@ -24,7 +24,7 @@ euc_kr_bytes p = (p / 190 + 0x81) ∷ (p % 190 + 0x41) ∷ []
 
 -- the code of a scalar
 unfoldable pub euc_kr_code : List ℕ → ℕ → Option (List ℕ)
-euc_kr_code index = pointer_code euc_kr_bytes (euc_kr_pointer_of index)
+euc_kr_code index = pointer_code euc_kr_bytes (index_pointer_of index)
 
 -- the encoder
 abbrev pub euc_kr_encoder : List ℕ → EncoderProfile

@@ -5,7 +5,7 @@ use Rattle.std.specs.Int.{is_in_range}
 use Rattle.std.specs.Char.{is_ascii, is_ascii_digit}
 use Rattle.legacy_base.specs.Fronts.{Front, reads, malformed, reads_or, trail_rule, cut}
 use Rattle.legacy_tables.specs.Indexes.{idx, range, gb18030_pua_of}
-use Rattle.legacy_tables.specs.Pointers.{gb18030_pointer_of, range_pointer_of}
+use Rattle.legacy_tables.specs.Pointers.{index_pointer_of, range_pointer_of}
 use Rattle.legacy_base.specs.Profile.{Profile, is_lead, held_profile, three_bytes, one_more}
 use Rattle.legacy_base.specs.EncoderProfile.{EncoderProfile, plain_encoder}
 use Rattle.legacy_base.specs.Formulas.{weighed, number, ◌⊕◌, ◌⊗◌}
@@ -88,7 +88,7 @@ gb18030_range_bytes p =
 abbrev pub gb18030_pair_code : List (ℕ × ℕ × ℕ) → List ℕ → ℕ → Option (List ℕ)
 gb18030_pair_code pua index c =
     option_or (option_map (λ row. row.0 ∷ row.1 ∷ []) (gb18030_pua_of pua c))
-    (option_map gb18030_pair_bytes (gb18030_pointer_of index c))
+    (option_map gb18030_pair_bytes (index_pointer_of index c))
 
 -- the code of a scalar in GB18030
 unfoldable pub gb18030_code : List ℕ → List (ℕ × ℕ) → List (ℕ × ℕ × ℕ) → ℕ → Option (List ℕ)

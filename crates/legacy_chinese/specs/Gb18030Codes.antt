@@ -1,6 +1,6 @@
 -- The bytes of the codes of gb18030 and GBK.
 use Rattle.std.proofs.{Common.{ℕ, ◌≤◌, ◌==◌, List, [], ◌∷◌, Bool, true, false, refl, arith}, lemmas.Bool.lt-ltb}
-use Rattle.legacy_tables.specs.{Indexes.{FlatIndexes, gb18030_pua_of}, Pointers.{gb18030_pointer_of, range_pointer_of}}
+use Rattle.legacy_tables.specs.{Indexes.{FlatIndexes, gb18030_pua_of}, Pointers.{index_pointer_of, range_pointer_of}}
 use Rattle.legacy_base.specs.{EncodeEvents.code_length, Lengths.{number, ◌⊕◌, ◌⊗◌}}
 use Rattle.legacy_base.specs.Gb18030.{gb18030_pair_bytes, gb18030_range_bytes, gb18030_pair_code, gb18030_code, gbk_code}
 use Rattle.legacy_chinese.specs.Gb18030Codec.{gb18030_codec}
@@ -10,7 +10,7 @@ use Rattle.legacy_encoder_engine.{specs.PlainCodecs.{HasPlainLengths, IsPlainCod
 short_pair : (pua : List (ℕ × ℕ × ℕ)) (index : List ℕ) (c : ℕ) → code_length (gb18030_pair_code pua index c) ≤ 2
 short_pair pua index c =
     short_or _ _ 2 (short_map (λ row. row.0 ∷ row.1 ∷ []) (gb18030_pua_of pua c) 2 (λ row. omega arith))
-    (short_map gb18030_pair_bytes (gb18030_pointer_of index c) 2 (λ p. omega arith))
+    (short_map gb18030_pair_bytes (index_pointer_of index c) 2 (λ p. omega arith))
 
 short_gb18030 : (index : List ℕ) (ranges : List (ℕ × ℕ)) (pua : List (ℕ × ℕ × ℕ)) (c : ℕ) → 128 ≤ c → code_length (gb18030_code index ranges pua c) ≤ 4
 unfolding gb18030_code

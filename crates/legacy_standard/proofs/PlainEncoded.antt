@@ -5,9 +5,9 @@ use Rattle.std.proofs.{lemmas.List.Sums.fails_before_first, lemmas.Bool.{cases_e
 use Rattle.std.specs.{Prelude.{is_some, ◌==◌, position, slice_index}, Char.IsScalar, List.position_or_len}
 use Rattle.legacy_base.specs.{EncodeEvents.{plain_events}, SingleByte.single_byte_code, UserDefined.user_defined_code, EucKr.euc_kr_code}
 use Rattle.legacy_base.specs.{Big5.big5_code, ShiftJis.shift_jis_code, EucJp.euc_jp_code, Gb18030.{gb18030_code, gbk_code}}
-use Rattle.legacy_tables.specs.{Unicode.AreScalars, Pointers.{every_pointer, shift_jis_pointer_of}}
+use Rattle.legacy_tables.specs.{Unicode.AreScalars, Pointers.{every_pointer, index_pointer_of, shift_jis_pointer_of}}
 use Rattle.legacy_tables.proofs.Pointers.{first-is, first-none}
-use Rattle.legacy_standard.specs.{TextQueue.{TextOutcome, by_scalar, Encodes}, IndexPointers.index_pointer}
+use Rattle.legacy_standard.specs.TextQueue.{TextOutcome, by_scalar, Encodes}
 use Rattle.legacy_standard.specs.{SingleByteEncoder.single_byte_encodes, UserDefinedEncoder.user_defined_encodes, EucKrEncoder.euc_kr_encodes}
 use Rattle.legacy_standard.specs.{Big5Encoder.big5_encodes, ShiftJisEncoder.{minus_set, shift_jis_encodes}, EucJpEncoder.euc_jp_encodes}
 use Rattle.legacy_standard.specs.{Gb18030Encoder.gb18030_encodes, EncoderLaw.{HasRows, AreAcceptedRanges, HasRangePointers}}
@@ -27,10 +27,10 @@ module _ (outcome : ℕ → TextOutcome) (code : ℕ → Option (List ℕ)) (is 
 -- ---- single-byte
 
 -- "index pointer" is the first position of a scalar
-pointer-position : (table : List ℕ) (c : ℕ) → c ≢ 0 → index_pointer table c ≡ position (λ entry. entry == c) table
+pointer-position : (table : List ℕ) (c : ℕ) → c ≢ 0 → index_pointer_of table c ≡ position (λ entry. entry == c) table
 pointer-position table c some = by_place (position (λ entry. entry == c) table) refl
   where
-    by_place : (o : Option ℕ) → position (λ entry. entry == c) table ≡ o → index_pointer table c ≡ o
+    by_place : (o : Option ℕ) → position (λ entry. entry == c) table ≡ o → index_pointer_of table c ≡ o
     by_place None e =
         let past : length table ≤ position_or_len (λ entry. entry == c) table = grind (arith, nat_tests) in
         first-none every_pointer table c (λ k h. fails_before_first (λ entry. entry == c) table k 0 (omega arith))

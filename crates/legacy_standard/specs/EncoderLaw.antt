@@ -5,11 +5,10 @@ use Rattle.std.specs.Char.{is_ascii, IsScalar}
 use Rattle.legacy_base.specs.declared.results.EncodeEvent.{EncodeEvent}
 use Rattle.legacy_tables.specs.Indexes.{idx, gb18030_pua_of}
 use Rattle.legacy_tables.specs.Unicode.{AreScalars}
-use Rattle.legacy_tables.specs.Pointers.{shift_jis_pointer_of, euc_jp_pointer_of, gb18030_pointer_of, range_pointer_of}
+use Rattle.legacy_tables.specs.Pointers.{index_pointer_of, shift_jis_pointer_of, euc_jp_pointer_of, range_pointer_of}
 use Rattle.legacy_tables.specs.TableChecks.{range_order_fault, range_value_fault}
 use Rattle.legacy_base.specs.Encoders.{Codec, single_byte, user_defined, big5, euc_kr, shift_jis, euc_jp, gb18030, gbk, iso_2022_jp, new_encoder, encoded}
 use Rattle.legacy_standard.specs.TextQueue.{by_scalar, Encodes}
-use Rattle.legacy_standard.specs.IndexPointers.{index_pointer}
 use Rattle.legacy_standard.specs.SingleByteEncoder.{single_byte_encodes}
 use Rattle.legacy_standard.specs.UserDefinedEncoder.{user_defined_encodes}
 use Rattle.legacy_standard.specs.EucKrEncoder.{euc_kr_encodes}
@@ -35,7 +34,7 @@ HandlerEncodes (iso_2022_jp jis0208 katakana_index) text events = Encodes (iso_2
 
 -- each scalar with a pointer in index jis0208 has its first one in the 94 rows of 94, and U+FF0D has one
 pub record HasRows (jis0208 : List ℕ) : Type 0 where
-  pub first : (c : ℕ) → index_pointer jis0208 c ≡ euc_jp_pointer_of jis0208 c
+  pub first : (c : ℕ) → index_pointer_of jis0208 c ≡ euc_jp_pointer_of jis0208 c
   pub hyphen : is_some (euc_jp_pointer_of jis0208 0xFF0D) ≡ true
 
 -- the ISO-2022-JP encoder looks up the scalar without replacing it
@@ -57,7 +56,7 @@ HasFolds jis0208 katakana_index = (c : ℕ) → is_in_range 0xFF61 0xFF9F c ≡ 
 -- each scalar past ASCII without other bytes, except U+E5E5, has a pointer of four bytes
 abbrev pub HasRangePointers : List ℕ → List (ℕ × ℕ) → List (ℕ × ℕ × ℕ) → Type 0
 HasRangePointers index ranges pua = (c : ℕ) → IsScalar c → is_ascii c ≡ false → (c == 0xE5E5) ≡ false →
-    gb18030_pua_of pua c ≡ None → gb18030_pointer_of index c ≡ None → is_some (range_pointer_of ranges c) ≡ true
+    gb18030_pua_of pua c ≡ None → index_pointer_of index c ≡ None → is_some (range_pointer_of ranges c) ≡ true
 
 -- the pointers that a codec's lists must have
 abbrev pub HasPointers : Codec → Type 0

@@ -2,8 +2,9 @@
 use Rattle.std.specs.Prelude.{ℕ, ◌+◌, ◌*◌, ◌/◌, ◌%◌, ◌==◌, ◌&&◌, nat_lt, Bool, List, [], ◌∷◌, Option, Some, None, if◌then◌else◌}
 use Rattle.std.specs.Char.{is_ascii}
 use Rattle.legacy_tables.specs.Indexes.{gb18030_pua_of}
+use Rattle.legacy_tables.specs.Pointers.{index_pointer_of}
 use Rattle.legacy_standard.specs.TextQueue.{TextOutcome, bytes, error_with}
-use Rattle.legacy_standard.specs.IndexPointers.{index_pointer, ranges_pointer}
+use Rattle.legacy_standard.specs.IndexPointers.{ranges_pointer}
 
 -- the Standard's table of private-use scalars and their two bytes
 abbrev pub private_use_rows : List (ℕ × ℕ × ℕ)
@@ -36,7 +37,7 @@ gb18030_at is_gbk ranges None c = if is_gbk then error_with c else gb18030_range
 -- the steps after the row in the table of private-use scalars is known
 abbrev pub gb18030_row : Bool → List ℕ → List (ℕ × ℕ) → Option (ℕ × ℕ) → ℕ → TextOutcome
 gb18030_row is_gbk index ranges (Some row) c = bytes (row.0 ∷ row.1 ∷ [])
-gb18030_row is_gbk index ranges None c = gb18030_at is_gbk ranges (index_pointer index c) c
+gb18030_row is_gbk index ranges None c = gb18030_at is_gbk ranges (index_pointer_of index c) c
 
 -- The result of the "gb18030 encoder" for a code point, by is GBK, index gb18030, index gb18030 ranges and the table of
 -- private-use scalars.

@@ -1,12 +1,7 @@
--- The Standard's "index pointer" and "index gb18030 ranges pointer". `Pointers` of `legacy_tables` has "index Big5
--- pointer" and "index Shift_JIS pointer".
+-- The steps of the Standard's "index gb18030 ranges pointer". `Pointers` of `legacy_tables` has "index pointer", "index
+-- Big5 pointer" and "index Shift_JIS pointer".
 use Rattle.std.specs.Prelude.{ℕ, ◌+◌, ◌-◌, ◌==◌, nat_le, List, [], ◌∷◌, Option, Some, None, if◌then◌else◌}
 use Rattle.std.specs.Option.{option_or}
-use Rattle.legacy_tables.specs.Pointers.{first_pointer, every_pointer}
-
--- "index pointer": the first pointer of a code point in an index
-abbrev pub index_pointer : List ℕ → ℕ → Option ℕ
-index_pointer index c = first_pointer every_pointer index c
 
 -- the pointer by the last range whose code point is at most c
 abbrev pub offset_pointer : List (ℕ × ℕ) → ℕ → Option ℕ

@@ -3,9 +3,9 @@ use Rattle.std.specs.Prelude.{ℕ, ◌-◌, ◌==◌, ◌||◌, ◌&&◌, not, B
 use Rattle.std.specs.Int.{is_in_range}
 use Rattle.std.specs.Char.{is_ascii}
 use Rattle.legacy_tables.specs.Indexes.{idx}
+use Rattle.legacy_tables.specs.Pointers.{index_pointer_of}
 use Rattle.legacy_standard.specs.TextQueue.{TextItem, scalar, end_of_queue, TextOutcome, TextHandled, finished, bytes, error_with}
 use Rattle.legacy_standard.specs.TextQueue.{returns, restores, pointer_bytes}
-use Rattle.legacy_standard.specs.IndexPointers.{index_pointer}
 
 -- the values of the "ISO-2022-JP encoder state"
 pub data EncoderState : Type 0 where
@@ -62,7 +62,7 @@ at_pointer state (Some pointer) c =
 -- pointer
 abbrev pub at_set : List ℕ → EncoderState → Option ℕ → ℕ → TextHandled EncoderState
 at_set index state None c = at_pointer state None c
-at_set index state (Some set) c = at_pointer state (index_pointer index set) set
+at_set index state (Some set) c = at_pointer state (index_pointer_of index set) set
 
 -- the handler of the "ISO-2022-JP encoder", by index jis0208, index ISO-2022-JP katakana and the state
 unfoldable pub iso_2022_jp_encodes : List ℕ → List ℕ → EncoderState → TextItem → TextHandled EncoderState

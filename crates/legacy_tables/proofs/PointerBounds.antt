@@ -3,7 +3,7 @@ use Rattle.std.proofs.{Common.{ℕ, ◌<◌, ◌≤◌, Bool, List, length, arit
 use Rattle.std.specs.Option.{IfSome}
 use borrow.Author.Tests.{ltb-true}
 use Rattle.legacy_tables.specs.{Indexes.FlatIndexes, TableChecks.AreAccepted, Pointers.{every_pointer, is_shift_jis_pointer, is_jis0208_pointer}}
-use Rattle.legacy_tables.specs.Pointers.{big5_pointer_of, euc_kr_pointer_of, shift_jis_pointer_of, euc_jp_pointer_of, gb18030_pointer_of, range_pointer_of}
+use Rattle.legacy_tables.specs.Pointers.{big5_pointer_of, index_pointer_of, shift_jis_pointer_of, euc_jp_pointer_of, range_pointer_of}
 use Rattle.legacy_tables.proofs.{Accepted.parts, Pointers.{IsTaken, if_some, taken-within, first-taken, big5-taken, range-taken}}
 
 module _ (flat : FlatIndexes) (accepted : AreAccepted flat) (c : ℕ) where
@@ -14,13 +14,13 @@ module _ (flat : FlatIndexes) (accepted : AreAccepted flat) (c : ℕ) where
   pub big5-bound : IfSome (big5_pointer_of flat.big5 c) (λ p. p < 19782)
   big5-bound = bound _ flat.big5 _ 19782 (parts flat accepted).big5.0 (big5-taken flat.big5 c)
 
-  pub euc-kr-bound : IfSome (euc_kr_pointer_of flat.euc_kr c) (λ p. p < 23940)
+  pub euc-kr-bound : IfSome (index_pointer_of flat.euc_kr c) (λ p. p < 23940)
   euc-kr-bound = bound _ flat.euc_kr _ 23940 (parts flat accepted).euc_kr.0 (first-taken every_pointer flat.euc_kr c)
 
   pub shift-jis-bound : IfSome (shift_jis_pointer_of flat.jis0208 c) (λ p. p < 11280)
   shift-jis-bound = bound _ flat.jis0208 _ 11280 (parts flat accepted).jis0208.0 (first-taken is_shift_jis_pointer flat.jis0208 c)
 
-  pub gb18030-bound : IfSome (gb18030_pointer_of flat.gb18030 c) (λ p. p < 23940)
+  pub gb18030-bound : IfSome (index_pointer_of flat.gb18030 c) (λ p. p < 23940)
   gb18030-bound = bound _ flat.gb18030 _ 23940 (parts flat accepted).gb18030.0 (first-taken every_pointer flat.gb18030 c)
 
 -- bounds by the pointers that the codec may use, and by the last pointer that has a scalar

@@ -19,12 +19,16 @@ unfoldable pub last_below : (ℕ → Bool) → ℕ → Option ℕ
 last_below test zero = None
 last_below test (suc n) = if test n then Some n else last_below test n
 
--- "index pointer": the least usable pointer of c; an entry 0 is no scalar
+-- the first usable pointer of c, or none; an entry 0 is no scalar
 unfoldable pub first_pointer : (ℕ → Bool) → List ℕ → ℕ → Option ℕ
 first_pointer may_use index c =
     if c == 0 then None else find (is_pointer_of may_use index c) (range_with_len 0 (length index))
 
--- the greatest usable pointer of c ("index Big5 pointer", for six scalars)
+-- "index pointer": the first pointer of a scalar in an index
+abbrev pub index_pointer_of : List ℕ → ℕ → Option ℕ
+index_pointer_of index c = first_pointer every_pointer index c
+
+-- the greatest usable pointer of c
 unfoldable pub last_pointer : (ℕ → Bool) → List ℕ → ℕ → Option ℕ
 last_pointer may_use index c =
     if c == 0 then None else last_below (is_pointer_of may_use index c) (length index)
@@ -44,10 +48,6 @@ abbrev pub big5_pointer_of : List ℕ → ℕ → Option ℕ
 big5_pointer_of index c =
     if takes_last_big5_pointer c then last_pointer is_big5_pointer index c
     else first_pointer is_big5_pointer index c
-
--- the pointer of a scalar in EUC-KR ("index pointer")
-abbrev pub euc_kr_pointer_of : List ℕ → ℕ → Option ℕ
-euc_kr_pointer_of index c = first_pointer every_pointer index c
 
 -- all pointers of jis0208 except 8272 to 8835
 abbrev pub is_shift_jis_pointer : ℕ → Bool
@@ -69,10 +69,6 @@ euc_jp_pointer_of jis0208 c = first_pointer is_jis0208_pointer jis0208 c
 abbrev pub minus_as_hyphen : ℕ → ℕ
 minus_as_hyphen c = if c == 0x2212 then 0xFF0D else c
 
--- the pointer of a scalar in two-byte sequences of gb18030 ("index pointer")
-abbrev pub gb18030_pointer_of : List ℕ → ℕ → Option ℕ
-gb18030_pointer_of index c = first_pointer every_pointer index c
-
 -- the scalar of pointer p of four bytes is c
 abbrev pub is_range_pointer_of : List (ℕ × ℕ) → ℕ → ℕ → Bool
 is_range_pointer_of ranges c p = option_map_or (λ s. s == c) (range ranges p) false
@@ -81,7 +77,7 @@ is_range_pointer_of ranges c p = option_map_or (λ s. s == c) (range ranges p) f
 unfoldable pub first_range_pointer : List (ℕ × ℕ) → ℕ → ℕ → Option ℕ
 first_range_pointer ranges c n = find (is_range_pointer_of ranges c) (range_with_len 0 n)
 
--- "Index gb18030 ranges pointer": the pointer of four bytes with the scalar c, or none. The last pointer with a scalar
+-- "index gb18030 ranges pointer": the pointer of four bytes with the scalar c, or none. The last pointer with a scalar
 -- is 1237575.
 unfoldable pub range_pointer_of : List (ℕ × ℕ) → ℕ → Option ℕ
 range_pointer_of ranges c = if c == 0xE7C7 then Some 7457 else first_range_pointer ranges c 1237576

@@ -231,9 +231,9 @@ impl<'a> Tables<'a> {
     ghost use Rattle.legacy_tables.specs.Indexes.{idx, range, gb18030_pua_of};
     ghost use Rattle.legacy_tables.specs.TableChecks.{table_fault};
     ghost use Rattle.legacy_tables.specs.Tables.{flat_indexes, index_list, is_narrow_index};
-    ghost use Rattle.legacy_tables.specs.Pointers.{big5_pointer_of, euc_kr_pointer_of};
+    ghost use Rattle.legacy_tables.specs.Pointers.{big5_pointer_of, index_pointer_of};
     ghost use Rattle.legacy_tables.specs.Pointers.{shift_jis_pointer_of, euc_jp_pointer_of};
-    ghost use Rattle.legacy_tables.specs.Pointers.{gb18030_pointer_of, range_pointer_of};
+    ghost use Rattle.legacy_tables.specs.Pointers.{range_pointer_of};
     ghost use Rattle.std.specs.Option.{IfSome};
     ghost use Rattle.std.specs.Prelude.{◌<◌, ◌≤◌, length, true, MatchOption};
     ghost use Rattle.legacy_tables.specs.Packed.{packed_fault, ArePackedTables};
@@ -344,7 +344,7 @@ impl<'a> Tables<'a> {
     /// Flat tables search the index (Encoding Standard, "index pointer").
     #[inline]
     pub fn euc_kr_pointer(&self, scalar: char) -> Option<usize>
-        ensures pointer { result ≡ euc_kr_pointer_of self.now.flat.euc_kr scalar }
+        ensures pointer { result ≡ index_pointer_of self.now.flat.euc_kr scalar }
         ensures within { IfSome result (λ p. p < 23940) }
     {
         match_kept!(self, tables => tables.euc_kr_pointer(scalar))
@@ -380,7 +380,7 @@ impl<'a> Tables<'a> {
     /// Flat tables search the index (Encoding Standard, "index pointer").
     #[inline]
     pub fn gb18030_pointer(&self, scalar: char) -> Option<usize>
-        ensures pointer { result ≡ gb18030_pointer_of self.now.flat.gb18030 scalar }
+        ensures pointer { result ≡ index_pointer_of self.now.flat.gb18030 scalar }
         ensures within { IfSome result (λ p. p < 23940) }
     {
         match_kept!(self, tables => tables.gb18030_pointer(scalar))

@@ -2,7 +2,7 @@
 ghost use Rattle.std.specs.Prelude.{◌≡◌, [], ◌∷◌, option_map};
 ghost use Rattle.legacy_base.specs.EucKr.{euc_kr_bytes};
 ghost use Rattle.legacy_base.specs.Encoders.{euc_kr};
-ghost use Rattle.legacy_tables.specs.Pointers.{euc_kr_pointer_of};
+ghost use Rattle.legacy_tables.specs.Pointers.{index_pointer_of};
 ghost use Rattle.legacy_korean.specs.EucKrCodes.{euc_kr_pairs, euc_kr_mark, euc_kr_mark-some};
 
 use super::decoder::EucKr;
@@ -21,7 +21,7 @@ pub type EucKrEncoder<'a> = PairEncoder<'a, EucKr, Tables<'a>>;
 #[inline(always)]
 fn pair<V: EncoderTables>(tables: &V, c: char) -> Option<(u8, u8)>
     ensures { option_map (λ pair. pair.0 ∷ pair.1 ∷ []) result ≡ option_map euc_kr_bytes
-        (euc_kr_pointer_of (V.indexes tables.now).flat.euc_kr c) }
+        (index_pointer_of (V.indexes tables.now).flat.euc_kr c) }
 {
     let p = tables.euc_kr_pointer(c)?;
     Some(((p / 190 + 0x81) as u8, (p % 190 + 0x41) as u8))

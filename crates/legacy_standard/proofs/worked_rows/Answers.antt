@@ -7,12 +7,12 @@ use Rattle.legacy_base.specs.{declared.results.EncodeEvent.EncodeEvent, declared
 use Rattle.legacy_base.specs.{Encoders.encoded, Gb18030.gb18030_code, EncodeEvents.{code_events, plain_events}, ShiftJis.shift_jis_code, EucJp.euc_jp_bytes}
 use Rattle.legacy_base.specs.{EucJp.euc_jp_code, Iso2022Jp.{iso_2022_jp_code, settled_mode, mode_behind, iso_2022_jp_text_events}}
 use Rattle.legacy_tables.specs.{Indexes.{entry_scalar, range}, TableChecks.range_order_fault, Pointers.{every_pointer, is_jis0208_pointer, first_pointer}}
-use Rattle.legacy_tables.specs.Pointers.{is_shift_jis_pointer, last_pointer, last_below, euc_jp_pointer_of, range_pointer_of}
+use Rattle.legacy_tables.specs.Pointers.{is_shift_jis_pointer, last_pointer, last_below, index_pointer_of, euc_jp_pointer_of, range_pointer_of}
 use Rattle.legacy_tables.proofs.{Pointers.{first-alike, first-is, first-none}, RangePointers.pointer-past}
 use Rattle.legacy_standard.specs.{Processing.process, SingleByte.single_byte_handler, UserDefined.user_defined_handler, Replacement.replacement_handler}
 use Rattle.legacy_standard.specs.{EucKr.euc_kr_handler, Big5.big5_handler, ShiftJis.shift_jis_handler, EucJp.euc_jp_handler, Gb18030.gb18030_handler}
 use Rattle.legacy_standard.specs.{Utf16.utf16_handler, Iso2022Jp.iso_2022_jp_handler, TextQueue.by_scalar}
-use Rattle.legacy_standard.specs.{IndexPointers.{index_pointer, ranges_pointer}, SingleByteEncoder.single_byte_encodes, UserDefinedEncoder.user_defined_encodes}
+use Rattle.legacy_standard.specs.{IndexPointers.ranges_pointer, SingleByteEncoder.single_byte_encodes, UserDefinedEncoder.user_defined_encodes}
 use Rattle.legacy_standard.specs.{EucKrEncoder.euc_kr_encodes, Big5Encoder.big5_encodes, ShiftJisEncoder.{shift_jis_encodes, shift_jis_pointer_bytes}}
 use Rattle.legacy_standard.specs.{EucJpEncoder.{euc_jp_at, euc_jp_encodes}, Gb18030Encoder.gb18030_encodes, Iso2022JpEncoder.iso_2022_jp_encodes}
 use Rattle.legacy_standard.specs.{EncoderLaw.IsFold, WorkedTexts.{entry_at, Computes, Parts}}
@@ -36,7 +36,7 @@ slice-entry n c = grind (arith, get_or-append_right (replicate n 0) (c ∷ []) n
 slice-before : (n c k : ℕ) → k < n → slice_index (entry_at n c) k ≡ 0
 slice-before n c k h = get_or-append (replicate n 0) (c ∷ []) 0 k (rw (length-replicate {A = ℕ} n 0) h) ∙ get_or-replicate n k 0 0 h
 
-entry_pointer : (n : ℕ) → index_pointer (entry_at n 0x4E00) 0x4E00 ≡ Some n
+entry_pointer : (n : ℕ) → index_pointer_of (entry_at n 0x4E00) 0x4E00 ≡ Some n
 entry_pointer n =
     first-is every_pointer (entry_at n 0x4E00) 0x4E00 (λ e. absurd (omega arith)) n (omega (arith, length-append {A = ℕ}, length-replicate {A = ℕ})) refl
     (slice-entry n 0x4E00)
@@ -70,7 +70,7 @@ past_rows n past =
     )
 
 -- all pointers are in the 94 rows of 94 if the index has at most that many entries
-in_rows : (index : List ℕ) (c : ℕ) → length index ≤ 8836 → index_pointer index c ≡ euc_jp_pointer_of index c
+in_rows : (index : List ℕ) (c : ℕ) → length index ≤ 8836 → index_pointer_of index c ≡ euc_jp_pointer_of index c
 in_rows index c few = first-alike _ _ index c (λ k h. sym (lt-ltb k 8836 (omega arith)))
 
 fold : (c : ℕ) → is_in_range 0xFF61 0xFF9F c ≡ true → IsFold (0xFF0D ∷ 0x3002 ∷ []) (replicate 63 0x3002) c

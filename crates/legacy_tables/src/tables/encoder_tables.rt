@@ -2,9 +2,8 @@
 ghost use Rattle.std.specs.Prelude.{◌≡◌, ◌<◌};
 ghost use Rattle.std.specs.Option.{IfSome};
 ghost use Rattle.legacy_tables.specs.Indexes.{gb18030_pua_of};
-ghost use Rattle.legacy_tables.specs.Pointers.{big5_pointer_of, euc_kr_pointer_of};
+ghost use Rattle.legacy_tables.specs.Pointers.{big5_pointer_of, index_pointer_of};
 ghost use Rattle.legacy_tables.specs.Pointers.{shift_jis_pointer_of, euc_jp_pointer_of};
-ghost use Rattle.legacy_tables.specs.Pointers.{gb18030_pointer_of};
 ghost use Rattle.legacy_tables.specs.Walks.{IsFilled, order_index};
 
 use super::{DecoderTables, Marks, PackedPart};
@@ -18,7 +17,7 @@ pub trait EncoderTables: DecoderTables {
 
     /// Returns what `Tables::euc_kr_pointer` does.
     fn euc_kr_pointer(&self, scalar: char) -> Option<usize>
-        ensures pointer { result ≡ euc_kr_pointer_of (Self.indexes self.now).flat.euc_kr scalar }
+        ensures pointer { result ≡ index_pointer_of (Self.indexes self.now).flat.euc_kr scalar }
         ensures within { IfSome result (λ p. p < 23940) };
 
     /// Returns what `Tables::shift_jis_pointer` does.
@@ -35,7 +34,7 @@ pub trait EncoderTables: DecoderTables {
     /// Returns what `Tables::gb18030_pointer` does.
     fn gb18030_pointer(&self, scalar: char) -> Option<usize>
         ensures pointer { result
-            ≡ gb18030_pointer_of (Self.indexes self.now).flat.gb18030 scalar }
+            ≡ index_pointer_of (Self.indexes self.now).flat.gb18030 scalar }
         ensures within { IfSome result (λ p. p < 23940) };
 
     /// Returns what `Tables::gb18030_pua_bytes` does.
