@@ -5,11 +5,11 @@ use Rattle.std.proofs.{lemmas.List.Sums.fails_before_first, lemmas.Bool.{cases_e
 use Rattle.std.specs.{Prelude.{is_some, ◌==◌, position, slice_index}, Char.IsScalar, List.position_or_len}
 use Rattle.legacy_base.specs.{EncodeEvents.{plain_events}, SingleByte.single_byte_code, UserDefined.user_defined_code, EucKr.euc_kr_code}
 use Rattle.legacy_base.specs.{Big5.big5_code, ShiftJis.shift_jis_code, EucJp.euc_jp_code, Gb18030.{gb18030_code, gbk_code}}
-use Rattle.legacy_tables.specs.{Unicode.AreScalars, Pointers.{every_pointer, index_pointer_of, shift_jis_pointer_of}}
+use Rattle.legacy_tables.specs.{Unicode.AreScalars, Pointers.{every_pointer, index_pointer_of, minus_as_hyphen, shift_jis_pointer_of}}
 use Rattle.legacy_tables.proofs.Pointers.{first-is, first-none}
 use Rattle.legacy_standard.specs.TextQueue.{TextOutcome, by_scalar, Encodes}
 use Rattle.legacy_standard.specs.{SingleByteEncoder.single_byte_encodes, UserDefinedEncoder.user_defined_encodes, EucKrEncoder.euc_kr_encodes}
-use Rattle.legacy_standard.specs.{Big5Encoder.big5_encodes, ShiftJisEncoder.{minus_set, shift_jis_encodes}, EucJpEncoder.euc_jp_encodes}
+use Rattle.legacy_standard.specs.{Big5Encoder.big5_encodes, ShiftJisEncoder.shift_jis_encodes, EucJpEncoder.euc_jp_encodes}
 use Rattle.legacy_standard.specs.{Gb18030Encoder.gb18030_encodes, EncoderLaw.{HasRows, AreAcceptedRanges, HasRangePointers}}
 use Rattle.legacy_standard.proofs.{RangePointers.ranged_pointer, TextTurns.{IsEncodedBy, Writes, by_code, steady, ends, gives}}
 use Rattle.legacy_base.specs.Encoders as codecs
@@ -74,7 +74,7 @@ shift_jis_encoded jis0208 hyphen = plain (shift_jis_encodes jis0208) (shift_jis_
 pub euc_jp_encoded : (jis0208 jis0212 : List ℕ) → HasRows jis0208 → IsEncodedBy (codecs.euc_jp jis0208 jis0212) (by_scalar (euc_jp_encodes jis0208)) tt
 unfolding euc_jp_encodes euc_jp_code
 euc_jp_encoded jis0208 jis0212 rows =
-    plain (euc_jp_encodes jis0208) (euc_jp_code jis0208) (λ c s. rw (rows.first (minus_set c)) (grind (arith, rows.hyphen)))
+    plain (euc_jp_encodes jis0208) (euc_jp_code jis0208) (λ c s. rw (rows.first (minus_as_hyphen c)) (grind (arith, rows.hyphen)))
 
 -- ---- gb18030 and GBK
 

@@ -2,9 +2,8 @@
 use Rattle.std.specs.Prelude.{ℕ, ◌+◌, ◌-◌, ◌==◌, List, [], ◌∷◌, Option, if◌then◌else◌}
 use Rattle.std.specs.Int.{is_in_range}
 use Rattle.std.specs.Char.{is_ascii}
-use Rattle.legacy_tables.specs.Pointers.{index_pointer_of}
+use Rattle.legacy_tables.specs.Pointers.{index_pointer_of, minus_as_hyphen}
 use Rattle.legacy_standard.specs.TextQueue.{TextOutcome, bytes, bytes_or_error, pointer_bytes}
-use Rattle.legacy_standard.specs.ShiftJisEncoder.{minus_set}
 
 -- the steps after the index pointer is known
 abbrev pub euc_jp_at : Option ℕ → ℕ → TextOutcome
@@ -17,4 +16,4 @@ euc_jp_encodes jis0208 c =
     else if c == 0xA5 then bytes (0x5C ∷ [])
     else if c == 0x203E then bytes (0x7E ∷ [])
     else if is_in_range 0xFF61 0xFF9F c then bytes (0x8E ∷ (c - 0xFF61 + 0xA1) ∷ [])
-    else euc_jp_at (index_pointer_of jis0208 (minus_set c)) (minus_set c)
+    else euc_jp_at (index_pointer_of jis0208 (minus_as_hyphen c)) (minus_as_hyphen c)

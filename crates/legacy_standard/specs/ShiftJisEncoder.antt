@@ -2,12 +2,8 @@
 use Rattle.std.specs.Prelude.{ℕ, ◌+◌, ◌-◌, ◌/◌, ◌%◌, ◌==◌, ◌||◌, nat_lt, List, [], ◌∷◌, if◌then◌else◌}
 use Rattle.std.specs.Int.{is_in_range}
 use Rattle.std.specs.Char.{is_ascii}
-use Rattle.legacy_tables.specs.Pointers.{shift_jis_pointer_of}
+use Rattle.legacy_tables.specs.Pointers.{minus_as_hyphen, shift_jis_pointer_of}
 use Rattle.legacy_standard.specs.TextQueue.{TextOutcome, bytes, bytes_or_error}
-
--- "if code point is U+2212, then set it to U+FF0D"
-abbrev pub minus_set : ℕ → ℕ
-minus_set c = if c == 0x2212 then 0xFF0D else c
 
 -- the leading and the trailing byte of a pointer
 abbrev pub shift_jis_pointer_bytes : ℕ → List ℕ
@@ -25,4 +21,4 @@ shift_jis_encodes jis0208 c =
     else if c == 0xA5 then bytes (0x5C ∷ [])
     else if c == 0x203E then bytes (0x7E ∷ [])
     else if is_in_range 0xFF61 0xFF9F c then bytes ((c - 0xFF61 + 0xA1) ∷ [])
-    else bytes_or_error shift_jis_pointer_bytes (shift_jis_pointer_of jis0208 (minus_set c)) (minus_set c)
+    else bytes_or_error shift_jis_pointer_bytes (shift_jis_pointer_of jis0208 (minus_as_hyphen c)) (minus_as_hyphen c)

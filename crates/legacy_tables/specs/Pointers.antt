@@ -65,7 +65,7 @@ is_jis0208_pointer p = nat_lt p 8836
 abbrev pub euc_jp_pointer_of : List ℕ → ℕ → Option ℕ
 euc_jp_pointer_of jis0208 c = first_pointer is_jis0208_pointer jis0208 c
 
--- the minus sign is looked up in jis0208 as the full-width hyphen-minus
+-- "if code point is U+2212, then set it to U+FF0D" ("Shift_JIS encoder", "EUC-JP encoder", "ISO-2022-JP encoder")
 abbrev pub minus_as_hyphen : ℕ → ℕ
 minus_as_hyphen c = if c == 0x2212 then 0xFF0D else c
 
