@@ -5,7 +5,7 @@ use Rattle.legacy_base.specs.declared.results.EncodeEvent.{EncodeEvent}
 use Rattle.legacy_tables.specs.Unicode.{AreBytes, AreScalars}
 use Rattle.legacy_base.specs.States.{DecoderState, new_state}
 use Rattle.legacy_base.specs.Encoders.{Codec, EncoderState, new_encoder}
-use Rattle.legacy_standard.specs.DecoderLaw.{Decoder, grammar_of, HandlerDecodes}
+use Rattle.legacy_standard.specs.DecoderLaw.{Decoder, decoder_grammar, HandlerDecodes}
 use Rattle.legacy_standard.specs.EncoderLaw.{HasAcceptedRanges, HasPointers, HandlerEncodes}
 use Rattle.legacy_codecs.specs.Pieces.{joined}
 use Rattle.legacy_codecs.specs.Runs.{FinishedRun}
@@ -17,7 +17,7 @@ use Rattle.legacy_codecs.specs.EncodeRuns.{FinishedEncodeRun}
 -- all pieces together.
 abbrev pub RunIsDecodedByHandler : DecoderState → List (List ℕ) → Bool → List DecodeEvent → Type 0
 RunIsDecodedByHandler before pieces finished answered =
-    (decoder : Decoder) → before ≡ new_state (grammar_of decoder) → IsTrue finished → AreBytes (joined pieces) →
+    (decoder : Decoder) → before ≡ new_state (decoder_grammar decoder) → IsTrue finished → AreBytes (joined pieces) →
     HandlerDecodes decoder (joined pieces) answered
 
 -- Let the encoder be new, its ranges accepted, no pointer missing, and the run finished. Then its events are what the
@@ -34,7 +34,7 @@ RunIsEncodedByHandler before pieces finished answered =
 abbrev pub RunsAreDecodedByHandlers : Type 0
 RunsAreDecodedByHandlers =
     (decoder : Decoder) (bytes : List ℕ) → AreBytes bytes →
-    (answered : List DecodeEvent) → FinishedRun (new_state (grammar_of decoder)) bytes answered →
+    (answered : List DecodeEvent) → FinishedRun (new_state (decoder_grammar decoder)) bytes answered →
     HandlerDecodes decoder bytes answered
 
 -- the same for any finished run of a new encoder over a text

@@ -6,7 +6,7 @@ use Rattle.legacy_tables.specs.Unicode.{AreBytes, AreScalars}
 use Rattle.legacy_base.specs.Grammar.{events_of}
 use Rattle.legacy_base.specs.States.{new_state}
 use Rattle.legacy_base.specs.Encoders.{Codec, new_encoder, encoded}
-use Rattle.legacy_standard.specs.DecoderLaw.{Decoder, grammar_of, HandlerDecodes}
+use Rattle.legacy_standard.specs.DecoderLaw.{Decoder, decoder_grammar, HandlerDecodes}
 use Rattle.legacy_standard.specs.EncoderLaw.{HasAcceptedRanges, HasPointers, HandlerEncodes}
 use Rattle.legacy_codecs.specs.MalformedSequences.{malformed_of}
 use Rattle.legacy_codecs.specs.References.{referenced_bytes}
@@ -24,8 +24,8 @@ abbrev pub TextsAreDecodedByHandlers : Type 0
 TextsAreDecodedByHandlers =
     (decoder : Decoder) (bytes : List ℕ) → AreBytes bytes →
     (events : List DecodeEvent) × IsOnly (HandlerDecodes decoder bytes) events
-    × (text_of (new_state (grammar_of decoder)) bytes ≡ replaced_scalars events)
-    × (malformed_of 0 (events_of (grammar_of decoder) bytes) ≡ malformed_of 0 events)
+    × (text_of (new_state (decoder_grammar decoder)) bytes ≡ replaced_scalars events)
+    × (malformed_of 0 (events_of (decoder_grammar decoder) bytes) ≡ malformed_of 0 events)
 
 -- The handler of the Standard's encoder gives events for each text, and no others. The bytes of a new encoder for the
 -- text are those of the events, with a reference for each error ("process an item", error mode "html").

@@ -10,9 +10,9 @@ use Rattle.legacy_codecs.specs.Replacing.{replaced_scalars}
 unfoldable pub text_of : DecoderState → List ℕ → List ℕ
 text_of state bytes = replaced_scalars (events_of state.grammar (state.held ++ bytes))
 
--- the same in an encoding form
-abbrev pub units_of : EncodingForm → DecoderState → List ℕ → List ℕ
-units_of form state bytes = all_code_units form (text_of state bytes)
+-- the code units of that text in an encoding form
+abbrev pub text_units : EncodingForm → DecoderState → List ℕ → List ℕ
+text_units form state bytes = all_code_units form (text_of state bytes)
 
 -- The decoder holds back only bytes that its codec may hold back, and no scalar.
 abbrev pub IsSettled : DecoderState → Type 0
@@ -23,4 +23,4 @@ IsSettled state = IsTrue (may_hold state.grammar state.held) × IsTrue (rests st
 abbrev pub TextGoesOn : EncodingForm → Bool → DecoderState → List ℕ → DecoderState → List ℕ → Type 0
 TextGoesOn form last before piece after written =
     (later : List ℕ) → (IsTrue last → later ≡ []) →
-    units_of form before (piece ++ later) ≡ written ++ units_of form after later
+    text_units form before (piece ++ later) ≡ written ++ text_units form after later

@@ -32,17 +32,17 @@ pub data Decoder : Type 0 where
   iso_2022_jp : (jis0208 : List ℕ) → Decoder
 
 -- the grammar of each decoder
-abbrev pub grammar_of : Decoder → Grammar
-grammar_of (single_byte table) = grammars.single_byte table
-grammar_of user_defined = grammars.user_defined
-grammar_of replacement = grammars.replacement false
-grammar_of (utf16 is_utf16be) = grammars.utf16 is_utf16be
-grammar_of (euc_kr index) = korean.euc_kr index
-grammar_of (big5 index) = grammars.big5 index
-grammar_of (shift_jis jis0208) = grammars.shift_jis jis0208
-grammar_of (euc_jp jis0208 jis0212) = grammars.euc_jp jis0208 jis0212
-grammar_of (gb18030 index ranges) = grammars.gb18030 index ranges
-grammar_of (iso_2022_jp jis0208) = grammars.iso_2022_jp jis0208 ascii
+abbrev pub decoder_grammar : Decoder → Grammar
+decoder_grammar (single_byte table) = grammars.single_byte table
+decoder_grammar user_defined = grammars.user_defined
+decoder_grammar replacement = grammars.replacement false
+decoder_grammar (utf16 is_utf16be) = grammars.utf16 is_utf16be
+decoder_grammar (euc_kr index) = korean.euc_kr index
+decoder_grammar (big5 index) = grammars.big5 index
+decoder_grammar (shift_jis jis0208) = grammars.shift_jis jis0208
+decoder_grammar (euc_jp jis0208 jis0212) = grammars.euc_jp jis0208 jis0212
+decoder_grammar (gb18030 index ranges) = grammars.gb18030 index ranges
+decoder_grammar (iso_2022_jp jis0208) = grammars.iso_2022_jp jis0208 ascii
 
 -- The handler finishes over these bytes, and its code points and errors are these events, with the place and length of
 -- each malformed sequence.
@@ -60,4 +60,4 @@ HandlerDecodes (iso_2022_jp jis0208) bytes events = Processes (iso_2022_jp_handl
 
 -- each handler gives the events of its grammar, for every list of bytes and any indexes, accepted or not
 abbrev pub AreDecodedByHandlers : Type 0
-AreDecodedByHandlers = (decoder : Decoder) (bytes : List ℕ) → AreBytes bytes → HandlerDecodes decoder bytes (events_of (grammar_of decoder) bytes)
+AreDecodedByHandlers = (decoder : Decoder) (bytes : List ℕ) → AreBytes bytes → HandlerDecodes decoder bytes (events_of (decoder_grammar decoder) bytes)

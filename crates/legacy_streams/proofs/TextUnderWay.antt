@@ -10,28 +10,28 @@ use Rattle.legacy_codecs.specs.{declared.results.CoderResult.CoderResult, declar
 use Rattle.legacy_codecs.specs.Replacing.{replaced_scalars, has_malformed, ReplacingDecoderCall}
 use Rattle.legacy_codecs.proofs.{Replacements.end_found-last, Replaced.{has_malformed-append, has_malformed-shift}}
 use Rattle.legacy_codecs.proofs.Replaced.{replaced-append, replaced-shift, length-shift}
-use Rattle.legacy_streams.specs.{Streams.AppendsFront, Text.{text_of, WritesPiece, WritesFront}}
+use Rattle.legacy_streams.specs.{Streams.AppendsFront, Text.{text_in_utf8, WritesPiece, WritesFront}}
 use Rattle.legacy_streams.proofs.Whole.{Joins, front_of, front_after}
 
-text-none : text_of [] ≡ []
-unfolding text_of
+text-none : text_in_utf8 [] ≡ []
+unfolding text_in_utf8
 text-none = refl
 
 -- shifting the places of events does not change their text
-text-append : (xs ys : List DecodeEvent) (k : ℕ) → text_of (xs ++ shift k ys) ≡ text_of xs ++ text_of ys
-unfolding text_of
+text-append : (xs ys : List DecodeEvent) (k : ℕ) → text_in_utf8 (xs ++ shift k ys) ≡ text_in_utf8 xs ++ text_in_utf8 ys
+unfolding text_in_utf8
 text-append xs ys k = grind (arith, replaced-append, replaced-shift, all_code_units-append)
 
 found-append : (xs ys : List DecodeEvent) (k : ℕ) → has_malformed (xs ++ shift k ys) ≡ (has_malformed xs || has_malformed ys)
 found-append xs ys k = has_malformed-append xs (shift k ys) ∙ ap (λ b. has_malformed xs || b) (has_malformed-shift k ys)
 
-text_is : (events : List DecodeEvent) (written : List ℕ) → written ≡ all_code_units Utf8 (replaced_scalars events) → written ≡ text_of events
-unfolding text_of
+text_is : (events : List DecodeEvent) (written : List ℕ) → written ≡ all_code_units Utf8 (replaced_scalars events) → written ≡ text_in_utf8 events
+unfolding text_in_utf8
 text_is events written e = e
 
 -- a text that is not empty comes from at least one event
-some_event : (events : List DecodeEvent) → 1 ≤ length (text_of events) → 1 ≤ length events
-unfolding text_of
+some_event : (events : List DecodeEvent) → 1 ≤ length (text_in_utf8 events) → 1 ≤ length events
+unfolding text_in_utf8
 some_event [] h = omega arith
 some_event (x ∷ events) h = omega arith
 
@@ -46,7 +46,7 @@ pub record TextUnderWay (before : DecoderState) (piece : List ℕ) (last : Bool)
   pub events : List DecodeEvent
   pub progress : Progress last before piece passed now (drop offset piece) events
   pub found_is : found ≡ has_malformed events
-  pub written : Appends old new (text_of events)
+  pub written : Appends old new (text_in_utf8 events)
 
 pub text_start : (before : DecoderState) (piece : List ℕ) (last : Bool) (old : Option (List ℕ)) → TextUnderWay before piece last before 0 false old old
 text_start before piece last old =
@@ -68,7 +68,7 @@ module _ {before : DecoderState} {piece : List ℕ} {last : Bool} {now : Decoder
     left = drop (offset + read) piece;
     events = u.events ++ shift u.passed c.out;
     progress = way_of_call;
-    shown = rw (text-append u.events c.out u.passed, ← text_is c.out written c.text) (front_after mid (text_of u.events) u.written (front_of count w));
+    shown = rw (text-append u.events c.out u.passed, ← text_is c.out written c.text) (front_after mid (text_in_utf8 u.events) u.written (front_of count w));
   }
 
   -- after the text of the call was written, `offset + read` bytes of the piece are done
@@ -107,15 +107,15 @@ module _ {before : DecoderState} {piece : List ℕ} {last : Bool} {now : Decoder
 
 -- ---- the whole input
 
-pub whole_text_start : (old : Option (List ℕ)) → (false ≡ has_malformed []) × Appends old old (text_of [])
+pub whole_text_start : (old : Option (List ℕ)) → (false ≡ has_malformed []) × Appends old old (text_in_utf8 [])
 whole_text_start old = (refl, rw text-none (Appends-nil old))
 
 module _ (before now : DecoderState) (total : ℕ) (found : Bool) (old mid new : Option (List ℕ)) where
-  pub text_join : (more : Bool) → Joins before now total (λ events. (found ≡ has_malformed events) × Appends old mid (text_of events))
-      (λ events. (more ≡ has_malformed events) × Appends mid new (text_of events))
-      (λ events. ((found || more) ≡ has_malformed events) × Appends old new (text_of events))
+  pub text_join : (more : Bool) → Joins before now total (λ events. (found ≡ has_malformed events) × Appends old mid (text_in_utf8 events))
+      (λ events. (more ≡ has_malformed events) × Appends mid new (text_in_utf8 events))
+      (λ events. ((found || more) ≡ has_malformed events) × Appends old new (text_in_utf8 events))
   text_join more = grind (arith, found-append, text-append, Appends-trans)
 
-  pub text_front_join : Joins before now total (λ events. (found ≡ has_malformed events) × Appends old mid (text_of events))
-      (λ events. AppendsFront mid new (text_of events)) (λ events. AppendsFront old new (text_of events))
+  pub text_front_join : Joins before now total (λ events. (found ≡ has_malformed events) × Appends old mid (text_in_utf8 events))
+      (λ events. AppendsFront mid new (text_in_utf8 events)) (λ events. AppendsFront old new (text_in_utf8 events))
   text_front_join = record { join = λ passed xs ys e one front. rw (text-append xs ys passed) (front_after mid _ one.1 front) }
