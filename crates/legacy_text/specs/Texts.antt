@@ -2,7 +2,8 @@
 use Rattle.std.specs.Prelude.{◌≡◌, ℕ, ◌-◌, ◌<◌, ◌≤◌, List, length, slice_index, false, ◌&&◌}
 use Rattle.std.specs.Char.Utf16.{utf16_lossy_chars, is_high_surrogate, is_low_surrogate}
 
--- "Convert to scalar values": the scalars of UTF-16 code units, with U+FFFD for each unpaired surrogate
+-- "convert a string into a scalar value string" (Infra Standard): the scalars of UTF-16 code units, with U+FFFD for each
+-- unpaired surrogate
 abbrev pub unit_scalars : List ℕ → List ℕ
 unit_scalars units = utf16_lossy_chars units
 
