@@ -5,13 +5,19 @@ use Rattle.std.proofs.{lemmas.List.get_or_past, lemmas.List.FromFn.{get_or-map-r
 use Rattle.std.proofs.lemmas.List.Sorted.{IsNonDecreasingBy-from_all_adjacent}
 use Rattle.std.specs.{List.Sorted.IsNonDecreasingBy}
 use Rattle.std.proofs.lemmas.Bool.Decides.{nat_tests}
-use Rattle.legacy_tables.specs.{declared.tables.packed.Run.Run, Runs.{run_at, HasPointer, run_end, run_scalar, runs_scalar, runs_entry, runs_end, runs_list}}
-use Rattle.legacy_tables.specs.Runs.{is_run_in_order, run_fault_from, run_fault, AreInOrder, IsFirstBehind}
+use Rattle.legacy_tables.specs.{declared.tables.packed.Run.Run, Runs.{run_at, run_end, run_scalar, runs_scalar, runs_entry, runs_end, runs_list}}
+use Rattle.legacy_tables.specs.{Runs.{is_run_in_order, run_fault_from, run_fault}, RunPlaces.{AreInOrder, IsFirstBehind}}
 use Rattle.legacy_tables.proofs.FirstPlaces.{taken, each-fine}
 
 -- a run without pointers
 abbrev pub no_run : Run
 no_run = record { pointer = 0; scalar = 0; length = 0 }
+
+-- the run at place n has pointer p
+pub record HasPointer (runs : List Run) (n p : ℕ) : Type 0 where
+  pub within : n < length runs
+  pub from : (run_at runs n).pointer ≤ p
+  pub before : p < run_end (run_at runs n)
 
 -- ---- the order of runs, as a loop reads it
 

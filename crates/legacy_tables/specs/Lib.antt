@@ -4,9 +4,11 @@ pub mod Indexes
 pub mod Pointers
 pub mod TableChecks
 pub mod AcceptedTables
+pub mod StoredTables
 pub mod Tables
 pub mod KeptTables
 pub mod Runs
+pub mod RunPlaces
 pub mod Packed
 pub mod Orders
 pub mod PointerSets

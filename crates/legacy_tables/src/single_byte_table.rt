@@ -21,7 +21,8 @@ pub struct SingleByteTable {
 }
 
 impl Model for SingleByteTable {
-    ghost use Rattle.legacy_tables.specs.AcceptedTables.{AcceptedTable, coded_table};
+    ghost use Rattle.legacy_tables.specs.AcceptedTables.{AcceptedTable};
+    ghost use Rattle.legacy_tables.specs.StoredTables.{coded_table};
 
     ghost Value = { AcceptedTable };
 

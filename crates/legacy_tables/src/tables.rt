@@ -216,7 +216,8 @@ macro_rules! match_kept {
 }
 
 impl<'a> Model for Tables<'a> {
-    ghost use Rattle.legacy_tables.specs.AcceptedTables.{AcceptedIndexes, coded_indexes};
+    ghost use Rattle.legacy_tables.specs.AcceptedTables.{AcceptedIndexes};
+    ghost use Rattle.legacy_tables.specs.StoredTables.{coded_indexes};
 
     ghost Value = { AcceptedIndexes };
 

@@ -20,7 +20,8 @@ pub struct FlatTables<'a> {
 }
 
 impl<'a> Model for FlatTables<'a> {
-    ghost use Rattle.legacy_tables.specs.AcceptedTables.{AcceptedIndexes, coded_indexes};
+    ghost use Rattle.legacy_tables.specs.AcceptedTables.{AcceptedIndexes};
+    ghost use Rattle.legacy_tables.specs.StoredTables.{coded_indexes};
     ghost use Rattle.legacy_tables.specs.Tables.{flat_indexes};
 
     ghost Value = { AcceptedIndexes };

@@ -35,7 +35,8 @@ pub(super) struct PackedTables<'a> {
 }
 
 impl<'a> Model for PackedTables<'a> {
-    ghost use Rattle.legacy_tables.specs.AcceptedTables.{AcceptedIndexes, coded_indexes};
+    ghost use Rattle.legacy_tables.specs.AcceptedTables.{AcceptedIndexes};
+    ghost use Rattle.legacy_tables.specs.StoredTables.{coded_indexes};
 
     ghost Value = { AcceptedIndexes };
 

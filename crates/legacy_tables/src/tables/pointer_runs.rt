@@ -1,8 +1,7 @@
 //! Runs that are in order, and the look-up of a pointer in them.
 ghost use Rattle.std.specs.Prelude.{◌≡◌, ℕ, ◌+◌, ◌<◌, ◌≤◌, None, length};
-ghost use Rattle.legacy_tables.specs.Runs.{runs_scalar, runs_list, run_fault};
-ghost use Rattle.legacy_tables.specs.Runs.{is_run_in_order, AreInOrder, IsFirstBehind, run_at};
-ghost use Rattle.legacy_tables.specs.Runs.{IsBetween, between-first};
+ghost use Rattle.legacy_tables.specs.Runs.{runs_scalar, runs_list, run_fault, is_run_in_order, run_at};
+ghost use Rattle.legacy_tables.specs.RunPlaces.{AreInOrder, IsFirstBehind, IsBetween, between-first};
 
 use super::numbers::{Numbers, Row};
 use super::packed::Run;
