@@ -5,7 +5,8 @@ use Rattle.std.proofs.lemmas.{List.{length-drop, take_more, get_or-drop, length-
 use Rattle.std.proofs.{Common.{length-append, append_assoc, append-nil}, lemmas.Nat.Bits.{bit_at-lt, bit_at-zero, bit_at_and, bit_at_xor, bit_at_or, bit_at_ones, bit_at-trailing_zeros, bit_at-pow_other}}
 use Rattle.std.specs.Int.{bit_at, trailing_zeros}
 use Rattle.{std.proofs.Math.Seq.take-add, legacy_decoder_engine.proofs.WrittenRuns.{rest_of, take_two}}
-use Rattle.legacy_decoder_engine.specs.PickedForms.{places, code_at, ArePast}
+use Rattle.legacy_decoder_engine.specs.PickedForms.{places, code_at}
+use Rattle.legacy_text.specs.PastAscii.{ArePast}
 use Rattle.legacy_chinese.specs.FourForms.{four_form, fours_of, form_at, AreFourStarts, IsFourEnd}
 
 -- a bit of the bits further on

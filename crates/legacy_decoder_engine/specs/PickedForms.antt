@@ -28,14 +28,6 @@ form_of code = cond (ltb (code % 256) 128) (code % 256 ∷ []) (code % 256 ∷ c
 abbrev pub forms_of : List ℕ → List ℕ
 forms_of codes = flat_map form_of codes
 
--- the bits of the first 64 bytes that are past ASCII
-abbrev pub ArePast : ℕ → List ℕ → Type 0
-ArePast past block = (i : ℕ) → i < 64 → bit_at past i ≡ cond (ltb (get_or block i 0) 128) 0 1
-
--- the same of the bytes from a place on
-abbrev pub ArePastFrom : ℕ → List ℕ → ℕ → Type 0
-ArePastFrom past block at = (i : ℕ) → at + i < 64 → bit_at past i ≡ cond (ltb (get_or block (at + i) 0) 128) 0 1
-
 -- A form starts at the first byte, and at every other byte except after a byte past ASCII that starts a form.
 pub record AreStarts (past starts : ℕ) : Type 0 where
   pub first : bit_at starts 0 ≡ 1

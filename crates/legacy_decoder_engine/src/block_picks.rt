@@ -4,8 +4,8 @@ ghost use Rattle.std.specs.Prelude.{◌≡◌, ◌+◌, ◌<◌, ◌≤◌, ◌+
 ghost use Rattle.legacy_decoder_engine.specs.PickedForms.{forms_of};
 
 use crate::lane_codec::LaneCodec;
-use crate::past_ascii::past_ascii;
 use crate::picks::{form_starts, pick_forms};
+use legacy_text::past_ascii::past_ascii;
 use std::simd::prelude::*;
 
 /// Stores the codes of the forms in a block with many bytes past ASCII, from place `count` of a list on.

@@ -17,7 +17,6 @@ pub mod lead_and_trail;
 pub mod lead_decoder;
 pub mod moves;
 pub mod near_malformed;
-pub mod past_ascii;
 pub mod picks;
 pub mod places;
 pub mod read_ahead;

@@ -2,7 +2,8 @@
 // The functions that run for each vector are always inlined: a call would pass the vectors through memory.
 ghost use Rattle.std.specs.Prelude.{◌≡◌, ℕ, ◌+◌, ◌*◌, ◌<◌, ◌≤◌, ◌++◌, List, IfSome, length, map, take};
 ghost use Rattle.std.specs.List.{range_with_len};
-ghost use Rattle.legacy_decoder_engine.specs.PickedForms.{places, code_at, forms_of, ArePast, AreStarts, IsEnd};
+ghost use Rattle.legacy_decoder_engine.specs.PickedForms.{places, code_at, forms_of, AreStarts, IsEnd};
+ghost use Rattle.legacy_text.specs.PastAscii.{ArePast};
 
 use legacy_text::row_table;
 use std::simd::prelude::*;

@@ -1,16 +1,17 @@
 -- The runs of the single-byte decoders.
 use Rattle.std.proofs.Common.{rules, IsAscii, ◌≡◌, ◌∙◌, ℕ, List, ◌+◌, ◌-◌, ◌≤◌, ◌<◌, ◌^◌, ◌++◌, zero, suc, length, take, drop, get_or}
-use Rattle.std.proofs.{Common.{cond, ltb, Some, refl, ap, arith, All}, lemmas.Bool.Decides.nat_tests, lemmas.List.Elements.All-from_get_or}
-use Rattle.std.proofs.lemmas.List.{get_or_past, take_all, take_more, take-take, get_or-take, get_or-drop, length-drop, length-take, length-take-le}
+use Rattle.std.proofs.{Common.{cond, ltb, Some, refl, sym, ap, arith, All}, lemmas.Bool.Decides.nat_tests, lemmas.List.Elements.All-from_get_or}
+use Rattle.std.proofs.lemmas.List.{get_or_past, take_all, take_more, take-take, get_or-take, get_or-drop, length-drop, length-take, length-take-le, get_or-map, length-map}
 use Rattle.std.proofs.Math.Seq.{take-append_seam}
 use Rattle.std.specs.Char.{IsScalar}
-use Rattle.legacy_text.specs.{declared.destination.Destination.Ghosts, EncodingForm.{all_code_units, total_unit_count}}
+use Rattle.legacy_text.specs.{declared.destination.Destination.Ghosts, EncodingForm.{all_code_units, bmp_room, total_unit_count}, PastAscii.{ArePast, ArePastFrom}}
+use Rattle.legacy_text.{specs.ByteUnits.{AreByteScalars, HaveScalars, scalars_of}, proofs.ByteUnits.one_each}
 use Rattle.legacy_base.specs.{States.{DecoderState, new_state}, Grammar.single_byte}
 use Rattle.legacy_tables.specs.{Indexes.{idx}, AcceptedTables.AcceptedTable}
 use Rattle.legacy_text.proofs.Ascii.{ascii_front}
 use Rattle.legacy_tables.proofs.AcceptedTable.{table-below, table-scalars}
-use Rattle.legacy_decoder_engine.specs.{ReadAhead.{Runs, IsSingle, HasAscii, Writes, ReadsAhead}, PickedForms.{ArePast, ArePastFrom}}
-use Rattle.legacy_single_byte.specs.{ByteEntries.IsByteEntry}
+use Rattle.legacy_decoder_engine.specs.ReadAhead.{Runs, IsSingle, HasAscii, Writes, ReadsAhead}
+use Rattle.legacy_single_byte.specs.{ByteEntries.{IsByteEntry, AreByteEntries}}
 use Rattle.legacy_decoder_engine.proofs.{RunForms.{single_runs, has_ascii, ascii_is}, JoinedRuns.{reads_written}}
 use Rattle.legacy_decoder_engine.proofs.WrittenRuns.{runs_none, runs_more, writes_none, writes_one, writes_run, writes_ascii, rest_of}
 use Rattle.legacy_decoder_engine.proofs.WrittenRuns.{all_short, short, three_fit, reads_none}
@@ -32,8 +33,8 @@ module _ (table : AcceptedTable) where
   entry_below b e is =
       grind (arith, small, table-below table.entries table.accepted (b - 0x80) 0, table-scalars table.entries table.accepted (b - 0x80) 0, get_or_past)
 
-  -- if the entry is not 0, the byte is a run by itself
-  pub entry_runs : (b e : ℕ) → b < 2 ^ 8 → IsByteEntry table.entries b e → (e ≡ 0 → ⊥) → IsSingle (single_byte table.entries) b e
+  -- if the entry of a byte past ASCII is not 0, the byte is a run by itself
+  pub entry_runs : (b e : ℕ) → b < 2 ^ 8 → IsByteEntry table.entries b e → (0x80 ≤ b → e ≡ 0 → ⊥) → IsSingle (single_byte table.entries) b e
   entry_runs b e byte is some =
       let below = entry_below b e is in (below.0, single_runs (shown table) b e byte below.1 refl (grind (arith, nat_tests)))
 
@@ -50,12 +51,12 @@ module _ (table : AcceptedTable) where
       let size : length (take n (take (length source - at) (drop at source))) ≡ n = grind (arith, rest_of, length-drop, length-take-le) in
       writes_run T source at n before (writes_ascii T _ mid new _ single_byte_ascii front contents (omega (arith, size)) loan)
 
-  -- ---- eight bytes at once, by their entries
+  -- ---- several bytes at once, by their entries
 
-  module _ (source units : List ℕ) (bytes : (k : ℕ) → get_or source k 0 < 2 ^ 8)
-      (same : (k : ℕ) → k < 8 → IsByteEntry table.entries (get_or source k 0) (get_or units k 0)) where
-    -- if no entry is 0, the bytes are a run
-    bytes_run : ((k : ℕ) → k < 8 → get_or units k 0 ≡ 0 → ⊥) → (r : ℕ) → r ≤ 8 → r ≤ length source → r ≤ length units →
+  module _ (source units : List ℕ) (n : ℕ) (bytes : (k : ℕ) → get_or source k 0 < 2 ^ 8)
+      (same : (k : ℕ) → k < n → IsByteEntry table.entries (get_or source k 0) (get_or units k 0)) where
+    -- if no entry of a byte past ASCII is 0, the bytes are a run
+    bytes_run : ((k : ℕ) → k < n → 0x80 ≤ get_or source k 0 → get_or units k 0 ≡ 0 → ⊥) → (r : ℕ) → r ≤ n → r ≤ length source → r ≤ length units →
         Runs (single_byte table.entries) (take r source) (take r units)
     bytes_run some zero few within room = runs_none (single_byte table.entries)
     bytes_run some (suc r) few within room =
@@ -65,19 +66,53 @@ module _ (table : AcceptedTable) where
         (runs_more _ _ _ _ _ (bytes_run some r (omega arith) (omega arith) (omega arith)) one.1)
 
     -- the entries are scalars up to U+FFFF, even those that are 0
-    pub units_are_scalars : length units ≡ 8 → All IsScalar units
+    pub units_are_scalars : length units ≡ n → All IsScalar units
     units_are_scalars long = grind (arith, All-from_get_or IsScalar units 0, entry_below)
 
-    -- the eight bytes were read and their entries were written
-    pub reads_eight : {D : Type 0} (T : Ghosts D) (old new : D) → ((k : ℕ) → k < length units → get_or units k 0 ≡ 0 → ⊥) → 8 ≤ length source → length units ≡ 8
-        → T.contents new ≡ T.contents old ++ all_code_units T.form units → T.room new + total_unit_count T.form units ≡ T.room old → T.loan new ≡ T.loan old
-        → 35 ≤ T.room old → ReadsAhead T (new_state (single_byte table.entries)) source 8 old new
-    reads_eight T old new some within long contents room loan enough =
-        let few = all_short T.form units (λ k h. (entry_below (get_or source k 0) (get_or units k 0) (same k (omega arith))).0) in
-        let run = bytes_run (λ k h. some k (omega arith)) 8 (omega arith) within (omega arith) in
-        let all : take 8 units ≡ units = take_all 8 units (omega arith) in
-        reads_written within (record { scalars = units; runs = rw all at run; written = contents; room = room; loan = loan }) (omega (arith, few, room))
-        (omega arith)
+    -- the bytes were read and their entries were written
+    pub reads_entries : {D : Type 0} (T : Ghosts D) (old new : D) → ((k : ℕ) → k < n → 0x80 ≤ get_or source k 0 → get_or units k 0 ≡ 0 → ⊥) → n ≤ length source
+        → length units ≡ n → T.contents new ≡ T.contents old ++ all_code_units T.form units → T.room new + total_unit_count T.form units ≡ T.room old
+        → T.loan new ≡ T.loan old → total_unit_count T.form units + 3 ≤ T.room old → 4 ≤ T.room old
+        → ReadsAhead T (new_state (single_byte table.entries)) source n old new
+    reads_entries T old new some within long contents room loan slack enough =
+        let run = bytes_run some n (omega arith) within (omega arith) in
+        let all : take n units ≡ units = take_all n units (omega arith) in
+        reads_written within (record { scalars = units; runs = rw all at run; written = contents; room = room; loan = loan }) (omega (arith, slack, room)) enough
+
+  -- the eight bytes were read and their entries were written
+  pub reads_eight : (source units : List ℕ) → ((k : ℕ) → get_or source k 0 < 2 ^ 8)
+      → ((k : ℕ) → k < 8 → IsByteEntry table.entries (get_or source k 0) (get_or units k 0)) → {D : Type 0} (T : Ghosts D) (old new : D)
+      → ((k : ℕ) → k < length units → get_or units k 0 ≡ 0 → ⊥) → 8 ≤ length source → length units ≡ 8
+      → T.contents new ≡ T.contents old ++ all_code_units T.form units → T.room new + total_unit_count T.form units ≡ T.room old → T.loan new ≡ T.loan old
+      → 35 ≤ T.room old → ReadsAhead T (new_state (single_byte table.entries)) source 8 old new
+  reads_eight source units bytes same T old new some within long contents room loan enough =
+      let few = all_short T.form units (λ k h. (entry_below (get_or source k 0) (get_or units k 0) (same k (omega arith))).0) in
+      reads_entries source units 8 bytes same T old new (λ k h past. some k (omega (arith, h, long))) within long contents room loan (omega (arith, few, long, enough))
+      (omega (arith, enough))
+
+  -- the entries of all bytes
+  pub byte_scalars : (entries : List ℕ) → length entries ≡ 256 → AreByteEntries table.entries entries 256 → AreByteScalars entries
+  byte_scalars entries long same = record {
+    count = long;
+    ascii = λ b h. (same b (omega arith)).0 h;
+    scalars = All-from_get_or (λ c. (c < 0x1_0000) × IsScalar c) entries 0 (λ b h. entry_below b (get_or entries b 0) (same b (omega (arith, h, long))));
+  }
+
+  -- bytes at the front were read and their scalars were written, each as one code unit
+  pub reads_units : (source entries : List ℕ) (r : ℕ) → ((k : ℕ) → get_or source k 0 < 2 ^ 8) → AreByteScalars entries → AreByteEntries table.entries entries 256
+      → {D : Type 0} (T : Ghosts D) (old new : D) → bmp_room T.form ≡ 1 → r ≤ 64 → 64 ≤ length source → HaveScalars entries (take r source)
+      → T.contents new ≡ T.contents old ++ all_code_units T.form (scalars_of entries (take r source))
+      → T.room new + total_unit_count T.form (scalars_of entries (take r source)) ≡ T.room old → T.loan new ≡ T.loan old → 70 ≤ T.room old
+      → ReadsAhead T (new_state (single_byte table.entries)) source r old new
+  reads_units source entries r bytes all same T old new one few within have contents room loan enough =
+      let front : length (take r source) ≡ r = length-take-le r source (omega (arith, few, within)) in
+      let long : length (scalars_of entries (take r source)) ≡ r = length-map (take r source) (λ b. get_or entries b 0) ∙ front in
+      let count = one_each T.form entries (take r source) one all in
+      let unit : (k : ℕ) → k < r → get_or (scalars_of entries (take r source)) k 0 ≡ get_or entries (get_or source k 0) 0 =
+      λ k h. get_or-map (λ b. get_or entries b 0) (take r source) k 0 0 (omega (arith, h, front)) ∙ ap (λ b. get_or entries b 0) (get_or-take r source k 0 h) in
+      reads_entries source (scalars_of entries (take r source)) r bytes (λ k h. rw (unit k h) (same (get_or source k 0) (bytes k))) T old new
+      (λ k h past none. have k 0 (omega (arith, h, front)) (rw (get_or-take r source k 0 h) past) (rw (get_or-take r source k 0 h) (sym (unit k h) ∙ none)))
+      (omega (arith, few, within)) long contents room loan (omega (arith, count, front, few, enough)) (omega (arith, enough))
 
 -- what was read of bytes with others after them
 pub reads_padded : {D : Type 0} {T : Ghosts D} {state : DecoderState} {source padded : List ℕ} {r : ℕ} {old new : D} → r ≤ length source →

@@ -16,7 +16,7 @@ use Rattle.legacy_text.proofs.{Ascii.{mask_from, mask_from-is, mask_bit}, CodeUn
 -- ---- the lowest bit
 
 -- without the lowest bit of n, no bit up to it is set, and all others are unchanged
-cleared : (t n m k : ℕ) → n ≡ suc m → bit_at n t ≡ 1 → ((i : ℕ) → i < t → bit_at n i ≡ 0) → min (bit_at n k) (bit_at m k) ≡ cond (leb k t) 0 (bit_at n k)
+pub cleared : (t n m k : ℕ) → n ≡ suc m → bit_at n t ≡ 1 → ((i : ℕ) → i < t → bit_at n i ≡ 0) → min (bit_at n k) (bit_at m k) ≡ cond (leb k t) 0 (bit_at n k)
 cleared zero n m zero e one none = grind (arith, bit_at_lowest)
 cleared zero n m (suc k) e one none = grind (arith, nat_tests, bit_at_lowest n, bit_at-suc)
 cleared (suc t) n m zero e one none = grind (arith, nat_tests, none 0)

@@ -11,3 +11,5 @@ pub mod ScalarTurns
 pub mod ShortScalars
 pub mod TextSources
 pub mod UnitBytes
+pub mod PastAscii
+pub mod ByteUnits

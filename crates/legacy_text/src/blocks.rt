@@ -3,6 +3,7 @@
 ghost use Rattle.std.specs.Prelude.{◌≡◌, ℕ, true, ◌+◌, ◌-◌, ◌<◌, ◌≤◌, ◌++◌, length, take, slice_index, IsAscii};
 ghost use Rattle.legacy_text.specs.Blocks.{block_bytes};
 
+use crate::past_ascii::past_ascii;
 use std::simd::prelude::*;
 
 /// Returns the number of ASCII bytes at the front of a block.
@@ -58,9 +59,7 @@ pub(crate) fn wide_ascii_count(bytes: &[u8]) -> usize
     if is_ascii_block(bytes) {
         return 64;
     }
-    let past = u8x64::from_slice(bytes)
-        .simd_ge(u8x64::splat(0x80))
-        .to_bitmask();
+    let past = past_ascii(u8x64::from_slice(bytes));
     (past.trailing_zeros() as usize).min(63)
 }
 

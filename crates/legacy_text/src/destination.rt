@@ -2,9 +2,11 @@
 ghost use Rattle.std.specs.Prelude.{◌≡◌, ℕ, ◌+◌, ◌-◌, ◌<◌, ◌≤◌, List, [], ◌∷◌, ◌++◌, length, take, slice_index, IsAscii, encode_utf8, All};
 ghost use Rattle.std.specs.{Borrow.GName, Char.IsScalar};
 ghost use Rattle.legacy_text.specs.EncodingForm.{EncodingForm, Utf8, Utf16, code_units, unit_count, all_code_units, total_unit_count, bmp_room, wide_room};
+ghost use Rattle.legacy_text.specs.ByteUnits.{AreByteScalars, HaveScalars, scalars_of};
 ghost use Rattle.legacy_text.specs.UnitBytes.{AreShort, IsUtf8Entry};
 
 use crate::blocks::{ascii_count, copy_blocks, store_wide, wide_ascii_count};
+use crate::byte_units::{store_bytes, store_scalars};
 use crate::eight_units::{put_eight_units, put_first_units};
 use crate::scalar_bytes::{put_byte, put_scalar, store_four};
 use crate::short_units::put_short_units;
@@ -150,6 +152,27 @@ pub trait Destination {
         let count = wide_ascii_count(bytes).min(most);
         self.put_block(bytes, count);
         count
+    }
+
+    /// Writes the scalars of any number of single bytes from the front of a block of 64, and at most `most`.
+    ///
+    /// Returns the number. `entries` has the scalar of each byte, and 0 for a byte past ASCII that has none: it stops
+    /// there. The slice must have at least 64 bytes, and 64 code units must be free: a destination may store as many,
+    /// and later output overwrites those that do not count. As provided it writes none.
+    #[inline(always)]
+    fn put_bytes(&mut self, bytes: &[u8], entries: &[u16], most: usize) -> usize
+        requires block { 64 ≤ length bytes.now }
+        requires entries { AreByteScalars entries.now }
+        requires room { 64 ≤ room self.old }
+        ensures most { result ≤ most }
+        ensures read { result ≤ 64 }
+        ensures have { HaveScalars entries.now (take result bytes.now) }
+        ensures contents { contents self.new ≡ contents self.old ++ all_code_units form (scalars_of entries.now (take result bytes.now)) }
+        ensures room { room self.new + total_unit_count form (scalars_of entries.now (take result bytes.now)) ≡ room self.old }
+        ensures loan { loan self.new ≡ loan self.old }
+    {
+        let _ = (bytes.len(), entries.len(), most);
+        0
     }
 
     /// Writes the code units of the first `count` of eight scalar values up to U+FFFF.
@@ -322,18 +345,6 @@ fn store_units(dst: &mut [u16], at: usize, units: u16x8)
     units.copy_to_slice(&mut dst[at..]);
 }
 
-/// Stores the first 64 bytes as code units from the place `at` on.
-#[inline(always)]
-fn store_bytes(dst: &mut [u16], at: usize, bytes: &[u8])
-    requires block { 64 ≤ length bytes.now }
-    requires room { at + 64 ≤ length dst.old }
-    ensures { (k : ℕ) → k ≤ 64 → take (at + k) dst.new ≡ take at dst.old ++ take k bytes.now }
-{
-    u8x64::from_slice(bytes)
-        .cast::<u16>()
-        .copy_to_slice(&mut dst[at..]);
-}
-
 /// A destination that writes UTF-16 to a slice of code units, from its beginning on.
 #[derive(Drop)]
 pub struct Utf16Destination<'a> {
@@ -470,6 +481,14 @@ impl Destination for Utf16Destination<'_> {
     fn put_block(&mut self, bytes: &[u8], count: usize) {
         store_bytes(self.buffer, self.filled, bytes);
         self.filled += count;
+    }
+
+    #[inline(always)]
+    #[tactic(auto, using(crate::proofs::ByteUnits::scalar_steps))]
+    fn put_bytes(&mut self, bytes: &[u8], entries: &[u16], most: usize) -> usize {
+        let count = store_scalars(self.buffer, self.filled, bytes, entries, most);
+        self.filled += count;
+        count
     }
 
     #[inline(always)]

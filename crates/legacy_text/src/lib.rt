@@ -4,8 +4,10 @@
 #![tactic(auto)]
 
 mod blocks;
+mod byte_units;
 mod destination;
 mod eight_units;
+pub mod past_ascii;
 mod scalar_bytes;
 mod scalar_turns;
 mod short_scalars;

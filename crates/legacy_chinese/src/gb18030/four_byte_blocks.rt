@@ -13,10 +13,10 @@ use legacy_decoder_engine::common_forms::CommonForm;
 use legacy_decoder_engine::held_lead::Lead;
 use legacy_decoder_engine::lane_codec::LaneCodec;
 use legacy_decoder_engine::lane_places::{lead_places, place_sums, trail_places};
-use legacy_decoder_engine::past_ascii::{ascii_front, past_ascii};
 use legacy_decoder_engine::places::{ROWS_OF_190, pair_pointer};
 use legacy_decoder_engine::read_ahead::SLACK;
 use legacy_tables::{DecoderTables, FlatTables, RangePart, Ranges};
+use legacy_text::past_ascii::{ascii_front, past_ascii};
 use std::cell::Cell;
 use std::simd::prelude::*;
 

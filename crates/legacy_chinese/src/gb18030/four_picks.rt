@@ -3,8 +3,8 @@
 ghost use Rattle.std.specs.Prelude.{◌≡◌, ◌+◌, ◌≤◌, ◌++◌, IfSome, length, take};
 ghost use Rattle.legacy_chinese.specs.FourForms.{fours_of, AreFourStarts, IsFourEnd};
 
-use legacy_decoder_engine::past_ascii::past_ascii;
 use legacy_decoder_engine::picks::pick;
+use legacy_text::past_ascii::past_ascii;
 use std::simd::prelude::*;
 
 /// The bits of all bytes but the last.

@@ -10,10 +10,10 @@ use super::places::{LEADS, TRAILS};
 use super::steps::{DOLLAR, ESCAPE, Escape, Mode, PAREN, Start, completed};
 use legacy_base::{Destination, IndexName, Tables};
 use legacy_decoder_engine::common_forms::{CommonForm, CommonForms, read_forms};
-use legacy_decoder_engine::past_ascii::{ascii_front, past_ascii};
 use legacy_decoder_engine::places::pair_pointer;
 use legacy_decoder_engine::read_ahead::SLACK;
 use legacy_tables::{DecoderTables, FlatTables};
+use legacy_text::past_ascii::{ascii_front, past_ascii};
 use std::simd::prelude::*;
 
 /// The pairs of two-byte mode.

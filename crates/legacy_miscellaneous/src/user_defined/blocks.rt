@@ -10,8 +10,8 @@ ghost use Rattle.legacy_decoder_engine.specs.ReadAhead.{ReadsAhead};
 ghost use Rattle.legacy_miscellaneous.specs.UserDefinedMachine.{unit_of_byte};
 
 use legacy_base::Destination;
-use legacy_decoder_engine::past_ascii::has_past_ascii;
 use legacy_decoder_engine::read_ahead::{Blocks, SLACK, read_blocks};
+use legacy_text::past_ascii::has_past_ascii;
 use std::simd::prelude::*;
 
 /// Returns the code unit of any byte: ASCII for ASCII, and a private-use scalar for any other.

@@ -5,16 +5,16 @@
 
 ghost use Rattle.std.specs.Prelude.{◌≡◌, ◌≢◌, ◌+◌, ◌*◌, ◌<◌, ◌≤◌, ◌++◌, ℕ, All, true, false, length, take, slice_index};
 ghost use Rattle.std.specs.Char.{IsScalar};
-ghost use Rattle.legacy_text.specs.EncodingForm.{all_code_units, total_unit_count};
+ghost use Rattle.legacy_text.specs.EncodingForm.{all_code_units, bmp_room, total_unit_count};
 ghost use Rattle.legacy_base.specs.Grammar.{Grammar, single_byte};
 ghost use Rattle.legacy_base.specs.States.{new_state};
 ghost use Rattle.legacy_decoder_engine.specs.ReadAhead.{ReadsAhead};
 
 use super::scalars::ByteScalars;
 use legacy_base::Destination;
-use legacy_decoder_engine::past_ascii::{ascii_front, has_past_ascii, past_after, past_ascii};
 use legacy_decoder_engine::read_ahead::SLACK;
 use legacy_text::are_all_below;
+use legacy_text::past_ascii::{ascii_front, has_past_ascii, past_after, past_ascii};
 use std::simd::prelude::*;
 
 /// Returns whether one of the units is 0.
@@ -87,12 +87,26 @@ fn read_parts<P: Parts, T: Destination>(parts: &P, src: &[u8], most: usize, dst:
 }
 
 /// The greatest number of bytes past ASCII in a block that is stored whole.
-// Each of them costs a block. In French text one byte of twenty is past ASCII.
+// In French text one byte of twenty is past ASCII.
 const MANY: u32 = 16;
 
+/// Reads up to 64 bytes at once, if each scalar is one code unit.
+#[inline(always)]
+fn read_units<T: Destination>(scalars: &ByteScalars, src: &[u8], most: usize, dst: &mut T) -> usize
+    requires form { bmp_room T.form ≡ 1 }
+    requires source { 64 ≤ length src.now }
+    requires room { 70 ≤ T.room dst.old }
+    ensures most { result ≤ most }
+    ensures ahead { ReadsAhead T.Destination (new_state (single_byte scalars.now.table.now.entries)) src.now result
+        dst.old dst.new }
+{
+    dst.put_bytes(src, scalars.entries(), most)
+}
+
 /// ASCII, and bytes past it without another one beside them.
-// A whole block is stored after each byte past ASCII, and the output after the next ASCII bytes is overwritten. So no
-// branch depends on the place of the next byte past ASCII, which no processor predicts.
+// If a scalar may be several code units, a whole block is stored after each byte past ASCII, and the output after the
+// next ASCII bytes is overwritten. So no branch depends on the place of the next byte past ASCII, which no processor
+// predicts.
 #[derive(Drop)]
 struct Fronts<'a> {
     scalars: &'a ByteScalars<'a>,
@@ -101,7 +115,9 @@ struct Fronts<'a> {
 impl Parts for Fronts<'_> {
     ghost grammar = { λ fronts. single_byte fronts.scalars.now.table.now.entries };
 
-    /// Reads up to 64 bytes, up to two bytes past ASCII beside each other, or nothing if many are past ASCII.
+    /// Reads up to 64 bytes, or nothing if many are past ASCII.
+    ///
+    /// If a scalar may be several code units, it stops before two bytes past ASCII beside each other.
     #[inline(always)]
     fn read_part<T: Destination>(&self, src: &[u8], most: usize, dst: &mut T) -> (usize, bool) {
         let mut past = past_ascii(u8x64::from_slice(src));
@@ -109,6 +125,10 @@ impl Parts for Fronts<'_> {
             return (0, false);
         }
         let end = most.min(64);
+        if T::narrow() == 1 {
+            let read = read_units(self.scalars, src, end, dst);
+            return (read, read > 0 && read == end);
+        }
         let mut at = 0;
         loop {
             let count = ascii_front(past).min(end - at);

@@ -5,6 +5,7 @@
 ghost use Rattle.std.specs.Prelude.{◌≡◌, ◌<◌, ◌≤◌, ℕ, length, slice_index, IfSome};
 ghost use Rattle.legacy_base.specs.Grammar.{single_byte};
 ghost use Rattle.legacy_decoder_engine.specs.ReadAhead.{IsSingle};
+ghost use Rattle.legacy_text.specs.ByteUnits.{AreByteScalars};
 ghost use Rattle.legacy_text.specs.UnitBytes.{IsUtf8Entry};
 ghost use Rattle.legacy_single_byte.specs.ByteEntries.{IsByteEntry, AreByteEntries, AreUtf8Entries};
 
@@ -92,6 +93,15 @@ impl<'a> ByteScalars<'a> {
             return None;
         }
         Some(unsafe { char::from_u32_unchecked(u32::from(entry)) })
+    }
+
+    /// Returns the entries of all bytes.
+    #[inline(always)]
+    pub fn entries(&self) -> &[u16]
+        ensures all { AreByteScalars result.now }
+        ensures same { AreByteEntries self.now.table.now.entries result.now 256 }
+    {
+        &self.entries
     }
 
     /// Returns the entry in UTF-8 of a byte past ASCII.

@@ -5,7 +5,7 @@ use Rattle.legacy_single_byte.proofs.single_byte.blocks.EightsParts.read_part.Go
 pub put_units-requires-clause-scalars : goal.put_units-requires-clause-scalars
 put_units-requires-clause-scalars g c =
     let units = c.units-units.ensures in
-    units_are_scalars c.args.self.now.scalars.now.table.now c.args.src.now _ (λ k. let f = c.type_inv.src k in omega arith) units.same units.count
+    units_are_scalars c.args.self.now.scalars.now.table.now c.args.src.now _ 8 (λ k. let f = c.type_inv.src k in omega arith) units.same units.count
 
 pub returns-clause-ahead : goal.returns-clause-ahead
 returns-clause-ahead g c =

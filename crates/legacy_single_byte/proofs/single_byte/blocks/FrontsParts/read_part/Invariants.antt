@@ -1,6 +1,7 @@
 use Rattle.std.proofs.Common.{◌≡◌, ◌-◌, ◌+◌, ◌≤◌, take, length, min}
 use Rattle.legacy_base.specs.Grammar.{single_byte}
-use Rattle.legacy_decoder_engine.specs.{PickedForms.ArePastFrom, ReadAhead.Writes}
+use Rattle.legacy_text.specs.PastAscii.{ArePastFrom}
+use Rattle.legacy_decoder_engine.specs.ReadAhead.{Writes}
 use Rattle.legacy_single_byte.proofs.single_byte.blocks.FrontsParts.read_part.Given as goal
 
 -- what was read is written, the next block can be loaded and stored, and the bits are those of the bytes from here on

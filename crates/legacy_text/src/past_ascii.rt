@@ -1,7 +1,7 @@
 //! Which bytes of a vector are past ASCII.
 // The functions are always inlined: a call would pass the vector through memory.
 ghost use Rattle.std.specs.Prelude.{◌≡◌, ℕ, ◌+◌, ◌<◌, ◌≤◌, List, length, get_or};
-ghost use Rattle.legacy_decoder_engine.specs.PickedForms.{ArePast, ArePastFrom};
+ghost use Rattle.legacy_text.specs.PastAscii.{ArePast, ArePastFrom};
 
 use std::simd::prelude::*;
 
@@ -16,7 +16,7 @@ pub fn has_past_ascii(src: &[u8]) -> bool
 
 /// Returns the bits of the bytes past ASCII.
 #[inline(always)]
-#[tactic(auto, using(crate::proofs::FormStarts::past_bits))]
+#[tactic(auto, using(crate::proofs::PastAscii::past_bits))]
 pub fn past_ascii(block: u8x64) -> u64
     ensures { ArePast result block }
 {
@@ -27,7 +27,7 @@ pub fn past_ascii(block: u8x64) -> u64
 ///
 /// They are the bytes of a block from any place on. The number is 64 if no bit is set.
 #[inline(always)]
-#[tactic(auto, using(crate::proofs::FormStarts::ascii_before, crate::proofs::FormStarts::past_at))]
+#[tactic(auto, using(crate::proofs::PastAscii::ascii_before, crate::proofs::PastAscii::past_at))]
 pub fn ascii_front(past: u64) -> usize
     ensures most { result ≤ 64 }
     ensures ascii { (bytes : List ℕ) (at : ℕ) → ArePastFrom past bytes at → (k : ℕ) → k < result → at + k < 64 →
@@ -40,7 +40,7 @@ pub fn ascii_front(past: u64) -> usize
 
 /// Returns the bits of the bytes after the first `count` and one more.
 #[inline(always)]
-#[tactic(auto, using(crate::proofs::FormStarts::past_behind))]
+#[tactic(auto, using(crate::proofs::PastAscii::past_behind))]
 pub fn past_after(past: u64, count: usize) -> u64
     requires { count < 64 }
     ensures { (bytes : List ℕ) (at : ℕ) → ArePastFrom past bytes at → ArePastFrom result bytes (at + count + 1) }

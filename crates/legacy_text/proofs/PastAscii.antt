@@ -1,0 +1,32 @@
+-- The bits of the bytes past ASCII.
+use Rattle.std.proofs.Common.{◌≡◌, ◌∙◌, ℕ, ◌+◌, ◌-◌, ◌/◌, ◌%◌, ◌^◌, ◌<◌, ◌≤◌, List, cond, leb, length, map, get_or, replicate, w8, w64, sym, ap, arith}
+use Rattle.std.proofs.lemmas.{List.{get_or-map, length-map}, Bool.Decides.nat_tests, Nat.shr-shr}
+use Rattle.std.proofs.lemmas.Nat.Bits.{bit_at-zero, bit_at-trailing_zeros}
+use Rattle.std.proofs.lemmas.Simd.{bit_mask_l, tops_compared, mask_l-mod}
+use Rattle.std.specs.Int.{trailing_zeros, Count.trailing_of_zero}
+use lib.Lanes.{mask_l, zip2, top}
+use Rattle.legacy_text.specs.PastAscii.{ArePast, ArePastFrom}
+use Rattle.legacy_text.proofs.Ascii.{splat_zip2}
+
+pub past_bits : (block : List ℕ) → length block ≡ 64
+    → ArePast (mask_l (map (top 7) (zip2 (λ a b. cond (leb a b) (2 ^ 8 - 1) 0) (replicate 64 128) block)) % 2 ^ 64) block
+past_bits block long i h =
+    let mask = tops_compared w8 leb (replicate 64 128) block ∙ ap (λ n. zip2 leb (replicate n 128) block) (sym long) ∙ splat_zip2 leb 128 block in
+    grind (arith, mask, mask_l-mod (map (λ b. leb 128 b) block) 64, length-map block (λ b. leb 128 b), bit_mask_l, get_or-map, nat_tests)
+
+-- the bits from the place after the next byte past ASCII on
+pub past_behind : (past n at : ℕ) (bytes : List ℕ) → ArePastFrom past bytes at → ArePastFrom (past / 2 ^ n / 2 ^ 1) bytes (at + n + 1)
+past_behind past n at bytes are k h =
+    let place : at + (n + 1 + k) ≡ at + n + 1 + k = omega arith in
+    simp shr-shr (rw place at (are (n + 1 + k) (omega arith)))
+
+module _ (past at : ℕ) (bytes : List ℕ) (small : past < 2 ^ 64) (are : ArePastFrom past bytes at) where
+  -- the bytes before the lowest bit are ASCII
+  pub ascii_before : (k : ℕ) → k < trailing_zeros w64 past → at + k < 64 → get_or bytes (at + k) 0 < 128
+  ascii_before k h within = grind (arith, nat_tests, bit_at-zero k, are k within, bit_at-trailing_zeros w64 past)
+
+  -- and the byte at it is not
+  pub past_at : trailing_zeros w64 past < 64 → at + trailing_zeros w64 past < 64 → 128 ≤ get_or bytes (at + trailing_zeros w64 past) 0
+  past_at some within =
+      let none : past ≡ 0 → trailing_zeros w64 past ≡ 64 = λ e. ap (trailing_zeros w64) e ∙ trailing_of_zero 64 in
+      grind (arith, nat_tests, are (trailing_zeros w64 past) within, bit_at-trailing_zeros w64 past)
