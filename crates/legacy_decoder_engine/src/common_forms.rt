@@ -2,7 +2,7 @@
 //! malformed sequences, held-back bytes, small outputs.
 // The functions that run for each form are always inlined, and so are all between them and a decoder's call: a call
 // would store the destination's place there for each form.
-ghost use Rattle.std.specs.Prelude.{◌≡◌, ◌+◌, ◌*◌, ◌≤◌, length, take, MatchOption};
+ghost use Rattle.std.specs.Prelude.{◌≡◌, ◌+◌, ◌*◌, ◌<◌, ◌≤◌, length, take, true, false, MatchOption};
 ghost use Rattle.legacy_base.specs.{Grammar.Grammar, States.new_state};
 ghost use Rattle.legacy_decoder_engine.specs.ReadAhead.{IsCommonForm, Writes, ReadsAhead};
 
@@ -79,6 +79,8 @@ fn read_turns<F: CommonForms, T: Destination>(
     requires source { 2 * most ≤ length src.now }
     requires room { 3 * most + 3 ≤ T.room dst.old }
     ensures read { result.0 ≤ 2 * most }
+    ensures goes_on { result.1 ≡ true → most ≤ result.0 }
+    ensures ends { result.1 ≡ false → result.0 < 2 * most }
     ensures writes { Writes T.Destination (F.grammar forms.now) (take result.0 src.now) dst.old dst.new }
     ensures slack { T.room dst.old ≤ T.room dst.new + 3 * most }
 {
@@ -104,6 +106,33 @@ fn read_turns<F: CommonForms, T: Destination>(
         left -= 1;
     }
     (at, true)
+}
+
+/// The most bytes that four forms have.
+pub(crate) const FOUR_BYTES: usize = 8;
+
+/// The code units that are free before four forms, so that three are free after them.
+pub(crate) const FOUR_ROOM: usize = 12 + SLACK;
+
+/// Reads at most four forms from the front, up to an uncommon one or past two ASCII bytes in a row.
+///
+/// Returns the number of bytes read, and whether it read four forms. The input has bytes for four forms, and the
+/// output has room for them and three more code units.
+#[inline(always)]
+#[tactic(auto, using(crate::proofs::JoinedRuns::turn_by_turn))]
+pub(crate) fn read_four<F: CommonForms, T: Destination>(
+    forms: &F,
+    src: &[u8],
+    dst: &mut T,
+) -> (usize, bool)
+    requires ready { F.ready forms.now }
+    requires source { 8 ≤ length src.now }
+    requires room { 15 ≤ T.room dst.old }
+    ensures ahead { ReadsAhead T.Destination (new_state (F.grammar forms.now)) src.now result.0 dst.old dst.new }
+    ensures goes_on { result.1 ≡ true → 4 ≤ result.0 }
+    ensures ends { result.1 ≡ false → result.0 < 8 }
+{
+    read_turns(forms, src, dst, 4)
 }
 
 /// Reads a run of forms from the front, up to an uncommon one, and returns the number of bytes read, which may be 0.

@@ -97,6 +97,7 @@ fn read_ahead<D: DecoderMoves, T: Destination>(
         return (0, true);
     }
     let read = decoder.read_runs(src, dst);
+    // If nothing was read, the byte there was tested above.
     (read, read > 0 && begins_malformed(decoder, &src[read..]))
 }
 

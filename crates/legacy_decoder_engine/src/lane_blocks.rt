@@ -49,7 +49,7 @@ fn read_front<C: LaneCodec, T: Destination>(
 
 /// Reads forms of more than two bytes from the front, if one is there, and returns the number of bytes read.
 #[inline(always)]
-pub(crate) fn read_any_longer<C: LaneCodec, T: Destination>(
+fn read_any_longer<C: LaneCodec, T: Destination>(
     tables: &FlatTables<'_>,
     guess: &Cell<usize>,
     src: &[u8],
@@ -183,7 +183,7 @@ const SHORT_DELAY: usize = 12;
 // It has a copy of the tables. A loop keeps the parts of a copy in registers, and loads those of borrowed tables for each
 // pair.
 #[derive(Drop)]
-struct LaneForms<'a, C: LaneCodec> {
+pub(crate) struct LaneForms<'a, C: LaneCodec> {
     tables: FlatTables<'a>,
     codec: PhantomData<C>,
 }
@@ -191,7 +191,7 @@ struct LaneForms<'a, C: LaneCodec> {
 impl<'a, C: LaneCodec> LaneForms<'a, C> {
     /// Returns the common forms over these tables.
     #[inline(always)]
-    fn new(tables: &FlatTables<'a>) -> LaneForms<'a, C>
+    pub(crate) fn new(tables: &FlatTables<'a>) -> LaneForms<'a, C>
         ensures { result.tables.flat ≡ tables.now.flat }
     {
         LaneForms {

@@ -3,9 +3,10 @@
 ghost use Rattle.legacy_base.specs.States.{new_state};
 ghost use Rattle.legacy_decoder_engine.specs.ReadAhead.{HasAscii, ReadsAhead};
 
-use crate::lane_blocks::{LaneBlocks, begins_uncommon, read_any_longer, read_in_turn, read_last};
+use crate::common_forms::{FOUR_BYTES, FOUR_ROOM, read_four};
+use crate::lane_blocks::{LaneBlocks, LaneForms, begins_uncommon, read_in_turn, read_last};
 use crate::lane_codec::LaneCodec;
-use crate::read_ahead::{SHORT_BLOCK, read_ascii, read_ascii_nearby, read_blocks};
+use crate::read_ahead::{read_ascii, read_ascii_nearby, read_blocks, read_short_block};
 use legacy_base::{Destination, Tables};
 use legacy_tables::DecoderTables;
 use std::cell::Cell;
@@ -18,14 +19,17 @@ fn stands_alone<C: LaneCodec>(src: &[u8]) -> bool {
     if src.len() < 3 {
         return false;
     }
-    C::is_uncommon(if src[0] < 0x80 { src[1] } else { src[2] })
+    if src[0] < 0x80 {
+        return C::is_uncommon(src[1]);
+    }
+    C::is_uncommon(src[2])
 }
 
 /// The number of bytes that are read without lanes after a malformed sequence.
 // Malformed sequences are often near one another. Lanes would pick out and look up forms after the next one for nothing.
 pub const AFTER_MALFORMED: usize = 64;
 
-/// Reads ASCII by blocks and other forms one by one from the front, up to an uncommon form or past `most` bytes.
+/// Reads ASCII by blocks and other forms one by one from the front, up to an uncommon form or past `AFTER_MALFORMED` bytes.
 ///
 /// Returns the number of bytes read, which may be 0.
 #[inline(always)]
@@ -33,26 +37,35 @@ pub const AFTER_MALFORMED: usize = 64;
 fn read_without_lanes<C: LaneCodec, T: Destination>(
     blocks: &LaneBlocks<'_, '_, C>,
     src: &[u8],
-    most: usize,
     dst: &mut T,
 ) -> usize
-    requires { HasAscii (C.grammar blocks.now.tables.now.flat) }
+    requires ascii { HasAscii (C.grammar blocks.now.tables.now.flat) }
     ensures { ReadsAhead T.Destination (new_state (C.grammar blocks.now.tables.now.flat)) src.now result dst.old dst.new }
 {
-    let mut at = 0;
-    while at < most {
-        at += read_ascii_nearby(&src[at..], dst);
-        if src.len() - at < SHORT_BLOCK {
+    let mut at = read_ascii_nearby(src, dst);
+    if at > 0 && begins_uncommon::<C>(&src[at..]) {
+        return at;
+    }
+    let forms = LaneForms::<C>::new(blocks.tables);
+    while at < AFTER_MALFORMED {
+        if src.len() - at < FOUR_BYTES || dst.free() < FOUR_ROOM {
             return at + read_last(blocks, &src[at..], dst);
         }
-        if begins_uncommon::<C>(&src[at..]) {
-            return at;
+        if C::begins_longer(src[at], src[at + 1]) {
+            let longer = C::read_longer(blocks.tables, blocks.guess, &src[at..], dst);
+            at += longer;
+            if longer == 0 {
+                return at;
+            }
+            continue;
         }
-        let before = at;
-        at += read_any_longer::<C, T>(blocks.tables, blocks.guess, &src[at..], dst);
-        at += read_in_turn::<C, T>(blocks.tables, &src[at..], most, dst);
-        if at == before || at == src.len() || src[at] >= 0x80 {
-            return at;
+        let (read, goes_on) = read_four(&forms, &src[at..], dst);
+        at += read;
+        if !goes_on {
+            if read == 0 || src[at] >= 0x80 {
+                return at;
+            }
+            at += read_short_block(&src[at..], dst);
         }
     }
     at
@@ -78,7 +91,7 @@ fn read_common<C: LaneCodec, T: Destination>(
         return read_in_turn::<C, T>(blocks.tables, src, 2, dst);
     }
     if *without_lanes > 0 {
-        let read = read_without_lanes::<C, T>(blocks, src, *without_lanes, dst);
+        let read = read_without_lanes(blocks, src, dst);
         *without_lanes = if read == 0 {
             0
         } else {

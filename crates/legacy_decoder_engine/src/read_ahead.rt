@@ -96,7 +96,7 @@ pub fn read_ascii<T: Destination>(src: &[u8], dst: &mut T) -> usize
 
 /// Reads ASCII from the front of a short block, and returns the number of bytes read, which may be 0.
 #[inline(always)]
-fn read_short_block<T: Destination>(src: &[u8], dst: &mut T) -> usize
+pub(crate) fn read_short_block<T: Destination>(src: &[u8], dst: &mut T) -> usize
     ensures read { result ≤ length src.now }
     ensures ahead { (grammar : Grammar) → HasAscii grammar → ReadsAhead T.Destination (new_state grammar) src.now result dst.old dst.new }
 {
@@ -106,7 +106,7 @@ fn read_short_block<T: Destination>(src: &[u8], dst: &mut T) -> usize
 /// Reads ASCII from the front as `read_ascii` does, but first a short block alone.
 ///
 /// Returns the number of bytes read, which may be 0. If it reads any, three code units stay free.
-// Near a malformed sequence ASCII mostly ends within a short block, for which a wide one takes twice as long.
+// Near a malformed sequence ASCII mostly ends within a short block.
 #[inline(always)]
 pub(crate) fn read_ascii_nearby<T: Destination>(src: &[u8], dst: &mut T) -> usize
     ensures read { result ≤ length src.now }
