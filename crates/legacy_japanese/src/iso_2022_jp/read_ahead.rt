@@ -105,6 +105,7 @@ fn read_plain_bytes<T: Destination>(src: &[u8], dst: &mut T) -> usize
 fn read_plain<T: Destination>(src: &[u8], dst: &mut T) -> usize
     ensures { ReadsPlain T.Destination src.now result dst.old dst.new }
 {
+    // A single byte before a malformed one is read without a block.
     if src.len() > 1 && src[1] >= 0x80 {
         return read_plain_bytes(&src[..1], dst);
     }

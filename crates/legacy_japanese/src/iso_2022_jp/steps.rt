@@ -221,6 +221,7 @@ pub fn completed(start: Start, byte: u8) -> Option<Escape>
 fn read_plain(mode: Mode, byte: u8) -> Outcome
     ensures { result ≡ machine.read_plain mode byte }
 {
+    // Bytes past ASCII are malformed in every mode, and often follow one another.
     if byte >= 0x80 {
         return malformed(1, false, mode, NOTHING);
     }
