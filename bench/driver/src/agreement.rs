@@ -3,7 +3,7 @@
 use crate::decoding::{self, ToUtf16, ToUtf8};
 use crate::encoding::{self, From, FromUtf16, FromUtf8};
 use crate::ours::{Calls, Kept, Ours};
-use crate::{corpora, CORPORA, PACKED};
+use crate::{corpora, pointers, CORPORA, PACKED};
 use encoding_rs::{Encoding, REPLACEMENT};
 
 /// The names of the encodings.
@@ -130,8 +130,9 @@ fn codecs(encoding: &'static Encoding) -> Vec<Ours> {
     codecs
 }
 
-/// Compares all codecs, and prints the number of encodings.
+/// Compares all codecs, and prints the number of encodings. Also checks the indexes (`pointers`).
 pub fn report() -> Result<(), String> {
+    pointers::check()?;
     let texts = texts()?;
     let any = any_bytes();
     let units = any_units();
@@ -152,5 +153,6 @@ pub fn report() -> Result<(), String> {
         }
     }
     println!("{} encodings: the same as encoding_rs", ENCODINGS.len());
+    println!("the indexes have the pointers of the encoders' law");
     Ok(())
 }

@@ -29,6 +29,7 @@ mod ours;
 mod packing;
 mod peers;
 mod pieces;
+mod pointers;
 mod recode;
 mod replacing;
 mod rest;
