@@ -1,4 +1,4 @@
-//! Checks that the Standard's own indexes have the pointers that the law of encoders asks for (`HasPointers`).
+//! Checks that encoding_rs's indexes have the pointers that the law of encoders asks for (`HasPointers`).
 
 use crate::indexes;
 use crate::ours::Range;
@@ -70,7 +70,7 @@ fn check_gb18030(index: &[u16], ranges: &[Range]) -> Result<(), String> {
     }
 }
 
-/// Checks the indexes of encoding_rs, which are the Standard's.
+/// Checks all indexes.
 pub fn check() -> Result<(), String> {
     let jis0208 = indexes::jis0208();
     check_jis0208(&jis0208)?;
