@@ -37,7 +37,8 @@ may_report_end last (Malformed length back) left = last && is_empty left
 -- then the events of the rest, whatever bytes follow, also after a last call. The exception is a report at the end
 -- (`ended`), because the bytes that follow can change what was reported. Then this holds if no bytes follow, or if the
 -- events with the bytes that follow still begin with `out`. Also then the codec, its lists and its byte order stay.
-pub record Progress (ended : Bool) (before : DecoderState) (source : List ℕ) (passed : ℕ) (after : DecoderState) (left : List ℕ) (out : List DecodeEvent) : Type 0 where
+pub record Progress (ended : Bool) (before : DecoderState) (source : List ℕ) (passed : ℕ) (after : DecoderState) (left : List ℕ)
+    (out : List DecodeEvent) : Type 0 where
   -- the bytes done with, held back and left are as many as were held back and in the source
   pub counts : passed + (length after.held + length left) ≡ length before.held + length source
   -- the bytes held back and left are the rest, byte for byte
@@ -83,7 +84,8 @@ IsMalformed (Malformed length back) = Unit {0}
 
 -- A call from the state `before` with `free` free code units. It read `read` bytes of the source, wrote the scalars,
 -- returned a result and left the state `after`.
-pub record DecoderCall (form : EncodingForm) (before : DecoderState) (source : List ℕ) (last : Bool) (free : ℕ) (after : DecoderState) (answer : DecoderResult) (read : ℕ) (scalars : List ℕ) : Type 0 where
+pub record DecoderCall (form : EncodingForm) (before : DecoderState) (source : List ℕ) (last : Bool) (free : ℕ) (after : DecoderState)
+    (answer : DecoderResult) (read : ℕ) (scalars : List ℕ) : Type 0 where
   -- at most the whole source is read
   pub within : read ≤ length source
   -- at most the free code units are written
@@ -94,13 +96,15 @@ pub record DecoderCall (form : EncodingForm) (before : DecoderState) (source : L
   pub passed : ℕ
   -- the events of the call, and then those of the bytes left, are the grammar's events, whatever bytes follow; after a
   -- report at the end, only if the events still begin so
-  pub progress : Progress (may_report_end last answer (drop read source)) before source passed after (drop read source) (out_events (length before.held + read) scalars answer)
+  pub progress : Progress (may_report_end last answer (drop read source)) before source passed after (drop read source)
+      (out_events (length before.held + read) scalars answer)
   -- the codec may hold back these bytes
   pub allowed : IsTrue (may_hold after.grammar after.held)
   -- the sequence of Malformed has one to four bytes among the bytes seen, and the bytes after it are those held back
   pub malformed_sequence : HoldsBack (length before.held + read) after answer
   -- at InputEmpty all bytes are read and no scalar is held back; on a last call no events are left
-  pub input_empty : answer ≡ InputEmpty → (read ≡ length source) × IsTrue (rests after.grammar after.held) × (IsTrue last → events_of after.grammar after.held ≡ [])
+  pub input_empty : answer ≡ InputEmpty → (read ≡ length source) × IsTrue (rests after.grammar after.held)
+      × (IsTrue last → events_of after.grammar after.held ≡ [])
   -- at OutputFull the next act needs more room than is free
   pub output_full : answer ≡ OutputFull → LacksRoom form after (drop read source) last (free - total_unit_count form scalars)
   -- if the next act lacks room when the call begins, the result is OutputFull and nothing is done
@@ -118,7 +122,8 @@ pub record DecoderCall (form : EncodingForm) (before : DecoderState) (source : L
   -- with the room that the source needs free, the result is not OutputFull
   pub suffices : (query : LengthQuery) → query_form query ≡ form → room query before (length source) ≤ free → answer ≢ OutputFull
   -- with the length returned by a query for at least as many bytes free, the result is not OutputFull
-  pub enough : (query : LengthQuery) → query_form query ≡ form → (n k : ℕ) → length source ≤ n → query_answer query before n ≡ Some k → k ≤ free → answer ≢ OutputFull
+  pub enough : (query : LengthQuery) → query_form query ≡ form → (n k : ℕ) → length source ≤ n
+      → query_answer query before n ≡ Some k → k ≤ free → answer ≢ OutputFull
 
 -- a call, by the contents of the destination before and after it
 abbrev pub IsDecoderCall : EncodingForm → DecoderState → List ℕ → Bool → ℕ → DecoderState → DecoderResult → ℕ → List ℕ → List ℕ → Type 0

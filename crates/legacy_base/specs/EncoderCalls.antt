@@ -38,7 +38,8 @@ GoesOn last (Unmappable c) = Unit {0}
 
 -- A call from the state `before` with the scalars `source` and `free` free bytes. It returned a result, left the state
 -- `after` and the scalars `left`, and wrote `bytes`.
-pub record EncoderCall (before : EncoderState) (source : List ℕ) (last : Bool) (free : ℕ) (after : EncoderState) (answer : EncoderResult) (left bytes : List ℕ) : Type 0 where
+pub record EncoderCall (before : EncoderState) (source : List ℕ) (last : Bool) (free : ℕ) (after : EncoderState)
+    (answer : EncoderResult) (left bytes : List ℕ) : Type 0 where
   -- the scalars that were read; with those left they are the source
   pub taken : List ℕ
   pub cut : source ≡ taken ++ left

@@ -1,5 +1,6 @@
 -- EUC-JP: its fronts and its codes (WHATWG Encoding Standard, "EUC-JP decoder" and "EUC-JP encoder").
-use Rattle.std.specs.Prelude.{ℕ, ◌+◌, ◌-◌, ◌*◌, ◌/◌, ◌%◌, List, [], ◌∷◌, length, min, Option, Some, Bool, true, false, ◌&&◌, ◌||◌, ◌==◌, if◌then◌else◌, option_to_list, option_map}
+use Rattle.std.specs.Prelude.{ℕ, ◌+◌, ◌-◌, ◌*◌, ◌/◌, ◌%◌, List, [], ◌∷◌, length, min, Option, Some}
+use Rattle.std.specs.Prelude.{Bool, true, false, ◌&&◌, ◌||◌, ◌==◌, if◌then◌else◌, option_to_list, option_map}
 use Rattle.std.specs.Int.{is_in_range}
 use Rattle.std.specs.Char.{is_ascii}
 use Rattle.legacy_base.specs.Fronts.{Front, reads, malformed, trail_rule, trail_front, cut}

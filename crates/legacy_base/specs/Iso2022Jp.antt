@@ -2,7 +2,8 @@
 -- before each escape byte and each part is read by itself. To encode, the mode after each scalar is found by looking
 -- back over the text.
 use Rattle.std.specs.Prelude.{ℕ, ◌+◌, ◌-◌, ◌*◌, ◌/◌, ◌%◌, List, [], ◌∷◌, ◌++◌, drop, map, Option, Some, None}
-use Rattle.std.specs.Prelude.{Bool, true, false, not, ◌&&◌, ◌||◌, ◌==◌, if◌then◌else◌, length, is_some, is_none, option_to_list, option_map, option_and_then, unwrap_or}
+use Rattle.std.specs.Prelude.{Bool, true, false, not, ◌&&◌, ◌||◌, ◌==◌, if◌then◌else◌, length}
+use Rattle.std.specs.Prelude.{is_some, is_none, option_to_list, option_map, option_and_then, unwrap_or}
 use Rattle.std.specs.Int.{is_in_range}
 use Rattle.std.specs.Char.{is_ascii}
 use Rattle.legacy_base.specs.declared.results.DecodeEvent.{DecodeEvent}

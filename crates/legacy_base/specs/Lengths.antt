@@ -48,8 +48,8 @@ abbrev pub weighted : DecoderState → ℕ → Formula
 weighted state n = number n ⊕ number (weight state.grammar state.held)
 
 -- the code units that n more bytes and the held-back bytes make, at most
-abbrev pub utf16_units : DecoderState → ℕ → Formula
-utf16_units state n = half (number n ⊕ number (additional_from_state state))
+abbrev pub most_code_units : DecoderState → ℕ → Formula
+most_code_units state n = half (number n ⊕ number (additional_from_state state))
 
 -- `max_utf16_buffer_length`, by n, m and the code units
 abbrev pub utf16_formula : Grammar → Formula → Formula → Formula → Formula
@@ -97,7 +97,7 @@ query_formula to_utf8_without_replacement = utf8_without_replacement_formula
 -- the formula of a query in a state, for n more bytes
 abbrev pub state_formula : LengthQuery → DecoderState → ℕ → Formula
 state_formula query state n =
-    query_formula query state.grammar (number n) (weighted state n) (utf16_units state n)
+    query_formula query state.grammar (number n) (weighted state n) (most_code_units state n)
 
 -- the result of a query for n more bytes
 abbrev pub query_answer : LengthQuery → DecoderState → ℕ → Option ℕ

@@ -1,5 +1,6 @@
 -- Round trips: a text is encoded, and its bytes are decoded.
-use Rattle.std.specs.Prelude.{◌≡◌, ℕ, List, [], ◌∷◌, ◌++◌, drop, get_or, length, map, filter, Bool, true, false, not, ◌&&◌, ◌||◌, ◌==◌, ⊤, All, Some, is_some, unwrap_or, if◌then◌else◌}
+use Rattle.std.specs.Prelude.{◌≡◌, ℕ, List, [], ◌∷◌, ◌++◌, drop, get_or, length, map, filter, Bool, true}
+use Rattle.std.specs.Prelude.{false, not, ◌&&◌, ◌||◌, ◌==◌, ⊤, All, Some, is_some, unwrap_or, if◌then◌else◌}
 use Rattle.std.specs.Option.{option_map_or}
 use Rattle.std.specs.List.{list_any}
 use Rattle.legacy_base.specs.declared.results.DecodeEvent.TheVariants.{Scalar}

@@ -1,8 +1,10 @@
 -- The forms that are picked at their starts are the front of the block: ASCII bytes, and sequences of four bytes.
 use Rattle.std.proofs.Common.{◌≡◌, ◌∙◌, ℕ, zero, suc, ◌+◌, ◌-◌, ◌*◌, ◌/◌, ◌%◌, ◌^◌, ◌<◌, ◌≤◌, min, List, [], ◌∷◌, ◌++◌, cond, ◌==◌}
 use Rattle.std.proofs.Common.{length, map, flat_map, take, drop, get_or, w64, inl, inr, bit_and, bit_or, bit_xor, refl, sym, ap, ap₂, arith}
-use Rattle.std.proofs.lemmas.{List.{length-drop, take_more, get_or-drop, length-map, length-take-le}, Bool.{Decides.nat_tests, cases_lt}, Nat.{shr-shr, or_lt, and_le_l}}
-use Rattle.std.proofs.{Common.{length-append, append_assoc, append-nil}, lemmas.Nat.Bits.{bit_at-lt, bit_at-zero, bit_at_and, bit_at_xor, bit_at_or, bit_at_ones, bit_at-trailing_zeros, bit_at-pow_other}}
+use Rattle.std.proofs.lemmas.List.{length-drop, take_more, get_or-drop, length-map, length-take-le}
+use Rattle.std.proofs.lemmas.{Bool.{Decides.nat_tests, cases_lt}, Nat.{shr-shr, or_lt, and_le_l}}
+use Rattle.std.proofs.Common.{length-append, append_assoc, append-nil}
+use Rattle.std.proofs.lemmas.Nat.Bits.{bit_at-lt, bit_at-zero, bit_at_and, bit_at_xor, bit_at_or, bit_at_ones, bit_at-trailing_zeros, bit_at-pow_other}
 use Rattle.std.specs.Int.{bit_at, trailing_zeros}
 use Rattle.{std.proofs.Math.Seq.take-add, legacy_decoder_engine.proofs.WrittenRuns.{rest_of, take_two}}
 use Rattle.legacy_decoder_engine.specs.PickedForms.{places, code_at}
@@ -51,7 +53,19 @@ whole_end past starts n small are is =
       λ i below close.
           let e : i + (n + 61 - i) ≡ n + 61 = omega arith in
           let none = rw e at (near past starts i (n + 61 - i) are) in
-          grind (arith, nat_tests, bit_at_or, moved x 61 n, moved x 61 (i - 61), bit_at_and, bit_at-lt, bit_at-pow_other 3 n, lowest.1, lowest.2 (i - 61), none),
+          grind (
+            arith,
+            nat_tests,
+            bit_at_or,
+            moved x 61 n,
+            moved x 61 (i - 61),
+            bit_at_and,
+            bit_at-lt,
+            bit_at-pow_other 3 n,
+            lowest.1,
+            lowest.2 (i - 61),
+            none,
+          ),
     )
 
 -- ---- lists of codes

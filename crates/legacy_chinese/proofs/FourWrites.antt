@@ -7,7 +7,8 @@ use lib.Lanes.{chunk}
 use Rattle.legacy_text.specs.{declared.destination.Destination.Ghosts, EncodingForm.{all_code_units, total_unit_count}}
 use Rattle.legacy_tables.specs.{AcceptedTables.AcceptedIndexes}
 use Rattle.legacy_base.specs.{Grammar.{Grammar, gb18030}, States.new_state}
-use Rattle.legacy_decoder_engine.{specs.ReadAhead.{Runs, Writes, ReadsAhead}, proofs.{JoinedRuns.reads_front, WrittenRuns.{runs_none, runs_more, runs_byte, writes_then}}}
+use Rattle.legacy_decoder_engine.specs.ReadAhead.{Runs, Writes, ReadsAhead}
+use Rattle.legacy_decoder_engine.proofs.{JoinedRuns.reads_front, WrittenRuns.{runs_none, runs_more, runs_byte, writes_then}}
 use Rattle.legacy_chinese.{specs.FourForms.{four_form, fours_of, IsFour}, proofs.{FourPlaces.four_at, FourStarts.fours_append, Gb18030Held.ascii}}
 
 -- the number of bytes of one form more

@@ -8,7 +8,8 @@ use Rattle.legacy_base.specs.EncoderCalls.{EncoderCall}
 
 -- A call with some of the code units to come, or all of them if it is the last. It writes into the free part of the
 -- output and reads `read` code units. An unpaired surrogate counts as many as U+FFFD.
-pub record NextEncodeCall (form : EncodingForm) (before : EncoderState) (units free : ℕ) (after : EncoderState) (answer : EncoderResult) (read : ℕ) (bytes : List ℕ) : Type 0 where
+pub record NextEncodeCall (form : EncodingForm) (before : EncoderState) (units free : ℕ) (after : EncoderState) (answer : EncoderResult)
+    (read : ℕ) (bytes : List ℕ) : Type 0 where
   pub source : List ℕ
   pub left : List ℕ
   pub last : Bool

@@ -42,7 +42,8 @@ pub data EncodeReaches (from : RunPlace EncoderState) (lengths : List ℕ) : ℕ
 
 -- A run from a place gave these events and ends in this state. It makes one call for each length, or fewer if it is
 -- finished earlier.
-pub record IsEncodeRun (from : RunPlace EncoderState) (lengths : List ℕ) (calls : ℕ) (finished : Bool) (answered : List EncodeEvent) (after : EncoderState) : Type 0 where
+pub record IsEncodeRun (from : RunPlace EncoderState) (lengths : List ℕ) (calls : ℕ) (finished : Bool)
+    (answered : List EncodeEvent) (after : EncoderState) : Type 0 where
   pub place : RunPlace EncoderState
   pub reaches : EncodeReaches from lengths calls answered finished place
   pub state : place.state ≡ after

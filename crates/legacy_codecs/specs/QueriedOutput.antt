@@ -11,7 +11,8 @@ use Rattle.legacy_codecs.specs.declared.results.CoderResult.TheVariants.{InputEm
 use Rattle.legacy_codecs.specs.Replacing.{replacing_query, ReplacingDecoderCall}
 
 -- A call with some of the bytes to come, or all of them if it is the last. It writes into the free part of the output.
-pub record NextCall (query : LengthQuery) (before : DecoderState) (bytes free : ℕ) (after : DecoderState) (answer : DecoderResult) (read : ℕ) (scalars : List ℕ) : Type 0 where
+pub record NextCall (query : LengthQuery) (before : DecoderState) (bytes free : ℕ) (after : DecoderState) (answer : DecoderResult)
+    (read : ℕ) (scalars : List ℕ) : Type 0 where
   pub source : List ℕ
   pub last : Bool
   pub some : length source ≤ bytes
@@ -41,7 +42,8 @@ QueriedLengthSuffices query =
 -- ---- calls with replacement
 
 -- the same for a call with replacement, which writes U+FFFD itself
-pub record NextReplacingCall (form : EncodingForm) (before : DecoderState) (bytes free : ℕ) (after : DecoderState) (answer : CoderResult) (read : ℕ) (written : List ℕ) (found : Bool) : Type 0 where
+pub record NextReplacingCall (form : EncodingForm) (before : DecoderState) (bytes free : ℕ) (after : DecoderState) (answer : CoderResult) (read : ℕ)
+    (written : List ℕ) (found : Bool) : Type 0 where
   pub source : List ℕ
   pub last : Bool
   pub some : length source ≤ bytes

@@ -60,7 +60,8 @@ LacksReferenceRoom state unread last free = free < encoder_need state unread las
 
 -- A call from the state `before` over the scalars `source` with `free` bytes free. It returns a result, goes to the
 -- state `after`, leaves the scalars `left`, and writes `bytes`. `found` is whether it found an unmappable scalar.
-pub record ReplacingEncoderCall (before : EncoderState) (source : List ℕ) (last : Bool) (free : ℕ) (after : EncoderState) (answer : CoderResult) (left bytes : List ℕ) (found : Bool) : Type 0 where
+pub record ReplacingEncoderCall (before : EncoderState) (source : List ℕ) (last : Bool) (free : ℕ) (after : EncoderState) (answer : CoderResult)
+    (left bytes : List ℕ) (found : Bool) : Type 0 where
   -- the source is the scalars that were read, and then those that are left
   pub taken : List ℕ
   pub cut : source ≡ taken ++ left

@@ -44,7 +44,8 @@ may_replace_end last found left = found && (last && is_empty left)
 
 -- A call from the state `before` with `free` code units free. It returns a result, reads `read` bytes of the source,
 -- writes these code units, and goes to the state `after`. `found` is whether it found a malformed sequence.
-pub record ReplacingDecoderCall (form : EncodingForm) (before : DecoderState) (source : List ℕ) (last : Bool) (free : ℕ) (after : DecoderState) (answer : CoderResult) (read : ℕ) (written : List ℕ) (found : Bool) : Type 0 where
+pub record ReplacingDecoderCall (form : EncodingForm) (before : DecoderState) (source : List ℕ) (last : Bool) (free : ℕ) (after : DecoderState)
+    (answer : CoderResult) (read : ℕ) (written : List ℕ) (found : Bool) : Type 0 where
   -- at most the source is read
   pub within : read ≤ length source
   -- at most the free code units are written
@@ -67,7 +68,8 @@ pub record ReplacingDecoderCall (form : EncodingForm) (before : DecoderState) (s
   -- `found` is whether a sequence was malformed
   pub found_is : found ≡ has_malformed out
   -- at InputEmpty all is read and no scalar is held back; at the last end no event is left
-  pub input_empty : answer ≡ InputEmpty → (read ≡ length source) × IsTrue (rests after.grammar after.held) × (IsTrue last → events_of after.grammar after.held ≡ [])
+  pub input_empty : answer ≡ InputEmpty → (read ≡ length source) × IsTrue (rests after.grammar after.held)
+      × (IsTrue last → events_of after.grammar after.held ≡ [])
   -- at OutputFull the next act lacks its room
   pub output_full : answer ≡ OutputFull → LacksRoom form after (drop read source) last (free - length written)
   -- if the next act lacks its room as the call begins, it returns OutputFull and does nothing

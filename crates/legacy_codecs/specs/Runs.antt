@@ -22,7 +22,8 @@ is_input_empty (Malformed length back) = false
 -- Calls from one place to another, which gave these events and are done with `passed` bytes. Each has an output of the
 -- next of the lengths, and `last` is set if the piece is the last. Bytes and places count from the first byte that was
 -- held back at the start.
-pub data Reaches (form : EncodingForm) (from : RunPlace DecoderState) (lengths : List ℕ) : ℕ → List DecodeEvent → ℕ → Bool → RunPlace DecoderState → Type 0 where
+pub data Reaches (form : EncodingForm) (from : RunPlace DecoderState) (lengths : List ℕ)
+    : ℕ → List DecodeEvent → ℕ → Bool → RunPlace DecoderState → Type 0 where
   begun : Reaches form from lengths 0 [] 0 false from
   called : (calls : ℕ) (events : List DecodeEvent) (passed : ℕ) (p : RunPlace DecoderState) → Reaches form from lengths calls events passed false p →
       (free : ℕ) → slice_get lengths calls ≡ Some free →
@@ -45,7 +46,8 @@ placed held (event ∷ events) = placed_event held event ∷ placed held events
 
 -- A run from a place gave these events, with places counted from its first byte, and ends in this state. It makes one
 -- call for each length, or fewer if it is finished earlier.
-pub record IsRun (form : EncodingForm) (from : RunPlace DecoderState) (lengths : List ℕ) (calls : ℕ) (finished : Bool) (answered : List DecodeEvent) (after : DecoderState) : Type 0 where
+pub record IsRun (form : EncodingForm) (from : RunPlace DecoderState) (lengths : List ℕ) (calls : ℕ) (finished : Bool)
+    (answered : List DecodeEvent) (after : DecoderState) : Type 0 where
   pub events : List DecodeEvent
   pub passed : ℕ
   pub place : RunPlace DecoderState

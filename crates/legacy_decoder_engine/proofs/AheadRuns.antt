@@ -8,7 +8,8 @@ use Rattle.legacy_text.proofs.CodeUnits.{all_code_units-append, total_unit_count
 use Rattle.legacy_base.specs.{States.{DecoderState, new_state, rests, may_hold}, Grammar.Grammar, DecoderActs.HadRoom, Calls.{DecoderCall, IsDecoderCall}}
 use Rattle.legacy_base.specs.{declared.results.DecoderResult.DecoderResult, declared.results.DecoderResult.TheVariants.{InputEmpty, OutputFull, Malformed}}
 use Rattle.legacy_base.proofs.{Shifts.shift-zero, GrammarLaws.{rests-none, may_none}, Rooms.{lacks_small, full_most}, SameUnits.some_unit}
-use Rattle.legacy_decoder_engine.specs.{ReadAhead.{RunsTo, Runs, ReadsTo}, Moves.{HoldsBytes, HasMalformedByte, GoesOn, EndsAt, Feeds, fed_scalars, read_room}}
+use Rattle.legacy_decoder_engine.specs.ReadAhead.{RunsTo, Runs, ReadsTo}
+use Rattle.legacy_decoder_engine.specs.Moves.{HoldsBytes, HasMalformedByte, WritesFed, EndsAt, Feeds, fed_scalars, read_room}
 use Rattle.legacy_decoder_engine.specs.declared.moves.Fed.TheVariants.{MalformedSequence}
 use Rattle.legacy_decoder_engine.proofs.{CallUnderWay.{Going, going_then, going_feed, held_going, call_lacks, call_read, call_unread}, WrittenRuns.rest_of}
 
@@ -116,7 +117,7 @@ left_malformed {state} {at} source read has =
 -- a call in progress goes on with a byte, or ends at it
 module _ {D : Type 0} (T : Ghosts D) {last : Bool} {before : DecoderState} {source : List ℕ} (first : D) {now next : DecoderState} {read : ℕ} {old : D}
     (i : IsUnderWay T last before source first now read old) (some : read < length source) where
-  pub byte_going : {new : D} → GoesOn T now (get_or source read 0) next old new → IsUnderWay T last before source first next (read + 1) new
+  pub byte_going : {new : D} → WritesFed T now (get_or source read 0) next old new → IsUnderWay T last before source first next (read + 1) new
   byte_going {new} goes = (
     i.0 ++ fed_scalars goes.fed,
     going_feed i.1 _ i.3 goes.fed some goes.feeds goes.sound goes.enough,

@@ -105,7 +105,7 @@ HoldsBytes form free before (byte ∷ bytes) after =
     (mid : DecoderState) × Feeds before byte mid Nothing × (read_room form before byte ≤ free) × HoldsBytes form free mid bytes after
 
 -- a byte that was read within a call, with what it gave written
-pub record GoesOn {D : Type 0} (T : Ghosts D) (before : DecoderState) (byte : ℕ) (after : DecoderState) (old new : D) : Type 0 where
+pub record WritesFed {D : Type 0} (T : Ghosts D) (before : DecoderState) (byte : ℕ) (after : DecoderState) (old new : D) : Type 0 where
   pub fed : Fed
   pub feeds : Feeds before byte after fed
   pub sound : RevealsMalformed fed → ⊥

@@ -3,7 +3,7 @@ ghost use Rattle.std.specs.Prelude.{◌≡◌, ℕ, ◌+◌, ◌<◌, ◌≤◌,
 ghost use Rattle.legacy_text.specs.EncodingForm.{all_code_units, total_unit_count};
 ghost use Rattle.legacy_base.specs.{States.rests, Calls.{IsDecoderCall, IsMalformedByte}};
 ghost use Rattle.legacy_decoder_engine.specs.ReadAhead.{ReadsTo};
-ghost use Rattle.legacy_decoder_engine.specs.Moves.{room_units, fed_scalars, FeedsMalformedByte, HasMalformedByte, GoesOn, EndsAt, Finishes};
+ghost use Rattle.legacy_decoder_engine.specs.Moves.{room_units, fed_scalars, FeedsMalformedByte, HasMalformedByte, WritesFed, EndsAt, Finishes};
 
 use crate::moves::{DecoderMoves, Fed, Room};
 use legacy_base::{DecoderResult, Destination};
@@ -51,7 +51,7 @@ fn read_byte<D: DecoderMoves, T: Destination>(
 ) -> Option<(DecoderResult, usize)>
     requires { rests (D.state decoder.old).grammar (D.state decoder.old).held ≡ true }
     ensures { MatchOption result
-        (GoesOn T.Destination (D.state decoder.old) byte (D.state decoder.new) dst.old dst.new)
+        (WritesFed T.Destination (D.state decoder.old) byte (D.state decoder.new) dst.old dst.new)
         (λ ended. EndsAt T.form (T.room dst.old) (D.state decoder.old) byte (D.state decoder.new) ended.0 ended.1 × (dst.new ≡ dst.old)) }
 {
     if !has_room(dst, decoder.reading_room(byte)) {

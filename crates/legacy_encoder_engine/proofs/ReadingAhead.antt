@@ -6,7 +6,7 @@ use Rattle.legacy_text.specs.{EncodingForm.{EncodingForm, code_units, all_code_u
 use Rattle.legacy_text.proofs.CodeUnits.{length-code_units-ascii, total_unit_count-append}
 use Rattle.legacy_base.specs.Encoders.{EncoderState, encoder_profile, scalar_room}
 use Rattle.legacy_encoder_engine.specs.{declared.moves.EncoderMove.EncoderMove, Moves.{Moves, move_bytes, move_report, is_escape}, UnfinishedCall.KeepsOn}
-use Rattle.legacy_encoder_engine.specs.{UnfinishedCall.{Encodes, PutsCode, ReadsByte}, ProfileSuffices.Serves}
+use Rattle.legacy_encoder_engine.specs.{UnfinishedCall.{EncodesAhead, PutsCode, ReadsByte}, ProfileSuffices.Serves}
 use Rattle.legacy_encoder_engine.proofs.CallUnderWay.{underway_read, first_units}
 use Rattle.legacy_encoder_engine.specs.declared.moves.EncoderMove.TheVariants as moves
 
@@ -80,13 +80,14 @@ ascii_count form left n within ascii = ascii_units form (take n left) ascii ∙ 
 -- ---- loops
 
 pub encodes_none : (state : EncoderState) (form : EncodingForm) (free : ℕ) (left : List ℕ) (passed : ℕ) (bytes : List ℕ) (at : ℕ) → at ≤ free
-    → Encodes state form free left passed bytes at left passed bytes at
+    → EncodesAhead state form free left passed bytes at left passed bytes at
 encodes_none state form free left passed bytes at within = record { keeps = keeps_none state free left bytes; start = omega arith; end = within; units = refl }
 
 pub encodes_then : {state : EncoderState} {form : EncodingForm} {free free' passed passed' passed'' at at' at'' : ℕ}
     {left left' left'' bytes bytes' bytes'' : List ℕ}
-    → Encodes state form free left passed bytes at left' passed' bytes' at' → Encodes state form free' left' passed' bytes' at' left'' passed'' bytes'' at''
-    → free' ≡ free → Encodes state form free left passed bytes at left'' passed'' bytes'' at''
+    → EncodesAhead state form free left passed bytes at left' passed' bytes' at'
+    → EncodesAhead state form free' left' passed' bytes' at' left'' passed'' bytes'' at''
+    → free' ≡ free → EncodesAhead state form free left passed bytes at left'' passed'' bytes'' at''
 encodes_then first second same =
     let second' = rw same at second in
     record {
@@ -101,7 +102,7 @@ pub encodes_codes : {state : EncoderState} (form : EncodingForm) (free room : �
     → ((c byte : ℕ) → gives c byte → ReadsByte state room c byte) → {left : List ℕ} (passed : ℕ) {old new left' : List ℕ} {n passed' at : ℕ}
     → n ≤ length left → left' ≡ drop n left → passed' ≡ passed + total_unit_count form (take n left)
     → WritesCodes gives left n old new → length old ≡ at → at + n + room ≤ free
-    → Encodes state form free left passed old at left' passed' new (at + n)
+    → EncodesAhead state form free left passed old at left' passed' new (at + n)
 encodes_codes form free room serves reads {left} passed {n = n} within rest units writes long fits =
     record {
       keeps = rw rest (keeps_codes _ _ serves room _ reads _ _ _ _ within (omega arith) writes);
@@ -114,9 +115,9 @@ encodes_codes form free room serves reads {left} passed {n = n} within rest unit
 pub encodes_put : {state : EncoderState} (form : EncodingForm) {free passed passed' passed'' start at end c n room : ℕ}
     {left left' left'' bytes bytes' bytes'' : List ℕ}
     (serves : Serves (encoder_profile state.codec)) → scalar_room state c ≤ room
-    → Encodes state form free left passed bytes start left' passed' bytes' at → IsFirst form left' c n → PutsCode state c bytes' at bytes'' end
+    → EncodesAhead state form free left passed bytes start left' passed' bytes' at → IsFirst form left' c n → PutsCode state c bytes' at bytes'' end
     → left'' ≡ drop 1 left' → passed'' ≡ passed' + n → length bytes' ≡ at → at + room ≤ free
-    → Encodes state form free left passed bytes start left'' passed'' bytes'' end
+    → EncodesAhead state form free left passed bytes start left'' passed'' bytes'' end
 encodes_put form serves fits before is put next units long room =
     let own = put.moves.fits in
     let one = keeps_move _ _ serves _ _ _ _ put.move is.0 put.moves put.reads put.silent (omega (arith, fits)) in

@@ -48,7 +48,7 @@ pub record KeepsOn (state : EncoderState) (free : ℕ) (left_before bytes_before
 
 -- A loop reads ahead in this state, with `free` bytes of output in all. It relates the scalars left, the code units
 -- passed, the bytes written and the end of these bytes, before and after.
-pub record Encodes (state : EncoderState) (form : EncodingForm) (free : ℕ) (left : List ℕ) (passed : ℕ) (bytes : List ℕ) (at : ℕ)
+pub record EncodesAhead (state : EncoderState) (form : EncodingForm) (free : ℕ) (left : List ℕ) (passed : ℕ) (bytes : List ℕ) (at : ℕ)
     (left' : List ℕ) (passed' : ℕ) (bytes' : List ℕ) (at' : ℕ) : Type 0 where
   pub keeps : KeepsOn state free left bytes left' bytes'
   pub start : at ≤ at'
@@ -58,12 +58,12 @@ pub record Encodes (state : EncoderState) (form : EncodingForm) (free : ℕ) (le
 -- a cursor is read ahead, and the bytes are written to the output from the place `at` on
 abbrev pub EncodesBy : {C : Type 0} → cursors.Ghosts C → EncoderState → C → List ℕ → ℕ → C → List ℕ → ℕ → Type 0
 EncodesBy S state src dst at src' dst' at' =
-    Encodes state S.form (length dst) (S.left src) (S.passed src) (take at dst) at (S.left src') (S.passed src') (take at' dst') at'
+    EncodesAhead state S.form (length dst) (S.left src) (S.passed src) (take at dst) at (S.left src') (S.passed src') (take at' dst') at'
 
 -- the same for a source
 abbrev pub EncodesFrom : {C : Type 0} → sources.Ghosts C → EncoderState → C → List ℕ → ℕ → C → List ℕ → ℕ → Type 0
 EncodesFrom S state src dst at src' dst' at' =
-    Encodes state S.form (length dst) (S.left src) (S.passed src) (take at dst) at (S.left src') (S.passed src') (take at' dst') at'
+    EncodesAhead state S.form (length dst) (S.left src) (S.passed src) (take at dst) at (S.left src') (S.passed src') (take at' dst') at'
 
 -- the scalar c is read in this state, with this byte
 pub record ReadsByte (state : EncoderState) (room c byte : ℕ) : Type 0 where

@@ -20,8 +20,8 @@ use Rattle.legacy_codecs.specs.WholeTexts.{text_of}
 -- ---- the tables of single-byte encodings
 
 -- the entries of the first table of an encoding
-abbrev pub entries_of : List EncodingTable → Encoding → Option (List ℕ)
-entries_of tables encoding =
+abbrev pub first_entries : List EncodingTable → Encoding → Option (List ℕ)
+first_entries tables encoding =
     option_map (λ t. t.table.entries) (find (λ t. bytes_eq (encoding_name t.encoding) (encoding_name encoding)) tables)
 
 -- The table that the text of an index file gives passed the check, and comes before the other tables.
@@ -39,7 +39,7 @@ HasNoName name = (encoding : Encoding) → ¬ (encoding_name encoding ≡ name)
 
 -- a new decoder of the encoding is in this state; a single-byte encoding whose table was not read has none
 abbrev pub decoder_for : FlatIndexes → List EncodingTable → Encoding → Option DecoderState
-decoder_for flat tables encoding = decoder_of (codec_of encoding) flat (entries_of tables encoding)
+decoder_for flat tables encoding = decoder_of (codec_of encoding) flat (first_entries tables encoding)
 
 -- a new decoder of the encoding of the name is in this state
 pub record IsDecoderOf (flat : FlatIndexes) (tables : List EncodingTable) (name : List ℕ) (state : DecoderState) : Type 0 where
@@ -52,7 +52,7 @@ pub record LacksTable (tables : List EncodingTable) (name : List ℕ) : Type 0 w
   pub encoding : Encoding
   pub named : encoding_name encoding ≡ name
   pub single_byte : codec_of encoding ≡ codec.SingleByte
-  pub not_read : entries_of tables encoding ≡ None
+  pub not_read : first_entries tables encoding ≡ None
 
 -- the error if there is no coder of the name
 abbrev pub IsNameError : List EncodingTable → List ℕ → RegistryError → Type 0
@@ -63,7 +63,7 @@ IsNameError tables name _ = ⊥
 -- A new encoder of the encoding is in this state. There is none if the output encoding is UTF-8 (Encoding Standard, "get
 -- an output encoding"), or if the table of a single-byte encoding was not read.
 abbrev pub encoder_for : FlatIndexes → List EncodingTable → Encoding → Option EncoderState
-encoder_for flat tables encoding = encoder_of (codec_of encoding) flat (entries_of tables encoding)
+encoder_for flat tables encoding = encoder_of (codec_of encoding) flat (first_entries tables encoding)
 
 -- A new encoder of the encoding of the name is in this state, or its output encoding is UTF-8 and there is none. The
 -- table of a single-byte encoding was read.
@@ -71,7 +71,7 @@ pub record IsEncoderOf (flat : FlatIndexes) (tables : List EncodingTable) (name 
   pub encoding : Encoding
   pub named : encoding_name encoding ≡ name
   pub made : encoder_for flat tables encoding ≡ output
-  pub read : codec_of encoding ≡ codec.SingleByte → entries_of tables encoding ≢ None
+  pub read : codec_of encoding ≡ codec.SingleByte → first_entries tables encoding ≢ None
 
 -- ---- whole inputs and texts
 

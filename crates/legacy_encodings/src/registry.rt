@@ -10,7 +10,7 @@ ghost use Rattle.legacy_index_files.specs.Encodings.{encoding_name};
 ghost use Rattle.legacy_index_files.specs.IndexTexts.{no_text};
 ghost use Rattle.legacy_index_files.specs.OwnedIndexes.{owned_lists, HoldsTexts, IsUnallocated};
 ghost use Rattle.legacy_encodings.specs.SingleByteFiles.{IsSingleByteFault};
-ghost use Rattle.legacy_encodings.specs.Registries.{entries_of, IsReadTable, HasNoName, IsNameError};
+ghost use Rattle.legacy_encodings.specs.Registries.{first_entries, IsReadTable, HasNoName, IsNameError};
 ghost use Rattle.legacy_encodings.specs.Registries.{IsDecoderOf, IsEncoderOf, LacksTable};
 ghost use Rattle.legacy_encodings.specs.Registries.{IsText, IsDecodeError, AreBytes, IsEncodeError, bytes_by};
 ghost use Rattle.legacy_encodings.specs.Registries.{IsTranscoded, IsTranscodeError};
@@ -223,7 +223,7 @@ impl Coders<'_> {
     /// Returns the table of a single-byte encoding, if its index file was read.
     fn single_byte(&self, encoding: Encoding) -> Option<&SingleByteTable>
         ensures { option_map (λ table. table.now.entries) result
-            ≡ entries_of self.now.single_bytes.now encoding }
+            ≡ first_entries self.now.single_bytes.now encoding }
     {
         match first_of(self.single_bytes, encoding.name()) {
             Some(entry) => Some(&entry.table),

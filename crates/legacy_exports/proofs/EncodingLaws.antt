@@ -14,19 +14,19 @@ use Rattle.legacy_codecs.specs.declared.results.CoderResult.{CoderResult}
 use Rattle.legacy_codecs.specs.declared.results.CoderResult.TheVariants as result
 use Rattle.legacy_exports.specs.declared.calls.CallEnd.TheVariants.{Read, Full, Replaced}
 use Rattle.legacy_exports.specs.Decoding.{end_of}
-use Rattle.legacy_exports.specs.Encoding.{Replacement, question_mark, numeric_reference, bytes_of_event, bytes_of, Encodes, EncodingCall, LacksBytes}
+use Rattle.legacy_exports.specs.Encoding.{Replacement, question_mark, numeric_reference, bytes_of_event, bytes_of_events, EncodesTo, EncodingCall, LacksBytes}
 use Rattle.legacy_exports.specs.Encoding.{EncodesText}
 
 -- ---- the bytes of events
 
-pub bytes-append : (kind : Replacement) (xs ys : List EncodeEvent) → bytes_of kind (xs ++ ys) ≡ bytes_of kind xs ++ bytes_of kind ys
+pub bytes-append : (kind : Replacement) (xs ys : List EncodeEvent) → bytes_of_events kind (xs ++ ys) ≡ bytes_of_events kind xs ++ bytes_of_events kind ys
 bytes-append kind xs ys = flat_map-append (bytes_of_event kind) xs ys
 
-bytes-of_bytes : (kind : Replacement) (bs : List ℕ) → bytes_of kind (map Byte bs) ≡ bs
+bytes-of_bytes : (kind : Replacement) (bs : List ℕ) → bytes_of_events kind (map Byte bs) ≡ bs
 bytes-of_bytes kind [] = refl
 bytes-of_bytes kind (b ∷ bs) = grind (arith, bytes-of_bytes kind bs)
 
-bytes-references : (events : List EncodeEvent) → bytes_of numeric_reference events ≡ referenced_bytes events
+bytes-references : (events : List EncodeEvent) → bytes_of_events numeric_reference events ≡ referenced_bytes events
 bytes-references [] = refl
 bytes-references (x ∷ events) = grind (arith, bytes-references events)
 
@@ -36,7 +36,7 @@ bytes-references (x ∷ events) = grind (arith, bytes-references events)
 replacing_encodes : {before : EncoderState} {text : List ℕ} {last : Bool} {free : ℕ} {after : EncoderState} {answer : CoderResult}
     {left written : List ℕ} {found : Bool} →
     ReplacingEncoderCall before text last free after answer left written found →
-    Encodes numeric_reference (tells_text_end last answer) before text after left written []
+    EncodesTo numeric_reference (tells_text_end last answer) before text after left written []
 replacing_encodes {written = written} c = record {
   taken = c.taken;
   cut = c.cut;
@@ -62,13 +62,13 @@ raw_gives {before} {after = after} {answer} {left} {written} c more ended h =
     c.events more ended h ∙ sym (append_assoc (map Byte written) (reported answer) (encoded after (left ++ more) ended))
 
 raw_bytes : (written : List ℕ) (answer : EncoderResult) →
-    bytes_of question_mark (map Byte written ++ reported answer) ≡ written ++ bytes_of question_mark (reported answer)
+    bytes_of_events question_mark (map Byte written ++ reported answer) ≡ written ++ bytes_of_events question_mark (reported answer)
 raw_bytes written answer = rw (bytes-append question_mark (map Byte written) (reported answer), bytes-of_bytes question_mark written) refl
 
 -- a raw call, of whose bytes these were written and those are lost
 raw_encodes : {before : EncoderState} {text : List ℕ} {last : Bool} {free : ℕ} {after : EncoderState} {answer : EncoderResult} {left bytes : List ℕ}
-    (written lost : List ℕ) → bytes ++ bytes_of question_mark (reported answer) ≡ written ++ lost →
-    EncoderCall before text last free after answer left bytes → Encodes question_mark (tells_end last answer) before text after left written lost
+    (written lost : List ℕ) → bytes ++ bytes_of_events question_mark (reported answer) ≡ written ++ lost →
+    EncoderCall before text last free after answer left bytes → EncodesTo question_mark (tells_end last answer) before text after left written lost
 raw_encodes {answer = answer} {bytes = bytes} written lost e c = record {
   taken = c.taken;
   cut = c.cut;
@@ -107,13 +107,13 @@ module _ {before : EncoderState} {text : List ℕ} {last : Bool} {free : ℕ} {a
 no_end : {A : Type 0} → IsTrue false → A
 no_end f = cc
 
-pub encodes_start : (kind : Replacement) (before : EncoderState) (text : List ℕ) → Encodes kind false before text before text [] []
+pub encodes_start : (kind : Replacement) (before : EncoderState) (text : List ℕ) → EncodesTo kind false before text before text [] []
 encodes_start kind before text = record { taken = []; cut = refl; codec = refl; out = []; gives = λ more ended h. refl; bytes = refl }
 
 module _ {kind : Replacement} {ended : Bool} {before : EncoderState} {text : List ℕ} {now : EncoderState} {piece later written : List ℕ}
-    (r : Encodes kind false before text now (piece ++ later) written []) {after : EncoderState} {left bytes lost : List ℕ}
-    (c : Encodes kind ended now piece after left bytes lost) (none : IsTrue ended → later ≡ []) where
-  pub encodes_more : Encodes kind ended before text after (left ++ later) (written ++ bytes) lost
+    (r : EncodesTo kind false before text now (piece ++ later) written []) {after : EncoderState} {left bytes lost : List ℕ}
+    (c : EncodesTo kind ended now piece after left bytes lost) (none : IsTrue ended → later ≡ []) where
+  pub encodes_more : EncodesTo kind ended before text after (left ++ later) (written ++ bytes) lost
   encodes_more = record {
     taken = r.taken ++ c.taken;
     cut =
@@ -133,7 +133,7 @@ module _ {kind : Replacement} {ended : Bool} {before : EncoderState} {text : Lis
         first ∙ ap (λ l. r.out ++ l) second ∙ sym (append_assoc r.out c.out last)
         ∙ ap (λ l. (r.out ++ c.out) ++ encoded after l end) (sym (append_assoc left later more));
     bytes =
-        bytes-append kind r.out c.out ∙ ap (λ l. l ++ bytes_of kind c.out) (r.bytes ∙ append-nil written) ∙ ap (λ l. written ++ l) c.bytes
+        bytes-append kind r.out c.out ∙ ap (λ l. l ++ bytes_of_events kind c.out) (r.bytes ∙ append-nil written) ∙ ap (λ l. written ++ l) c.bytes
         ∙ sym (append_assoc written bytes lost);
   }
 
@@ -146,15 +146,15 @@ lacks_bytes_ahead kind s xs zs last free lost h l = grind arith
 
 -- a call with the piece that is unread
 module _ {kind : Replacement} {before : EncoderState} {text : List ℕ} {now : EncoderState} {unread done : List ℕ} (later : List ℕ)
-    (r : Encodes kind false before text now (unread ++ later) done []) {free : ℕ} {after : EncoderState} {left bytes : List ℕ} (all : List ℕ)
+    (r : EncodesTo kind false before text now (unread ++ later) done []) {free : ℕ} {after : EncoderState} {left bytes : List ℕ} (all : List ℕ)
     (e : all ≡ done ++ bytes) where
   -- the calls go on with the next piece, or in this one
   pub after_piece : EncodingCall kind now unread false free after Read left bytes → (next : List ℕ) → later ≡ next →
-      Encodes kind false before text after next all []
+      EncodesTo kind false before text after next all []
   after_piece c next n = let ends = c.ends in let made = encodes_more r c.encodes (λ f. no_end f) in rw (e, ← n) (rw (ends.0.0, ends.1) at made)
 
   pub after_replaced : {last : Bool} → EncodingCall kind now unread last free after Replaced left bytes →
-      Encodes kind false before text after (left ++ later) all []
+      EncodesTo kind false before text after (left ++ later) all []
   after_replaced c = let ends = c.ends in let made = encodes_more r c.encodes (λ f. no_end f) in rw e (rw ends.1 at made)
 
   -- the end of a conversion

@@ -38,8 +38,8 @@ AreTablesOfParts false flat packed lists = lists ≡ flat
 AreTablesOfParts true flat packed lists = ArePackedTables flat packed lists
 
 -- tables have the caller's indexes with these pairs as ranges
-abbrev pub AreTablesOf : IndexSlices → List (ℕ × ℕ) → FlatIndexes → Type 0
-AreTablesOf slices ranges lists = AreTablesOfParts slices.is_packed (indexes_with slices ranges) slices.packed lists
+abbrev pub AreTablesOfSlices : IndexSlices → List (ℕ × ℕ) → FlatIndexes → Type 0
+AreTablesOfSlices slices ranges lists = AreTablesOfParts slices.is_packed (indexes_with slices ranges) slices.packed lists
 
 -- the index of a single-byte encoding is accepted
 abbrev pub IsTakenTable : List ℕ → Type 0

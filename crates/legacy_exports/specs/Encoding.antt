@@ -29,8 +29,8 @@ bytes_of_event kind (Byte b) = b ∷ []
 bytes_of_event kind (Unmappable c) = replacement kind c
 
 -- the bytes that are written for events
-abbrev pub bytes_of : Replacement → List EncodeEvent → List ℕ
-bytes_of kind events = flat_map (bytes_of_event kind) events
+abbrev pub bytes_of_events : Replacement → List EncodeEvent → List ℕ
+bytes_of_events kind events = flat_map (bytes_of_event kind) events
 
 -- the free bytes that a call keeps for a reference
 abbrev pub kept_room : Replacement → ℕ
@@ -41,7 +41,7 @@ kept_room numeric_reference = reference_room
 
 -- An encoder goes from the state `before` to the state `after`, leaves these scalars of the text, and writes these
 -- bytes. `lost` is a question mark for which no byte was free.
-pub record Encodes (kind : Replacement) (ended : Bool) (before : EncoderState) (text : List ℕ) (after : EncoderState)
+pub record EncodesTo (kind : Replacement) (ended : Bool) (before : EncoderState) (text : List ℕ) (after : EncoderState)
     (left written lost : List ℕ) : Type 0 where
   -- the text is the scalars that were read, and then those that are left
   pub taken : List ℕ
@@ -54,7 +54,7 @@ pub record Encodes (kind : Replacement) (ended : Bool) (before : EncoderState) (
   -- was written (`ended`), only if none follows or the events with that text still begin so
   pub gives : Gives ended before text after left out
   -- the bytes of the events were written, but for what is lost
-  pub bytes : bytes_of kind out ≡ written ++ lost
+  pub bytes : bytes_of_events kind out ≡ written ++ lost
 
 -- all is read, and on a last call the end has nothing left to write
 abbrev pub IsEncoded : EncoderState → List ℕ → Bool → Type 0
@@ -83,7 +83,7 @@ wrote_end last Replaced = false
 pub record EncodingCall (kind : Replacement) (before : EncoderState) (text : List ℕ) (last : Bool) (free : ℕ) (after : EncoderState)
     (end : CallEnd) (left written : List ℕ) : Type 0 where
   pub lost : List ℕ
-  pub encodes : Encodes kind (wrote_end last end) before text after left written lost
+  pub encodes : EncodesTo kind (wrote_end last end) before text after left written lost
   pub ends : EncodingEnds kind after left last (free - length written) (length written) lost end
 
 -- ---- conversions
@@ -94,7 +94,7 @@ pub record EncodesText (kind : Replacement) (text : List ℕ) (free : ℕ) (befo
   pub ended : Bool
   pub left : List ℕ
   pub lost : List ℕ
-  pub encodes : Encodes kind ended before text after left written lost
+  pub encodes : EncodesTo kind ended before text after left written lost
   pub stops : ((ended ≡ true) × IsEncoded after left true × (lost ≡ [])) ⊎ ((ended ≡ false) × LacksBytes kind after left true (free - length written) lost)
 
 -- What an encoder function returns: the number of bytes that it wrote, or `usize::MAX` if the number or the indexes are

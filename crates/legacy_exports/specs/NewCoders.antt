@@ -3,7 +3,7 @@ use Rattle.std.specs.Prelude.{◌≡◌, ℕ, List, map, Option, Some}
 use Rattle.legacy_tables.specs.Indexes.{FlatIndexes}
 use Rattle.legacy_index_files.specs.declared.codec.Codec.{Codec}
 use Rattle.legacy_exports.specs.Numbers.{number_of}
-use Rattle.legacy_exports.specs.AcceptedIndexes.{AreTablesOf, range_pair}
+use Rattle.legacy_exports.specs.AcceptedIndexes.{AreTablesOfSlices, range_pair}
 use Rattle.legacy_exports.specs.declared.indexes.IndexSlices.{IndexSlices}
 
 -- the states of new coders, by codec, lists, and entries of a single-byte encoding: `decoder_of` or `encoder_of`
@@ -20,7 +20,7 @@ pub record HoldsOfNew {State : Type 0} (coder_of : NewStates State) (codec : Cod
 -- the same over tables of the caller's indexes
 pub record HoldsOverTables {State : Type 0} (coder_of : NewStates State) (codec : Codec) (slices : IndexSlices) (Fact : State → Type 0) : Type 0 where
   pub lists : FlatIndexes
-  pub tables : AreTablesOf slices (map range_pair slices.ranges.now) lists
+  pub tables : AreTablesOfSlices slices (map range_pair slices.ranges.now) lists
   pub holds : HoldsOfNew coder_of codec lists (Some slices.single_byte.now) Fact
 
 -- the same for the codec of a number

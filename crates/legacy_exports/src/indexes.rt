@@ -2,7 +2,7 @@
 ghost use Rattle.std.specs.Prelude.{◌≡◌, ◌≤◌, ◌↔◌, length, map, take, IfSome, IsSome};
 ghost use Rattle.legacy_tables.specs.Tables.{flat_indexes};
 ghost use Rattle.legacy_exports.specs.AcceptedIndexes.{indexes_with, range_pair};
-ghost use Rattle.legacy_exports.specs.AcceptedIndexes.{AreTablesOf, AreTakenIndexes, IsTakenTable};
+ghost use Rattle.legacy_exports.specs.AcceptedIndexes.{AreTablesOfSlices, AreTakenIndexes, IsTakenTable};
 
 use legacy_base::{GB18030_2022_PUA, Indexes, Packed, SingleByteTable, Tables};
 
@@ -85,7 +85,7 @@ pub fn tables_with<'a: 'r, 'r>(
     ranges: &'r [(u16, u16)],
 ) -> Option<Tables<'r>>
     ensures taken { IsSome result ↔ AreTakenIndexes slices.now ranges.now }
-    ensures same { IfSome result (λ tables. AreTablesOf slices.now ranges.now tables.flat) }
+    ensures same { IfSome result (λ tables. AreTablesOfSlices slices.now ranges.now tables.flat) }
 {
     let flat = with_ranges(slices, ranges);
     if slices.is_packed {

@@ -1,6 +1,7 @@
 -- The result of reading the lines of an index file of the WHATWG Encoding Standard ("Indexes"): the first malformed
 -- line, or the table. Index ISO-2022-JP katakana, which only an encoder uses, is no `FileIndex`.
-use Rattle.std.specs.Prelude.{◌≡◌, ℕ, ◌+◌, ◌<◌, ◌≤◌, Bool, false, ◌&&◌, List, [], ◌∷◌, Option, Some, None, nat_le, nat_lt, ◌==◌, if◌then◌else◌, length, max, slice_index}
+use Rattle.std.specs.Prelude.{◌≡◌, ℕ, ◌+◌, ◌<◌, ◌≤◌, Bool, false, ◌&&◌, List, [], ◌∷◌, Option}
+use Rattle.std.specs.Prelude.{Some, None, nat_le, nat_lt, ◌==◌, if◌then◌else◌, length, max, slice_index}
 use Rattle.std.specs.Option.{option_or, unwrap_or}
 use Rattle.legacy_index_files.specs.declared.index_line.LineKind.{LineKind}
 use Rattle.legacy_index_files.specs.declared.index_line.LineKind.TheVariants.{Skipped, Entry, Malformed}

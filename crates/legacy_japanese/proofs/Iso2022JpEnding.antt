@@ -9,7 +9,7 @@ use Rattle.legacy_text.proofs.CodeUnits.{length-code_units-bmp}
 use Rattle.legacy_decoder_engine.specs.Moves.{Releases, Reports}
 use Rattle.legacy_japanese.specs.declared.iso_2022_jp.steps.{Start.{TheVariants.{Nothing, EscapeByte, Dollar, Paren}}, Mode.{Mode, TheVariants.TwoByte}}
 use Rattle.legacy_japanese.specs.{declared.iso_2022_jp.steps.{Escape.Escape, Held.{Held, TheVariants.{Byte, Begun}}}, Iso2022JpMachine.mode_meaning}
-use Rattle.legacy_japanese.specs.Iso2022JpMachine.{bytes_of, finish, is_held, is_resting, mode_of, pending, second_of, single, state_in, third_of, weight_of}
+use Rattle.legacy_japanese.specs.Iso2022JpMachine.{bytes_held, finish, is_held, is_resting, mode_of, pending, second_of, single, state_in, third_of, weight_of}
 use Rattle.legacy_japanese.proofs.Iso2022JpRooms.{same_rooms, room-falls, replacement_fits, times_one, held_allowed, held_rests, single_narrow}
 use Rattle.legacy_japanese.proofs.Iso2022JpStep.{MeetsEnd, ended, escape_alone, escaped, events_in, in_range_plain, second_kept}
 use Rattle.legacy_base.specs.Iso2022Jp as iso
@@ -19,9 +19,9 @@ use Rattle.legacy_base.specs.Iso2022Jp as iso
 -- at the end of the input, only what is allowed is still held back
 pub record SoundEnd (held : Held) (new_mode : Mode) (new_held : Held) : Type 0 where
   pub kept : is_held new_mode new_held ≡ true
-  pub suffix : drop (ended held new_held) (bytes_of held) ≡ bytes_of new_held
-  pub fits : length (bytes_of new_held) + 1 ≤ length (bytes_of held)
-  pub short : length (bytes_of new_held) ≤ 3
+  pub suffix : drop (ended held new_held) (bytes_held held) ≡ bytes_held new_held
+  pub fits : length (bytes_held new_held) + 1 ≤ length (bytes_held held)
+  pub short : length (bytes_held new_held) ≤ 3
   pub room : weight_of new_held + 1 ≤ weight_of held
 
 abbrev pub EndsSound : Held → Option (Mode × Held) → Type 0
@@ -112,12 +112,12 @@ module _ (jis0208 : List ℕ) where
 
   -- the events of the held-back bytes
   abbrev left : Mode → Held → List DecodeEvent
-  left mode held = events_of (iso_2022_jp jis0208 (mode_meaning mode)) (bytes_of held)
+  left mode held = events_of (iso_2022_jp jis0208 (mode_meaning mode)) (bytes_held held)
 
   -- the law of the end, by the result of `finish`
   abbrev EndFacts : Mode → Held → Option (Mode × Held) → Type 0
   EndFacts mode held None = left mode held ≡ []
-  EndFacts mode held (Some o) = Reports (state_in jis0208 mode held) (state_in jis0208 o.0 o.1) 1 (length (bytes_of o.1)) × (left mode held ≢ [])
+  EndFacts mode held (Some o) = Reports (state_in jis0208 mode held) (state_in jis0208 o.0 o.1) 1 (length (bytes_held o.1)) × (left mode held ≢ [])
 
   end_facts : (mode : Mode) (held : Held) (o : Option (Mode × Held)) → MeetsEnd jis0208 mode held o → EndsSound held o → EndFacts mode held o
   unfolding events_of
@@ -130,7 +130,7 @@ module _ (jis0208 : List ℕ) where
           holding = λ none. (let e = ap length none in absurd (omega arith));
           progress = record {
             counts = omega arith;
-            rest = rw (append-nil (bytes_of held), append-nil (bytes_of o.1)) sound.suffix;
+            rest = rw (append-nil (bytes_held held), append-nil (bytes_held o.1)) sound.suffix;
             codec = refl;
             events = λ more h. law more (h refl);
           };
@@ -138,7 +138,7 @@ module _ (jis0208 : List ℕ) where
           allowed = held_allowed jis0208 o.0 o.1 sound.kept;
           lowers = λ query. room-falls query jis0208 mode o.0 held o.1 0 0 1 (replacement_units query) (omega arith) (replacement_fits query);
         },
-        λ none. (let all = law [] (inl refl) in let e = sym none ∙ ap (events_in jis0208 mode) (sym (append-nil (bytes_of held))) ∙ all in cc),
+        λ none. (let all = law [] (inl refl) in let e = sym none ∙ ap (events_in jis0208 mode) (sym (append-nil (bytes_held held))) ∙ all in cc),
       )
 
   -- there is an event, or there is none
@@ -149,15 +149,15 @@ module _ (jis0208 : List ℕ) where
   from_facts mode held o h = grind arith
 
   module _ (mode : Mode) (held : Held) (sound : is_held mode held ≡ true) where
-    ends : (o : Option (Mode × Held)) → rests (iso_2022_jp jis0208 (mode_meaning mode)) (bytes_of held) ≡ true → o ≡ finish mode held → EndFacts mode held o
+    ends : (o : Option (Mode × Held)) → rests (iso_2022_jp jis0208 (mode_meaning mode)) (bytes_held held) ≡ true → o ≡ finish mode held → EndFacts mode held o
     ends o rest is = grind (arith, end_facts, end_law, held_rests, finish_sound)
 
-    pub ends_none : rests (iso_2022_jp jis0208 (mode_meaning mode)) (bytes_of held) ≡ true → None ≡ finish mode held → left mode held ≡ []
+    pub ends_none : rests (iso_2022_jp jis0208 (mode_meaning mode)) (bytes_held held) ≡ true → None ≡ finish mode held → left mode held ≡ []
     ends_none = ends None
 
-    pub ends_reports : (new_mode : Mode) (new_held : Held) → rests (iso_2022_jp jis0208 (mode_meaning mode)) (bytes_of held) ≡ true
+    pub ends_reports : (new_mode : Mode) (new_held : Held) → rests (iso_2022_jp jis0208 (mode_meaning mode)) (bytes_held held) ≡ true
         → Some (new_mode, new_held) ≡ finish mode held
-        → Reports (state_in jis0208 mode held) (state_in jis0208 new_mode new_held) 1 (length (bytes_of new_held))
+        → Reports (state_in jis0208 mode held) (state_in jis0208 new_mode new_held) 1 (length (bytes_held new_held))
     ends_reports new_mode new_held rest is = (ends (Some (new_mode, new_held)) rest is).0
 
     -- whether an event is left

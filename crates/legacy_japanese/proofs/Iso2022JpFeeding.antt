@@ -9,7 +9,7 @@ use Rattle.legacy_decoder_engine.specs.Moves.{fed_scalars, fed_units, unread_byt
 use Rattle.legacy_decoder_engine.specs.declared.moves.Fed.{Fed, TheVariants.{Nothing as Kept, One, Two}}
 use Rattle.legacy_japanese.specs.declared.iso_2022_jp.steps.{Mode.Mode, Held.{Held, TheVariants.{Begun, Byte}}, Escape.Escape}
 use Rattle.legacy_japanese.specs.declared.iso_2022_jp.steps.Start.{Start, TheVariants.{Nothing, EscapeByte, Dollar, Paren}}
-use Rattle.legacy_japanese.specs.Iso2022JpMachine.{mode_meaning, bytes_of, is_held, malformed, read, read_pair, second_of, third_of, state_in}
+use Rattle.legacy_japanese.specs.Iso2022JpMachine.{mode_meaning, bytes_held, is_held, malformed, read, read_pair, second_of, third_of, state_in}
 use Rattle.legacy_japanese.{specs.Iso2022JpRuns.{run_state, BeginsEscape}, proofs.Iso2022JpStep.{done, step_events, IsStep, read_step}}
 use Rattle.legacy_japanese.proofs.Iso2022JpRooms.{read_room-is, one_fits, room-falls, replacement_fits, times_one, held_allowed, held_rests, same_rooms}
 use Rattle.legacy_japanese.proofs.Iso2022JpRooms.{single_narrow, entry_narrow}
@@ -30,7 +30,7 @@ narrow tables mode (Byte l) b =
 narrow tables mode (Begun e s) b = grind (arith, nat_tests, single_narrow)
 
 module _ (tables : AcceptedIndexes) (mode : Mode) (held : Held) (byte : ℕ) (o : Fed × Mode × Held) (may : is_held mode held ≡ true)
-    (resting : rests (iso_2022_jp tables.flat.jis0208 (mode_meaning mode)) (bytes_of held) ≡ true) (is : o ≡ read tables.flat.jis0208 mode held byte) where
+    (resting : rests (iso_2022_jp tables.flat.jis0208 (mode_meaning mode)) (bytes_held held) ≡ true) (is : o ≡ read tables.flat.jis0208 mode held byte) where
   -- the outcome is the machine's step
   step : IsStep tables.flat.jis0208 mode held byte o
   step = rw is (read_step tables.flat.jis0208 mode held byte may (sym (held_rests tables.flat.jis0208 mode held may) ∙ resting))
@@ -86,7 +86,8 @@ module _ (form : EncodingForm) (free : ℕ) (enough : bmp_room form ≤ free) (t
   state = state_in tables.flat.jis0208 mode
 
   -- one byte is read and held back, after those already held back
-  holds_byte : (start : Start) (byte : ℕ) (held : Held) (bytes : List ℕ) (next : Held) → (Kept, mode, held) ≡ read tables.flat.jis0208 mode (Begun None start) byte
+  holds_byte : (start : Start) (byte : ℕ) (held : Held) (bytes : List ℕ) (next : Held)
+      → (Kept, mode, held) ≡ read tables.flat.jis0208 mode (Begun None start) byte
       → HoldsBytes form free (state held) bytes (state next) → HoldsBytes form free (state (Begun None start)) (byte ∷ bytes) (state next)
   unfolding HoldsBytes
   holds_byte start byte held bytes next is rest = (

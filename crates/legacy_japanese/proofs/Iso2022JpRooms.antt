@@ -7,18 +7,18 @@ use Rattle.legacy_base.{specs.{Grammar.{iso_2022_jp, events_of}, States.{rests, 
 use Rattle.legacy_text.{specs.EncodingForm.{EncodingForm, bmp_room, wide_room, code_units, total_unit_count}, proofs.CodeUnits.length-code_units-bmp}
 use Rattle.legacy_decoder_engine.{specs.Moves.{IsCovered, SameRooms, read_room}, proofs.RoomMoves.no_short_room}
 use Rattle.legacy_japanese.specs.declared.iso_2022_jp.steps.{Mode.Mode, Start.TheVariants.Nothing, Held.{Held, TheVariants.Begun}}
-use Rattle.legacy_japanese.specs.Iso2022JpMachine.{mode_meaning, bytes_of, is_held, is_resting, single, state_in, weight_of}
+use Rattle.legacy_japanese.specs.Iso2022JpMachine.{mode_meaning, bytes_held, is_held, is_resting, single, state_in, weight_of}
 
 -- ---- the held-back bytes
 
 -- the grammar may hold back these bytes
 pub held_allowed : (jis0208 : List ℕ) (mode : Mode) (held : Held) → is_held mode held ≡ true →
-    may_hold (iso_2022_jp jis0208 (mode_meaning mode)) (bytes_of held) ≡ true
+    may_hold (iso_2022_jp jis0208 (mode_meaning mode)) (bytes_held held) ≡ true
 held_allowed jis0208 mode held h = grind arith
 
 -- they rest exactly if the machine reads on
 pub held_rests : (jis0208 : List ℕ) (mode : Mode) (held : Held) → is_held mode held ≡ true →
-    rests (iso_2022_jp jis0208 (mode_meaning mode)) (bytes_of held) ≡ is_resting mode held
+    rests (iso_2022_jp jis0208 (mode_meaning mode)) (bytes_held held) ≡ is_resting mode held
 held_rests jis0208 mode held h = grind arith
 
 -- ---- the room of an act
@@ -30,7 +30,7 @@ same_rooms jis0208 before after = record { codec = refl; full = λ form. refl; r
 -- each byte needs the room of a scalar up to U+FFFF
 pub read_room-is : (form : EncodingForm) (jis0208 : List ℕ) (mode : Mode) (held : Held) (byte : ℕ) →
     read_room form (state_in jis0208 mode held) byte ≡ bmp_room form
-read_room-is form jis0208 mode held byte = no_short_room (is_ascii byte && is_empty (bytes_of held)) 1 (bmp_room form)
+read_room-is form jis0208 mode held byte = no_short_room (is_ascii byte && is_empty (bytes_held held)) 1 (bmp_room form)
 
 -- such a scalar fits
 pub one_fits : (form : EncodingForm) (c : ℕ) → c < 0x1_0000 → total_unit_count form (c ∷ []) ≤ bmp_room form
@@ -82,10 +82,10 @@ module _ (query : LengthQuery) (jis0208 : List ℕ) (mode : Mode) where
   none last = rw (step_end jis0208 (mode_meaning mode)) refl
 
   enough : (unread : List ℕ) (last : Bool) (held : Held)
-      → needed held unread last (rests (iso_2022_jp jis0208 (mode_meaning mode)) (bytes_of held)) ≤ bmp_room
+      → needed held unread last (rests (iso_2022_jp jis0208 (mode_meaning mode)) (bytes_held held)) ≤ bmp_room
       (query_form query) * (length unread + weight_of held)
   enough [] last (Begun None Nothing) = let n = none last in omega arith
-  enough unread last held = let m = most held unread last (rests (iso_2022_jp jis0208 (mode_meaning mode)) (bytes_of held)) in grind arith
+  enough unread last held = let m = most held unread last (rests (iso_2022_jp jis0208 (mode_meaning mode)) (bytes_held held)) in grind arith
 
 -- the room of a length query is enough for the next act
 pub covered : (jis0208 : List ℕ) (mode : Mode) (held : Held) → IsCovered (state_in jis0208 mode held)

@@ -9,7 +9,7 @@ use Rattle.legacy_base.proofs.Iso2022JpParts.{no_escape}
 use Rattle.legacy_decoder_engine.specs.{Moves.{fed_scalars, fed_malformed, unread_byte, FedHolds}, declared.moves.Fed.Fed}
 use Rattle.legacy_japanese.specs.declared.iso_2022_jp.steps.{Mode.{Mode, TheVariants.TwoByte}, Escape.Escape, Start.{TheVariants.{Nothing, EscapeByte}, Start}}
 use Rattle.legacy_japanese.specs.declared.iso_2022_jp.steps.Held.{Held, TheVariants.{Begun, Byte}}
-use Rattle.legacy_japanese.specs.Iso2022JpMachine.{mode_meaning, bytes_of, is_held, is_resting, mode_of, read, read_plain, state_in, weight_of}
+use Rattle.legacy_japanese.specs.Iso2022JpMachine.{mode_meaning, bytes_held, is_held, is_resting, mode_of, read, read_plain, state_in, weight_of}
 use Rattle.legacy_japanese.specs.Iso2022JpMachine.{read_start, read_trail, second_of, start_bytes, third_of}
 
 -- the definitions at the modes of the code
@@ -20,7 +20,7 @@ events_in jis0208 mode bytes = iso_2022_jp_events jis0208 (mode_meaning mode) by
 
 -- the number of held-back and read bytes that a step consumes
 abbrev pub done : Held → ℕ → Fed × Mode × Held → ℕ
-done held b o = suc (length (bytes_of held)) - length (bytes_of o.2 ++ unread_byte b o.0)
+done held b o = suc (length (bytes_held held)) - length (bytes_held o.2 ++ unread_byte b o.0)
 
 -- the events of a step that has consumed `taken` bytes
 abbrev pub step_events : ℕ → Fed → List DecodeEvent
@@ -30,22 +30,22 @@ step_events taken fed = map Scalar (fed_scalars fed) ++ fed_malformed taken fed
 -- the step, and then others. The others are the events of the bytes now held back and the unread bytes.
 abbrev pub MeetsLaw : List ℕ → Mode → Held → ℕ → Fed × Mode × Held → Type 0
 MeetsLaw jis0208 mode held b o = (more : List ℕ) →
-    events_in jis0208 mode (bytes_of held ++ b ∷ more)
+    events_in jis0208 mode (bytes_held held ++ b ∷ more)
     ≡ step_events (done held b o) o.0
-    ++ shift (done held b o) (events_in jis0208 o.1 (bytes_of o.2 ++ (unread_byte b o.0 ++ more)))
+    ++ shift (done held b o) (events_in jis0208 o.1 (bytes_held o.2 ++ (unread_byte b o.0 ++ more)))
 
 -- the number of held-back bytes that the end of the input consumes
 abbrev pub ended : Held → Held → ℕ
-ended held new_held = length (bytes_of held) - length (bytes_of new_held)
+ended held new_held = length (bytes_held held) - length (bytes_held new_held)
 
 -- The law of the end: the report and the events after it. It also holds if more bytes follow and the report is the
 -- same.
 abbrev pub MeetsEnd : List ℕ → Mode → Held → Option (Mode × Held) → Type 0
-MeetsEnd jis0208 mode held None = events_in jis0208 mode (bytes_of held) ≡ []
+MeetsEnd jis0208 mode held None = events_in jis0208 mode (bytes_held held) ≡ []
 MeetsEnd jis0208 mode held (Some o) = (more : List ℕ) →
-    (more ≡ []) ⊎ BeginsWith (events_in jis0208 mode (bytes_of held ++ more)) (Bad (ended held o.1 - 1) 1 ∷ []) →
-    events_in jis0208 mode (bytes_of held ++ more)
-    ≡ Bad (ended held o.1 - 1) 1 ∷ shift (ended held o.1) (events_in jis0208 o.0 (bytes_of o.1 ++ more))
+    (more ≡ []) ⊎ BeginsWith (events_in jis0208 mode (bytes_held held ++ more)) (Bad (ended held o.1 - 1) 1 ∷ []) →
+    events_in jis0208 mode (bytes_held held ++ more)
+    ≡ Bad (ended held o.1 - 1) 1 ∷ shift (ended held o.1) (events_in jis0208 o.0 (bytes_held o.1 ++ more))
 
 -- ---- lemmas
 
@@ -65,10 +65,10 @@ module _ (jis0208 : List ℕ) where
   pub record IsStep (mode : Mode) (held : Held) (b : ℕ) (o : Fed × Mode × Held) : Type 0 where
     pub law : MeetsLaw jis0208 mode held b o
     pub kept : is_held o.1 o.2 ≡ true
-    pub suffix : drop (done held b o) (bytes_of held ++ b ∷ []) ≡ bytes_of o.2 ++ unread_byte b o.0
-    pub fits : length (bytes_of o.2 ++ unread_byte b o.0) ≤ suc (length (bytes_of held))
+    pub suffix : drop (done held b o) (bytes_held held ++ b ∷ []) ≡ bytes_held o.2 ++ unread_byte b o.0
+    pub fits : length (bytes_held o.2 ++ unread_byte b o.0) ≤ suc (length (bytes_held held))
     pub holds : FedHolds (done held b o) (state_in jis0208 o.1 o.2) o.0
-    pub empties : fed_scalars o.0 ≢ [] → bytes_of o.2 ≡ []
+    pub empties : fed_scalars o.0 ≢ [] → bytes_held o.2 ≡ []
     pub room : (weight_of o.2 + length (unread_byte b o.0)) + length (step_events 0 o.0) ≤ suc (weight_of held)
 
   -- ---- after a whole escape

@@ -41,9 +41,9 @@ mode_of ToJis1978 = TwoByte
 mode_of ToJis1983 = TwoByte
 
 -- the mode of the bytes after a held-back escape, if there is one
-abbrev pub mode_behind : Mode → Option Escape → Mode
-mode_behind mode None = mode
-mode_behind mode (Some e) = mode_of e
+abbrev pub mode_after : Mode → Option Escape → Mode
+mode_after mode None = mode
+mode_after mode (Some e) = mode_of e
 
 -- the bytes of a held-back escape
 abbrev pub escape_bytes : Option Escape → List ℕ
@@ -58,9 +58,9 @@ start_bytes Dollar = esc ∷ 0x24 ∷ []
 start_bytes Paren = esc ∷ 0x28 ∷ []
 
 -- the held-back bytes
-abbrev pub bytes_of : Held → List ℕ
-bytes_of (Byte b) = b ∷ []
-bytes_of (Begun e s) = escape_bytes e ++ start_bytes s
+abbrev pub bytes_held : Held → List ℕ
+bytes_held (Byte b) = b ∷ []
+bytes_held (Begun e s) = escape_bytes e ++ start_bytes s
 
 -- the number of input bytes that the held-back bytes count as in a length; a whole escape counts as one
 abbrev pub weight_of : Held → ℕ
@@ -70,11 +70,11 @@ weight_of (Begun (Some e) s) = 1 + length (start_bytes s)
 
 -- the state with this index, this mode and these held-back bytes
 abbrev pub state_in : List ℕ → Mode → Held → DecoderState
-state_in jis0208 mode held = record { grammar = iso_2022_jp jis0208 (mode_meaning mode); held = bytes_of held }
+state_in jis0208 mode held = record { grammar = iso_2022_jp jis0208 (mode_meaning mode); held = bytes_held held }
 
 -- a malformed sequence, with the mode and the held-back bytes after it
 abbrev pub malformed : ℕ → Bool → Mode → Held → Fed × Mode × Held
-malformed n unread mode held = (MalformedSequence n (length (bytes_of held)) unread, mode, held)
+malformed n unread mode held = (MalformedSequence n (length (bytes_held held)) unread, mode, held)
 
 -- the scalar of a byte outside two-byte mode
 abbrev pub single : Mode → ℕ → Option ℕ
@@ -128,13 +128,13 @@ read_third mode before a None = malformed 1 true mode (Byte a)
 
 -- reads a byte after the beginning of an escape, or with nothing held back; after a whole escape its mode applies
 abbrev pub read_start : Mode → Option Escape → Start → ℕ → Fed × Mode × Held
-read_start mode e Nothing b = if b == esc then (Kept, mode, Begun e EscapeByte) else read_plain (mode_behind mode e) b
+read_start mode e Nothing b = if b == esc then (Kept, mode, Begun e EscapeByte) else read_plain (mode_after mode e) b
 read_start mode e EscapeByte b =
     if b == 0x24 then (Kept, mode, Begun e Dollar)
     else if b == 0x28 then (Kept, mode, Begun e Paren)
-    else malformed 1 true (mode_behind mode e) (Begun None Nothing)
-read_start mode e Dollar b = read_third (mode_behind mode e) e 0x24 (completes Dollar b)
-read_start mode e Paren b = read_third (mode_behind mode e) e 0x28 (completes Paren b)
+    else malformed 1 true (mode_after mode e) (Begun None Nothing)
+read_start mode e Dollar b = read_third (mode_after mode e) e 0x24 (completes Dollar b)
+read_start mode e Paren b = read_third (mode_after mode e) e 0x28 (completes Paren b)
 
 -- reads the next byte
 abbrev pub read : List ℕ → Mode → Held → ℕ → Fed × Mode × Held
@@ -165,6 +165,6 @@ pending mode (Begun e s) = None
 abbrev pub finish : Mode → Held → Option (Mode × Held)
 finish mode (Byte l) = Some (mode, Begun None Nothing)
 finish mode (Begun e Nothing) = None
-finish mode (Begun e EscapeByte) = Some (mode_behind mode e, Begun None Nothing)
-finish mode (Begun e Dollar) = Some (mode_behind mode e, Byte 0x24)
-finish mode (Begun e Paren) = Some (mode_behind mode e, Byte 0x28)
+finish mode (Begun e EscapeByte) = Some (mode_after mode e, Begun None Nothing)
+finish mode (Begun e Dollar) = Some (mode_after mode e, Byte 0x24)
+finish mode (Begun e Paren) = Some (mode_after mode e, Byte 0x28)

@@ -1,10 +1,12 @@
 -- The runs of the single-byte decoders.
 use Rattle.std.proofs.Common.{rules, IsAscii, ◌≡◌, ◌∙◌, ℕ, List, ◌+◌, ◌-◌, ◌≤◌, ◌<◌, ◌^◌, ◌++◌, zero, suc, length, take, drop, get_or}
 use Rattle.std.proofs.{Common.{cond, ltb, Some, refl, sym, ap, arith, All}, lemmas.Bool.Decides.nat_tests, lemmas.List.Elements.All-from_get_or}
-use Rattle.std.proofs.lemmas.List.{get_or_past, take_all, take_more, take-take, get_or-take, get_or-drop, length-drop, length-take, length-take-le, get_or-map, length-map}
+use Rattle.std.proofs.lemmas.List.{get_or_past, take_all, take_more, take-take, get_or-take}
+use Rattle.std.proofs.lemmas.List.{get_or-drop, length-drop, length-take, length-take-le, get_or-map, length-map}
 use Rattle.std.proofs.Math.Seq.{take-append_seam}
 use Rattle.std.specs.Char.{IsScalar}
-use Rattle.legacy_text.specs.{declared.destination.Destination.Ghosts, EncodingForm.{all_code_units, bmp_room, total_unit_count}, PastAscii.{ArePast, ArePastFrom}}
+use Rattle.legacy_text.specs.declared.destination.Destination.{Ghosts}
+use Rattle.legacy_text.specs.{EncodingForm.{all_code_units, bmp_room, total_unit_count}, PastAscii.{ArePast, ArePastFrom}}
 use Rattle.legacy_text.{specs.ByteUnits.{AreByteScalars, HaveScalars, scalars_of}, proofs.ByteUnits.one_each}
 use Rattle.legacy_base.specs.{States.{DecoderState, new_state}, Grammar.single_byte}
 use Rattle.legacy_tables.specs.{Indexes.{idx}, AcceptedTables.AcceptedTable}
@@ -77,7 +79,8 @@ module _ (table : AcceptedTable) where
     reads_entries T old new some within long contents room loan slack enough =
         let run = bytes_run some n (omega arith) within (omega arith) in
         let all : take n units ≡ units = take_all n units (omega arith) in
-        reads_written within (record { scalars = units; runs = rw all at run; written = contents; room = room; loan = loan }) (omega (arith, slack, room)) enough
+        reads_written within (record { scalars = units; runs = rw all at run; written = contents; room = room; loan = loan })
+        (omega (arith, slack, room)) enough
 
   -- the eight bytes were read and their entries were written
   pub reads_eight : (source units : List ℕ) → ((k : ℕ) → get_or source k 0 < 2 ^ 8)
@@ -87,7 +90,8 @@ module _ (table : AcceptedTable) where
       → 35 ≤ T.room old → ReadsAhead T (new_state (single_byte table.entries)) source 8 old new
   reads_eight source units bytes same T old new some within long contents room loan enough =
       let few = all_short T.form units (λ k h. (entry_below (get_or source k 0) (get_or units k 0) (same k (omega arith))).0) in
-      reads_entries source units 8 bytes same T old new (λ k h past. some k (omega (arith, h, long))) within long contents room loan (omega (arith, few, long, enough))
+      reads_entries source units 8 bytes same T old new (λ k h past. some k (omega (arith, h, long)))
+      within long contents room loan (omega (arith, few, long, enough))
       (omega (arith, enough))
 
   -- the entries of all bytes
@@ -99,7 +103,8 @@ module _ (table : AcceptedTable) where
   }
 
   -- bytes at the front were read and their scalars were written, each as one code unit
-  pub reads_units : (source entries : List ℕ) (r : ℕ) → ((k : ℕ) → get_or source k 0 < 2 ^ 8) → AreByteScalars entries → AreByteEntries table.entries entries 256
+  pub reads_units : (source entries : List ℕ) (r : ℕ) → ((k : ℕ) → get_or source k 0 < 2 ^ 8) → AreByteScalars entries
+      → AreByteEntries table.entries entries 256
       → {D : Type 0} (T : Ghosts D) (old new : D) → bmp_room T.form ≡ 1 → r ≤ 64 → 64 ≤ length source → HaveScalars entries (take r source)
       → T.contents new ≡ T.contents old ++ all_code_units T.form (scalars_of entries (take r source))
       → T.room new + total_unit_count T.form (scalars_of entries (take r source)) ≡ T.room old → T.loan new ≡ T.loan old → 70 ≤ T.room old

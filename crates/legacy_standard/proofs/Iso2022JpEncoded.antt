@@ -6,13 +6,13 @@ use Rattle.legacy_base.specs.{declared.results.EncodeEvent.EncodeEvent, EncoderP
 use Rattle.legacy_base.specs.Iso2022Jp.{mode_behind, settled_mode, iso_2022_jp_code, iso_2022_jp_pointer_of, iso_2022_jp_reported, escape_to}
 use Rattle.legacy_base.proofs.Iso2022JpEncoding.{text_events, text_events-here, text_events-escape, text_events-end, mode_for, mode_for-twice}
 use Rattle.legacy_tables.specs.Pointers.{euc_jp_pointer_of, minus_as_hyphen}
-use Rattle.legacy_standard.specs.{TextQueue.{TextItem, scalar, TextHandled, bytes, returns, restores}, Iso2022JpEncoder.{EncoderState, ascii}}
+use Rattle.legacy_standard.specs.{TextQueue.{TextItem, scalar, TextHandled, bytes, returns, restores}, Iso2022JpEncoder.{Iso2022JpEncoderState, ascii}}
 use Rattle.legacy_standard.specs.{Iso2022JpEncoder.{roman, jis0208, set_scalar, at_pointer, at_set, iso_2022_jp_encodes}, EncoderLaw.{HasRows, HasFolds}}
 use Rattle.legacy_standard.proofs.TextTurns.{IsEncodedBy, Writes, by_code, steady, ends, end_bytes, gives}
 use Rattle.legacy_base.specs.Encoders as codecs
 
 -- the handler's state for a mode
-abbrev state_of : EncoderMode → EncoderState
+abbrev state_of : EncoderMode → Iso2022JpEncoderState
 state_of in_ascii = ascii
 state_of in_roman = roman
 state_of in_two_byte = jis0208
@@ -27,7 +27,7 @@ same_self : (mode : EncoderMode) → same_mode mode mode ≡ true
 same_self mode = grind arith
 
 module _ (index katakana_index : List ℕ) where
-  abbrev handler : EncoderState → TextItem → TextHandled EncoderState
+  abbrev handler : Iso2022JpEncoderState → TextItem → TextHandled Iso2022JpEncoderState
   handler = iso_2022_jp_encodes index katakana_index
 
   abbrev events : EncoderMode → List ℕ → List EncodeEvent
@@ -47,11 +47,11 @@ module _ (index katakana_index : List ℕ) where
   code = iso_2022_jp_code index katakana_index
 
   -- the handler's result for the scalar c in its mode
-  abbrev here : EncoderMode → ℕ → TextHandled EncoderState
+  abbrev here : EncoderMode → ℕ → TextHandled Iso2022JpEncoderState
   here mode c = returns (by_code (iso_2022_jp_reported c) (code c)) (state_of mode)
 
   -- the handler's result in any mode: in another mode it writes an escape, and goes on with the scalar d
-  abbrev acts : EncoderMode → EncoderMode → ℕ → ℕ → TextHandled EncoderState
+  abbrev acts : EncoderMode → EncoderMode → ℕ → ℕ → TextHandled Iso2022JpEncoderState
   acts mode new c d = cond (same_mode mode new) (here mode c) (restores (d ∷ []) (bytes (escape_to new)) (state_of new))
 
   -- the scalar c, or d in its place, in the mode of c

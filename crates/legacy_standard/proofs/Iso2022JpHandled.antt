@@ -10,7 +10,7 @@ use Rattle.legacy_base.proofs.{Shifts.{shift-append, shift-shift, shift-zero}, I
 use Rattle.legacy_base.proofs.Iso2022JpFronts.{step_two, step_no_escape, step_escape, escape_ahead}
 use Rattle.legacy_tables.specs.{Unicode.AreBytes, Indexes.idx}
 use Rattle.legacy_standard.specs.Queue.{Item, byte, end_of_queue, continue, finished, error, code_point, returns, restores, code_point_or_error}
-use Rattle.legacy_standard.specs.Iso2022Jp.{DecoderState, ascii, roman, katakana, leading_byte, trailing_byte, escape_start, escape, escape_state}
+use Rattle.legacy_standard.specs.Iso2022Jp.{Iso2022JpDecoderState, ascii, roman, katakana, leading_byte, trailing_byte, escape_start, escape, escape_state}
 use Rattle.legacy_standard.specs.{Iso2022Jp.{Iso2022Jp, iso_2022_jp_handler, length_and_after, iso_2022_jp_malformed}, DecoderLaw.HandlerDecodes}
 use Rattle.legacy_standard.proofs.Turns.{Runs, steady, at_end, goes_on, error_at, error_at_end, gives}
 use Rattle.legacy_base.specs.Iso2022Jp as iso
@@ -63,7 +63,7 @@ module _ {jis0208 : List ℕ} {s t : Iso2022Jp} {few pos : ℕ} where
 -- ---- the decoder
 
 -- the handler's state for a mode
-abbrev state_of : Mode → DecoderState
+abbrev state_of : Mode → Iso2022JpDecoderState
 state_of iso.ascii = ascii
 state_of iso.roman = roman
 state_of iso.katakana = katakana

@@ -5,7 +5,7 @@ use Rattle.std.specs.{Prelude.is_some, Option.option_or, Char.IsScalar}
 use borrow.Author.Tests.{leb-true, leb-false}
 use Rattle.legacy_tables.specs.{Pointers.range_pointer_of}
 use Rattle.legacy_tables.proofs.{Pointers.range-fixed, RangePointers.{wide-pointer, pointer-before, pointer-past, pointer-fixed, pointer-found}}
-use Rattle.legacy_standard.specs.{IndexPointers.{offset_pointer, ranges_pointer}, EncoderLaw.AreAcceptedRanges}
+use Rattle.legacy_standard.specs.{RangesPointer.{offset_pointer, ranges_pointer}, EncoderLaw.AreAcceptedRanges}
 
 -- the range of a place is the last that begins at or before c, and gives it the pointer p
 record IsTaken (ranges : List (ℕ × ℕ)) (c p place : ℕ) : Type 0 where

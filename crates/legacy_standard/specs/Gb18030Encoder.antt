@@ -4,7 +4,7 @@ use Rattle.std.specs.Char.{is_ascii}
 use Rattle.legacy_tables.specs.Indexes.{gb18030_pua_of}
 use Rattle.legacy_tables.specs.Pointers.{index_pointer_of}
 use Rattle.legacy_standard.specs.TextQueue.{TextOutcome, bytes, error_with}
-use Rattle.legacy_standard.specs.IndexPointers.{ranges_pointer}
+use Rattle.legacy_standard.specs.RangesPointer.{ranges_pointer}
 
 -- the Standard's table of private-use scalars and their two bytes
 abbrev pub private_use_rows : List (ℕ × ℕ × ℕ)

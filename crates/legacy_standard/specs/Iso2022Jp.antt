@@ -8,13 +8,13 @@ use Rattle.legacy_standard.specs.Queue.{Item, byte, end_of_queue, Handled, conti
 use Rattle.legacy_standard.specs.Processing.{Malformed}
 
 -- the values of the "ISO-2022-JP decoder state"
-pub data DecoderState : Type 0 where
-  ascii roman katakana leading_byte trailing_byte escape_start escape : DecoderState
+pub data Iso2022JpDecoderState : Type 0 where
+  ascii roman katakana leading_byte trailing_byte escape_start escape : Iso2022JpDecoderState
 
 -- the state of the "ISO-2022-JP decoder"
 pub record Iso2022Jp : Type 0 where
-  pub state : DecoderState
-  pub output_state : DecoderState
+  pub state : Iso2022JpDecoderState
+  pub output_state : Iso2022JpDecoderState
   pub leading : ℕ
   pub output : Bool
 
@@ -23,7 +23,7 @@ abbrev pub iso_2022_jp_initial : Iso2022Jp
 iso_2022_jp_initial = record { state = ascii; output_state = ascii; leading = 0x00; output = false }
 
 -- the decoder state for the two bytes of an escape, or null
-abbrev pub escape_state : ℕ → ℕ → Option DecoderState
+abbrev pub escape_state : ℕ → ℕ → Option Iso2022JpDecoderState
 escape_state leading b =
     if leading == 0x28 && b == 0x42 then Some ascii
     else if leading == 0x28 && b == 0x4A then Some roman
@@ -32,13 +32,13 @@ escape_state leading b =
     else None
 
 -- the last steps of the escape state
-abbrev pub after_escape : Option DecoderState → ℕ → ℕ → Iso2022Jp → Handled Iso2022Jp
+abbrev pub after_escape : Option Iso2022JpDecoderState → ℕ → ℕ → Iso2022Jp → Handled Iso2022Jp
 after_escape (Some new) leading b d =
     returns (if not d.output then continue else error) (record d { state = new; output_state = new; output = true })
 after_escape None leading b d = restores (leading ∷ b ∷ []) error (record d { state = d.output_state; output = false })
 
 -- the handler in a decoder state
-abbrev pub handler_in : DecoderState → List ℕ → Iso2022Jp → Item → Handled Iso2022Jp
+abbrev pub handler_in : Iso2022JpDecoderState → List ℕ → Iso2022Jp → Item → Handled Iso2022Jp
 handler_in ascii jis0208 d (byte b) =
     if b == 0x1B then returns continue (record d { state = escape_start })
     else if is_in_range 0x00 0x7F b && not (b == 0x0E || b == 0x0F) then returns (code_point b) (record d { output = false })
@@ -80,7 +80,7 @@ iso_2022_jp_handler jis0208 d item = handler_in d.state jis0208 d item
 -- The length of an error's malformed sequence, and the number of bytes read after it, by the decoder state, the leading
 -- byte and the item. If an escape byte follows a lead, both are read and only the lead is malformed. If a valid escape
 -- follows another one, both are read and the first is malformed.
-abbrev pub length_and_after : DecoderState → ℕ → Item → ℕ × ℕ
+abbrev pub length_and_after : Iso2022JpDecoderState → ℕ → Item → ℕ × ℕ
 length_and_after trailing_byte leading (byte b) = if b == 0x1B then (1, 1) else (2, 0)
 length_and_after escape leading (byte b) = if is_some (escape_state leading b) then (3, 3) else (1, 0)
 length_and_after _ leading item = (1, 0)

@@ -14,7 +14,7 @@ pub mod Utf16
 pub mod Iso2022Jp
 pub mod DecoderLaw
 pub mod TextQueue
-pub mod IndexPointers
+pub mod RangesPointer
 pub mod SingleByteEncoder
 pub mod UserDefinedEncoder
 pub mod EucKrEncoder

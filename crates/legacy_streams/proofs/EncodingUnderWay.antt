@@ -10,7 +10,7 @@ use Rattle.legacy_base.proofs.EncoderLaws.{end-encoded}
 use Rattle.legacy_codecs.specs.{declared.results.CoderResult.CoderResult, declared.results.CoderResult.TheVariants.InputEmpty, References.event_bytes}
 use Rattle.legacy_codecs.specs.References.{ReplacingEncoderCall}
 use Rattle.legacy_codecs.proofs.WholeTexts.{wrote_last}
-use Rattle.legacy_streams.specs.{Utf8Texts.{utf8_text, IsChunk, IsCutCharacter}, Encoding.{EncodesUpTo, EncodesText, EncodesFront, EncodesPiece}}
+use Rattle.legacy_streams.specs.{Utf8Texts.{lossy_text, IsChunk, IsCutCharacter}, Encoding.{EncodesUpTo, EncodesText, EncodesFront, EncodesPiece}}
 use Rattle.legacy_streams.specs.Encoding.{EncodesPieceFront, EncodesAll, EncodesBeginning, EncodesPartly, DecodesTo, EncodesBytes, Sends, end_scalars}
 use Rattle.legacy_streams.proofs.Utf8Pieces.{cut_chunk, malformed_chunk, malformed_back, text_of_cut, text_of_none, utf8_cases}
 
@@ -144,7 +144,7 @@ cut_valid b bs cut = ⊎_elim
     (utf8_cases (b ∷ bs))
 
 -- their text
-text_of_held : (held : List ℕ) → IsCutCharacter held → utf8_text held ≡ end_scalars (length held)
+text_of_held : (held : List ℕ) → IsCutCharacter held → lossy_text held ≡ end_scalars (length held)
 text_of_held [] cut = text_of_none
 text_of_held (b ∷ bs) cut = text_of_cut (b ∷ bs) (cut_valid b bs cut) cut.not_malformed
 
@@ -295,7 +295,7 @@ module _ {before now : EncoderState} {held : List ℕ} {left_old left old mid : 
           last = false;
           at_end = λ f. absurd (let no : false ≡ true = f in cc);
           text = front.scalars;
-          is_text = λ more h. (utf8_text (front.rest ++ more), front.decodes.text more, λ f. absurd (let no : false ≡ true = f in cc));
+          is_text = λ more h. (lossy_text (front.rest ++ more), front.decodes.text more, λ f. absurd (let no : false ≡ true = f in cc));
           front = front.front;
           between = now;
           input_between = left;
@@ -309,7 +309,7 @@ module _ {before now : EncoderState} {held : List ℕ} {left_old left old mid : 
         }
 
   -- the text of all that was read
-  whole_text : utf8_text u.bytes ≡ u.done.scalars ++ end_scalars (length held)
+  whole_text : lossy_text u.bytes ≡ u.done.scalars ++ end_scalars (length held)
   whole_text = grind (arith, append-nil, u.done.decodes.text [], text_of_held held u.cut)
 
   module _ (left_new : Option (List ℕ)) (r : Consumes left left_new []) where
@@ -322,7 +322,7 @@ module _ {before now : EncoderState} {held : List ℕ} {left_old left old mid : 
     input_end at_end after new t =
         let whole = text_join u.done.text t in
         let ended = t.ended refl in
-        let all : encoded before (utf8_text u.bytes) true ≡ whole.done.events =
+        let all : encoded before (lossy_text u.bytes) true ≡ whole.done.events =
         grind (arith, append-nil, whole_text, whole.done.goes_on.gives [] true, end-encoded after) in
         record {
           bytes = u.bytes;

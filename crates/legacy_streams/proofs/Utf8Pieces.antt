@@ -9,7 +9,7 @@ use Rattle.std.proofs.lemmas.Str.{utf8_valid_len-IsUtf8, utf8_lossy_empty, chars
 use Rattle.std.specs.{Char.encode_utf8, Int.is_in_range, Str.{IsValidUpTo, is_utf8, chars}, Str.Lossy.{valid_len_up_to, utf8_valid_len, second_byte_min}}
 use Rattle.std.specs.Str.Lossy.{second_byte_max, utf8_error_len, utf8_invalid_len, utf8_lossy, replacement_bytes}
 use lib.Utf8.{scalar, scalars, scalar_cases}
-use Rattle.legacy_streams.specs.Utf8Texts.{utf8_text, IsChunk}
+use Rattle.legacy_streams.specs.Utf8Texts.{lossy_text, IsChunk}
 
 -- ---- the longest text at the front
 
@@ -70,8 +70,8 @@ lossy_past_text text more u = elim (utf8_cases more) [
 
 -- ---- text
 
-pub text_past : (text more : List ℕ) → IsUtf8 text → utf8_text (text ++ more) ≡ chars text ++ utf8_text more
-unfolding utf8_text
+pub text_past : (text more : List ℕ) → IsUtf8 text → lossy_text (text ++ more) ≡ chars text ++ lossy_text more
+unfolding lossy_text
 text_past text more u = ap chars (lossy_past_text text more u) ∙ chars-append text (utf8_lossy more) u
 
 replacement_utf8 : IsUtf8 replacement_bytes
@@ -190,25 +190,25 @@ lossy_past_none bs valid =
     rw (len, zero-add (utf8_invalid_len bs)) at (utf8_lossy_step bs (omega (arith, valid.short, len)))
 
 text_past_malformed : (bad more : List ℕ) (k : ℕ) → IsValidUpTo bad 0 → utf8_error_len bad ≡ Some k → k ≤ length bad →
-    utf8_text (bad ++ more) ≡ 0xFFFD ∷ utf8_text (drop k bad ++ more)
-unfolding utf8_text
+    lossy_text (bad ++ more) ≡ 0xFFFD ∷ lossy_text (drop k bad ++ more)
+unfolding lossy_text
 text_past_malformed bad more k valid e within =
     grind (arith, error_len_longer, drop-append-le, lossy_past_none, malformed_longer, chars-append replacement_bytes, replacement_utf8, replacement_chars)
 
 -- what the end of the input leaves of a character is malformed
-pub text_of_cut : (bad : List ℕ) → IsValidUpTo bad 0 → utf8_error_len bad ≡ None → utf8_text bad ≡ 0xFFFD ∷ []
-unfolding utf8_text
+pub text_of_cut : (bad : List ℕ) → IsValidUpTo bad 0 → utf8_error_len bad ≡ None → lossy_text bad ≡ 0xFFFD ∷ []
+unfolding lossy_text
 text_of_cut bad valid e = grind (arith, drop_all, utf8_lossy_empty, lossy_past_none, append-nil, replacement_chars)
 
-pub text_of_none : utf8_text [] ≡ []
-unfolding utf8_text
+pub text_of_none : lossy_text [] ≡ []
+unfolding lossy_text
 text_of_none = ap chars (utf8_lossy_empty [] refl) ∙ chars-nil
 
 -- ---- a chunk
 
 module _ {rest valid invalid : List ℕ} (k : IsChunk rest valid invalid) where
   -- it is not malformed yet if the end cuts it
-  pub cut_chunk : (more : List ℕ) → utf8_text (rest ++ more) ≡ chars valid ++ utf8_text ((invalid ++ k.later) ++ more)
+  pub cut_chunk : (more : List ℕ) → lossy_text (rest ++ more) ≡ chars valid ++ lossy_text ((invalid ++ k.later) ++ more)
   cut_chunk more = grind (arith, append_assoc, text_past)
 
   module _ (some : 0 < length invalid) where
@@ -228,8 +228,8 @@ module _ {rest valid invalid : List ℕ} (k : IsChunk rest valid invalid) where
     malformed_is o h h1 = grind (arith, back, length-append)
 
     pub malformed_chunk : (0 < length k.later) ⊎ (utf8_error_len (invalid ++ k.later) ≢ None) → (more : List ℕ)
-        → utf8_text (rest ++ more) ≡ (chars valid ++ 0xFFFD ∷ []) ++ utf8_text (k.later ++ more)
+        → lossy_text (rest ++ more) ≡ (chars valid ++ 0xFFFD ∷ []) ++ lossy_text (k.later ++ more)
     malformed_chunk h more =
         let e = malformed_is (utf8_error_len (invalid ++ k.later)) refl h in
         let past = text_past_malformed (invalid ++ k.later) more (length invalid) malformed_back e (omega (arith, length-append invalid k.later)) in
-        rw (cut_chunk more, past, drop_at invalid k.later _ refl) (sym (append_assoc (chars valid) (0xFFFD ∷ []) (utf8_text (k.later ++ more))))
+        rw (cut_chunk more, past, drop_at invalid k.later _ refl) (sym (append_assoc (chars valid) (0xFFFD ∷ []) (lossy_text (k.later ++ more))))

@@ -4,11 +4,11 @@ use Rattle.std.specs.Io.KnownBytes.{Appends, Consumes, IsAtEnd}
 use Rattle.legacy_base.specs.declared.results.EncodeEvent.{EncodeEvent}
 use Rattle.legacy_base.specs.Encoders.{EncoderState, encoded, end_bytes}
 use Rattle.legacy_codecs.specs.References.{referenced_bytes}
-use Rattle.legacy_streams.specs.Utf8Texts.{utf8_text, IsCutCharacter}
+use Rattle.legacy_streams.specs.Utf8Texts.{lossy_text, IsCutCharacter}
 
 -- The events of the text and whatever follows, ended or not, are `events`, and then those of what is left. After the
 -- last text nothing follows. The codec stays.
-pub record GoesOn (last : Bool) (before : EncoderState) (text : List ℕ) (events : List EncodeEvent) (after : EncoderState) (left : List ℕ) : Type 0 where
+pub record KeepsEvents (last : Bool) (before : EncoderState) (text : List ℕ) (events : List EncodeEvent) (after : EncoderState) (left : List ℕ) : Type 0 where
   pub gives : (more : List ℕ) (ended : Bool) → (IsTrue last → (more ≡ []) × IsTrue ended) →
       encoded before (text ++ more) ended ≡ events ++ encoded after (left ++ more) ended
   pub codec : after.codec ≡ before.codec
@@ -28,7 +28,7 @@ pub record Sends (waited bytes waiting : List ℕ) (old new : Option (List ℕ))
 pub record EncodesUpTo (before : EncoderState) (text : List ℕ) (last : Bool) (after : EncoderState) (left waited waiting : List ℕ)
     (old new : Option (List ℕ)) : Type 0 where
   pub events : List EncodeEvent
-  pub goes_on : GoesOn last before text events after left
+  pub goes_on : KeepsEvents last before text events after left
   pub sends : Sends waited (referenced_bytes events) waiting old new
 
 -- The whole text was encoded; after the last text the encoder's end too.
@@ -51,7 +51,7 @@ end_scalars (suc n) = 0xFFFD ∷ []
 
 -- The text of a piece is these scalars, and then that of what is left of it and whatever bytes follow.
 pub record DecodesTo (piece scalars left : List ℕ) : Type 0 where
-  pub text : (more : List ℕ) → utf8_text (piece ++ more) ≡ scalars ++ utf8_text (left ++ more)
+  pub text : (more : List ℕ) → lossy_text (piece ++ more) ≡ scalars ++ lossy_text (left ++ more)
 
 -- The text of the bytes was encoded except for that of what is left.
 pub record EncodesBytes (before : EncoderState) (bytes left : List ℕ) (after : EncoderState) (waiting : List ℕ) (old new : Option (List ℕ)) : Type 0 where
@@ -82,7 +82,7 @@ pub record EncodesAll (before after : EncoderState) (input_old input_new output_
   pub bytes : List ℕ
   pub read : Consumes input_old input_new bytes
   pub at_end : IsAtEnd input_new
-  pub written : Appends output_old output_new (referenced_bytes (encoded before (utf8_text bytes) true))
+  pub written : Appends output_old output_new (referenced_bytes (encoded before (lossy_text bytes) true))
   pub ended : end_bytes after ≡ []
   pub codec : after.codec ≡ before.codec
 
@@ -98,7 +98,7 @@ pub record EncodesBeginning (before after : EncoderState) (input_old input_new o
   pub scalars : List ℕ
   pub decodes : DecodesTo bytes scalars held
   pub events : List EncodeEvent
-  pub goes_on : GoesOn false before scalars events after []
+  pub goes_on : KeepsEvents false before scalars events after []
   pub written : Appends output_old output_new (referenced_bytes events)
 
 -- Some bytes of the input were read, and a part of their text was encoded. The events of that part are a beginning of
@@ -111,7 +111,7 @@ pub record EncodesPartly (before after : EncoderState) (input_old input_new outp
   pub last : Bool
   pub at_end : IsTrue last → IsAtEnd input_new
   pub text : List ℕ
-  pub is_text : (more : List ℕ) → (IsTrue last → more ≡ []) → (later : List ℕ) × (utf8_text (bytes ++ more) ≡ text ++ later) × (IsTrue last → later ≡ [])
+  pub is_text : (more : List ℕ) → (IsTrue last → more ≡ []) → (later : List ℕ) × (lossy_text (bytes ++ more) ≡ text ++ later) × (IsTrue last → later ≡ [])
   pub front : EncodesFront before text last after [] output_old output_new
   pub between : EncoderState
   pub input_between : Option (List ℕ)

@@ -4,8 +4,8 @@ use Rattle.std.specs.Str.{chars}
 use Rattle.std.specs.Str.Lossy.{utf8_lossy, utf8_valid_len, utf8_invalid_len, utf8_error_len}
 
 -- the scalars of bytes in UTF-8, with U+FFFD for each malformed sequence ("UTF-8 decoder", error mode "replacement")
-unfoldable pub utf8_text : List ℕ → List ℕ
-utf8_text bytes = chars (utf8_lossy bytes)
+unfoldable pub lossy_text : List ℕ → List ℕ
+lossy_text bytes = chars (utf8_lossy bytes)
 
 -- There are no bytes, or they are a beginning of one character, and not all of it.
 pub record IsCutCharacter (bytes : List ℕ) : Type 0 where

@@ -1,12 +1,14 @@
 -- The indexes and single-byte tables that are accepted, and the first fault of others.
-use Rattle.std.specs.Prelude.{◌≡◌, ℕ, ◌+◌, ◌-◌, List, [], ◌∷◌, Option, Some, None, Bool, true, false, not, ◌&&◌, ◌||◌, ◌==◌, nat_le, nat_lt, if◌then◌else◌, length}
+use Rattle.std.specs.Prelude.{◌≡◌, ℕ, ◌+◌, ◌-◌, List, [], ◌∷◌, Option, Some, None, Bool, true}
+use Rattle.std.specs.Prelude.{false, not, ◌&&◌, ◌||◌, ◌==◌, nat_le, nat_lt, if◌then◌else◌, length}
 use Rattle.std.specs.Option.{option_or}
 use Rattle.std.specs.List.{list_any}
 use Rattle.std.specs.Int.{is_in_range}
 use Rattle.legacy_tables.specs.declared.tables.IndexName.{IndexName}
 use Rattle.legacy_tables.specs.declared.tables.IndexName.TheVariants as names
 use Rattle.legacy_tables.specs.declared.tables.TableError.{TableError}
-use Rattle.legacy_tables.specs.declared.tables.TableError.TheVariants.{TooLong, BadEntry, NotEmpty, KatakanaLength, RangeOrder, RangeValue, PuaOrder, PuaScalar, PuaBytes, BadByteEntry, Repeated}
+use Rattle.legacy_tables.specs.declared.tables.TableError.TheVariants.{TooLong, BadEntry, NotEmpty, KatakanaLength, RangeOrder}
+use Rattle.legacy_tables.specs.declared.tables.TableError.TheVariants.{RangeValue, PuaOrder, PuaScalar, PuaBytes, BadByteEntry, Repeated}
 use Rattle.legacy_tables.specs.Indexes.{FlatIndexes}
 
 -- ---- entries

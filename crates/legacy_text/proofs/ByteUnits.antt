@@ -1,7 +1,9 @@
 -- Single bytes that are stored as UTF-16 code units, by their entries.
-use Rattle.std.proofs.Common.{◌≡◌, ◌≢◌, ◌∙◌, ℕ, ◌+◌, ◌-◌, ◌<◌, ◌≤◌, ◌^◌, List, ◌++◌, All, length, take, drop, map, get_or, slice_set, w64, bit_and, arith, sym, ap, ap₂, ◌⊎◌}
+use Rattle.std.proofs.Common.{◌≡◌, ◌≢◌, ◌∙◌, ℕ, ◌+◌, ◌-◌, ◌<◌, ◌≤◌, ◌^◌, List, ◌++◌, All, length}
+use Rattle.std.proofs.Common.{take, drop, map, get_or, slice_set, w64, bit_and, arith, sym, ap, ap₂, ◌⊎◌}
 use Rattle.std.proofs.{lemmas.Bool.{cases_lt, Decides.nat_tests}, lemmas.Grind.{common_steps, same_number_lists}, Math.Seq.take-add}
-use Rattle.std.proofs.lemmas.List.{get_or-map, get_or-append_right, get_or-set_same, get_or-set_other, Elements.All-from_get_or, get_or_past, get_or-take, get_or-drop, length-take-le, length-drop, length-map}
+use Rattle.std.proofs.lemmas.List.{get_or-map, get_or-append_right, get_or-set_same, get_or-set_other}
+use Rattle.std.proofs.lemmas.List.{Elements.All-from_get_or, get_or_past, get_or-take, get_or-drop, length-take-le, length-drop, length-map}
 use Rattle.std.proofs.lemmas.Nat.Bits.{bit_at_and, bit_at-trailing_zeros}
 use Rattle.std.specs.Int.{bit_at, trailing_zeros}
 use Rattle.legacy_text.specs.ByteUnits.{AreByteScalars, HaveScalars, scalars_of}
@@ -44,7 +46,8 @@ module _ (entries bytes : List ℕ) (at : ℕ) (table : AreByteScalars entries) 
       → (i : ℕ) → i < 64 → get_or bytes i 0 < 128 → IsStored entries bytes new at i
   stored_ascii old new within same i h ascii =
       let place : get_or new (at + i) 0 ≡ get_or bytes i 0 =
-      sym (get_or-take (at + 64) new (at + i) 0 (omega (arith, h))) ∙ ap (λ l. get_or l (at + i) 0) same ∙ (get_or-append_right (take at old) (take 64 bytes) at (at + i) 0 (length-take-le at old within) (omega arith)
+      sym (get_or-take (at + 64) new (at + i) 0 (omega (arith, h))) ∙ ap (λ l. get_or l (at + i) 0) same
+      ∙ (get_or-append_right (take at old) (take 64 bytes) at (at + i) 0 (length-take-le at old within) (omega arith)
       ∙ ap (λ k. get_or (take 64 bytes) k 0) (omega arith) ∙ get_or-take 64 bytes i 0 h) in
       (place ∙ sym (table.ascii (get_or bytes i 0) ascii), λ past none. omega (arith, ascii, past))
 

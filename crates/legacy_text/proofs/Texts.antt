@@ -131,7 +131,13 @@ utf8_read text taken left read u e p =
     let all : text ≡ encodes taken ++ encodes left = sym (encodes-chars text u) ∙ ap encodes e ∙ encodes-append taken left in
     let good : scalars left ≡ true = scalars-right taken left (ap scalars (sym e) ∙ scalars-chars text u) in
     let boundary = IsCharBoundary-at_seam text (encodes taken) (encodes left) all (left, (good, refl)) in
-    grind (arith, passed_is Utf8 (chars text) taken left read e p, encodes-code_units taken, drop-append_seam (encodes taken) (encodes left), chars-encodes left good)
+    grind (
+      arith,
+      passed_is Utf8 (chars text) taken left read e p,
+      encodes-code_units taken,
+      drop-append_seam (encodes taken) (encodes left),
+      chars-encodes left good,
+    )
 
 pub utf16_read : (list taken left : List ℕ) (read : ℕ) → Bounded list → unit_scalars list ≡ taken ++ left
     → read + length (all_code_units Utf16 left) ≡ 0 + length (all_code_units Utf16 (unit_scalars list)) → CutUnits list left read

@@ -2,7 +2,8 @@
 use Rattle.std.proofs.Common.{◌≡◌, ℕ, zero, suc, ◌+◌, ◌-◌, ◌*◌, ◌/◌, ◌%◌, ◌^◌, ◌<◌, ◌≤◌, Bool, true, cond, ltb, leb, eqb, List, [], ◌∷◌, ◌++◌, length, get_or}
 use Rattle.std.proofs.Common.{map, take, drop, replicate, bit_and, refl, sym, ap, ap₂, ◌∙◌, arith, subst, zero-add, w8, w16, Fits, ◌&&◌, mod-lt, zero-lt-suc}
 use Rattle.std.proofs.{Common.{mul_assoc, length-append}, lemmas.Bool.{leb-true, and_parts, agree_below_at}, lemmas.List.{map-append, append_assoc}}
-use Rattle.std.proofs.{lemmas.List.{length-replicate, length-take-le, take-take, take-map}, lemmas.List.FromFn.{get_or-range_with_len, get_or-map-range_with_len}, Math.Seq.take-append_seam}
+use Rattle.std.proofs.lemmas.List.{length-replicate, length-take-le, take-take, take-map}
+use Rattle.std.proofs.{lemmas.List.FromFn.{get_or-range_with_len, get_or-map-range_with_len}, Math.Seq.take-append_seam}
 use Rattle.std.proofs.{lemmas.Nat.and_mask, lemmas.Nat.Bits.and_high, lemmas.Simd.{mask_l-lt, mask_l-mod, swz_l, SwzOk, SwzOk-from_below, Each1-get_or}}
 use Rattle.std.proofs.{lemmas.Simd.pick_l_whole, lemmas.Grind.{flat_map-append, common_steps}, lemmas.Bool.Decides.nat_tests}
 use Rattle.std.specs.{Char.encode_utf8, List.range_with_len}

@@ -2,7 +2,7 @@
 //!
 //! A step gives the mode and the held-back bytes after a byte, or at the end of the input.
 ghost use Rattle.std.specs.Prelude.{◌≡◌, ◌≤◌, ◌↔◌, IsTrue, None, length, true};
-ghost use Rattle.legacy_japanese.specs.Iso2022JpMachine.{start_bytes, bytes_of, is_held, is_resting, weight_of};
+ghost use Rattle.legacy_japanese.specs.Iso2022JpMachine.{start_bytes, bytes_held, is_held, is_resting, weight_of};
 ghost use Rattle.legacy_japanese.specs.declared.iso_2022_jp.steps.{Mode.TheVariants.Ascii, Start.TheVariants.Nothing, Held.TheVariants.Begun};
 ghost use Rattle.legacy_japanese.specs.Iso2022JpMachine as machine;
 
@@ -107,7 +107,7 @@ impl Held {
     /// Returns the number of held-back bytes.
     #[inline]
     pub fn count(self) -> u8
-        ensures { result ≡ length (bytes_of self) }
+        ensures { result ≡ length (bytes_held self) }
     {
         match self {
             Held::Byte(_) => 1,
@@ -132,8 +132,8 @@ impl Held {
 
 /// Returns the mode of the bytes after a held-back escape, if there is one.
 #[inline]
-fn mode_behind(mode: Mode, escape: Option<Escape>) -> Mode
-    ensures { result ≡ machine.mode_behind mode escape }
+fn mode_after(mode: Mode, escape: Option<Escape>) -> Mode
+    ensures { result ≡ machine.mode_after mode escape }
 {
     match escape {
         Some(escape) => escape.mode(),
@@ -280,7 +280,7 @@ fn read_third(mode: Mode, before: Option<Escape>, second: u8, next: Option<Escap
 fn read_start(mode: Mode, escape: Option<Escape>, start: Start, byte: u8) -> Outcome
     ensures { result ≡ machine.read_start mode escape start byte }
 {
-    let new_mode = mode_behind(mode, escape);
+    let new_mode = mode_after(mode, escape);
     match start {
         Start::Nothing => {
             if byte == ESCAPE {
@@ -335,7 +335,7 @@ pub fn finish(mode: Mode, held: Held) -> Option<(Mode, Held)>
     let Held::Begun(escape, start) = held else {
         return Some((mode, NOTHING));
     };
-    let new_mode = mode_behind(mode, escape);
+    let new_mode = mode_after(mode, escape);
     match start {
         Start::Nothing => None,
         Start::EscapeByte => Some((new_mode, NOTHING)),

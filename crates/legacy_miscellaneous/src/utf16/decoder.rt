@@ -2,7 +2,7 @@
 ghost use Rattle.std.specs.Prelude.{◌≡◌};
 ghost use Rattle.legacy_base.specs.Grammar.{utf16};
 ghost use Rattle.legacy_base.specs.States.{additional_from_state, new_state};
-ghost use Rattle.legacy_base.specs.Lengths.{answer, utf16_units};
+ghost use Rattle.legacy_base.specs.Lengths.{answer, most_code_units};
 
 use super::held_bytes::Held;
 use super::unit_blocks::Units;
@@ -62,7 +62,7 @@ impl Utf16Decoder {
     ///
     /// Returns `None` if the number of bytes exceeds `usize::MAX`.
     fn unit_limit(&self, byte_length: usize) -> Option<usize>
-        ensures { result ≡ answer (utf16_units (utf16_state self.now) byte_length) }
+        ensures { result ≡ answer (most_code_units (utf16_state self.now) byte_length) }
     {
         let bytes = byte_length.checked_add(self.additional_from_state())?;
         Some(bytes / 2)

@@ -103,7 +103,7 @@ fn read_units<T: Destination>(scalars: &ByteScalars, src: &[u8], most: usize, ds
     dst.put_bytes(src, scalars.entries(), most)
 }
 
-/// ASCII, and bytes past it without another one beside them.
+/// Few bytes past ASCII, among ASCII.
 // If a scalar may be several code units, a whole block is stored after each byte past ASCII, and the output after the
 // next ASCII bytes is overwritten. So no branch depends on the place of the next byte past ASCII, which no processor
 // predicts.

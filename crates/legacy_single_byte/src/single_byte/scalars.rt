@@ -42,7 +42,7 @@ fn entry_of(table: &SingleByteTable, byte: usize) -> u16
 }
 
 /// Returns the entries of all bytes.
-fn entries_of(table: &SingleByteTable) -> [u16; 256]
+fn byte_entries(table: &SingleByteTable) -> [u16; 256]
     ensures count { length result ≡ 256 }
     ensures same { AreByteEntries table.now.entries result 256 }
 {
@@ -77,7 +77,7 @@ impl<'a> ByteScalars<'a> {
     {
         ByteScalars {
             table,
-            entries: entries_of(table),
+            entries: byte_entries(table),
             utf8_entries: utf8_entries_of(table),
         }
     }

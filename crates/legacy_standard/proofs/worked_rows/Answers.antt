@@ -12,7 +12,7 @@ use Rattle.legacy_tables.proofs.{Pointers.{first-alike, first-is, first-none}, R
 use Rattle.legacy_standard.specs.{Processing.process, SingleByte.single_byte_handler, UserDefined.user_defined_handler, Replacement.replacement_handler}
 use Rattle.legacy_standard.specs.{EucKr.euc_kr_handler, Big5.big5_handler, ShiftJis.shift_jis_handler, EucJp.euc_jp_handler, Gb18030.gb18030_handler}
 use Rattle.legacy_standard.specs.{Utf16.utf16_handler, Iso2022Jp.iso_2022_jp_handler, TextQueue.by_scalar}
-use Rattle.legacy_standard.specs.{IndexPointers.ranges_pointer, SingleByteEncoder.single_byte_encodes, UserDefinedEncoder.user_defined_encodes}
+use Rattle.legacy_standard.specs.{RangesPointer.ranges_pointer, SingleByteEncoder.single_byte_encodes, UserDefinedEncoder.user_defined_encodes}
 use Rattle.legacy_standard.specs.{EucKrEncoder.euc_kr_encodes, Big5Encoder.big5_encodes, ShiftJisEncoder.{shift_jis_encodes, shift_jis_pointer_bytes}}
 use Rattle.legacy_standard.specs.{EucJpEncoder.{euc_jp_at, euc_jp_encodes}, Gb18030Encoder.gb18030_encodes, Iso2022JpEncoder.iso_2022_jp_encodes}
 use Rattle.legacy_standard.specs.{EncoderLaw.IsFold, WorkedTexts.{entry_at, Computes, Parts}}

@@ -1,6 +1,6 @@
 use Rattle.std.proofs.Common.{◌≡◌, ◌-◌, ◌≤◌, length}
 use Rattle.legacy_single_byte.specs.ByteEntries.{AreByteEntries}
-use Rattle.legacy_single_byte.proofs.single_byte.scalars.entries_of.Given as goal
+use Rattle.legacy_single_byte.proofs.single_byte.scalars.byte_entries.Given as goal
 
 -- the entries of the first bytes are in the list
 abbrev pub invariant-loop-byte : goal.invariant-loop-byte
