@@ -1,6 +1,6 @@
 -- The bytes that the loop for runs of common sequences reads, and the scalars that it writes.
 use Rattle.std.specs.{Prelude.{◌≡◌, ℕ, ◌+◌, ◌<◌, ◌≤◌, List, [], ◌∷◌, ◌++◌, length, map, take, All}, Char.IsScalar}
-use Rattle.legacy_text.specs.{declared.destination.Destination.Ghosts, EncodingForm.{all_code_units, total_unit_count}}
+use Rattle.legacy_text.specs.{declared.destination.Destination.Ghosts, EncodingForm.{Utf8, all_code_units, total_unit_count}}
 use Rattle.legacy_base.specs.{declared.results.DecodeEvent.TheVariants.Scalar, Events.shift, Grammar.{Grammar, events_of}, States.{DecoderState, new_state}}
 use Rattle.legacy_base.specs.Lengths.{LengthQuery, query_form, room}
 use Rattle.legacy_decoder_engine.specs.{declared.common_forms.CommonForm.TheVariants.{Single, Pair, Other}, Moves.SameRooms}
@@ -70,3 +70,13 @@ pub record ReadsTo {D : Type 0} (T : Ghosts D) (before after : DecoderState) (so
 -- the same without a change of the state
 abbrev pub ReadsAhead : {D : Type 0} → Ghosts D → DecoderState → List ℕ → ℕ → D → D → Type 0
 ReadsAhead T state source read old new = ReadsTo T state state source read old new
+
+-- Bytes at the front of the source were read, and their scalars were written in UTF-8, as `written`, to a buffer of
+-- `free` bytes. If any were read, at least four bytes were free before them, and at least three are free after them.
+pub record ReadsInto (grammar : Grammar) (source : List ℕ) (free read : ℕ) (written : List ℕ) : Type 0 where
+  pub within : read ≤ length source
+  pub scalars : List ℕ
+  pub runs : Runs grammar (take read source) scalars
+  pub bytes : written ≡ all_code_units Utf8 scalars
+  pub slack : 0 < read → length written + 3 ≤ free
+  pub had : 0 < read → 4 ≤ free

@@ -1,14 +1,15 @@
 //! Common forms near malformed sequences, where no block is begun for nothing.
 // The functions are always inlined, because they run in each call.
 ghost use Rattle.legacy_base.specs.States.{new_state};
-ghost use Rattle.legacy_decoder_engine.specs.ReadAhead.{HasAscii, ReadsAhead};
+ghost use Rattle.legacy_decoder_engine.specs.ReadAhead.{HasAscii, ReadsAhead, ReadsInto};
 
 use crate::common_forms::{FOUR_BYTES, FOUR_ROOM, read_four};
 use crate::lane_blocks::{LaneBlocks, LaneForms, begins_uncommon, read_in_turn, read_last};
 use crate::lane_codec::LaneCodec;
 use crate::read_ahead::{read_ascii, read_ascii_nearby, read_blocks, read_short_block};
-use legacy_base::{Destination, Tables};
+use legacy_base::{Destination, Tables, Utf8Destination};
 use legacy_tables::DecoderTables;
+use legacy_text::Filling;
 use std::cell::Cell;
 
 /// Returns whether an uncommon byte follows the form at the front, which is taken to be one ASCII byte or two bytes.
@@ -71,42 +72,33 @@ fn read_without_lanes<C: LaneCodec, T: Destination>(
     at
 }
 
-/// Reads common forms of a codec from the front, but nothing at an uncommon byte, and one form if such a byte follows it.
-///
-/// Returns the number of bytes read, which may be 0. If it reads any, three code units stay free. `without_lanes` is the
-/// number of bytes that are still to be read without lanes. It falls by the number that is read so, and becomes 0 if none is.
-// Malformed sequences often follow one another, or have a single form between them. Neither costs a call.
-#[inline(always)]
-#[tactic(auto, using(crate::proofs::WrittenRuns::no_bytes))]
-fn read_common<C: LaneCodec, T: Destination>(
-    blocks: &LaneBlocks<'_, '_, C>,
-    without_lanes: &mut usize,
-    src: &[u8],
-    dst: &mut T,
-) -> usize
-    requires { HasAscii (C.grammar blocks.now.tables.now.flat) }
-    ensures { ReadsAhead T.Destination (new_state (C.grammar blocks.now.tables.now.flat)) src.now result dst.old dst.new }
-{
-    if stands_alone::<C>(src) {
-        return read_in_turn::<C, T>(blocks.tables, src, 2, dst);
-    }
-    if *without_lanes > 0 {
-        let read = read_without_lanes(blocks, src, dst);
-        *without_lanes = if read == 0 {
-            0
-        } else {
-            without_lanes.saturating_sub(read)
-        };
-        return read;
-    }
-    read_blocks(blocks, src, dst)
+/// Text, and the blocks that read it.
+#[derive(Drop)]
+struct BlocksAhead<'x, 'a, 'b, C: LaneCodec> {
+    blocks: &'x LaneBlocks<'a, 'b, C>,
+    src: &'x [u8],
 }
 
-/// Reads common forms of a codec from the front, or only ASCII over packed tables.
+impl<C: LaneCodec> Filling for BlocksAhead<'_, '_, '_, C> {
+    ghost fills = { λ ahead. ReadsInto (C.grammar ahead.blocks.now.tables.now.flat) ahead.src.now };
+
+    /// Reads blocks from the front of the text, and returns the numbers of bytes read and written.
+    // It is a function of its own, so that its vectors and places leave the registers of a call that reads none.
+    #[inline(never)]
+    fn fill(&self, buffer: &mut [u8]) -> (usize, usize) {
+        let mut dst = Utf8Destination::new(buffer);
+        let read = read_blocks(self.blocks, self.src, &mut dst);
+        (read, dst.written())
+    }
+}
+
+/// Reads common forms of a codec from the front, but nothing at an uncommon byte, and one form if such a byte follows it.
 ///
-/// Returns the number of bytes read, which may be 0. If it reads any, three code units stay free. `guess` is what the
-/// codec keeps from one form of more than two bytes to the next. `without_lanes` is the number of bytes that are still to
-/// be read without lanes.
+/// Over packed tables it reads only ASCII. Returns the number of bytes read, which may be 0. If it reads any, three code
+/// units stay free. `guess` is what the codec keeps from one form of more than two bytes to the next. `without_lanes` is
+/// the number of bytes that are still to be read without lanes. It falls by the number that is read so, and becomes 0 if
+/// none is.
+// Malformed sequences often follow one another, or have a single form between them. Neither costs a call.
 #[inline(always)]
 pub fn read_by_tables<C: LaneCodec, T: Destination>(
     tables: &Tables<'_>,
@@ -118,11 +110,27 @@ pub fn read_by_tables<C: LaneCodec, T: Destination>(
     requires { HasAscii (C.grammar tables.now.flat) }
     ensures { ReadsAhead T.Destination (new_state (C.grammar tables.now.flat)) src.now result dst.old dst.new }
 {
-    match tables.flat() {
-        Some(tables) => {
-            let blocks = LaneBlocks::<C>::new(tables, guess);
-            read_common(&blocks, without_lanes, src, dst)
-        }
-        None => read_ascii(src, dst),
+    let Some(tables) = tables.flat() else {
+        return read_ascii(src, dst);
+    };
+    if stands_alone::<C>(src) {
+        return read_in_turn::<C, T>(tables, src, 2, dst);
+    }
+    let blocks = LaneBlocks::<C>::new(tables, guess);
+    if *without_lanes > 0 {
+        let read = read_without_lanes(&blocks, src, dst);
+        *without_lanes = if read == 0 {
+            0
+        } else {
+            without_lanes.saturating_sub(read)
+        };
+        return read;
+    }
+    match dst.lend(&BlocksAhead {
+        blocks: &blocks,
+        src,
+    }) {
+        Some(read) => read,
+        None => read_blocks(&blocks, src, dst),
     }
 }

@@ -1,5 +1,5 @@
 //! The outputs of a decoder.
-ghost use Rattle.std.specs.Prelude.{◌≡◌, ℕ, ◌+◌, ◌-◌, ◌<◌, ◌≤◌, List, [], ◌∷◌, ◌++◌, length, take, slice_index, IsAscii, encode_utf8, All};
+ghost use Rattle.std.specs.Prelude.{◌≡◌, ℕ, ◌+◌, ◌-◌, ◌<◌, ◌≤◌, List, [], ◌∷◌, ◌++◌, length, take, slice_index, IsAscii, encode_utf8, All, MatchOption};
 ghost use Rattle.std.specs.{Borrow.GName, Char.IsScalar};
 ghost use Rattle.legacy_text.specs.EncodingForm.{EncodingForm, Utf8, Utf16, code_units, unit_count, all_code_units, total_unit_count, bmp_room, wide_room};
 ghost use Rattle.legacy_text.specs.ByteUnits.{AreByteScalars, HaveScalars, scalars_of};
@@ -11,6 +11,17 @@ use crate::eight_units::{put_eight_units, put_first_units};
 use crate::scalar_bytes::{put_byte, put_scalar, store_four};
 use crate::short_units::put_short_units;
 use std::simd::prelude::*;
+
+/// Text in UTF-8 that a function of its own writes to a buffer.
+pub trait Filling {
+    /// The number that a call returns and the bytes that it writes, given the number of bytes of the buffer.
+    ghost fills: { Self → ℕ → ℕ → List ℕ → Type 0 };
+
+    /// Writes text to the beginning of the buffer. Returns a number, and the number of bytes written.
+    fn fill(&self, buffer: &mut [u8]) -> (usize, usize)
+        ensures written { result.1 ≤ length buffer.old }
+        ensures fills { fills self.now (length buffer.old) result.0 (take result.1 buffer.new) };
+}
 
 /// An output of UTF-8 bytes or UTF-16 code units, to which a decoder writes scalars.
 ///
@@ -76,6 +87,20 @@ pub trait Destination {
     {
         let _ = entry;
         self.put(c);
+    }
+
+    /// Lends the free bytes to a call that fills them, and returns its number.
+    ///
+    /// Returns `None` without a call if the destination has no free bytes of UTF-8 to lend, as provided.
+    // The destination's place stays in a register: only the free bytes are passed to the call.
+    #[inline(always)]
+    fn lend<F: Filling>(&mut self, filling: &F) -> Option<usize>
+        ensures { MatchOption result (self.new ≡ self.old) (λ count. (form ≡ Utf8) × (loan self.new ≡ loan self.old)
+            × ((bytes : List ℕ) × F.fills filling.now (room self.old) count bytes
+            × (contents self.new ≡ contents self.old ++ bytes) × (room self.new + length bytes ≡ room self.old))) }
+    {
+        let _ = filling;
+        None
     }
 
     /// Writes any number of ASCII bytes from the front of the slice, and returns the number.
@@ -292,6 +317,13 @@ impl Destination for Utf8Destination<'_> {
         let bytes = entry.to_le_bytes();
         store_four(self.buffer, self.filled, bytes);
         self.filled += usize::from(bytes[3]);
+    }
+
+    #[inline(always)]
+    fn lend<F: Filling>(&mut self, filling: &F) -> Option<usize> {
+        let (count, written) = filling.fill(&mut self.buffer[self.filled..]);
+        self.filled += written;
+        Some(count)
     }
 
     #[inline]

@@ -18,7 +18,7 @@ mod text_source;
 mod unit_codes;
 mod unit_rows;
 
-pub use destination::{Destination, Utf8Destination, Utf16Destination};
+pub use destination::{Destination, Filling, Utf8Destination, Utf16Destination};
 pub use eight_units::first_units;
 pub use scalar_bytes::utf8_entry;
 pub use short_units::are_all_below;

@@ -326,6 +326,11 @@ impl LaneCodec for EucJp {
     fn places(codes: u16x8) -> u16x8 {
         place_sums(lead_places(codes, 0xA1, 94), late_places(codes, 0xA1))
     }
+
+    #[inline(always)]
+    fn has_long_runs() -> bool {
+        true
+    }
 }
 
 impl RawDecoder for EucJpDecoder<'_> {

@@ -1,10 +1,15 @@
 use Rattle.std.proofs.Common.{◌≡◌, arith}
 use Rattle.legacy_decoder_engine.proofs.near_malformed.read_by_tables.Goals as goal
 
-pub returns-in-None : goal.returns-in-None
-returns-in-None g c = c.read_ascii.ensures.ahead (g.C.LaneCodec.grammar c.args.tables.now.flat) c.requires
+pub returns-in_default : goal.returns-in_default
+returns-in_default g c = c.read_ascii.ensures.ahead (g.C.LaneCodec.grammar c.args.tables.now.flat) c.requires
 
-pub read_common-requires : goal.read_common-requires
-read_common-requires g c =
-    let same : c.args.tables.now.flat ≡ c.new-blocks.result.tables.now.flat = grind (arith, c.in-Some.ensures, c.new-blocks.ensures) in
+pub read_in_turn-requires : goal.read_in_turn-requires
+read_in_turn-requires g c =
+    let same : c.args.tables.now.flat ≡ c.in-Some.tables.now.flat = grind (arith, c.in-Some.ensures) in
     rw same at c.requires
+
+pub read_without_lanes-read-requires : goal.read_without_lanes-read-requires
+read_without_lanes-read-requires g c =
+    let same : c.args.tables.now.flat ≡ c.new-blocks.result.tables.now.flat = grind (arith, c.in-Some.ensures, c.new-blocks.ensures) in
+    record { ascii = rw same at c.requires }
