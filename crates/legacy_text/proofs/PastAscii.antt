@@ -1,12 +1,13 @@
 -- The bits of the bytes past ASCII.
-use Rattle.std.proofs.Common.{◌≡◌, ◌∙◌, ℕ, ◌+◌, ◌-◌, ◌/◌, ◌%◌, ◌^◌, ◌<◌, ◌≤◌, List, cond, leb, length, map, get_or, replicate, w8, w64, sym, ap, arith}
-use Rattle.std.proofs.lemmas.{List.{get_or-map, length-map}, Bool.Decides.nat_tests, Nat.shr-shr}
+use Rattle.std.proofs.Common.{◌≡◌, ◌≢◌, ◌↔◌, ◌∙◌, not, nat_eq, false, take, ℕ, ◌+◌, ◌-◌, ◌/◌, ◌%◌, ◌^◌, ◌<◌}
+use Rattle.std.proofs.Common.{◌≤◌, List, cond, leb, length, map, get_or, replicate, w8, w64, sym, ap, arith}
+use Rattle.std.proofs.lemmas.{List.{get_or-map, get_or-take, length-map, length-take-le}, Bool.Decides.nat_tests, Nat.shr-shr}
 use Rattle.std.proofs.lemmas.Nat.Bits.{bit_at-zero, bit_at-trailing_zeros}
 use Rattle.std.proofs.lemmas.Simd.{bit_mask_l, tops_compared, mask_l-mod}
 use Rattle.std.specs.Int.{trailing_zeros, Count.trailing_of_zero}
 use lib.Lanes.{mask_l, zip2, top}
 use Rattle.legacy_text.specs.PastAscii.{ArePast, ArePastFrom}
-use Rattle.legacy_text.proofs.Ascii.{splat_zip2}
+use Rattle.legacy_text.proofs.Ascii.{splat_zip2, past_mask, none_past, lowest_past}
 
 pub past_bits : (block : List ℕ) → length block ≡ 64
     → ArePast (mask_l (map (top 7) (zip2 (λ a b. cond (leb a b) (2 ^ 8 - 1) 0) (replicate 64 128) block)) % 2 ^ 64) block
@@ -30,3 +31,16 @@ module _ (past at : ℕ) (bytes : List ℕ) (small : past < 2 ^ 64) (are : ArePa
   past_at some within =
       let none : past ≡ 0 → trailing_zeros w64 past ≡ 64 = λ e. ap (trailing_zeros w64) e ∙ trailing_of_zero 64 in
       grind (arith, nat_tests, are (trailing_zeros w64 past) within, bit_at-trailing_zeros w64 past)
+
+-- whether one of eight bytes is past ASCII
+module _ (src : List ℕ) (long : 8 ≤ length src) where
+  none_eight : past_mask 8 (take 8 src) ≡ 0 → (k : ℕ) → k < 8 → get_or src k 0 < 128
+  none_eight none k h = rw (get_or-take 8 src k 0 h) at (none_past 8 (take 8 src) (omega arith) (length-take-le 8 src long) none k)
+
+  some_eight : past_mask 8 (take 8 src) ≢ 0 → ((k : ℕ) → k < 8 → get_or src k 0 < 128) → ⊥
+  some_eight some all =
+      let lowest = lowest_past 8 (take 8 src) (omega arith) (length-take-le 8 src long) some in
+      omega (arith, lowest.1, rw (get_or-take 8 src _ 0 lowest.0) at lowest.1, all _ lowest.0)
+
+  pub no_eight : not (nat_eq (past_mask 8 (take 8 src)) 0) ≡ false ↔ ((k : ℕ) → k < 8 → get_or src k 0 < 128)
+  no_eight = (λ e. none_eight (grind (arith, nat_tests, e)), λ all. grind (arith, nat_tests, some_eight, all))

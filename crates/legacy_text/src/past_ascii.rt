@@ -1,14 +1,16 @@
 //! Which bytes of a vector are past ASCII.
 // The functions are always inlined: a call would pass the vector through memory.
-ghost use Rattle.std.specs.Prelude.{◌≡◌, ℕ, ◌+◌, ◌<◌, ◌≤◌, List, length, get_or};
+ghost use Rattle.std.specs.Prelude.{◌≡◌, ◌↔◌, ℕ, ◌+◌, ◌<◌, ◌≤◌, List, length, get_or, false};
 ghost use Rattle.legacy_text.specs.PastAscii.{ArePast, ArePastFrom};
 
 use std::simd::prelude::*;
 
-/// Checks whether one of the first eight bytes is past ASCII. It is a hint: any result is right.
+/// Checks whether one of the first eight bytes is past ASCII.
 #[inline(always)]
+#[tactic(auto, using(crate::proofs::PastAscii::no_eight))]
 pub fn has_past_ascii(src: &[u8]) -> bool
     requires { 8 ≤ length src.now }
+    ensures { result ≡ false ↔ ((k : ℕ) → k < 8 → get_or src.now k 0 < 0x80) }
 {
     let past = u8x8::from_slice(src).simd_ge(u8x8::splat(0x80));
     past.to_bitmask() != 0
