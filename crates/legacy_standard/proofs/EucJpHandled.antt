@@ -7,17 +7,17 @@ use Rattle.legacy_base.proofs.FrontLaws.{euc_jp_front-of}
 use Rattle.legacy_tables.specs.{Unicode.{is_katakana_byte, katakana_of}}
 use Rattle.legacy_standard.specs.{Processing.{all_read, process}, EucJp.{euc_jp_state, euc_jp_initial, euc_jp_handler}}
 use Rattle.legacy_standard.proofs.{Turns.{goes_on, error_at_end}, Fronts.{Reads, whole, by_test, one, malformed_one, trailing, third_trailing}}
-use Rattle.legacy_standard.proofs.{Fronts.{lead_alone, pair}, Turns.{Runs, IsDecodedBy}}
+use Rattle.legacy_standard.proofs.{Fronts.{lead_alone, pair}, Turns.{Proceeds, IsDecodedBy}}
 
 module _ (jis0208 jis0212 : List ℕ) where
   abbrev Has : List ℕ → Front → Type 0
   Has = Reads (euc_jp_handler jis0208 jis0212) euc_jp_initial
 
   -- at the end of the queue the jis0212 flag does not matter
-  flag_at_end : (place : ℕ) (es : List DecodeEvent) → Runs (euc_jp_handler jis0208 jis0212) all_read euc_jp_initial place 0 [] es →
-      Runs (euc_jp_handler jis0208 jis0212) all_read (euc_jp_state true 0) place 0 [] es
+  flag_at_end : (place : ℕ) (es : List DecodeEvent) → Proceeds (euc_jp_handler jis0208 jis0212) all_read euc_jp_initial place 0 [] es →
+      Proceeds (euc_jp_handler jis0208 jis0212) all_read (euc_jp_state true 0) place 0 [] es
   unfolding process euc_jp_handler
-  flag_at_end place es h = record { turns = h.turns; run = λ more. grind (arith, h.run more) }
+  flag_at_end place es h = record { turns = h.turns; proceeds = λ more. grind (arith, h.proceeds more) }
 
   katakana-reads : (rest : List ℕ) → Has (0x8E ∷ rest) (euc_jp_katakana rest)
   unfolding euc_jp_katakana euc_jp_handler

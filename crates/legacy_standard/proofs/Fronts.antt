@@ -7,7 +7,7 @@ use Rattle.legacy_base.specs.{Fronts.{trail_front, cut}, Laws.IsFrontOf}
 use Rattle.legacy_base.proofs.Cuts.{cut_at}
 use Rattle.legacy_standard.specs.Queue.{Item, byte, end_of_queue, Handled, continue, finished, error, code_points, code_point, returns, return_or_error}
 use Rattle.legacy_standard.specs.Processing.{all_read, Processes}
-use Rattle.legacy_standard.proofs.Turns.{Runs, steady, at_end, error_at_end, goes_on, error_at, gives}
+use Rattle.legacy_standard.proofs.Turns.{Proceeds, steady, at_end, error_at_end, goes_on, error_at, gives}
 
 -- the handler's result for a leading byte and a trailing byte, by their scalars
 abbrev pub returns_scalars : {S : Type 0} → S → List ℕ → ℕ → Handled S
@@ -17,15 +17,15 @@ returns_scalars initial (c ∷ cs) t = returns (code_points (c ∷ cs)) initial
 module _ {S : Type 0} (handler : S → Item → Handled S) (initial : S) where
   -- the handler reads a front from its first byte
   pub record Reads (bytes : List ℕ) (f : Front) : Type 0 where
-    pub go : (place : ℕ) (es : List DecodeEvent) → Runs handler all_read initial (place + front_length f) 0 (drop (front_length f) bytes) es →
-        Runs handler all_read initial place 0 bytes (front_events place f ++ es)
+    pub go : (place : ℕ) (es : List DecodeEvent) → Proceeds handler all_read initial (place + front_length f) 0 (drop (front_length f) bytes) es →
+        Proceeds handler all_read initial place 0 bytes (front_events place f ++ es)
 
 module _ {S : Type 0} {handler : S → Item → Handled S} {initial : S} where
   -- the events of a whole list, if the handler reads each front
   module _ (front : ℕ → List ℕ → Front) (fits : (b : ℕ) (rest : List ℕ) → IsFrontOf (length (b ∷ rest)) ⊥ (front b rest))
       (fronts : (b : ℕ) (rest : List ℕ) → Reads handler initial (b ∷ rest) (front b rest))
       (ends : handler initial end_of_queue ≡ returns finished initial) where
-    below : (n place : ℕ) (bytes : List ℕ) → length bytes ≤ n → Runs handler all_read initial place 0 bytes (cut front 0 place bytes)
+    below : (n place : ℕ) (bytes : List ℕ) → length bytes ≤ n → Proceeds handler all_read initial place 0 bytes (cut front 0 place bytes)
     unfolding cut
     below n place [] h = at_end ends
     below zero place (b ∷ rest) h = absurd (omega arith)

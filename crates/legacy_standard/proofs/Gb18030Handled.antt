@@ -9,7 +9,7 @@ use Rattle.legacy_standard.specs.{Queue.{Item, byte, Handled, returns, code_poin
 use Rattle.legacy_standard.specs.Gb18030.{gb18030_state, gb18030_initial, gb18030_handler}
 use Rattle.legacy_standard.specs.Processing.{all_read}
 use Rattle.legacy_standard.proofs.{LeadHandled.lead-some, Turns.{goes_on, gives, error_at, error_at_end}, Fronts.{Reads, whole, by_test, one, malformed_one}}
-use Rattle.legacy_standard.proofs.{Fronts.{trailing, lead_alone}, Turns.{Runs, IsDecodedBy}}
+use Rattle.legacy_standard.proofs.{Fronts.{trailing, lead_alone}, Turns.{Proceeds, IsDecodedBy}}
 
 digit-some : (b : ℕ) → is_ascii_digit b ≡ true → (b == 0) ≡ false
 digit-some b h = grind (arith, nat_tests)
@@ -24,12 +24,12 @@ module _ (index : List ℕ) (ranges : List (ℕ × ℕ)) where
   module _ (b : ℕ) (h : is_ascii b ≡ false) (k : (b == 0x80) ≡ false) (l : is_lead b ≡ true) where
     -- the steps for a lead and a digit, and for a lead after them
     behind_two : {s place : ℕ} {rest : List ℕ} {es : List DecodeEvent} → is_ascii_digit s ≡ true →
-        Runs handler all_read (gb18030_state b s 0) place 2 rest es → Runs handler all_read gb18030_initial place 0 (b ∷ s ∷ rest) es
+        Proceeds handler all_read (gb18030_state b s 0) place 2 rest es → Proceeds handler all_read gb18030_initial place 0 (b ∷ s ∷ rest) es
     unfolding gb18030_handler
     behind_two d at = goes_on {t = gb18030_state b 0 0} (rw (h, k, l) refl) (goes_on (rw (lead-some b l, d) refl) at)
 
     behind_three : {s t place : ℕ} {rest : List ℕ} {es : List DecodeEvent} → is_ascii_digit s ≡ true → is_lead t ≡ true →
-        Runs handler all_read (gb18030_state b s t) place 3 rest es → Runs handler all_read gb18030_initial place 0 (b ∷ s ∷ t ∷ rest) es
+        Proceeds handler all_read (gb18030_state b s t) place 3 rest es → Proceeds handler all_read gb18030_initial place 0 (b ∷ s ∷ t ∷ rest) es
     unfolding gb18030_handler
     behind_three {s} d m at = behind_two d (goes_on (rw (digit-some s d, m) refl) at)
 

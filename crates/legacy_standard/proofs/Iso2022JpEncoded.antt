@@ -74,17 +74,18 @@ module _ (index katakana_index : List ℕ) where
       ]
 
   -- the handler does not look the scalar up
-  abbrev is_plain : ℕ → Bool
-  is_plain c = is_ascii c || (c == 0xA5 || c == 0x203E)
+  abbrev needs_no_index : ℕ → Bool
+  needs_no_index c = is_ascii c || (c == 0xA5 || c == 0x203E)
 
-  plain-acts : (c : ℕ) → is_plain c ≡ true → (mode : EncoderMode) → handler (state_of mode) (scalar c) ≡ acts mode (home mode c) c c
+  unindexed-acts : (c : ℕ) → needs_no_index c ≡ true → (mode : EncoderMode) → handler (state_of mode) (scalar c) ≡ acts mode (home mode c) c c
   unfolding iso_2022_jp_encodes iso_2022_jp_code mode_behind settled_mode
-  plain-acts c h mode = grind (arith, nat_tests)
+  unindexed-acts c h mode = grind (arith, nat_tests)
 
   -- ---- scalars that are looked up
 
   -- the handler replaces the scalar if needed, and looks it up
-  past : (c : ℕ) → is_plain c ≡ false → (mode : EncoderMode) → handler (state_of mode) (scalar c) ≡ at_set index (state_of mode) (set_scalar katakana_index c) c
+  past : (c : ℕ) → needs_no_index c ≡ false → (mode : EncoderMode)
+      → handler (state_of mode) (scalar c) ≡ at_set index (state_of mode) (set_scalar katakana_index c) c
   unfolding iso_2022_jp_encodes
   past c p mode = grind (arith, nat_tests)
 
@@ -93,12 +94,12 @@ module _ (index katakana_index : List ℕ) where
     set : ℕ
     set_is : set_scalar katakana_index c ≡ Some set
     pointer_is : iso_2022_jp_pointer_of index katakana_index c ≡ euc_jp_pointer_of index set
-    again : is_plain set ≡ false
+    again : needs_no_index set ≡ false
     set_again : set_scalar katakana_index set ≡ Some set
     same : euc_jp_pointer_of index set ≡ None → set ≡ c
 
   module _ (rows : HasRows index) (folds : HasFolds index katakana_index) where
-    looked : (c : ℕ) → is_plain c ≡ false → Looked c
+    looked : (c : ℕ) → needs_no_index c ≡ false → Looked c
     looked c p = elim (cases_Bool (is_in_range 0xFF61 0xFF9F c)) [
       | inl r ↦
           let f = folds c r in
@@ -120,21 +121,21 @@ module _ (index katakana_index : List ℕ) where
       }
     ]
 
-    module _ (c : ℕ) (p : is_plain c ≡ false) (l : Looked c) where
+    module _ (c : ℕ) (p : needs_no_index c ≡ false) (l : Looked c) where
       by_pointer : (mode : EncoderMode) → at_pointer (state_of mode) (euc_jp_pointer_of index l.set) l.set ≡ acts mode (home mode c) c l.set
       unfolding iso_2022_jp_code mode_behind settled_mode
       by_pointer mode = grind (arith, nat_tests, l.pointer_is, l.same)
 
       -- the result of the handler for c and for the scalar that replaces it
-      looked-acts : (d : ℕ) → is_plain d ≡ false → set_scalar katakana_index d ≡ Some l.set → (mode : EncoderMode) →
+      looked-acts : (d : ℕ) → needs_no_index d ≡ false → set_scalar katakana_index d ≡ Some l.set → (mode : EncoderMode) →
           handler (state_of mode) (scalar d) ≡ acts mode (home mode c) c l.set
       looked-acts d q e mode = past d q mode ∙ rw (e, rows.first l.set) (by_pointer mode)
 
     -- ---- any scalar, and any text
 
     any : (c : ℕ) (more : List ℕ) → Goes more → Goes (c ∷ more)
-    any c more = elim (cases_Bool (is_plain c)) [
-      | inl h ↦ goes_on c c more (plain-acts c h) (plain-acts c h)
+    any c more = elim (cases_Bool (needs_no_index c)) [
+      | inl h ↦ goes_on c c more (unindexed-acts c h) (unindexed-acts c h)
       | inr p ↦ let l = looked c p in goes_on c l.set more (looked-acts c p l c p l.set_is) (looked-acts c p l l.set l.again l.set_again)
     ]
 

@@ -12,7 +12,7 @@ use Rattle.legacy_tables.specs.{Unicode.AreBytes, Indexes.idx}
 use Rattle.legacy_standard.specs.Queue.{Item, byte, end_of_queue, continue, finished, error, code_point, returns, restores, code_point_or_error}
 use Rattle.legacy_standard.specs.Iso2022Jp.{Iso2022JpDecoderState, ascii, roman, katakana, leading_byte, trailing_byte, escape_start, escape, escape_state}
 use Rattle.legacy_standard.specs.{Iso2022Jp.{Iso2022Jp, iso_2022_jp_handler, length_and_after, iso_2022_jp_malformed}, DecoderLaw.HandlerDecodes}
-use Rattle.legacy_standard.proofs.Turns.{Runs, steady, at_end, goes_on, error_at, error_at_end, gives}
+use Rattle.legacy_standard.proofs.Turns.{Proceeds, steady, at_end, goes_on, error_at, error_at_end, gives}
 use Rattle.legacy_base.specs.Iso2022Jp as iso
 use Rattle.legacy_standard.specs.DecoderLaw as decoders
 
@@ -22,7 +22,7 @@ module _ (jis0208 : List ℕ) where
   -- The handler gives these events from any place if `pos` bytes are read, at least `few` of them in the current
   -- sequence.
   record Gives (s : Iso2022Jp) (few pos : ℕ) (queue : List ℕ) (es : List DecodeEvent) : Type 0 where
-    from : (place size : ℕ) → place + size ≡ pos → few ≤ size → Runs (iso_2022_jp_handler jis0208) iso_2022_jp_malformed s place size queue es
+    from : (place size : ℕ) → place + size ≡ pos → few ≤ size → Proceeds (iso_2022_jp_handler jis0208) iso_2022_jp_malformed s place size queue es
 
 module _ {jis0208 : List ℕ} {s t : Iso2022Jp} {few pos : ℕ} where
   out-end : iso_2022_jp_handler jis0208 s end_of_queue ≡ returns finished t → Gives jis0208 s few pos [] []

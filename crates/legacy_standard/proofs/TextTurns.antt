@@ -1,4 +1,4 @@
--- One turn of the run over a queue of scalar values.
+-- One turn over a queue of scalar values.
 use Rattle.std.proofs.Common.{◌≡◌, ℕ, suc, ◌+◌, List, [], ◌∷◌, ◌++◌, map, Option, Some, None, refl, true, suc-add, one-add}
 use Rattle.legacy_base.specs.{declared.results.EncodeEvent.EncodeEvent, declared.results.EncodeEvent.TheVariants.Byte, EncodeEvents.code_events}
 use Rattle.legacy_base.specs.Encoders.{Codec, new_encoder, encoded}
@@ -14,27 +14,27 @@ by_code c (Some bs) = bytes bs
 -- within some number of turns, and within any greater number, the events are these
 pub record Writes {S : Type 0} (handler : S → TextItem → TextHandled S) (s : S) (queue : List ℕ) (events : List EncodeEvent) : Type 0 where
   pub turns : ℕ
-  pub run : (more : ℕ) → process handler (turns + more) s queue ≡ Some events
+  pub proceeds : (more : ℕ) → process handler (turns + more) s queue ≡ Some events
 
 module _ {S : Type 0} {handler : S → TextItem → TextHandled S} where
   pub steady : {s : S} {queue : List ℕ} {events : List EncodeEvent} → Writes handler s queue events → Encodes handler s queue events
-  steady w = (w.turns, w.run)
+  steady w = (w.turns, w.proceeds)
 
   pub ends : {s t : S} → handler s end_of_queue ≡ returns finished t → Writes handler s [] []
   unfolding process
-  ends e = record { turns = 1; run = λ more. rw (one-add, e) refl }
+  ends e = record { turns = 1; proceeds = λ more. rw (one-add, e) refl }
 
   pub end_bytes : {s t : S} (bs : List ℕ) {es : List EncodeEvent} → handler s end_of_queue ≡ returns (bytes bs) t → Writes handler t [] es →
       Writes handler s [] (map Byte bs ++ es)
   unfolding process
-  end_bytes bs e h = record { turns = suc h.turns; run = λ more. rw (suc-add, e, h.run more) refl }
+  end_bytes bs e h = record { turns = suc h.turns; proceeds = λ more. rw (suc-add, e, h.proceeds more) refl }
 
   -- the handler returns bytes or an error, and restores scalar values
   pub gives : {s t : S} {c : ℕ} (d : ℕ) (o : Option (List ℕ)) (again : List ℕ) {rest : List ℕ} {es : List EncodeEvent} →
       handler s (scalar c) ≡ restores again (by_code d o) t → Writes handler t (again ++ rest) es → Writes handler s (c ∷ rest) (code_events d o ++ es)
   unfolding process
-  gives d None again e h = record { turns = suc h.turns; run = λ more. rw (suc-add, e, h.run more) refl }
-  gives d (Some bs) again e h = record { turns = suc h.turns; run = λ more. rw (suc-add, e, h.run more) refl }
+  gives d None again e h = record { turns = suc h.turns; proceeds = λ more. rw (suc-add, e, h.proceeds more) refl }
+  gives d (Some bs) again e h = record { turns = suc h.turns; proceeds = λ more. rw (suc-add, e, h.proceeds more) refl }
 
 -- the handler gives the events of the codec for every text
 abbrev pub IsEncodedBy : {State : Type 0} → Codec → (State → TextItem → TextHandled State) → State → Type 0

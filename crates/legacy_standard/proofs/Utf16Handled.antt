@@ -7,7 +7,7 @@ use Rattle.legacy_base.specs.{Utf16.{has_odd_byte, single_unit_events, units_eve
 use Rattle.legacy_tables.specs.Unicode.{IsByte, AreBytes}
 use Rattle.legacy_standard.specs.{Queue.{Item, Handled}, Utf16.{Utf16, utf16_state, utf16_initial, unit_bytes, utf16_handler}}
 use Rattle.legacy_standard.specs.Processing.{all_read}
-use Rattle.legacy_standard.proofs.Turns.{Runs, steady, IsDecodedBy, at_end, goes_on, gives, error_at, error_at_end}
+use Rattle.legacy_standard.proofs.Turns.{Proceeds, steady, IsDecodedBy, at_end, goes_on, gives, error_at, error_at_end}
 
 -- the bytes of a code unit are those that it was made from
 bytes-back : (is_utf16be : Bool) (a b : ℕ) → IsByte a → IsByte b → unit_bytes is_utf16be (unit_of is_utf16be a b) ≡ a ∷ b ∷ []
@@ -25,7 +25,7 @@ module _ (is_utf16be : Bool) where
   events i bytes = units_events i (units_of is_utf16be bytes) (has_odd_byte bytes)
 
   abbrev Gives : ℕ → List ℕ → Type 0
-  Gives i bytes = Runs handler all_read utf16_initial (2 * i) 0 bytes (events i bytes)
+  Gives i bytes = Proceeds handler all_read utf16_initial (2 * i) 0 bytes (events i bytes)
 
   -- a code unit that is no high surrogate is not paired with the next one
   single-events : (i u : ℕ) (units : List ℕ) (odd : Bool) → is_high_surrogate u ≡ false →
@@ -52,7 +52,7 @@ module _ (is_utf16be : Bool) where
 
   -- the handler's steps for a high surrogate
   over_high : {place a b : ℕ} {rest : List ℕ} {es : List DecodeEvent} → is_high_surrogate (unit a b) ≡ true →
-      Runs handler all_read (utf16_state None (Some (unit a b))) place 2 rest es → Runs handler all_read utf16_initial place 0 (a ∷ b ∷ rest) es
+      Proceeds handler all_read (utf16_state None (Some (unit a b))) place 2 rest es → Proceeds handler all_read utf16_initial place 0 (a ∷ b ∷ rest) es
   unfolding utf16_handler
   over_high h after = goes_on refl (goes_on (rw h refl) after)
 

@@ -3,7 +3,7 @@ use Rattle.std.specs.Prelude.{ℕ, ◌-◌, ◌==◌, ◌||◌, ◌&&◌, not, B
 use Rattle.std.specs.Int.{is_in_range}
 use Rattle.std.specs.Char.{is_ascii}
 use Rattle.legacy_tables.specs.Indexes.{idx}
-use Rattle.legacy_tables.specs.Pointers.{index_pointer_of, minus_as_hyphen}
+use Rattle.legacy_tables.specs.Pointers.{index_pointer_of}
 use Rattle.legacy_standard.specs.TextQueue.{TextItem, scalar, end_of_queue, TextOutcome, TextHandled, finished, bytes, error_with}
 use Rattle.legacy_standard.specs.TextQueue.{returns, restores, pointer_bytes}
 
@@ -45,7 +45,9 @@ roman_byte c = if is_ascii c then c else if c == 0xA5 then 0x5C else 0x7E
 -- the code point that is looked up for c
 abbrev pub set_scalar : List ℕ → ℕ → Option ℕ
 set_scalar katakana_index c =
-    if is_in_range 0xFF61 0xFF9F c then idx katakana_index (c - 0xFF61) else Some (minus_as_hyphen c)
+    if c == 0x2212 then Some 0xFF0D
+    else if is_in_range 0xFF61 0xFF9F c then idx katakana_index (c - 0xFF61)
+    else Some c
 
 -- the steps after the index pointer is known
 abbrev pub at_pointer : Iso2022JpEncoderState → Option ℕ → ℕ → TextHandled Iso2022JpEncoderState

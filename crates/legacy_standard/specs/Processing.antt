@@ -1,4 +1,4 @@
--- The run of a decoder's handler over a queue of bytes (Encoding Standard, "process a queue" and "process an item").
+-- How a decoder's handler processes a queue of bytes (Encoding Standard, "process a queue" and "process an item").
 use Rattle.std.specs.Prelude.{◌≡◌, ℕ, zero, suc, ◌+◌, ◌-◌, List, [], ◌∷◌, ◌++◌, length, map, Option, Some, None, option_map}
 use Rattle.legacy_base.specs.declared.results.DecodeEvent.{DecodeEvent}
 use Rattle.legacy_base.specs.declared.results.DecodeEvent.TheVariants.{Scalar, Bad}

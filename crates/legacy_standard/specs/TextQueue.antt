@@ -1,4 +1,4 @@
--- The items that an encoder's handler reads, its results, and its run over a queue of scalar values (Encoding Standard,
+-- The items that an encoder's handler reads, its results, and how it processes a queue of scalar values (Encoding Standard,
 -- "process a queue" and "process an item").
 use Rattle.std.specs.Prelude.{◌≡◌, ℕ, zero, suc, ◌+◌, ◌/◌, ◌%◌, List, [], ◌∷◌, ◌++◌, map, Option, Some, None, option_map}
 use Rattle.legacy_base.specs.declared.results.EncodeEvent.{EncodeEvent}
