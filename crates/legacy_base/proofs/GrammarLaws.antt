@@ -2,7 +2,7 @@
 use Rattle.std.proofs.{lemmas.Bool.Decides.nat_tests, Common.{arith, ◌≡◌, ℕ, List, [], ◌∷◌, length, refl, true}}
 use Rattle.legacy_base.specs.{Fronts.{Front, cut}, Iso2022Jp.{parts_of, part_mode, escape_length, escape_events, part_events, parts_events, iso_2022_jp_events}}
 use Rattle.legacy_base.specs.{Utf16.{units_of, has_odd_byte, units_events, utf16_events}, Replacement.replacement_events, Grammar.{Grammar, single_byte}}
-use Rattle.legacy_base.specs.{Grammar.{user_defined, replacement, plain, big5, shift_jis, euc_jp, gb18030, events_of}, States.{may_hold, rests}, Laws.IsFrontOf}
+use Rattle.legacy_base.specs.{Grammar.{user_defined, replacement, lead_trail, big5, shift_jis, euc_jp, gb18030, events_of}, States.{may_hold, rests}, Laws.IsFrontOf}
 use Rattle.legacy_base.specs.Laws.{IsReadByFronts, AreReadByFronts, HasNoneOfNothing}
 use Rattle.legacy_tables.specs.{Unicode.IsByte, Tables.index_list}
 use Rattle.legacy_tables.proofs.Accepted.{index-scalars, big5-scalars, jis0208-scalars, jis0212-scalars, gb18030-scalars, range-scalar}
@@ -19,7 +19,7 @@ unfolding events_of
 read_by_fronts = record {
   single_byte_is = λ table. read_by (single_byte table) _ _ (λ bytes. refl) (λ b. single_byte_front-of table (λ a. table-scalars table a.0) b);
   user_defined_is = read_by user_defined _ _ (λ bytes. refl) (λ b. user_defined_front-of b (λ a. a.1));
-  plain_is = λ is_lead_byte pointers name flat. read_by (plain is_lead_byte pointers (index_list flat name)) _ _ (λ bytes. refl)
+  lead_trail_is = λ is_lead_byte pointers name flat. read_by (lead_trail is_lead_byte pointers (index_list flat name)) _ _ (λ bytes. refl)
       (λ b. lead_front-of (index_list flat name) (λ a. index-scalars flat a.0 name) is_lead_byte pointers b);
   big5_is = λ flat. read_by (big5 flat.big5) _ _ (λ bytes. refl) (λ b. big5_front-of flat.big5 (λ a. big5-scalars flat a.0) b);
   shift_jis_is = λ flat. read_by (shift_jis flat.jis0208) _ _ (λ bytes. refl) (λ b. shift_jis_front-of flat.jis0208 (λ a. jis0208-scalars flat a.0) b);

@@ -1,10 +1,10 @@
--- EUC-KR (WHATWG Encoding Standard, "EUC-KR decoder" and "EUC-KR encoder"): a plain codec.
+-- EUC-KR (WHATWG Encoding Standard, "EUC-KR decoder" and "EUC-KR encoder"): leads and trails.
 use Rattle.std.specs.Prelude.{ℕ, ◌+◌, ◌-◌, ◌*◌, ◌/◌, ◌%◌, List, [], ◌∷◌, Option, Some, None, if◌then◌else◌}
 use Rattle.std.specs.Int.{is_in_range}
 use Rattle.legacy_tables.specs.Pointers.{index_pointer_of}
 use Rattle.legacy_base.specs.Profile.{is_lead}
 use Rattle.legacy_base.specs.EncoderProfile.{EncoderProfile, pointer_code, pair_encoder}
-use Rattle.legacy_base.specs.Grammar.{Grammar, plain}
+use Rattle.legacy_base.specs.Grammar.{Grammar, lead_trail}
 
 -- the pointer of a lead and a trail, or none if the second byte is no trail
 abbrev pub euc_kr_pointer : ℕ → ℕ → Option ℕ
@@ -14,7 +14,7 @@ euc_kr_pointer lead trail =
 
 -- the codec: its leads are 0x81 to 0xFE, and its index is index EUC-KR
 abbrev pub euc_kr : List ℕ → Grammar
-euc_kr index = plain is_lead euc_kr_pointer index
+euc_kr index = lead_trail is_lead euc_kr_pointer index
 
 -- ---- encoding
 

@@ -13,7 +13,7 @@ use Rattle.legacy_base.specs.LeadForms.{lead_front}
 use Rattle.legacy_base.specs.ShiftJis.{shift_jis_front}
 use Rattle.legacy_base.specs.EucJp.{euc_jp_front}
 use Rattle.legacy_base.specs.Gb18030.{gb18030_front}
-use Rattle.legacy_base.specs.Grammar.{Grammar, single_byte, user_defined, replacement, utf16, plain, big5, shift_jis, euc_jp, gb18030, iso_2022_jp, events_of}
+use Rattle.legacy_base.specs.Grammar.{Grammar, single_byte, user_defined, replacement, utf16, lead_trail, big5, shift_jis, euc_jp, gb18030, iso_2022_jp, events_of}
 use Rattle.legacy_tables.specs.Indexes.{FlatIndexes}
 use Rattle.legacy_tables.specs.TableChecks.{AreAccepted, IsAcceptedTable}
 use Rattle.legacy_tables.specs.Tables.{index_list}
@@ -47,12 +47,12 @@ IsReadByFronts grammar accepted front = (b : ℕ) (rest : List ℕ) →
     ≡ front_events 0 (front b rest) ++ shift (front_length (front b rest)) (events_of grammar (drop (front_length (front b rest)) (b ∷ rest))))
 
 -- The grammars that are read front by front, with any lists, accepted or not. Six are of one codec each. The others are
--- the plain codecs of leads and trails, such as EUC-KR, with any of the indexes.
+-- the codecs of leads and trails, such as EUC-KR, with any of the indexes.
 pub record AreReadByFronts : Type 0 where
   pub single_byte_is : (table : List ℕ) → IsReadByFronts (single_byte table) (IsAcceptedTable table) (single_byte_front table)
   pub user_defined_is : IsReadByFronts user_defined Unit user_defined_front
-  pub plain_is : (is_lead_byte : ℕ → Bool) (pointers : ℕ → ℕ → Option ℕ) (name : IndexName) (flat : FlatIndexes) →
-      IsReadByFronts (plain is_lead_byte pointers (index_list flat name)) (AreAccepted flat)
+  pub lead_trail_is : (is_lead_byte : ℕ → Bool) (pointers : ℕ → ℕ → Option ℕ) (name : IndexName) (flat : FlatIndexes) →
+      IsReadByFronts (lead_trail is_lead_byte pointers (index_list flat name)) (AreAccepted flat)
       (lead_front is_lead_byte pointers (index_list flat name))
   pub big5_is : (flat : FlatIndexes) → IsReadByFronts (big5 flat.big5) (AreAccepted flat) (big5_front flat.big5)
   pub shift_jis_is : (flat : FlatIndexes) → IsReadByFronts (shift_jis flat.jis0208) (AreAccepted flat) (shift_jis_front flat.jis0208)
@@ -72,7 +72,7 @@ IsOfAcceptedTables user_defined = Unit {0}
 IsOfAcceptedTables (replacement reported) = Unit {0}
 IsOfAcceptedTables (utf16 big_endian) = Unit {0}
 IsOfAcceptedTables (big5 index) = (flat : FlatIndexes) × AreAccepted flat × (index ≡ flat.big5)
-IsOfAcceptedTables (plain is_lead_byte pointers index) =
+IsOfAcceptedTables (lead_trail is_lead_byte pointers index) =
     (flat : FlatIndexes) × AreAccepted flat × (name : IndexName) × (index ≡ index_list flat name)
 IsOfAcceptedTables (shift_jis jis0208) = (flat : FlatIndexes) × AreAccepted flat × (jis0208 ≡ flat.jis0208)
 IsOfAcceptedTables (euc_jp jis0208 jis0212) =

@@ -1,4 +1,4 @@
--- Plain codecs of leads and trails (WHATWG Encoding Standard, for example "EUC-KR decoder"). An ASCII byte is its own
+-- Codecs of leads and trails (WHATWG Encoding Standard, for example "EUC-KR decoder"). An ASCII byte is its own
 -- scalar. A lead and a trail give the scalar of their pointer in one index. There are no other sequences.
 use Rattle.std.specs.Prelude.{ℕ, List, [], ◌∷◌, Bool, Option, if◌then◌else◌, option_to_list}
 use Rattle.std.specs.Option.{option_map_or}
@@ -27,5 +27,5 @@ lead_front is_lead_byte pointers index b rest =
     else malformed 1
 
 -- the codec, given which bytes are leads, the pointer of a lead and another byte (if any), and the index
-abbrev pub plain_profile : (ℕ → Bool) → (ℕ → ℕ → Option ℕ) → List ℕ → Profile
-plain_profile is_lead_byte pointers index = record (lead_profile (lead_front is_lead_byte pointers index) is_lead_byte) { lengths = lead_lengths }
+abbrev pub lead_trail_profile : (ℕ → Bool) → (ℕ → ℕ → Option ℕ) → List ℕ → Profile
+lead_trail_profile is_lead_byte pointers index = record (lead_profile (lead_front is_lead_byte pointers index) is_lead_byte) { lengths = lead_lengths }

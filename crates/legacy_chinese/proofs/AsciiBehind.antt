@@ -1,7 +1,7 @@
 -- An ASCII byte after a sequence, written if it is there.
 use Rattle.std.proofs.Common.{◌≡◌, ℕ, zero, suc, ◌+◌, ◌≤◌, ◌<◌, List, [], ◌∷◌, ◌++◌, length, take, get_or, subst, arith, add-zero, append-nil, IsAscii, sym}
 use Rattle.{std.proofs.lemmas.List.take_more, legacy_text.specs.declared.destination.Destination.Ghosts, legacy_base.specs.Grammar.Grammar}
-use Rattle.legacy_decoder_engine.{specs.ReadAhead.{HasAscii, Writes}, proofs.WrittenRuns.{writes_then, writes_ascii}}
+use Rattle.legacy_decoder_engine.{specs.ReadAhead.{HasAscii, Writes}, proofs.WrittenReads.{writes_then, writes_ascii}}
 
 module _ {D : Type 0} (T : Ghosts D) {g : Grammar} {x y z : D} (law : HasAscii g) (src : List ℕ) (at : ℕ) (within : at < length src) where
   pub writes_behind : (n : ℕ) → n ≤ 1 → Writes T g (take at src) x y → IsAscii (take n (get_or src at 0 ∷ [])) →

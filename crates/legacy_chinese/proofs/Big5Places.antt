@@ -1,7 +1,7 @@
 -- The entry of index Big5 at the sum of a lead's place and a trail's place.
 use Rattle.std.proofs.{Common.{◌≡◌, ℕ, ◌+◌, [], ◌∷◌, cond, refl, arith, Some}, lemmas.Bool.Decides.nat_tests}
 use Rattle.legacy_tables.{specs.{Indexes.idx, AcceptedTables.AcceptedIndexes, Unicode.IsByte}, proofs.Accepted.{length-big5, entry-used}}
-use Rattle.{legacy_base.specs.{Big5.big5_scalars, States.is_lead, Grammar.big5}, legacy_decoder_engine.specs.{ReadAhead.{HasAscii, Runs}, Places.IsTableOf}}
+use Rattle.{legacy_base.specs.{Big5.big5_scalars, States.is_lead, Grammar.big5}, legacy_decoder_engine.specs.{ReadAhead.{HasAscii, Yields}, Places.IsTableOf}}
 use Rattle.{legacy_decoder_engine.proofs.{LeadHeld.{ascii, pair}, PairPlaces.{none_past, pair_entry}}, legacy_chinese.specs.Big5Shown.big5_codec}
 use Rattle.legacy_chinese.specs.{Big5Machine.big5_pair_scalars, Big5Places.{big5_lead_place, big5_trail_place}, declared.big5.places.TheConstants.ROWS_OF_157}
 use Rattle.legacy_chinese.{specs.declared.big5.places.TheConstants.TRAILS, proofs.EntryScalars.scalar_at}
@@ -24,10 +24,10 @@ pub big5_ascii : (tables : AcceptedIndexes) → HasAscii (big5 tables.flat.big5)
 big5_ascii = ascii big5_codec
 
 -- an entry at the sum of the places is the scalar of the lead and the trail
-pub big5_runs : (tables : AcceptedIndexes) (lead trail c : ℕ) → IsByte lead → IsByte trail →
-    Some c ≡ idx tables.flat.big5 (big5_lead_place lead + big5_trail_place trail) → Runs (big5 tables.flat.big5) (lead ∷ trail ∷ []) (c ∷ [])
-big5_runs tables lead trail c byte byte' e =
+pub big5_yields : (tables : AcceptedIndexes) (lead trail c : ℕ) → IsByte lead → IsByte trail →
+    Some c ≡ idx tables.flat.big5 (big5_lead_place lead + big5_trail_place trail) → Yields (big5 tables.flat.big5) (lead ∷ trail ∷ []) (c ∷ [])
+big5_yields tables lead trail c byte byte' e =
     let p = big5_lead_place lead + big5_trail_place trail in
     let used = entry-used tables.flat tables.accepted names.Big5 p c e in
-    let run = pair big5_codec tables lead trail c byte byte' in
-    grind (arith, big5_at tables lead trail, scalar_at tables names.Big5 p c, run)
+    let yields = pair big5_codec tables lead trail c byte byte' in
+    grind (arith, big5_at tables lead trail, scalar_at tables names.Big5 p c, yields)

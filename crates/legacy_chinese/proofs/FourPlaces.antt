@@ -1,7 +1,7 @@
 -- The tables contain the parts of the four bytes; the ranges are read at their pointer.
 use Rattle.std.proofs.{Common.{◌≡◌, ℕ, ◌≤◌, ◌<◌, List, [], ◌∷◌, get_or, Some, None, refl, arith}, lemmas.Bool.Decides.nat_tests}
 use Rattle.{legacy_tables.specs.{AcceptedTables.AcceptedIndexes, Indexes.range}, legacy_base.specs.Grammar.gb18030}
-use Rattle.{legacy_decoder_engine.{proofs.PairPlaces.read, specs.ReadAhead.Runs}, legacy_chinese.specs.FourPlaces.{lead_part, digit_part, four_place}}
+use Rattle.{legacy_decoder_engine.{proofs.PairPlaces.read, specs.ReadAhead.Yields}, legacy_chinese.specs.FourPlaces.{lead_part, digit_part, four_place}}
 use Rattle.legacy_chinese.{specs.declared.gb18030.four_places.TheConstants.{LEADS, DIGITS}, proofs.Gb18030Held.four}
 
 pub lead_read : (b : ℕ) → b < 256 → get_or LEADS b 0 ≡ lead_part b
@@ -25,6 +25,6 @@ range_past ranges p h = grind (arith, nat_tests)
 -- the scalar at the pointer is the scalar of the four bytes
 pub four_at : (tables : AcceptedIndexes) (list : List (ℕ × ℕ)) (p a b c d x : ℕ) → list ≡ tables.flat.ranges → p ≡ four_place a b c d
     → range list p ≡ Some x
-    → Runs (gb18030 tables.flat.gb18030 tables.flat.ranges) (a ∷ b ∷ c ∷ d ∷ []) (x ∷ [])
+    → Yields (gb18030 tables.flat.gb18030 tables.flat.ranges) (a ∷ b ∷ c ∷ d ∷ []) (x ∷ [])
 unfolding lead_part digit_part
 four_at tables list p a b c d x same place e = grind (arith, nat_tests, four tables a b c d x, range_past)

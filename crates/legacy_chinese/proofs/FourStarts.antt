@@ -6,7 +6,7 @@ use Rattle.std.proofs.lemmas.{Bool.{Decides.nat_tests, cases_lt}, Nat.{shr-shr, 
 use Rattle.std.proofs.Common.{length-append, append_assoc, append-nil}
 use Rattle.std.proofs.lemmas.Nat.Bits.{bit_at-lt, bit_at-zero, bit_at_and, bit_at_xor, bit_at_or, bit_at_ones, bit_at-trailing_zeros, bit_at-pow_other}
 use Rattle.std.specs.Int.{bit_at, trailing_zeros}
-use Rattle.{std.proofs.Math.Seq.take-add, legacy_decoder_engine.proofs.WrittenRuns.{rest_of, take_two}}
+use Rattle.{std.proofs.Math.Seq.take-add, legacy_decoder_engine.proofs.WrittenReads.{rest_of, take_two}}
 use Rattle.legacy_decoder_engine.specs.PickedForms.{places, code_at}
 use Rattle.legacy_text.specs.PastAscii.{ArePast}
 use Rattle.legacy_chinese.specs.FourForms.{four_form, fours_of, form_at, AreFourStarts, IsFourEnd}

@@ -7,8 +7,8 @@ use lib.Lanes.{chunk}
 use Rattle.legacy_text.specs.{declared.destination.Destination.Ghosts, EncodingForm.{all_code_units, total_unit_count}}
 use Rattle.legacy_tables.specs.{AcceptedTables.AcceptedIndexes}
 use Rattle.legacy_base.specs.{Grammar.{Grammar, gb18030}, States.new_state}
-use Rattle.legacy_decoder_engine.specs.ReadAhead.{Runs, Writes, ReadsAhead}
-use Rattle.legacy_decoder_engine.proofs.{JoinedRuns.reads_front, WrittenRuns.{runs_none, runs_more, runs_byte, writes_then}}
+use Rattle.legacy_decoder_engine.specs.ReadAhead.{Yields, Writes, ReadsAhead}
+use Rattle.legacy_decoder_engine.proofs.{JoinedReads.reads_front, WrittenReads.{yields_none, yields_more, yields_byte, writes_then}}
 use Rattle.legacy_chinese.{specs.FourForms.{four_form, fours_of, IsFour}, proofs.{FourPlaces.four_at, FourStarts.fours_append, Gb18030Held.ascii}}
 
 -- the number of bytes of one form more
@@ -25,21 +25,21 @@ module _ (tables : AcceptedIndexes) where
   g = gb18030 tables.flat.gb18030 tables.flat.ranges
 
   -- a unit is what the bytes of its codes give
-  run_is : (f b u : ℕ) → IsFour tables.flat.ranges f b u → Runs g (four_form f b) (u ∷ [])
-  run_is f b u is =
-      grind (arith, nat_tests, runs_byte (ascii tables) (f % 256) u, four_at tables tables.flat.ranges _ (f % 256) (f / 256) (b % 256) (b / 256) u refl refl)
+  four_yields_unit : (f b u : ℕ) → IsFour tables.flat.ranges f b u → Yields g (four_form f b) (u ∷ [])
+  four_yields_unit f b u is =
+      grind (arith, nat_tests, yields_byte (ascii tables) (f % 256) u, four_at tables tables.flat.ranges _ (f % 256) (f / 256) (b % 256) (b / 256) u refl refl)
 
-  first_runs : (n : ℕ) (fs bs us : List ℕ) → n ≤ length fs → n ≤ length bs → n ≤ length us
-      → ((k : ℕ) → k < n → Runs g (four_form (get_or fs k 0) (get_or bs k 0)) (get_or us k 0 ∷ []))
-      → Runs g (fours_of (take n fs) (take n bs)) (take n us)
+  first_yields : (n : ℕ) (fs bs us : List ℕ) → n ≤ length fs → n ≤ length bs → n ≤ length us
+      → ((k : ℕ) → k < n → Yields g (four_form (get_or fs k 0) (get_or bs k 0)) (get_or us k 0 ∷ []))
+      → Yields g (fours_of (take n fs) (take n bs)) (take n us)
   unfolding fours_of
-  first_runs zero fs bs us p q r each = runs_none g
-  first_runs (suc n) (f ∷ fs) (b ∷ bs) (u ∷ us) p q r each =
-      runs_more g (four_form f b) (fours_of (take n fs) (take n bs)) (u ∷ []) (take n us) (each 0 (omega arith))
-      (first_runs n fs bs us (omega arith) (omega arith) (omega arith) (λ k h. each (suc k) (omega arith)))
-  first_runs (suc n) [] bs us p q r each = absurd (omega arith)
-  first_runs (suc n) (f ∷ fs) [] us p q r each = absurd (omega arith)
-  first_runs (suc n) (f ∷ fs) (b ∷ bs) [] p q r each = absurd (omega arith)
+  first_yields zero fs bs us p q r each = yields_none g
+  first_yields (suc n) (f ∷ fs) (b ∷ bs) (u ∷ us) p q r each =
+      yields_more g (four_form f b) (fours_of (take n fs) (take n bs)) (u ∷ []) (take n us) (each 0 (omega arith))
+      (first_yields n fs bs us (omega arith) (omega arith) (omega arith) (λ k h. each (suc k) (omega arith)))
+  first_yields (suc n) [] bs us p q r each = absurd (omega arith)
+  first_yields (suc n) (f ∷ fs) [] us p q r each = absurd (omega arith)
+  first_yields (suc n) (f ∷ fs) (b ∷ bs) [] p q r each = absurd (omega arith)
 
   -- the first of eight units are written, of the codes from a place on, after those before them
   pub next_written : {D : Type 0} (T : Ghosts D) (at few : ℕ) (front back us : List ℕ) {x y z : D} → few ≤ 8 → at + 8 ≤ length front → at + 8 ≤ length back
@@ -49,14 +49,14 @@ module _ (tables : AcceptedIndexes) where
       → T.room z + total_unit_count T.form (take few us) ≡ T.room y → T.loan z ≡ T.loan y
       → Writes T g (fours_of (take (at + few) front) (take (at + few) back)) x z
   next_written T at few front back us most room room' long known fours before contents room-is loan =
-      let runs =
-      first_runs few (drop at front) (drop at back) us (omega (arith, length-drop at front)) (omega (arith, length-drop at back)) (omega arith)
+      let yields =
+      first_yields few (drop at front) (drop at back) us (omega (arith, length-drop at front)) (omega (arith, length-drop at back)) (omega arith)
       (λ k h.
       rw (get_or-drop at front k 0, get_or-drop at back k 0, ← get_or-chunk at 8 front k 0 (omega arith), ← get_or-chunk at 8 back k 0 (omega arith))
-      (run_is (get_or (chunk at 8 front) k 0) (get_or (chunk at 8 back) k 0) (get_or us k 0) (fours k (omega arith) (known k h)))) in
+      (four_yields_unit (get_or (chunk at 8 front) k 0) (get_or (chunk at 8 back) k 0) (get_or us k 0) (fours k (omega arith) (known k h)))) in
       let same : length (take at front) ≡ length (take at back) = grind (arith, length-take-le) in
       rw (take-add at few front, take-add at few back, fours_append (take at front) (take few (drop at front)) (take at back) (take few (drop at back)) same)
-      (writes_then T before (record { scalars = take few us; runs = runs; written = contents; room = room-is; loan = loan }))
+      (writes_then T before (record { scalars = take few us; yields = yields; written = contents; room = room-is; loan = loan }))
 
 -- where bytes were read, forms were
 some_forms : (n : ℕ) (fs bs : List ℕ) → 0 < length (fours_of (take n fs) (take n bs)) → 0 < n

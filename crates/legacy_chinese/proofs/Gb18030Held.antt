@@ -9,12 +9,12 @@ use Rattle.legacy_chinese.specs.declared.gb18030.{decoder.{Gb18030Decoder.Gb1803
 use Rattle.legacy_chinese.specs.{Gb18030Decoder.gb18030_state, Gb18030Machine.{gb18030_step, gb18030_machine}, Gb18030Held.{held_bytes, is_resting}}
 use Rattle.legacy_chinese.{specs.Gb18030Places.{gb18030_place, gb18030_trail_place}, proofs.{Gb18030Places.{gb18030_entry, short}, EntryScalars.scalar_at}}
 use Rattle.{legacy_chinese.proofs.Gb18030Shown.{lead_other, gb18030_shown}, legacy_decoder_engine.specs.declared.{held_lead.Lead.Lead, moves.Fed.Fed}}
-use Rattle.legacy_decoder_engine.specs.{declared.moves.Fed.TheVariants.One, ReadAhead.{Runs, HasAscii, IsIdle, IsPair}, Moves.{IsCovered, Feeds, Releases}}
+use Rattle.legacy_decoder_engine.specs.{declared.moves.Fed.TheVariants.One, ReadAhead.{Yields, HasAscii, IsIdle, IsPair}, Moves.{IsCovered, Feeds, Releases}}
 use Rattle.legacy_decoder_engine.specs.{Moves.{FeedsMalformedByte, Reports, read_room}, Feeding.Took, Places.lead_place, Shown.IsShown}
 use Rattle.legacy_decoder_engine.proofs.LeadHeld.{neutral_empty}
-use Rattle.legacy_decoder_engine.proofs.{RunForms.{pair_runs, four_runs, has_ascii, ascii_is}, Widths.idx_below, LanePlaces.entry_is, PairPlaces.found}
+use Rattle.legacy_decoder_engine.proofs.{YieldedForms.{pair_yields, four_yields, has_ascii, ascii_is}, Widths.idx_below, LanePlaces.entry_is, PairPlaces.found}
 use Rattle.legacy_tables.specs.declared.tables.IndexName.TheVariants as names
-use Rattle.legacy_decoder_engine.proofs.{JoinedRuns.reads_idle, WrittenRuns.no_bytes}
+use Rattle.legacy_decoder_engine.proofs.{JoinedReads.reads_idle, WrittenReads.no_bytes}
 use Rattle.legacy_decoder_engine.proofs.Feeding as moves
 
 may : (held : Held) → gb18030_may_hold (held_bytes held) ≡ true
@@ -79,7 +79,7 @@ module _ (tables : AcceptedIndexes) where
   pub ends_some : (held : Held) → (held ≡ Nothing → ⊥) → events_of g (held_bytes held) ≢ []
   ends_some held n = moves.ends_held shown _ (may held) (are_bytes held) (grind arith)
 
-  -- ---- runs
+  -- ---- what is read ahead
 
   pub ascii : HasAscii g
   ascii = has_ascii shown (λ b. refl) (λ b h. let a = ascii_is b h in rw a refl)
@@ -90,8 +90,8 @@ module _ (tables : AcceptedIndexes) where
   pair_at lead trail c byte byte' e =
       let index = tables.flat.gb18030 in
       let both = found (is_lead lead) (gb18030_scalars index lead trail) c (sym e ∙ gb18030_entry tables lead trail) in
-      let run = pair_runs shown lead trail c byte byte' (scalar_at tables names.Gb18030 _ c e) in
-      (idx_below index _ c (gb18030-below tables.flat tables.accepted) e, grind (arith, trail_not_digit index lead trail c, lead_other, run))
+      let yields = pair_yields shown lead trail c byte byte' (scalar_at tables names.Gb18030 _ c e) in
+      (idx_below index _ c (gb18030-below tables.flat tables.accepted) e, grind (arith, trail_not_digit index lead trail c, lead_other, yields))
 
   -- the same of a code of two bytes
   pub lane_pair : (code : ℕ) → code < 0x1_0000 → gb18030_place code < length tables.flat.gb18030 → get_or tables.flat.gb18030 (gb18030_place code) 0 ≢ 0 →
@@ -104,10 +104,10 @@ module _ (tables : AcceptedIndexes) where
 
   -- four bytes that give a scalar
   pub four : (a b c d x : ℕ) → is_lead a ≡ true → is_ascii_digit b ≡ true → is_lead c ≡ true → is_ascii_digit d ≡ true →
-      Some x ≡ range tables.flat.ranges (gb18030_range_pointer a b c d) → Runs g (a ∷ b ∷ c ∷ d ∷ []) (x ∷ [])
+      Some x ≡ range tables.flat.ranges (gb18030_range_pointer a b c d) → Yields g (a ∷ b ∷ c ∷ d ∷ []) (x ∷ [])
   four a b c d x first second third fourth e =
       let scalar = range-scalar tables.flat tables.accepted (gb18030_range_pointer a b c d) x (sym e) in
-      let run = four_runs shown a b c d x in grind (arith, nat_tests, lead_other, run)
+      let yields = four_yields shown a b c d x in grind (arith, nat_tests, lead_other, yields)
 
 -- a decoder that holds nothing back is idle
 pub idle : (decoder : Gb18030Decoder) → is_neutral (gb18030_state decoder) ≡ true → IsIdle (gb18030_state decoder)

@@ -7,7 +7,7 @@ use Rattle.legacy_tables.proofs.Accepted.{index-scalars, big5-scalars, jis0208-s
 use Rattle.legacy_tables.proofs.AcceptedTable.{table-scalars}
 use Rattle.legacy_base.specs.{Fronts.{reads, malformed}, SingleByte.single_byte_front, UserDefined.user_defined_front, Big5.big5_front, LeadForms.lead_front}
 use Rattle.legacy_base.specs.{ShiftJis.shift_jis_front, EucJp.euc_jp_front, Gb18030.gb18030_front, Replacement.replacement_events, Utf16.unit_of}
-use Rattle.legacy_base.specs.{Utf16.utf16_events, Grammar.{single_byte, user_defined, replacement, utf16, plain, big5, shift_jis, euc_jp, gb18030, iso_2022_jp}}
+use Rattle.legacy_base.specs.{Utf16.utf16_events, Grammar.{single_byte, user_defined, replacement, utf16, lead_trail, big5, shift_jis, euc_jp, gb18030, iso_2022_jp}}
 use Rattle.legacy_base.specs.{Grammar.events_of, Laws.{IsFrontOf, IsOfAcceptedTables, HasSoundEvents}}
 use Rattle.legacy_base.proofs.FrontLaws.{front_of-malformed, single_byte_front-of, user_defined_front-of, lead_front-of, big5_front-of, shift_jis_front-of}
 use Rattle.legacy_base.proofs.{FrontLaws.{euc_jp_front-of, gb18030_front-of}, EventLaws.{none_of, bad_of, cut_sound, iso_2022_jp_sound}}
@@ -78,8 +78,8 @@ sound_events (big5 index) bytes =
     let Q = IsOfAcceptedTables (big5 index) × AreBytes bytes in
     let checked : Q → AreScalars index = λ q. subst AreScalars (sym q.0.2) (big5-scalars q.0.0 q.0.1) in
     cut_sound Q (big5_front index) (λ b rest are. big5_front-of {P = Q} index checked b rest) bytes (λ q. q.1)
-sound_events (plain is_lead_byte pointers index) bytes =
-    let Q = IsOfAcceptedTables (plain is_lead_byte pointers index) × AreBytes bytes in
+sound_events (lead_trail is_lead_byte pointers index) bytes =
+    let Q = IsOfAcceptedTables (lead_trail is_lead_byte pointers index) × AreBytes bytes in
     let checked : Q → AreScalars index = λ q. subst AreScalars (sym q.0.3) (index-scalars q.0.0 q.0.1 q.0.2) in
     cut_sound Q (lead_front is_lead_byte pointers index) (λ b rest are. lead_front-of {P = Q} index checked is_lead_byte pointers b rest) bytes (λ q. q.1)
 sound_events (shift_jis jis0208) bytes =

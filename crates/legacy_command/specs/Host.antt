@@ -3,12 +3,12 @@ use Rattle.std.specs.Prelude.{ℕ, List, Option}
 use Rattle.legacy_index_files.specs.declared.codec.Codec.{Codec}
 use Rattle.legacy_command.specs.declared.host.Program.{Program}
 use Rattle.legacy_command.specs.declared.host.Program.TheVariants.{Recode, Encode}
-use Rattle.legacy_command.specs.Words.{plain_words, codec_of_words}
+use Rattle.legacy_command.specs.Words.{words_after_option, codec_of_words}
 use Rattle.legacy_command.specs.Program.{with_encoder, RecodesByWords, RecodingStops, EncodesByWords, EncodingStops}
 
 -- the codec of words that have the program's form
 abbrev pub codec_asked : Program → List (List ℕ) → Option Codec
-codec_asked Recode words = codec_of_words (plain_words words)
+codec_asked Recode words = codec_of_words (words_after_option words)
 codec_asked Encode words = with_encoder (codec_of_words words)
 
 -- the whole input was recoded, or encoded, as the words and files ask

@@ -14,7 +14,7 @@ use Rattle.legacy_index_files.specs.declared.owned_indexes.OwnedIndexes.{OwnedIn
 use Rattle.legacy_index_files.specs.OwnedIndexes.{HoldsTexts}
 use Rattle.legacy_command.specs.declared.words.OutputKind.{OutputKind}
 use Rattle.legacy_command.specs.declared.words.OutputKind.TheVariants.{Lines, Text}
-use Rattle.legacy_command.specs.Words.{output_kind, plain_words, codec_of_words}
+use Rattle.legacy_command.specs.Words.{output_kind, words_after_option, codec_of_words}
 use Rattle.legacy_command.specs.IndexTexts.{text_given, AreWellFormed}
 use Rattle.legacy_streams.specs.Recoding.{RecodesAll, RecodesBeginning, RecodesPartly}
 use Rattle.legacy_streams.specs.Text.{WritesAll, WritesBeginning, WritesPartly}
@@ -83,7 +83,7 @@ DecodesByTexts codec texts Work = WorksByTexts decoder_of codec texts Work
 
 -- by the command line, which may begin with `--text`
 abbrev pub DecodesWith : List (List ℕ) → List (Option (List ℕ)) → (OutputKind → DecoderState → Type 0) → Type 0
-DecodesWith words files Work = WorksWith decoder_of (codec_of_words (plain_words words)) (plain_words words) files (Work (output_kind words))
+DecodesWith words files Work = WorksWith decoder_of (codec_of_words (words_after_option words)) (words_after_option words) files (Work (output_kind words))
 
 -- the whole input was recoded as the words and files ask
 abbrev pub RecodesByWords : List (List ℕ) → List (Option (List ℕ)) → Option (List ℕ) → Option (List ℕ) → Option (List ℕ) → Option (List ℕ) → Type 0

@@ -22,8 +22,8 @@ abbrev pub output_kind : List (List ℕ) → OutputKind
 output_kind words = if wants_text words then Text else Lines
 
 -- the words without a leading `--text`
-abbrev pub plain_words : List (List ℕ) → List (List ℕ)
-plain_words words = if wants_text words then drop 1 words else words
+abbrev pub words_after_option : List (List ℕ) → List (List ℕ)
+words_after_option words = if wants_text words then drop 1 words else words
 
 -- the meaning of a word in a table
 abbrev pub meaning : {A : Type 0} → List (List ℕ × A) → List ℕ → Option A

@@ -101,12 +101,12 @@ fn files_named<R: Files + Alloc>(
     ensures { codec_asked program (texts_of words.now) ≡ None
         → IfOk result (λ files. files.items ≡ []) }
 {
-    let (plain, codec) = match program {
+    let (rest, codec) = match program {
         Program::Recode => (request(words), codec_in(request(words))),
         Program::Encode => (words, encoder_in(words)),
     };
     if codec.is_some() {
-        return files_of(rt, alloc, plain);
+        return files_of(rt, alloc, rest);
     }
     Ok(Vec::new(alloc))
 }

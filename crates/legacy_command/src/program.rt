@@ -1,7 +1,7 @@
 //! Runs the program that decodes, by its words, files and streams.
 ghost use Rattle.std.specs.Prelude.{◌≡◌, ◌↔◌, ◌≤◌, ◌⊎◌, [], IfOk, OnErr, OnOk, None, Some, IsTrue};
 ghost use Rattle.std.specs.Io.KnownBytes.{Keeps};
-ghost use Rattle.legacy_command.specs.Words.{texts_of, are_indexes, plain_words, codec_of_words};
+ghost use Rattle.legacy_command.specs.Words.{texts_of, are_indexes, words_after_option, codec_of_words};
 ghost use Rattle.legacy_command.specs.IndexTexts.{contents_of, text_given, AreWellFormed};
 ghost use Rattle.legacy_command.specs.Program.{flat_of, RecodesInput, RecodesSome, Untouched};
 ghost use Rattle.legacy_command.specs.Program.{DecodesByTables, DecodesByTexts, RecodesByWords, RecodingStops};
@@ -200,7 +200,7 @@ pub fn run<R: Read, W: Write, E: Write>(
     errors: &mut E,
 ) -> u8
     ensures statuses { result ≤ 2 }
-    ensures usage { (result ≡ 2) ↔ (codec_of_words (plain_words (texts_of words.now)) ≡ None) }
+    ensures usage { (result ≡ 2) ↔ (codec_of_words (words_after_option (texts_of words.now)) ≡ None) }
     ensures unread { result ≡ 2 → (input.new ≡ input.old) × (output.new ≡ output.old) }
     ensures recoded { result ≡ 0 → RecodesByWords (texts_of words.now) (contents_of files.now)
         (R.remaining input.old) (R.remaining input.new)
@@ -211,12 +211,12 @@ pub fn run<R: Read, W: Write, E: Write>(
     ensures silent { result ≡ 0 → errors.new ≡ errors.old }
 {
     let kind = output_asked(words);
-    let plain = request(words);
-    let Some(codec) = codec_in(plain) else {
+    let rest = request(words);
+    let Some(codec) = codec_in(rest) else {
         let _ = errors.write_all(b"usage: legacy_recode [--text] CODEC [INDEX FILE]...\n");
         return 2;
     };
-    match read_and_recode(alloc, kind, codec, &plain[1..], files, input, output) {
+    match read_and_recode(alloc, kind, codec, &rest[1..], files, input, output) {
         Ok(()) => 0,
         Err(fault) => {
             let _ = writeln!(errors, "{fault}");

@@ -1,6 +1,6 @@
 //! The words of the command line: optionally `--text`, CODEC, and any number of INDEX and FILE.
 ghost use Rattle.std.specs.Prelude.{◌≡◌, length};
-ghost use Rattle.legacy_command.specs.Words.{texts_of, wants_text, output_kind, plain_words, codec_named};
+ghost use Rattle.legacy_command.specs.Words.{texts_of, wants_text, output_kind, words_after_option, codec_named};
 ghost use Rattle.legacy_command.specs.Words.{index_named, first_index_named, stands_among, are_indexes, codec_of_words};
 
 use legacy_index_files::{Codec, FileIndex};
@@ -37,7 +37,7 @@ pub fn output_asked(words: &[&str]) -> OutputKind
 
 /// Returns the words without a leading `--text`.
 pub fn request<'a, 'b>(words: &'a [&'b str]) -> &'a [&'b str]
-    ensures { texts_of result.now ≡ plain_words (texts_of words.now) }
+    ensures { texts_of result.now ≡ words_after_option (texts_of words.now) }
 {
     if is_text_wanted(words) {
         return &words[1..];

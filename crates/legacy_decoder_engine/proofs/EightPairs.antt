@@ -5,8 +5,8 @@ use Rattle.std.proofs.lemmas.Simd.{get_or-chunk, get_or_wider}
 use Rattle.std.specs.{Char.IsScalar, Int.bit_at}
 use Rattle.legacy_text.specs.{declared.destination.Destination.Ghosts, EncodingForm.{all_code_units, total_unit_count}}
 use Rattle.legacy_base.specs.{Grammar.Grammar, States.new_state}
-use Rattle.legacy_decoder_engine.specs.{ReadAhead.{HasAscii, Runs, ReadsAhead}, LaneCodes.{kept_of, place_of, unit_at, ArePairs, AreUnits, IsForm, IsLane}}
-use Rattle.legacy_decoder_engine.proofs.{WrittenRuns.{runs_none, runs_more, take_two}, JoinedRuns.reads_written, LaneUnits.{few_units, is_form, lane_is}}
+use Rattle.legacy_decoder_engine.specs.{ReadAhead.{HasAscii, Yields, ReadsAhead}, LaneCodes.{kept_of, place_of, unit_at, ArePairs, AreUnits, IsForm, IsLane}}
+use Rattle.legacy_decoder_engine.proofs.{WrittenReads.{yields_none, yields_more, take_two}, JoinedReads.reads_written, LaneUnits.{few_units, is_form, lane_is}}
 use lib.Lanes.{Each1, zip2, top, mask_l, chunk, digits_l, number_l}
 
 -- the bits of the ASCII bytes among sixteen
@@ -40,17 +40,17 @@ module _ (pointer : ℕ → ℕ) (last : ℕ) (codes kept places : List ℕ) (lo
 module _ (g : Grammar) where
   -- the scalar of a pair
   pub pair_is : (a b code kept unit : ℕ) → code ≡ a + 256 * b → a < 256 → b < 256 → 128 ≤ a → IsForm g code kept unit →
-      IsScalar unit × Runs g (a ∷ b ∷ []) (unit ∷ [])
+      IsScalar unit × Yields g (a ∷ b ∷ []) (unit ∷ [])
   pair_is a b code kept unit e small small' past form = grind (arith, nat_tests)
 
-  pairs_run : (n : ℕ) (bs us : List ℕ) → 2 * n ≤ length bs → n ≤ length us
-      → ((k : ℕ) → k < n → Runs g (get_or bs (2 * k) 0 ∷ get_or bs (2 * k + 1) 0 ∷ []) (get_or us k 0 ∷ [])) → Runs g (take (2 * n) bs) (take n us)
-  pairs_run zero bs us p q each = runs_none g
-  pairs_run (suc n) bs us p q each =
+  pairs_yield : (n : ℕ) (bs us : List ℕ) → 2 * n ≤ length bs → n ≤ length us
+      → ((k : ℕ) → k < n → Yields g (get_or bs (2 * k) 0 ∷ get_or bs (2 * k + 1) 0 ∷ []) (get_or us k 0 ∷ [])) → Yields g (take (2 * n) bs) (take n us)
+  pairs_yield zero bs us p q each = yields_none g
+  pairs_yield (suc n) bs us p q each =
       let more : suc n ≡ n + 1 = omega arith in
       let two : 2 * (n + 1) ≡ 2 * n + 2 = omega arith in
       rw (more, two, take_two bs (2 * n) (omega arith), take_more us n 0 (omega arith))
-      (runs_more g _ _ _ _ (pairs_run n bs us (omega arith) (omega arith) (λ k h. each k (omega arith))) (each n (omega arith)))
+      (yields_more g _ _ _ _ (pairs_yield n bs us (omega arith) (omega arith) (λ k h. each k (omega arith))) (each n (omega arith)))
 
 -- the first n of eight pairs are read
 pub reads_pairs : {D : Type 0} (T : Ghosts D) (g : Grammar) (src us : List ℕ) {old new : D} (n : ℕ) → 16 ≤ length src → length us ≡ 8 → n ≤ 8
@@ -59,8 +59,8 @@ pub reads_pairs : {D : Type 0} (T : Ghosts D) (g : Grammar) (src us : List ℕ) 
     → T.room new + total_unit_count T.form (take n us) ≡ T.room old → T.loan new ≡ T.loan old → 35 ≤ T.room old
     → ReadsAhead T (new_state g) src (2 * n) old new
 reads_pairs T g src us n room long most small are past known contents room_is loan enough =
-    let each : (k : ℕ) → k < n → Runs g (get_or src (2 * k) 0 ∷ get_or src (2 * k + 1) 0 ∷ []) (get_or us k 0 ∷ []) =
+    let each : (k : ℕ) → k < n → Yields g (get_or src (2 * k) 0 ∷ get_or src (2 * k + 1) 0 ∷ []) (get_or us k 0 ∷ []) =
     λ k h. grind (arith, get_or-chunk 0 16 src (2 * k) 0, get_or-chunk 0 16 src (2 * k + 1) 0, are k, known k h, past (2 * k)) in
     let few = few_units T.form n us long small most in
-    let runs = pairs_run g n src us (omega arith) (omega arith) each in
-    reads_written (omega arith) (record { scalars = take n us; runs = runs; written = contents; room = room_is; loan = loan }) (omega arith) (omega arith)
+    let yields = pairs_yield g n src us (omega arith) (omega arith) each in
+    reads_written (omega arith) (record { scalars = take n us; yields = yields; written = contents; room = room_is; loan = loan }) (omega arith) (omega arith)

@@ -8,7 +8,7 @@ use Rattle.std.specs.Int.{bit_at, trailing_zeros, Count.trailing_of_zero}
 use lib.Lanes.{mask_l, zip2, top, chunk}
 use Rattle.legacy_decoder_engine.specs.PickedForms.{places, code_at, form_of, forms_of, AreStarts, IsEnd}
 use Rattle.legacy_text.specs.PastAscii.{ArePast}
-use Rattle.legacy_decoder_engine.proofs.WrittenRuns.{take_two}
+use Rattle.legacy_decoder_engine.proofs.WrittenReads.{take_two}
 
 -- bits that pass the check are the starts of forms
 pub asked : (past starts : ℕ) → bit_at starts 0 ≡ 1 → bit_and (bit_xor (starts / 2) (bit_and starts past)) (2 ^ 63 - 1) ≡ 2 ^ 63 - 1 → AreStarts past starts

@@ -9,9 +9,9 @@ use Rattle.std.proofs.{lemmas.Simd.{chunk-drop, get_or-chunk, get_or-put_chunk_b
 use Rattle.std.specs.{Char.IsScalar, List.count_by, Int.bit_at, Int.RustNames.count_ones}
 use Rattle.legacy_text.specs.{declared.destination.Destination.Ghosts, EncodingForm.{EncodingForm, all_code_units, total_unit_count}}
 use Rattle.legacy_base.specs.Grammar.{Grammar}
-use Rattle.legacy_decoder_engine.proofs.{LanePlaces.mask_if, WrittenRuns.{rest_of, runs_none, runs_more, writes_then, all_short}}
+use Rattle.legacy_decoder_engine.proofs.{LanePlaces.mask_if, WrittenReads.{rest_of, yields_none, yields_more, writes_then, all_short}}
 use Rattle.legacy_decoder_engine.specs.LaneCodes.{kept_of, place_of, unit_at, ArePairs, ArePlaces, AreLanes, IsLane, IsForm, AreForms, AreWritten}
-use Rattle.legacy_decoder_engine.specs.{ReadAhead.{HasAscii, Runs}, PickedForms.{form_of, forms_of}}
+use Rattle.legacy_decoder_engine.specs.{ReadAhead.{HasAscii, Yields}, PickedForms.{form_of, forms_of}}
 use lib.Lanes.{Each1, zip2, sel_l, top, mask_l, chunk, put_chunk}
 
 module _ (pointer : ℕ → ℕ) (last : ℕ) where
@@ -53,13 +53,13 @@ module _ (g : Grammar) (ascii : HasAscii g) (entries : List ℕ) (pointer : ℕ 
 module _ (g : Grammar) where
   first_forms : (n : ℕ) (cs ks us : List ℕ) → n ≤ length cs → n ≤ length ks → n ≤ length us
       → ((k : ℕ) → k < n → IsForm g (get_or cs k 0) (get_or ks k 0) (get_or us k 0))
-      → Runs g (forms_of (take n cs)) (take n us) × (length (forms_of (take n cs)) + count_by (λ k. ltb k 128) (take n ks) ≡ 2 * n)
-  first_forms zero cs ks us p q r each = (runs_none g, refl)
+      → Yields g (forms_of (take n cs)) (take n us) × (length (forms_of (take n cs)) + count_by (λ k. ltb k 128) (take n ks) ≡ 2 * n)
+  first_forms zero cs ks us p q r each = (yields_none g, refl)
   first_forms (suc n) (c ∷ cs) (k ∷ ks) (u ∷ us) p q r each =
       let one = each 0 (omega arith) in
       let more = first_forms n cs ks us (omega arith) (omega arith) (omega arith) (λ i h. each (suc i) (omega arith)) in
       let count = sum_by-cons (λ k. cond (ltb k 128) 1 0) k (take n ks) in
-      (runs_more g (form_of c) _ (u ∷ []) _ one.runs more.0, omega (arith, length-append (form_of c) (forms_of (take n cs)), count, one.counted, more.1))
+      (yields_more g (form_of c) _ (u ∷ []) _ one.yields more.0, omega (arith, length-append (form_of c) (forms_of (take n cs)), count, one.counted, more.1))
   first_forms (suc n) cs ks us p q r each = absurd (omega arith)
 
 -- the forms of fewer codes are also the front of the input

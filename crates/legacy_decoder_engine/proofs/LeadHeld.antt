@@ -5,9 +5,9 @@ use Rattle.std.specs.Char.{IsScalar}
 use Rattle.legacy_tables.specs.{Unicode.{IsByte, AreBytes}, AcceptedTables.AcceptedIndexes, Indexes.FlatIndexes}
 use Rattle.legacy_base.specs.{States.{may_hold, is_empty}, Grammar.{Grammar, events_of}, Fronts.malformed}
 use Rattle.legacy_decoder_engine.specs.{declared.moves.Fed.Fed, Steps.{Step, finish}, Moves.{IsCovered, Feeds, FeedsMalformedByte, Reports}}
-use Rattle.legacy_decoder_engine.specs.{LeadMachines.{two_byte_machine, two_byte_step}, Shown.IsShown, Feeding.Took, ReadAhead.{Runs, HasAscii, IsIdle}}
+use Rattle.legacy_decoder_engine.specs.{LeadMachines.{two_byte_machine, two_byte_step}, Shown.IsShown, Feeding.Took, ReadAhead.{Yields, HasAscii, IsIdle}}
 use Rattle.legacy_decoder_engine.specs.LeadCodecs.{IsLeadCodec, held_bytes, lead_state}
-use Rattle.legacy_decoder_engine.proofs.RunForms.{has_ascii, pair_runs, ascii_is}
+use Rattle.legacy_decoder_engine.proofs.YieldedForms.{has_ascii, pair_yields, ascii_is}
 use Rattle.legacy_decoder_engine.proofs.Feeding as feeding
 
 pub neutral_empty : (bytes : List ℕ) → (is_empty bytes && true) ≡ true → bytes ≡ []
@@ -20,9 +20,9 @@ module _ {grammar : FlatIndexes → Grammar} {is_lead_byte : ℕ → Bool} {firs
   ascii = has_ascii (is.shown tables.flat tables.accepted) (λ b. refl) (λ b h. is.ascii_first b (ascii_is b h))
 
   pub pair : (lead trail c : ℕ) → IsByte lead → IsByte trail → IsScalar c → is_lead_byte lead ≡ true → scalars tables.flat lead trail ≡ c ∷ []
-      → Runs (grammar tables.flat) (lead ∷ trail ∷ []) (c ∷ [])
+      → Yields (grammar tables.flat) (lead ∷ trail ∷ []) (c ∷ [])
   pair lead trail c is_byte is_byte' scalar is_lead e =
-      pair_runs (is.shown tables.flat tables.accepted) lead trail c is_byte is_byte' scalar
+      pair_yields (is.shown tables.flat tables.accepted) lead trail c is_byte is_byte' scalar
       (is.may_is tables.flat (lead ∷ []) ∙ is_lead) (is.rests_is tables.flat (lead ∷ [])) refl refl (is.lead_first lead is_lead) (rw e refl)
 
 module _ {L : Type 0} {grammar : FlatIndexes → Grammar} {is_lead_byte : ℕ → Bool} {first : ℕ → Step} {scalars : FlatIndexes → ℕ → ℕ → List ℕ}

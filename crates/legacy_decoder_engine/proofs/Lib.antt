@@ -1,12 +1,12 @@
 -- How the moves of each machine follow from its grammar, and calls from the moves.
 pub mod CallUnderWay
 pub mod EightPairs
-pub mod AheadRuns
+pub mod AheadInCalls
 pub mod Feeding
 pub mod FrontMoves
-pub mod WrittenRuns
-pub mod JoinedRuns
-pub mod RunForms
+pub mod WrittenReads
+pub mod JoinedReads
+pub mod YieldedForms
 pub mod LeadHeld
 pub mod OneByteMeets
 pub mod OneByteShown

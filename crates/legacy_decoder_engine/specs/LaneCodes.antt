@@ -3,7 +3,7 @@ use Rattle.std.specs.Prelude.{◌≡◌, ◌≢◌, ℕ, List, [], ◌∷◌, �
 use Rattle.std.specs.Char.{IsScalar}
 use Rattle.legacy_base.specs.Grammar.{Grammar}
 use Rattle.legacy_text.specs.{declared.destination.Destination.Ghosts}
-use Rattle.legacy_decoder_engine.specs.{ReadAhead.IsPair, ReadAhead.Runs, ReadAhead.Writes, PickedForms.{form_of, forms_of}}
+use Rattle.legacy_decoder_engine.specs.{ReadAhead.IsPair, ReadAhead.Yields, ReadAhead.Writes, PickedForms.{form_of, forms_of}}
 
 -- the places of the codes, up to a limit: no two places from it on are told apart
 abbrev pub ArePlaces : ℕ → (ℕ → ℕ) → List ℕ → List ℕ → Type 0
@@ -45,7 +45,7 @@ pub record AreKept (pointer : ℕ → ℕ) (n : ℕ) (kept places : List ℕ) : 
 -- A unit is the scalar of the form that a code begins with. What is kept of the code gives the form's length.
 pub record IsForm (grammar : Grammar) (code kept unit : ℕ) : Type 0 where
   pub scalar : IsScalar unit
-  pub runs : Runs grammar (form_of code) (unit ∷ [])
+  pub yields : Yields grammar (form_of code) (unit ∷ [])
   pub counted : length (form_of code) + cond (ltb kept 128) 1 0 ≡ 2
 
 -- A unit that is not 0 is the scalar of the form that its code begins with, whatever codes the lanes are kept of.
@@ -56,7 +56,7 @@ AreForms grammar pointer kept places units = (codes : List ℕ) → AreLanes poi
 -- A unit that is not 0 is the scalar of the pair of bytes at its place, if the first one is past ASCII.
 abbrev pub AreUnits : Grammar → List ℕ → List ℕ → Type 0
 AreUnits grammar bytes units = (k : ℕ) → k < 8 → get_or units k 0 ≢ 0 → 128 ≤ get_or bytes (2 * k) 0 →
-    IsScalar (get_or units k 0) × Runs grammar (get_or bytes (2 * k) 0 ∷ get_or bytes (2 * k + 1) 0 ∷ []) (get_or units k 0 ∷ [])
+    IsScalar (get_or units k 0) × Yields grammar (get_or bytes (2 * k) 0 ∷ get_or bytes (2 * k + 1) 0 ∷ []) (get_or units k 0 ∷ [])
 
 -- The forms of the first n codes are written. What is kept of the codes gives the forms' length.
 pub record AreWritten {D : Type 0} (T : Ghosts D) (grammar : Grammar) (codes kept : List ℕ) (n : ℕ) (x y : D) : Type 0 where

@@ -1,4 +1,4 @@
--- The bytes that the loop for runs of common sequences reads, and the scalars that it writes.
+-- The bytes that a loop reads ahead of the machine, and the scalars that it writes.
 use Rattle.std.specs.{Prelude.{◌≡◌, ℕ, ◌+◌, ◌<◌, ◌≤◌, List, [], ◌∷◌, ◌++◌, length, map, take, All}, Char.IsScalar}
 use Rattle.legacy_text.specs.{declared.destination.Destination.Ghosts, EncodingForm.{Utf8, all_code_units, total_unit_count}}
 use Rattle.legacy_base.specs.{declared.results.DecodeEvent.TheVariants.Scalar, Events.shift, Grammar.{Grammar, events_of}, States.{DecoderState, new_state}}
@@ -8,19 +8,19 @@ use Rattle.legacy_decoder_engine.specs.declared.common_forms.CommonForm.{CommonF
 
 -- Whatever bytes follow, the events of the bytes in the first grammar are these scalars, and then the events of the
 -- following bytes in the second grammar. The room still needed falls by what is written.
-pub record RunsTo (before after : Grammar) (bytes scalars : List ℕ) : Type 0 where
+pub record YieldsTo (before after : Grammar) (bytes scalars : List ℕ) : Type 0 where
   pub events : (more : List ℕ) → events_of before (bytes ++ more) ≡ map Scalar scalars ++ shift (length bytes) (events_of after more)
   pub scalar : All IsScalar scalars
   pub lowers : (query : LengthQuery) (n : ℕ) →
       room query (new_state after) n + total_unit_count (query_form query) scalars ≤ room query (new_state before) (n + length bytes)
 
 -- the same without a change of the grammar
-abbrev pub Runs : Grammar → List ℕ → List ℕ → Type 0
-Runs grammar bytes scalars = RunsTo grammar grammar bytes scalars
+abbrev pub Yields : Grammar → List ℕ → List ℕ → Type 0
+Yields grammar bytes scalars = YieldsTo grammar grammar bytes scalars
 
 -- each ASCII byte is its own scalar
 abbrev pub HasAscii : Grammar → Type 0
-HasAscii grammar = (b : ℕ) → b < 0x80 → Runs grammar (b ∷ []) (b ∷ [])
+HasAscii grammar = (b : ℕ) → b < 0x80 → Yields grammar (b ∷ []) (b ∷ [])
 
 -- a decoder that holds nothing back, with ASCII bytes that are their own scalars
 pub record IsIdle (state : DecoderState) : Type 0 where
@@ -29,11 +29,11 @@ pub record IsIdle (state : DecoderState) : Type 0 where
 
 -- a byte that gives one scalar up to U+FFFF
 abbrev pub IsSingle : Grammar → ℕ → ℕ → Type 0
-IsSingle grammar byte c = (c < 0x1_0000) × Runs grammar (byte ∷ []) (c ∷ [])
+IsSingle grammar byte c = (c < 0x1_0000) × Yields grammar (byte ∷ []) (c ∷ [])
 
 -- two bytes that give one scalar up to U+FFFF
 abbrev pub IsPair : Grammar → ℕ → ℕ → ℕ → Type 0
-IsPair grammar first second c = (c < 0x1_0000) × Runs grammar (first ∷ second ∷ []) (c ∷ [])
+IsPair grammar first second c = (c < 0x1_0000) × Yields grammar (first ∷ second ∷ []) (c ∷ [])
 
 -- a codec's result for a byte and the byte after it: a scalar up to U+FFFF, or nothing
 abbrev pub IsCommonForm : Grammar → ℕ → ℕ → CommonForm → Type 0
@@ -45,7 +45,7 @@ IsCommonForm grammar lead trail Other = Unit {0}
 -- destination is still the same buffer.
 pub record WritesTo {D : Type 0} (T : Ghosts D) (before after : Grammar) (bytes : List ℕ) (old new : D) : Type 0 where
   pub scalars : List ℕ
-  pub runs : RunsTo before after bytes scalars
+  pub yields : YieldsTo before after bytes scalars
   pub written : T.contents new ≡ T.contents old ++ all_code_units T.form scalars
   pub room : T.room new + total_unit_count T.form scalars ≡ T.room old
   pub loan : T.loan new ≡ T.loan old
@@ -76,7 +76,7 @@ ReadsAhead T state source read old new = ReadsTo T state state source read old n
 pub record ReadsInto (grammar : Grammar) (source : List ℕ) (free read : ℕ) (written : List ℕ) : Type 0 where
   pub within : read ≤ length source
   pub scalars : List ℕ
-  pub runs : Runs grammar (take read source) scalars
+  pub yields : Yields grammar (take read source) scalars
   pub bytes : written ≡ all_code_units Utf8 scalars
   pub slack : 0 < read → length written + 3 ≤ free
   pub had : 0 < read → 4 ≤ free

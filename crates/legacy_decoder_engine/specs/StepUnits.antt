@@ -10,7 +10,7 @@ abbrev pub units : (ℕ → ℕ) → List ℕ → ℕ
 units len [] = 0
 units len (c ∷ scalars) = len c + units len scalars
 
--- the code units that a step writes, with `fault` for a malformed sequence
+-- the code units that a step writes, with `report` for a malformed sequence
 abbrev pub step_units : (ℕ → ℕ) → ℕ → Step → ℕ
 step_units len report hold = 0
 step_units len report (finish (reads n scalars)) = units len scalars
@@ -53,7 +53,7 @@ WritePays len narrow wide room g held (Some (k, c)) =
     (len c ≤ act_room narrow wide (state_of g held) writes)
     × ((n : ℕ) → room (state_of g (drop k held)) n + len c ≤ room (state_of g held) n)
 
--- Each move has its room, and lowers the room still needed by what it writes (and by `fault` for a malformed sequence).
+-- Each move has its room, and lowers the room still needed by what it writes (and by `report` for a malformed sequence).
 -- That room covers reading a byte, and writing or reporting the held-back bytes.
 pub record RoomMeets (len : ℕ → ℕ) (narrow wide report : ℕ) (room : DecoderState → ℕ → ℕ) (g : Grammar) (m : DecoderMachine) : Type 0 where
   pub step_fits : (held : List ℕ) (b : ℕ) → may_hold g held ≡ true → rests g held ≡ true → AreBytes held → IsByte b →

@@ -34,7 +34,7 @@ impl CommonForm {
 }
 
 /// The common forms of a codec, with nothing held back between two of them.
-pub trait CommonForms {
+pub trait FrontForms {
     /// The grammar.
     ghost grammar: { Self → Grammar };
 
@@ -68,8 +68,8 @@ fn fitting(bytes: usize, units: usize) -> usize
 /// Returns the number of bytes read, and whether it read `most` forms. The input has bytes for `most` forms, and the
 /// output has room for them and three more code units.
 #[inline(always)]
-#[tactic(auto, using(crate::proofs::WrittenRuns::one_by_one))]
-fn read_turns<F: CommonForms, T: Destination>(
+#[tactic(auto, using(crate::proofs::WrittenReads::one_by_one))]
+fn read_turns<F: FrontForms, T: Destination>(
     forms: &F,
     src: &[u8],
     dst: &mut T,
@@ -119,8 +119,8 @@ pub(crate) const FOUR_ROOM: usize = 12 + SLACK;
 /// Returns the number of bytes read, and whether it read four forms. The input has bytes for four forms, and the
 /// output has room for them and three more code units.
 #[inline(always)]
-#[tactic(auto, using(crate::proofs::JoinedRuns::turn_by_turn))]
-pub(crate) fn read_four<F: CommonForms, T: Destination>(
+#[tactic(auto, using(crate::proofs::JoinedReads::turn_by_turn))]
+pub(crate) fn read_four<F: FrontForms, T: Destination>(
     forms: &F,
     src: &[u8],
     dst: &mut T,
@@ -141,8 +141,8 @@ pub(crate) fn read_four<F: CommonForms, T: Destination>(
 // Four at a time: the compiler unrolls a loop of that size, so each place has its own branches, and the processor
 // predicts each of them by its own history.
 #[inline(always)]
-#[tactic(auto, using(crate::proofs::JoinedRuns::turn_by_turn))]
-fn read_run<F: CommonForms, T: Destination>(forms: &F, src: &[u8], dst: &mut T) -> usize
+#[tactic(auto, using(crate::proofs::JoinedReads::turn_by_turn))]
+fn read_run<F: FrontForms, T: Destination>(forms: &F, src: &[u8], dst: &mut T) -> usize
     requires { F.ready forms.now }
     ensures { ReadsAhead T.Destination (new_state (F.grammar forms.now)) src.now result dst.old dst.new }
 {
@@ -167,7 +167,7 @@ fn read_run<F: CommonForms, T: Destination>(forms: &F, src: &[u8], dst: &mut T) 
 ///
 /// Returns the number of bytes read, which may be 0. If it reads any, three code units stay free.
 #[inline(always)]
-pub fn read_forms<F: CommonForms, T: Destination>(
+pub fn read_forms<F: FrontForms, T: Destination>(
     forms: &F,
     src: &[u8],
     most: usize,

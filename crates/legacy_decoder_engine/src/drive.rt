@@ -79,12 +79,12 @@ fn begins_malformed<D: DecoderMoves>(decoder: &D, src: &[u8]) -> bool
     !src.is_empty() && decoder.is_malformed_byte(src[0])
 }
 
-/// Reads a run from the front, but nothing if the byte there is known to be malformed.
+/// Reads common sequences from the front, but nothing if the byte there is known to be malformed.
 ///
 /// Returns the number of bytes read, and whether the byte after them is known to be malformed.
 // Malformed bytes often follow one another. None of them costs a test for a block.
 #[inline(always)]
-#[tactic(auto, using(crate::proofs::WrittenRuns::no_bytes))]
+#[tactic(auto, using(crate::proofs::WrittenReads::no_bytes))]
 fn read_ahead<D: DecoderMoves, T: Destination>(
     decoder: &mut D,
     src: &[u8],
@@ -96,7 +96,7 @@ fn read_ahead<D: DecoderMoves, T: Destination>(
     if begins_malformed(decoder, src) {
         return (0, true);
     }
-    let read = decoder.read_runs(src, dst);
+    let read = decoder.read_common(src, dst);
     // If nothing was read, the byte there was tested above.
     (read, read > 0 && begins_malformed(decoder, &src[read..]))
 }
@@ -143,8 +143,8 @@ fn finish<D: DecoderMoves, T: Destination>(decoder: &mut D, dst: &T, last: bool)
 /// The decoder makes its moves until the input is read, the output lacks room, or a malformed
 /// sequence is to be reported. The result says which, with the number of bytes read from `src`. The
 /// scalars are in `dst`, after its earlier contents. With `last`, no input follows `src`. A
-/// held-back scalar that is to be written exists only at the beginning of a call. Runs of common
-/// sequences are read ahead of the moves.
+/// held-back scalar that is to be written exists only at the beginning of a call. Common sequences
+/// are read ahead of the moves.
 #[inline(always)]
 pub fn drive_decoder<D: DecoderMoves, T: Destination>(
     decoder: &mut D,

@@ -1,6 +1,6 @@
-//! Pairs whose bytes are all past ASCII, eight at a time and without codes in memory: short runs between tags.
+//! Pairs whose bytes are all past ASCII, eight at a time and without codes in memory: between tags.
 // The functions are always inlined, because a call would pass vectors through memory.
-#![tactic(auto, using(crate::proofs::WrittenRuns::no_bytes))]
+#![tactic(auto, using(crate::proofs::WrittenReads::no_bytes))]
 
 ghost use Rattle.std.specs.Prelude.{◌≡◌, ℕ, ◌*◌, ◌<◌, ◌≤◌, All, length, get_or};
 ghost use Rattle.std.specs.Char.{IsScalar};
@@ -93,7 +93,7 @@ pub(crate) fn read_eights<C: LaneCodec, T: Destination>(
     ensures { ReadsAhead T.Destination (new_state (C.grammar tables.now.flat)) src.now result dst.old dst.new }
 {
     let entries = entry_count::<C>(tables);
-    if !C::has_long_runs() || T::narrow() == 1 || entries == 0 {
+    if !C::has_eights() || T::narrow() == 1 || entries == 0 {
         return 0;
     }
     let last = (entries - 1) as u16;

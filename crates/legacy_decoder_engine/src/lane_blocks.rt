@@ -1,21 +1,22 @@
 //! Blocks with many bytes past ASCII, whose forms are picked out and looked up by lanes, and the text between such blocks.
 // The functions that run for each block are always inlined: a call would pass vectors through memory, and would store
 // the destination's place there for each block.
-#![tactic(auto, using(crate::proofs::WrittenRuns::no_bytes))]
+#![tactic(auto, using(crate::proofs::WrittenReads::no_bytes))]
 
 ghost use Rattle.std.specs.Prelude.{◌≡◌, ◌%◌, ◌<◌, ◌≤◌, [], ◌∷◌, IfSome, true, length, take};
 ghost use Rattle.legacy_tables.specs.{AcceptedTables.AcceptedIndexes};
 ghost use Rattle.legacy_base.specs.{States.new_state};
-ghost use Rattle.legacy_decoder_engine.specs.ReadAhead.{HasAscii, ReadsAhead, Runs};
+ghost use Rattle.legacy_decoder_engine.specs.ReadAhead.{HasAscii, ReadsAhead, ReadsInto, Yields};
 
 use crate::block_picks::pick_blocks;
-use crate::common_forms::{CommonForm, CommonForms, read_forms};
+use crate::common_forms::{CommonForm, FrontForms, read_forms};
 use crate::eights::read_eights;
 use crate::lane_codec::LaneCodec;
 use crate::lanes::{byte_total, put_codes};
-use crate::read_ahead::{Blocks, SHORT_BLOCK, SLACK, read_ascii};
-use legacy_base::Destination;
+use crate::read_ahead::{BlockReader, SHORT_BLOCK, SLACK, read_ascii, read_blocks};
+use legacy_base::{Destination, Utf8Destination};
 use legacy_tables::FlatTables;
+use legacy_text::FillsBuffer;
 use legacy_text::past_ascii::past_ascii;
 use std::cell::Cell;
 use std::marker::PhantomData;
@@ -25,7 +26,7 @@ use std::simd::prelude::*;
 ///
 /// Returns the number of bytes read, and whether another block may follow.
 #[inline(always)]
-#[tactic(auto, using(crate::proofs::JoinedRuns::reads_front, crate::proofs::LaneUnits::front_forms))]
+#[tactic(auto, using(crate::proofs::JoinedReads::reads_front, crate::proofs::LaneUnits::front_forms))]
 fn read_front<C: LaneCodec, T: Destination>(
     tables: &FlatTables<'_>,
     src: &[u8],
@@ -116,7 +117,7 @@ fn read_long<C: LaneCodec, T: Destination>(
 }
 
 /// Reads blocks with many bytes past ASCII from the front, and returns the number of bytes read, which may be 0.
-// Most runs of such blocks between tags are short: the larger arrays are made after a few blocks, and a copy of the tables,
+// Most rows of such blocks between tags are short: the larger arrays are made after a few blocks, and a copy of the tables,
 // whose parts a loop keeps in registers.
 #[inline(always)]
 fn read_short<C: LaneCodec, T: Destination>(
@@ -201,7 +202,7 @@ impl<'a, C: LaneCodec> LaneForms<'a, C> {
     }
 }
 
-impl<C: LaneCodec> CommonForms for LaneForms<'_, C> {
+impl<C: LaneCodec> FrontForms for LaneForms<'_, C> {
     ghost grammar = { λ forms. C.grammar forms.tables.flat };
 
     ghost ready = { λ forms. HasAscii (C.grammar forms.tables.flat) };
@@ -233,8 +234,8 @@ pub(crate) fn read_in_turn<C: LaneCodec, T: Destination>(
 
 /// Reads common forms from the front of at most `most` bytes, up to an uncommon one, and returns the number of bytes read.
 ///
-/// A run of pairs at the front is read eight pairs at a time, if the codec has long runs, and then nothing after it.
-// What follows a run is mostly ASCII, or begins a form of more than two bytes. Both have ways of their own.
+/// Pairs at the front are read eight at a time, if pairs of the codec stand so, and then nothing after them.
+// What follows them is mostly ASCII, or begins a form of more than two bytes. Both have ways of their own.
 #[inline(always)]
 fn read_at_most<C: LaneCodec, T: Destination>(
     tables: &FlatTables<'_>,
@@ -279,8 +280,8 @@ impl<'a, 'b, C: LaneCodec> LaneBlocks<'a, 'b, C> {
         }
     }
 
-    /// Returns the number of bytes to read form by form after a run of ASCII of this length.
-    // Text with tags has long ASCII between its runs of pairs, and most of them are too short for lanes.
+    /// Returns the number of bytes to read form by form after so many bytes of ASCII.
+    // Text with tags has long ASCII between its rows of pairs, and most of these are too short for lanes.
     #[inline(always)]
     fn delay_after(&self, ascii: usize) -> usize {
         if ascii >= LONG_ASCII {
@@ -300,7 +301,7 @@ fn form_at<C: LaneCodec>(
     requires ascii { HasAscii (C.grammar tables.now.flat) }
     requires some { 0 < length src.now }
     ensures { IfSome result (λ form. (0 < form.1) × (form.1 ≤ length src.now)
-        × Runs (C.grammar tables.now.flat) (take form.1 src.now) (form.0 ∷ [])) }
+        × Yields (C.grammar tables.now.flat) (take form.1 src.now) (form.0 ∷ [])) }
 {
     let byte = src[0];
     if byte < 0x80 {
@@ -322,7 +323,7 @@ fn form_at<C: LaneCodec>(
 /// Reads the last bytes of the input, up to an uncommon form. Returns the number of bytes read, which may be 0.
 // Any block is longer, so one loop reads every form.
 #[inline(always)]
-#[tactic(auto, using(crate::proofs::WrittenRuns::writes_none, crate::proofs::WrittenRuns::four_fit))]
+#[tactic(auto, using(crate::proofs::WrittenReads::writes_none, crate::proofs::WrittenReads::four_fit))]
 pub(crate) fn read_last<C: LaneCodec, T: Destination>(
     blocks: &LaneBlocks<'_, '_, C>,
     src: &[u8],
@@ -373,7 +374,7 @@ fn read_one_kind<C: LaneCodec, T: Destination>(
 /// Reads ASCII by blocks and other forms one by one from the front, up to an uncommon form or to many forms.
 ///
 /// Returns the number of bytes read, and whether a block with many bytes past ASCII may follow.
-// Most runs of pairs between tags are short, and lanes are no faster in them. Forms are counted since the last long ASCII.
+// Most rows of pairs between tags are short, and lanes are no faster in them. Forms are counted since the last long ASCII.
 #[inline(always)]
 fn read_few<C: LaneCodec, T: Destination>(
     blocks: &LaneBlocks<'_, '_, C>,
@@ -407,7 +408,7 @@ fn read_few<C: LaneCodec, T: Destination>(
 }
 
 /// Blocks with many bytes past ASCII, and then ASCII and other forms up to many forms.
-impl<C: LaneCodec> Blocks for LaneBlocks<'_, '_, C> {
+impl<C: LaneCodec> BlockReader for LaneBlocks<'_, '_, C> {
     ghost grammar = { λ blocks. C.grammar blocks.tables.now.flat };
 
     // Malformed sequences often follow one another. No block is begun at an uncommon byte. After lanes a piece of text has
@@ -431,5 +432,25 @@ impl<C: LaneCodec> Blocks for LaneBlocks<'_, '_, C> {
         }
         let (few, goes_on) = read_few(self, &src[at..], dst);
         (at + few, goes_on)
+    }
+}
+
+/// Text, and the blocks that read it.
+#[derive(Drop)]
+pub(crate) struct BlocksAhead<'x, 'a, 'b, C: LaneCodec> {
+    pub(crate) blocks: &'x LaneBlocks<'a, 'b, C>,
+    pub(crate) src: &'x [u8],
+}
+
+impl<C: LaneCodec> FillsBuffer for BlocksAhead<'_, '_, '_, C> {
+    ghost fills = { λ ahead. ReadsInto (C.grammar ahead.blocks.now.tables.now.flat) ahead.src.now };
+
+    /// Reads blocks from the front of the text, and returns the numbers of bytes read and written.
+    // It is a function of its own, so that its vectors and places leave the registers of a call that reads none.
+    #[inline(never)]
+    fn fill(&self, buffer: &mut [u8]) -> (usize, usize) {
+        let mut dst = Utf8Destination::new(buffer);
+        let read = read_blocks(self.blocks, self.src, &mut dst);
+        (read, dst.written())
     }
 }

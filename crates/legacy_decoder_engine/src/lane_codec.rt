@@ -1,10 +1,10 @@
 //! What a codec of pairs gives, so that eight pairs are looked up at once.
-#![tactic(auto, using(crate::proofs::WrittenRuns::no_bytes))]
+#![tactic(auto, using(crate::proofs::WrittenReads::no_bytes))]
 
 ghost use Rattle.std.specs.Prelude.{◌≡◌, ℕ, ◌<◌, ◌≤◌, List, [], ◌∷◌, IfSome, false, length, take};
 ghost use Rattle.legacy_tables.specs.{AcceptedTables.AcceptedIndexes, Indexes.FlatIndexes, Tables.{index_list, is_narrow_index}};
 ghost use Rattle.legacy_base.specs.{Grammar.Grammar, States.new_state};
-ghost use Rattle.legacy_decoder_engine.specs.ReadAhead.{HasAscii, IsCommonForm, ReadsAhead, Runs};
+ghost use Rattle.legacy_decoder_engine.specs.ReadAhead.{HasAscii, IsCommonForm, ReadsAhead, Yields};
 ghost use Rattle.legacy_decoder_engine.specs.LaneCodes.{ArePairs, ArePlaces};
 ghost use Rattle.legacy_tables.specs.declared.tables.IndexName.TheVariants as names;
 
@@ -63,7 +63,7 @@ pub trait LaneCodec {
     ///
     /// It may also read ASCII between them. `guess` is what the codec keeps from one such form to the next.
     #[inline(always)]
-    #[tactic(auto, using(crate::proofs::WrittenRuns::no_bytes))]
+    #[tactic(auto, using(crate::proofs::WrittenReads::no_bytes))]
     fn read_longer<T: Destination>(
         tables: &FlatTables<'_>,
         guess: &Cell<usize>,
@@ -83,7 +83,7 @@ pub trait LaneCodec {
     ///
     /// It reads nothing if few such forms follow. It is given what the codec keeps from the last one.
     #[inline(always)]
-    #[tactic(auto, using(crate::proofs::WrittenRuns::no_bytes))]
+    #[tactic(auto, using(crate::proofs::WrittenReads::no_bytes))]
     fn read_longer_blocks<T: Destination>(
         tables: &FlatTables<'_>,
         guess: usize,
@@ -105,7 +105,7 @@ pub trait LaneCodec {
     #[inline(always)]
     fn longer_at(tables: &FlatTables<'_>, guess: &Cell<usize>, src: &[u8]) -> Option<(char, usize)>
         ensures { IfSome result (λ form. (0 < form.1) × (form.1 ≤ length src.now)
-            × Runs (grammar tables.now.flat) (take form.1 src.now) (form.0 ∷ [])) }
+            × Yields (grammar tables.now.flat) (take form.1 src.now) (form.0 ∷ [])) }
     {
         let _ = tables;
         let _ = guess;
@@ -138,10 +138,10 @@ pub trait LaneCodec {
         16 * past as usize > 9 * bytes
     }
 
-    /// Returns whether pairs between tags are mostly in runs of eight or more, with few trails in ASCII.
-    // In UTF-8 such runs are read eight pairs at a time.
+    /// Returns whether pairs between tags are mostly in rows of eight or more, with few trails in ASCII.
+    // In UTF-8 such rows are read eight pairs at a time.
     #[inline(always)]
-    fn has_long_runs() -> bool {
+    fn has_eights() -> bool {
         false
     }
 

@@ -1,7 +1,7 @@
 //! Eight codes at a time: what is kept of each, the place of its pair, its entry, and the unit that is written.
 // The functions that run for each block are always inlined: a call would pass vectors through memory, and would store
 // the destination's place there for each block.
-#![tactic(auto, using(crate::proofs::WrittenRuns::no_bytes))]
+#![tactic(auto, using(crate::proofs::WrittenReads::no_bytes))]
 
 ghost use Rattle.std.specs.Prelude.{◌≡◌, ◌≢◌, ℕ, ◌+◌, ◌*◌, ◌/◌, ◌<◌, ◌≤◌, List, true, length, map, take, get_or, count_by, ltb};
 ghost use Rattle.legacy_decoder_engine.specs.ReadAhead.{HasAscii};

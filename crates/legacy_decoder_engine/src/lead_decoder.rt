@@ -201,8 +201,8 @@ impl<'a, C: LeadCodec> DecoderMoves for LeadDecoder<'a, C> {
     }
 
     #[inline(always)]
-    #[tactic(auto, using(crate::proofs::WrittenRuns::no_bytes))]
-    fn read_runs<T: Destination>(&mut self, src: &[u8], dst: &mut T) -> usize {
+    #[tactic(auto, using(crate::proofs::WrittenReads::no_bytes))]
+    fn read_common<T: Destination>(&mut self, src: &[u8], dst: &mut T) -> usize {
         if self.held.is_some() {
             return 0;
         }

@@ -1,5 +1,5 @@
 //! The shared parts of all legacy decoders: the small moves of a decoder, the one loop that makes calls of them, the
-//! loops that read runs of common forms ahead of it, and the one decoder of the codecs whose forms have a lead and a
+//! loops that read common forms ahead of it, and the one decoder of the codecs whose forms have a lead and a
 //! trail.
 #![tactic(auto)]
 

@@ -1,4 +1,4 @@
-//! The small moves of each decoder, and the runs that it reads ahead of them.
+//! The small moves of each decoder, and the text that it reads ahead of them.
 ghost use Rattle.std.specs.Prelude.{◌≡◌, ◌≢◌, ◌≤◌, [], length, take, true, false, MatchOption};
 ghost use Rattle.legacy_text.specs.EncodingForm.{EncodingForm};
 ghost use Rattle.legacy_base.specs.{Grammar.events_of, States.{DecoderState, may_hold, rests}, DecoderActs.release_room_in};
@@ -102,15 +102,15 @@ pub trait DecoderMoves {
         false
     }
 
-    /// Reads a run of common sequences from the front of the input and writes their scalars.
+    /// Reads common sequences from the front of the input and writes their scalars.
     ///
-    /// Returns the number of bytes read, which may be any part of the run. The decoder changes only with bytes that
+    /// Returns the number of bytes read, which may be any part of them. The decoder changes only with bytes that
     /// switch its mode. It reads only if at least four code units are free, and leaves three, so that no act of the
     /// machine would have lacked room. A decoder without common sequences reads nothing.
     #[inline(always)]
-    #[tactic(auto, using(crate::proofs::WrittenRuns::no_bytes))]
-    fn read_runs<T: Destination>(&mut self, src: &[u8], dst: &mut T) -> usize
-        ensures runs { ReadsTo T.Destination (state self.old) (state self.new) src.now result dst.old dst.new }
+    #[tactic(auto, using(crate::proofs::WrittenReads::no_bytes))]
+    fn read_common<T: Destination>(&mut self, src: &[u8], dst: &mut T) -> usize
+        ensures ahead { ReadsTo T.Destination (state self.old) (state self.new) src.now result dst.old dst.new }
     {
         let _ = (self.rests(), src.len(), dst.free());
         0

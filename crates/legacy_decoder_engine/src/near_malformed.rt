@@ -1,15 +1,16 @@
 //! Common forms near malformed sequences, where no block is begun for nothing.
 // The functions are always inlined, because they run in each call.
 ghost use Rattle.legacy_base.specs.States.{new_state};
-ghost use Rattle.legacy_decoder_engine.specs.ReadAhead.{HasAscii, ReadsAhead, ReadsInto};
+ghost use Rattle.legacy_decoder_engine.specs.ReadAhead.{HasAscii, ReadsAhead};
 
 use crate::common_forms::{FOUR_BYTES, FOUR_ROOM, read_four};
-use crate::lane_blocks::{LaneBlocks, LaneForms, begins_uncommon, read_in_turn, read_last};
+use crate::lane_blocks::{
+    BlocksAhead, LaneBlocks, LaneForms, begins_uncommon, read_in_turn, read_last,
+};
 use crate::lane_codec::LaneCodec;
 use crate::read_ahead::{read_ascii, read_ascii_nearby, read_blocks, read_short_block};
-use legacy_base::{Destination, Tables, Utf8Destination};
+use legacy_base::{Destination, Tables};
 use legacy_tables::DecoderTables;
-use legacy_text::Filling;
 use std::cell::Cell;
 
 /// Returns whether an uncommon byte follows the form at the front, which is taken to be one ASCII byte or two bytes.
@@ -34,7 +35,7 @@ pub const AFTER_MALFORMED: usize = 64;
 ///
 /// Returns the number of bytes read, which may be 0.
 #[inline(always)]
-#[tactic(auto, using(crate::proofs::WrittenRuns::no_bytes))]
+#[tactic(auto, using(crate::proofs::WrittenReads::no_bytes))]
 fn read_without_lanes<C: LaneCodec, T: Destination>(
     blocks: &LaneBlocks<'_, '_, C>,
     src: &[u8],
@@ -70,26 +71,6 @@ fn read_without_lanes<C: LaneCodec, T: Destination>(
         }
     }
     at
-}
-
-/// Text, and the blocks that read it.
-#[derive(Drop)]
-struct BlocksAhead<'x, 'a, 'b, C: LaneCodec> {
-    blocks: &'x LaneBlocks<'a, 'b, C>,
-    src: &'x [u8],
-}
-
-impl<C: LaneCodec> Filling for BlocksAhead<'_, '_, '_, C> {
-    ghost fills = { λ ahead. ReadsInto (C.grammar ahead.blocks.now.tables.now.flat) ahead.src.now };
-
-    /// Reads blocks from the front of the text, and returns the numbers of bytes read and written.
-    // It is a function of its own, so that its vectors and places leave the registers of a call that reads none.
-    #[inline(never)]
-    fn fill(&self, buffer: &mut [u8]) -> (usize, usize) {
-        let mut dst = Utf8Destination::new(buffer);
-        let read = read_blocks(self.blocks, self.src, &mut dst);
-        (read, dst.written())
-    }
 }
 
 /// Reads common forms of a codec from the front, but nothing at an uncommon byte, and one form if such a byte follows it.

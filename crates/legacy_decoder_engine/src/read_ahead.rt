@@ -1,7 +1,7 @@
 //! The loop that reads blocks ahead of the machine, one after another, and blocks of ASCII.
 // The functions that run for each block are always inlined, and so are all between them and a decoder's call: a call
 // would pass vectors through memory, and would store the destination's place there for each block.
-#![tactic(auto, using(crate::proofs::WrittenRuns::no_bytes))]
+#![tactic(auto, using(crate::proofs::WrittenReads::no_bytes))]
 
 ghost use Rattle.std.specs.Prelude.{◌≡◌, ◌<◌, ◌≤◌, length, true};
 ghost use Rattle.legacy_base.specs.{Grammar.Grammar, States.new_state};
@@ -18,7 +18,7 @@ pub(crate) const SHORT_BLOCK: usize = 16;
 /// Blocks that follow one another, with nothing held back between two of them.
 ///
 /// A block is a number of bytes or forms for which room is tested once.
-pub trait Blocks {
+pub trait BlockReader {
     /// The grammar.
     ghost grammar: { Self → Grammar };
 
@@ -32,7 +32,7 @@ pub trait Blocks {
 
 /// Reads blocks from the front while another may follow, and returns the number of bytes read, which may be 0.
 #[inline(always)]
-pub fn read_blocks<B: Blocks, T: Destination>(blocks: &B, src: &[u8], dst: &mut T) -> usize
+pub fn read_blocks<B: BlockReader, T: Destination>(blocks: &B, src: &[u8], dst: &mut T) -> usize
     ensures { ReadsAhead T.Destination (new_state (B.grammar blocks.now)) src.now result dst.old dst.new }
 {
     let mut at = 0;
@@ -66,7 +66,7 @@ fn read_wide_blocks<T: Destination>(src: &[u8], dst: &mut T) -> (usize, bool)
 
 /// Reads ASCII from the front by short blocks, and returns the number of bytes read, which may be 0.
 #[inline(always)]
-#[tactic(auto, using(std::proofs::lemmas::Grind::common_steps, crate::proofs::JoinedRuns::reads_front, crate::proofs::WrittenRuns::writes_ascii))]
+#[tactic(auto, using(std::proofs::lemmas::Grind::common_steps, crate::proofs::JoinedReads::reads_front, crate::proofs::WrittenReads::writes_ascii))]
 fn read_short_blocks<T: Destination>(src: &[u8], dst: &mut T) -> usize
     ensures read { result ≤ length src.now }
     ensures ahead { (grammar : Grammar) → HasAscii grammar → ReadsAhead T.Destination (new_state grammar) src.now result dst.old dst.new }

@@ -8,4 +8,4 @@ pub mod PlainLengths
 pub mod PairCodecs
 pub mod UnitTurns
 pub mod CachedPairs
-pub mod Near
+pub mod Guesses

@@ -1,7 +1,7 @@
 //! The codes that an encoder reads ahead of its moves.
 ghost use Rattle.std.specs.Prelude.{◌≡◌, ℕ, ◌+◌, ◌≤◌, true, length, take, MatchOption};
 ghost use Rattle.legacy_base.specs.Encoders.{EncoderState, encoder_profile, scalar_room};
-ghost use Rattle.legacy_encoder_engine.specs.Near.{IsNear};
+ghost use Rattle.legacy_encoder_engine.specs.Guesses.{IsGuess};
 ghost use Rattle.legacy_encoder_engine.specs.ProfileSuffices.{Serves};
 ghost use Rattle.legacy_encoder_engine.specs.UnfinishedCall.{EncodesBy, PutsCode};
 ghost use Rattle.legacy_encoder_engine.specs.UnitTurns.{ReadsUnit};
@@ -11,7 +11,7 @@ use legacy_text::TextCursor;
 
 /// The codes of common scalars in one state of an encoder, which they leave unchanged.
 ///
-/// `read_runs` reads scalars by them, and leaves all others to the moves.
+/// `read_common` reads scalars by them, and leaves all others to the moves.
 pub trait AheadCodes {
     /// The codec with its lists, and the mode of the encoder.
     ghost state: { Self → EncoderState };
@@ -27,31 +27,31 @@ pub trait AheadCodes {
 
     /// Writes the bytes of the next scalar, and returns the place after them.
     ///
-    /// The result is `None` if the scalar is left to the moves. `near` may change.
-    fn put_code(&self, near: &mut RangePart, dst: &mut [u8], at: usize, c: char) -> Option<usize>
+    /// The result is `None` if the scalar is left to the moves. `guess` may change.
+    fn put_code(&self, guess: &mut RangePart, dst: &mut [u8], at: usize, c: char) -> Option<usize>
         requires room { at + room ≤ length dst.old }
-        requires near { IsNear (state self.now).codec near.old }
+        requires guess { IsGuess (state self.now).codec guess.old }
         ensures puts { MatchOption result (take at dst.new ≡ take at dst.old)
             (λ end. PutsCode (state self.now) c (take at dst.old) at (take end dst.new) end) }
-        ensures near { IsNear (state self.now).codec near.new };
+        ensures guess { IsGuess (state self.now).codec guess.new };
 
     /// Does what `put_code` does, for a scalar past ASCII.
     #[inline(always)]
     fn put_past_ascii(
         &self,
-        near: &mut RangePart,
+        guess: &mut RangePart,
         dst: &mut [u8],
         at: usize,
         c: char,
     ) -> Option<usize>
         requires room { at + room ≤ length dst.old }
         requires past { 0x80 ≤ c }
-        requires near { IsNear (state self.now).codec near.old }
+        requires guess { IsGuess (state self.now).codec guess.old }
         ensures puts { MatchOption result (take at dst.new ≡ take at dst.old)
             (λ end. PutsCode (state self.now) c (take at dst.old) at (take end dst.new) end) }
-        ensures near { IsNear (state self.now).codec near.new }
+        ensures guess { IsGuess (state self.now).codec guess.new }
     {
-        self.put_code(near, dst, at, c)
+        self.put_code(guess, dst, at, c)
     }
 
     /// Reads blocks of scalars with one byte each, and returns the place after their bytes.

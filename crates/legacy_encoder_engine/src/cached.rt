@@ -4,7 +4,7 @@ ghost use Rattle.std.specs.Prelude.{◌≡◌, ◌<◌, ◌≤◌, [], ◌∷◌
 ghost use Rattle.legacy_base.specs.Encoders.{encoder_profile, new_encoder};
 ghost use Rattle.legacy_encoder_engine.specs.CachedPairs.{AreAllPairsOf, IsNoPair};
 ghost use Rattle.legacy_encoder_engine.specs.Moves.{IsCode};
-ghost use Rattle.legacy_encoder_engine.specs.Near.{IsNear};
+ghost use Rattle.legacy_encoder_engine.specs.Guesses.{IsGuess};
 ghost use Rattle.legacy_encoder_engine.specs.UnfinishedCall.{EncodesFrom};
 
 use crate::drive::drive_encoder;
@@ -12,7 +12,7 @@ use crate::moves::EncoderMove;
 use crate::pair_encoder::{FillsPairs, PairCodec, PairEncoder};
 use crate::plain::PlainEncoder;
 use crate::plain_codes::PlainCodes;
-use crate::read_ahead::read_runs;
+use crate::read_ahead::read_common;
 use legacy_base::{EncoderStep, RawEncoder, Source, Tables};
 use legacy_tables::{EncoderTables, RangePart};
 use std::alloc::AllocError;
@@ -34,17 +34,17 @@ pub trait PastPairs: PlainCodes {
 
     /// Returns the four bytes of such a scalar.
     ///
-    /// The result may be `None` for any scalar: `code_past_pairs` has all codes. `near` may change.
+    /// The result may be `None` for any scalar: `code_past_pairs` has all codes. `guess` may change.
     #[inline(always)]
-    fn four_past_pairs(&self, near: &mut RangePart, c: char) -> Option<(u8, u8, u8, u8)>
+    fn four_past_pairs(&self, guess: &mut RangePart, c: char) -> Option<(u8, u8, u8, u8)>
         requires past { 0x80 ≤ c }
         requires none { IsNoPair (Self.codec self.now) c }
-        requires near { IsNear (Self.codec self.now) near.old }
+        requires guess { IsGuess (Self.codec self.now) guess.old }
         ensures code { IfSome result (λ four. (encoder_profile (Self.codec self.now)).code c
             ≡ Some (four.0 ∷ four.1 ∷ four.2 ∷ four.3 ∷ [])) }
-        ensures near { IsNear (Self.codec self.now) near.new }
+        ensures guess { IsGuess (Self.codec self.now) guess.new }
     {
-        let _ = *near;
+        let _ = *guess;
         let _ = c;
         None
     }
@@ -105,12 +105,12 @@ impl<'a, C: PastPairs> PlainCodes for WithPairs<'a, C> {
     }
 
     #[inline(always)]
-    fn four_of(&self, near: &mut RangePart, c: char) -> Option<(u8, u8, u8, u8)> {
+    fn four_of(&self, guess: &mut RangePart, c: char) -> Option<(u8, u8, u8, u8)> {
         let code = c as usize;
         if code >= PAIR_ROOM || self.pairs[code] != 0 {
             return None;
         }
-        self.codes.four_past_pairs(near, c)
+        self.codes.four_past_pairs(guess, c)
     }
 
     const GOES_PAST_PAIRS: bool = C::GOES_PAST_PAIRS;
@@ -140,7 +140,7 @@ pub trait EncodesPairs: PlainEncoder + PastPairs + RawEncoder + Sized {
         ensures { EncodesFrom S.Source (new_encoder (Self.codec self.now)) src.old dst.old start
             src.new dst.new result }
     {
-        read_runs(&WithPairs::new(self, pairs), src, dst, start)
+        read_common(&WithPairs::new(self, pairs), src, dst, start)
     }
 
     /// Fills a list with the codes of all scalars below U+10000.

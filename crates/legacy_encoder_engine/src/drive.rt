@@ -71,8 +71,8 @@ pub fn put_move(dst: &mut [u8], at: usize, step: EncoderMove) -> usize
 ///
 /// The encoder makes its moves until the source is read, the output lacks room, or a scalar is
 /// unmappable. The result says which, with the number of bytes written to the front of `dst`. With
-/// `last`, no text follows the source, and the end is written. Runs of common scalars are read
-/// ahead of the moves.
+/// `last`, no text follows the source, and the end is written. Common scalars are read ahead of the
+/// moves.
 #[inline]
 pub fn drive_encoder<E: EncoderMoves, S: Source>(
     encoder: &mut E,

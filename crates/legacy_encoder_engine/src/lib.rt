@@ -1,7 +1,7 @@
 //! The common parts of all encoders of the legacy encodings.
 //!
 //! They are the small moves of an encoder, the loop that makes calls of them, and the loops that
-//! read runs of common scalars ahead of them. There is one encoder for the codecs without modes.
+//! read common scalars ahead of them. There is one encoder for the codecs without modes.
 //! That of the codecs with pairs is part of it.
 #![tactic(auto)]
 

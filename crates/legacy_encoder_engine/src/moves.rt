@@ -1,4 +1,4 @@
-//! The small moves of each encoder, and the runs that it reads ahead of them.
+//! The small moves of each encoder, and the text that it reads ahead of them.
 ghost use Rattle.std.specs.Prelude.{◌≡◌, ◌≤◌, [], ◌∷◌, length, true, false, option_map};
 ghost use Rattle.legacy_base.specs.Encoders.{EncoderState, encoder_profile, is_pending, scalar_room};
 ghost use Rattle.legacy_encoder_engine.specs.Moves.{Moves, Finishes, IsCode, is_escape, move_report};

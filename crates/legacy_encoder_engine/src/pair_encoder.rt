@@ -11,7 +11,7 @@ use crate::drive::drive_encoder;
 use crate::moves::EncoderMove;
 use crate::plain::PlainEncoder;
 use crate::plain_codes::PlainCodes;
-use crate::read_ahead::read_runs;
+use crate::read_ahead::read_common;
 use legacy_base::{EncoderStep, RawEncoder, Source, Tables};
 use legacy_tables::{DecoderTables, EncoderTables, FlatTables};
 use std::marker::PhantomData;
@@ -105,14 +105,14 @@ impl<'a, C: PairCodec> PlainEncoder for PairEncoder<'a, C, Tables<'a>> {
     fn read_codes<S: Source>(&self, src: &mut S, dst: &mut [u8], start: usize) -> usize {
         match self.tables.flat() {
             Some(tables) => {
-                read_runs(
+                read_common(
                     &PairEncoder::<C, FlatTables<'_>>::new(tables),
                     src,
                     dst,
                     start,
                 )
             }
-            None => read_runs(self, src, dst, start),
+            None => read_common(self, src, dst, start),
         }
     }
 }

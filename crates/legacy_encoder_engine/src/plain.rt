@@ -17,7 +17,7 @@ pub trait PlainEncoder: PlainCodes {
     /// Reads scalars from the front of the source and writes their bytes from the place `start` on.
     ///
     /// Returns the place after the bytes in `dst`. It may read any number of scalars.
-    // Most encoders do it by `read_runs`. An encoder with tables chooses here, once, by the form of its tables.
+    // Most encoders do it by `read_common`. An encoder with tables chooses here, once, by the form of its tables.
     fn read_codes<S: Source>(&self, src: &mut S, dst: &mut [u8], start: usize) -> usize
         requires { start ≤ length dst.old }
         ensures { EncodesFrom S.Source (new_encoder (Self.codec self.now)) src.old dst.old start
@@ -65,11 +65,11 @@ impl<C: PlainCodes> AheadCodes for C {
     }
 
     #[inline(always)]
-    fn put_code(&self, near: &mut RangePart, dst: &mut [u8], at: usize, c: char) -> Option<usize> {
+    fn put_code(&self, guess: &mut RangePart, dst: &mut [u8], at: usize, c: char) -> Option<usize> {
         if (c as u32) < 0x80 {
             return Some(put_move(dst, at, EncoderMove::One(c as u8)));
         }
-        self.put_past_ascii(near, dst, at, c)
+        self.put_past_ascii(guess, dst, at, c)
     }
 
     // It writes pairs and four bytes by itself. So it has no call, and its values stay in registers.
@@ -77,7 +77,7 @@ impl<C: PlainCodes> AheadCodes for C {
     #[inline(always)]
     fn put_past_ascii(
         &self,
-        near: &mut RangePart,
+        guess: &mut RangePart,
         dst: &mut [u8],
         at: usize,
         c: char,
@@ -86,7 +86,7 @@ impl<C: PlainCodes> AheadCodes for C {
             put_two(dst, at, lead, trail);
             return Some(at + 2);
         }
-        if let Some(four) = self.four_of(near, c) {
+        if let Some(four) = self.four_of(guess, c) {
             put_four(dst, at, four);
             return Some(at + 4);
         }

@@ -3,7 +3,7 @@ ghost use Rattle.std.specs.Prelude.{◌≡◌, ◌≤◌, ℕ, [], ◌∷◌, tr
 ghost use Rattle.legacy_text.specs.UnitCodes.{IsNoSurrogate};
 ghost use Rattle.legacy_base.specs.Encoders.{Codec, encoder_profile};
 ghost use Rattle.legacy_encoder_engine.specs.Moves.{IsCode};
-ghost use Rattle.legacy_encoder_engine.specs.Near.{IsNear};
+ghost use Rattle.legacy_encoder_engine.specs.Guesses.{IsGuess};
 ghost use Rattle.legacy_encoder_engine.specs.PlainCodecs.{IsPlainCodec, HasByte};
 ghost use Rattle.legacy_encoder_engine.specs.UnitTurns.{HasUnitCode};
 
@@ -46,16 +46,16 @@ pub trait PlainCodes {
 
     /// Returns the four bytes of a scalar past ASCII. It is called after `pair_of`.
     ///
-    /// The result may be `None` for any scalar: `code_of` has all codes. `near` may change.
+    /// The result may be `None` for any scalar: `code_of` has all codes. `guess` may change.
     #[inline(always)]
-    fn four_of(&self, near: &mut RangePart, c: char) -> Option<(u8, u8, u8, u8)>
+    fn four_of(&self, guess: &mut RangePart, c: char) -> Option<(u8, u8, u8, u8)>
         requires past { 0x80 ≤ c }
-        requires near { IsNear (codec self.now) near.old }
+        requires guess { IsGuess (codec self.now) guess.old }
         ensures code { IfSome result (λ four. (encoder_profile (codec self.now)).code c
             ≡ Some (four.0 ∷ four.1 ∷ four.2 ∷ four.3 ∷ [])) }
-        ensures near { IsNear (codec self.now) near.new }
+        ensures guess { IsGuess (codec self.now) guess.new }
     {
-        let _ = *near;
+        let _ = *guess;
         let _ = c;
         None
     }

@@ -4,7 +4,7 @@
 ghost use Rattle.std.specs.Prelude.{◌≡◌, ℕ, ◌+◌, ◌<◌, ◌≤◌, length, take, IfSome, MatchOption};
 ghost use Rattle.legacy_text.specs.NextScalars.{IsFirst};
 ghost use Rattle.legacy_base.specs.Encoders.{encoder_profile, scalar_room};
-ghost use Rattle.legacy_encoder_engine.specs.Near.{IsNear};
+ghost use Rattle.legacy_encoder_engine.specs.Guesses.{IsGuess};
 ghost use Rattle.legacy_encoder_engine.specs.ProfileSuffices.{Serves};
 ghost use Rattle.legacy_encoder_engine.specs.UnfinishedCall.{EncodesBy, EncodesFrom, KeepsOn};
 ghost use Rattle.legacy_encoder_engine.specs.UnitTurns.{PutsUnits};
@@ -110,7 +110,7 @@ fn read_first_tens<C: AheadCodes, S: TextCursor>(
 #[inline(always)]
 fn read_past_ascii<C: AheadCodes, S: TextCursor>(
     codes: &C,
-    near: &mut RangePart,
+    guess: &mut RangePart,
     src: &mut S,
     dst: &mut [u8],
     at: usize,
@@ -122,14 +122,14 @@ fn read_past_ascii<C: AheadCodes, S: TextCursor>(
     requires serves { Serves (encoder_profile (C.state codes.now).codec) }
     requires past { 0x80 ≤ c }
     requires front { IsFirst S.form (S.left src.old) c count }
-    requires near { IsNear (C.state codes.now).codec near.old }
+    requires guess { IsGuess (C.state codes.now).codec guess.old }
     ensures ahead { MatchOption result
         (EncodesBy S.TextCursor (C.state codes.now) src.old dst.old at src.new dst.new at)
         (EncodesBy S.TextCursor (C.state codes.now) src.old dst.old at src.new dst.new) }
     ensures some { IfSome result (λ end. at < end) }
-    ensures near { IsNear (C.state codes.now).codec near.new }
+    ensures guess { IsGuess (C.state codes.now).codec guess.new }
 {
-    let Some(end) = codes.put_past_ascii(near, dst, at, c) else {
+    let Some(end) = codes.put_past_ascii(guess, dst, at, c) else {
         return None;
     };
     src.pass(count);
@@ -145,16 +145,16 @@ fn read_past_ascii<C: AheadCodes, S: TextCursor>(
 #[inline(always)]
 fn read_scalars<C: AheadCodes, S: TextCursor>(
     codes: &C,
-    near: &mut RangePart,
+    guess: &mut RangePart,
     src: &mut S,
     dst: &mut [u8],
     start: usize,
 ) -> usize
     requires start { start ≤ length dst.old }
-    requires near { IsNear (C.state codes.now).codec near.old }
+    requires guess { IsGuess (C.state codes.now).codec guess.old }
     ensures ahead { EncodesBy S.TextCursor (C.state codes.now) src.old dst.old start src.new
         dst.new result }
-    ensures near { IsNear (C.state codes.now).codec near.new }
+    ensures guess { IsGuess (C.state codes.now).codec guess.new }
 {
     let widest = codes.widest();
     let mut at = start;
@@ -165,7 +165,7 @@ fn read_scalars<C: AheadCodes, S: TextCursor>(
                 if codes.may_go_by_blocks(src, c) && at > start {
                     return at;
                 }
-                let Some(end) = codes.put_code(near, dst, at, c) else {
+                let Some(end) = codes.put_code(guess, dst, at, c) else {
                     return at;
                 };
                 let may_turn = end == at + 2 || widest <= 2;
@@ -177,7 +177,7 @@ fn read_scalars<C: AheadCodes, S: TextCursor>(
                 }
             }
             Next::Two(c) => {
-                let Some(end) = read_past_ascii(codes, near, src, dst, at, c, 2) else {
+                let Some(end) = read_past_ascii(codes, guess, src, dst, at, c, 2) else {
                     return at;
                 };
                 let goes_on = at > start;
@@ -186,7 +186,7 @@ fn read_scalars<C: AheadCodes, S: TextCursor>(
                     at = codes.read_turns(src, dst, end);
                 }
             }
-            Next::Three(c) => match read_past_ascii(codes, near, src, dst, at, c, 3) {
+            Next::Three(c) => match read_past_ascii(codes, guess, src, dst, at, c, 3) {
                 Some(end) => at = end,
                 None => return at,
             },
@@ -198,12 +198,12 @@ fn read_scalars<C: AheadCodes, S: TextCursor>(
 
 /// The scalars that have codes, read by blocks and one by one while any scalar fits.
 #[derive(Drop)]
-struct Runs<'a, C> {
+struct ByCodes<'a, C> {
     codes: &'a C,
 }
 
-impl<C: AheadCodes> ReadingLoop for Runs<'_, C> {
-    ghost keeps = { λ runs. KeepsOn (C.state runs.codes.now) };
+impl<C: AheadCodes> ReadingLoop for ByCodes<'_, C> {
+    ghost keeps = { λ by_codes. KeepsOn (C.state by_codes.codes.now) };
 
     // Functions that take the cursor are always inlined: the compiler keeps its place in a
     // register.
@@ -211,10 +211,10 @@ impl<C: AheadCodes> ReadingLoop for Runs<'_, C> {
     fn read<S: TextCursor>(&self, src: &mut S, dst: &mut [u8], start: usize) -> usize {
         let codes = self.codes;
         let mut at = read_first_tens(codes, src, dst, start);
-        let mut near = RangePart::none();
+        let mut guess = RangePart::none();
         loop {
             at = codes.read_blocks(src, dst, at);
-            let end = read_scalars(codes, &mut near, src, dst, at);
+            let end = read_scalars(codes, &mut guess, src, dst, at);
             if end == at || !C::HAS_BLOCKS {
                 return end;
             }
@@ -229,7 +229,7 @@ impl<C: AheadCodes> ReadingLoop for Runs<'_, C> {
 ///
 /// Writes their bytes from the place `start` of `dst` on, and returns the place after them.
 #[inline(always)]
-pub fn read_runs<C: AheadCodes, S: Source>(
+pub fn read_common<C: AheadCodes, S: Source>(
     codes: &C,
     src: &mut S,
     dst: &mut [u8],
@@ -239,5 +239,5 @@ pub fn read_runs<C: AheadCodes, S: Source>(
     ensures { EncodesFrom S.Source (C.state codes.now) src.old dst.old start src.new dst.new
         result }
 {
-    src.read_by(&Runs { codes }, dst, start)
+    src.read_by(&ByCodes { codes }, dst, start)
 }

@@ -11,7 +11,7 @@ use Rattle.legacy_decoder_engine.specs.{ReadAhead.{HasAscii, IsPair}, LaneCodes.
 use Rattle.legacy_decoder_engine.proofs.{FrontMoves.{Fits, fits_test, fits_trail, fits_meets, end_meets, report_meets}, SettledSteps.{one_test, one_option}}
 use Rattle.legacy_decoder_engine.proofs.{SettledSteps.{settles_test, trail_settles}, RoomMoves.{first_room, held_room_is, HasCosts, sloped_rooms}}
 use Rattle.legacy_decoder_engine.proofs.{CallUnderWay.same_rooms, Widths.{narrow_idx_units, idx_below}, TwoByteCosts.{cost_test, units_test, katakana_below}}
-use Rattle.legacy_decoder_engine.proofs.{RunForms.{pair_runs, has_ascii, ascii_is}, LanePlaces.entry_is}
+use Rattle.legacy_decoder_engine.proofs.{YieldedForms.{pair_yields, has_ascii, ascii_is}, LanePlaces.entry_is}
 use Rattle.legacy_japanese.specs.{EucJpMachine.{euc_jp_machine, euc_jp_first, euc_jp_step}, declared.euc_jp.decoder.Held.{TheVariants.Nothing, Held}}
 use Rattle.legacy_japanese.specs.EucJpDecoder.{held_bytes}
 use Rattle.legacy_tables.{specs.{AcceptedTables.AcceptedIndexes, Unicode.{IsByte, AreBytes}}, proofs.Accepted.{jis0208-below, jis0212-below, jis0208-scalars}}
@@ -127,7 +127,7 @@ module _ (tables : AcceptedIndexes) where
   pub ends_some : (held : Held) → (held ≡ Nothing → ⊥) → events_of (euc_jp tables.flat.jis0208 tables.flat.jis0212) (held_bytes held) ≢ []
   ends_some held n = moves.ends_some shown (held_bytes held) (may held) (are_bytes held) refl (grind arith)
 
-  -- ---- runs
+  -- ---- what is read ahead
 
   pub ascii : HasAscii grammar
   ascii = has_ascii shown (λ b. refl) (λ b h. let a = ascii_is b h in rw a refl)
@@ -137,8 +137,8 @@ module _ (tables : AcceptedIndexes) where
       euc_jp_scalars tables.flat.jis0208 lead trail ≡ c ∷ [] → IsPair grammar lead trail c
   pair lead trail c byte byte' scalar is e =
       let narrow = jis0208-below tables.flat tables.accepted in
-      let runs = pair_runs shown lead trail c byte byte' scalar in
-      grind (arith, nat_tests, idx_below, runs)
+      let yields = pair_yields shown lead trail c byte byte' scalar in
+      grind (arith, nat_tests, idx_below, yields)
 
   -- the same of a code of two bytes, by the entry at its place
   pub lane_pair : ArePairs grammar tables.flat.jis0208 (row_place 0xA1 0x5D 94 0xA1)

@@ -10,7 +10,7 @@ use Rattle.legacy_decoder_engine.specs.declared.moves.Fed.{Fed, TheVariants.{Not
 use Rattle.legacy_japanese.specs.declared.iso_2022_jp.steps.{Mode.Mode, Held.{Held, TheVariants.{Begun, Byte}}, Escape.Escape}
 use Rattle.legacy_japanese.specs.declared.iso_2022_jp.steps.Start.{Start, TheVariants.{Nothing, EscapeByte, Dollar, Paren}}
 use Rattle.legacy_japanese.specs.Iso2022JpMachine.{mode_meaning, bytes_held, is_held, malformed, read, read_pair, second_of, third_of, state_in}
-use Rattle.legacy_japanese.{specs.Iso2022JpRuns.{run_state, BeginsEscape}, proofs.Iso2022JpStep.{done, step_events, IsStep, read_step}}
+use Rattle.legacy_japanese.{specs.Iso2022JpAhead.{begun_state, BeginsEscape}, proofs.Iso2022JpStep.{done, step_events, IsStep, read_step}}
 use Rattle.legacy_japanese.proofs.Iso2022JpRooms.{read_room-is, one_fits, room-falls, replacement_fits, times_one, held_allowed, held_rests, same_rooms}
 use Rattle.legacy_japanese.proofs.Iso2022JpRooms.{single_narrow, entry_narrow}
 
@@ -70,7 +70,7 @@ module _ (tables : AcceptedIndexes) (mode : Mode) (held : Held) (byte : ℕ) (o 
       }
 
 -- a byte past ASCII is malformed in each mode
-pub malformed_byte : (tables : AcceptedIndexes) (mode : Mode) (byte : ℕ) → 0x80 ≤ byte → FeedsMalformedByte (run_state tables.flat.jis0208 mode) byte
+pub malformed_byte : (tables : AcceptedIndexes) (mode : Mode) (byte : ℕ) → 0x80 ≤ byte → FeedsMalformedByte (begun_state tables.flat.jis0208 mode) byte
 malformed_byte tables mode byte past =
     let is : malformed 1 false mode (Begun None Nothing) ≡ read tables.flat.jis0208 mode (Begun None Nothing) byte = grind (arith, nat_tests) in
     (refl, feeds tables mode (Begun None Nothing) byte _ refl (held_rests tables.flat.jis0208 mode (Begun None Nothing) refl) is)
@@ -106,5 +106,5 @@ module _ (form : EncodingForm) (free : ℕ) (enough : bmp_room form ≤ free) (t
 
   -- the escape at the beginning of the source
   pub holds_escape : (e : Escape) (source : List ℕ) → BeginsEscape e source →
-      HoldsBytes form free (run_state tables.flat.jis0208 mode) (take 3 source) (state_in tables.flat.jis0208 mode (Begun (Some e) Nothing))
+      HoldsBytes form free (begun_state tables.flat.jis0208 mode) (take 3 source) (state_in tables.flat.jis0208 mode (Begun (Some e) Nothing))
   holds_escape e source has = grind (arith, holds_whole)

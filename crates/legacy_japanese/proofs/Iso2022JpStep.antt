@@ -9,7 +9,7 @@ use Rattle.legacy_base.proofs.Iso2022JpParts.{no_escape}
 use Rattle.legacy_decoder_engine.specs.{Moves.{fed_scalars, fed_malformed, unread_byte, FedHolds}, declared.moves.Fed.Fed}
 use Rattle.legacy_japanese.specs.declared.iso_2022_jp.steps.{Mode.{Mode, TheVariants.TwoByte}, Escape.Escape, Start.{TheVariants.{Nothing, EscapeByte}, Start}}
 use Rattle.legacy_japanese.specs.declared.iso_2022_jp.steps.Held.{Held, TheVariants.{Begun, Byte}}
-use Rattle.legacy_japanese.specs.Iso2022JpMachine.{mode_meaning, bytes_held, is_held, is_resting, mode_of, read, read_plain, state_in, weight_of}
+use Rattle.legacy_japanese.specs.Iso2022JpMachine.{mode_meaning, bytes_held, is_held, is_resting, mode_of, read, read_in_mode, state_in, weight_of}
 use Rattle.legacy_japanese.specs.Iso2022JpMachine.{read_start, read_trail, second_of, start_bytes, third_of}
 
 -- the definitions at the modes of the code
@@ -92,9 +92,9 @@ module _ (jis0208 : List ℕ) where
 
   -- ---- less than a whole escape
 
-  plain_step : (mode : Mode) (b : ℕ) → (b == esc) ≡ false → IsStep mode (Begun None Nothing) b (read_plain mode b)
+  in_mode_step : (mode : Mode) (b : ℕ) → (b == esc) ≡ false → IsStep mode (Begun None Nothing) b (read_in_mode mode b)
   unfolding iso_2022_jp_front
-  plain_step mode b plain = grind (arith, nat_tests, step_one, shift-none)
+  in_mode_step mode b plain = grind (arith, nat_tests, step_one, shift-none)
 
   lead_step : (mode : Mode) (l b : ℕ) → is_held mode (Byte l) ≡ true → is_two_byte_mode (mode_meaning mode) ≡ true →
       IsStep mode (Byte l) b (read_trail jis0208 l b)
@@ -108,11 +108,11 @@ module _ (jis0208 : List ℕ) where
   unfolding part_mode
   start_step mode None Nothing b = cond_both (b == esc) _ _ (IsStep mode (Begun None Nothing) b)
       (λ h. rw (eqb-true b esc h) (grind (arith, shift-none)))
-      (λ h. plain_step mode b h)
+      (λ h. in_mode_step mode b h)
   start_step mode None s b = let kept = second_kept mode in grind (arith, nat_tests, step_no_escape, shift-none)
   start_step mode (Some e) Nothing b = cond_both (b == esc) _ _ (IsStep mode (Begun (Some e) Nothing) b)
       (λ h. rw (eqb-true b esc h) (grind (arith, shift-none)))
-      (λ h. behind_step mode e Nothing b (read_plain (mode_of e) b) (λ more. no_escape b more h) (plain_step (mode_of e) b h))
+      (λ h. behind_step mode e Nothing b (read_in_mode (mode_of e) b) (λ more. no_escape b more h) (in_mode_step (mode_of e) b h))
   start_step mode (Some e) EscapeByte b = cond_both (b == 0x24) _ _ (IsStep mode (Begun (Some e) EscapeByte) b)
       (λ h. rw (eqb-true b 0x24 h) (grind (arith, shift-none)))
       (λ h. cond_both (b == 0x28) _ _ (IsStep mode (Begun (Some e) EscapeByte) b)

@@ -4,7 +4,7 @@ pub mod Iso2022JpStep
 pub mod Iso2022JpRooms
 pub mod Iso2022JpEnding
 pub mod Iso2022JpFeeding
-pub mod Iso2022JpRuns
+pub mod Iso2022JpAhead
 pub mod Iso2022JpEncoderMoves
 pub mod ShiftJisPlaces
 pub mod PointerWalks

@@ -5,8 +5,8 @@ use Rattle.std.{proofs.lemmas.Nat.xor_mod, specs.{Int.{is_in_range, Bits.bit_xor
 use Rattle.legacy_tables.{specs.{AcceptedTables.AcceptedIndexes, Indexes.idx, Unicode.katakana_of}, proofs.Accepted.entry-used}
 use Rattle.legacy_tables.proofs.Accepted.{length-jis0208, jis0208-below, jis0208-scalars}
 use Rattle.legacy_base.specs.{ShiftJis.{is_shift_jis_lead, shift_jis_scalars, shift_jis_pointer}, Grammar.shift_jis}
-use Rattle.legacy_decoder_engine.specs.{Places.IsTableOf, ReadAhead.{Runs, HasAscii}, StepUnits.IsNarrowIndex, LaneCodes.ArePairs, LanePlaces.lead_place_of}
-use Rattle.legacy_decoder_engine.proofs.{PairPlaces.{none_past, pair_entry, found}, LeadHeld.pair, RunForms.single_runs, Widths.idx_below, LanePlaces.entry_is}
+use Rattle.legacy_decoder_engine.specs.{Places.IsTableOf, ReadAhead.{Yields, HasAscii}, StepUnits.IsNarrowIndex, LaneCodes.ArePairs, LanePlaces.lead_place_of}
+use Rattle.legacy_decoder_engine.proofs.{PairPlaces.{none_past, pair_entry, found}, LeadHeld.pair, YieldedForms.single_yields, Widths.idx_below, LanePlaces.entry_is}
 use Rattle.legacy_japanese.specs.{ShiftJisPlaces.{shift_jis_lead_place, shift_jis_place, shift_jis_trail_place}, ShiftJisMachine.shift_jis_pair_scalars}
 use Rattle.legacy_japanese.specs.{declared.shift_jis.places.TheConstants.{LEADS, TRAILS}, ShiftJisShown.shift_jis_codec}
 use lib.Lanes.{Each1, zip2}
@@ -44,7 +44,7 @@ module _ (tables : AcceptedIndexes) where
   -- a lead and a trail
   pub pair_form : (lead trail c : ℕ) → lead < 2 ^ 8 → trail < 2 ^ 8 → IsScalar c
       → c ∷ [] ≡ cond (is_shift_jis_lead lead) (shift_jis_pair_scalars tables.flat.jis0208 lead trail) []
-      → (c < 0x1_0000) × Runs (shift_jis tables.flat.jis0208) (lead ∷ trail ∷ []) (c ∷ [])
+      → (c < 0x1_0000) × Yields (shift_jis tables.flat.jis0208) (lead ∷ trail ∷ []) (c ∷ [])
   pair_form lead trail c byte byte' scalar e =
       let both = found (is_shift_jis_lead lead) (shift_jis_pair_scalars tables.flat.jis0208 lead trail) c e in (
         scalar_below tables.flat.jis0208 (shift_jis_pointer lead trail) c (jis0208-below tables.flat tables.accepted) both.1,
@@ -52,10 +52,10 @@ module _ (tables : AcceptedIndexes) where
       )
 
   -- half-width katakana
-  pub katakana_form : (b c : ℕ) → 0xA1 ≤ b → b ≤ 0xDF → c ≡ katakana_of b → (c < 0x1_0000) × Runs (shift_jis tables.flat.jis0208) (b ∷ []) (c ∷ [])
+  pub katakana_form : (b c : ℕ) → 0xA1 ≤ b → b ≤ 0xDF → c ≡ katakana_of b → (c < 0x1_0000) × Yields (shift_jis tables.flat.jis0208) (b ∷ []) (c ∷ [])
   katakana_form b c low high e =
       let scalar : IsScalar c = grind (arith, nat_tests) in
-      (omega arith, single_runs (shift_jis_codec.shown tables.flat tables.accepted) b c (omega arith) scalar refl (grind (arith, nat_tests)))
+      (omega arith, single_yields (shift_jis_codec.shown tables.flat tables.accepted) b c (omega arith) scalar refl (grind (arith, nat_tests)))
 
 -- ---- the places of a lead and a trail
 

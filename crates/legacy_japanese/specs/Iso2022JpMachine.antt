@@ -93,9 +93,9 @@ read_single mode (Some c) = (One c, mode, Begun None Nothing)
 read_single mode None = malformed 1 false mode (Begun None Nothing)
 
 -- reads a byte that is not the escape byte, with nothing held back
-abbrev pub read_plain : Mode → ℕ → Fed × Mode × Held
-read_plain TwoByte b = if is_in_range 0x21 0x7E b then (Kept, TwoByte, Byte b) else read_single TwoByte None
-read_plain mode b = read_single mode (single mode b)
+abbrev pub read_in_mode : Mode → ℕ → Fed × Mode × Held
+read_in_mode TwoByte b = if is_in_range 0x21 0x7E b then (Kept, TwoByte, Byte b) else read_single TwoByte None
+read_in_mode mode b = read_single mode (single mode b)
 
 -- a pair is written as its scalar, or is malformed
 abbrev pub read_pair : Option ℕ → Fed × Mode × Held
@@ -128,7 +128,7 @@ read_third mode before a None = malformed 1 true mode (Byte a)
 
 -- reads a byte after the beginning of an escape, or with nothing held back; after a whole escape its mode applies
 abbrev pub read_start : Mode → Option Escape → Start → ℕ → Fed × Mode × Held
-read_start mode e Nothing b = if b == esc then (Kept, mode, Begun e EscapeByte) else read_plain (mode_after mode e) b
+read_start mode e Nothing b = if b == esc then (Kept, mode, Begun e EscapeByte) else read_in_mode (mode_after mode e) b
 read_start mode e EscapeByte b =
     if b == 0x24 then (Kept, mode, Begun e Dollar)
     else if b == 0x28 then (Kept, mode, Begun e Paren)

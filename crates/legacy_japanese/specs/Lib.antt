@@ -5,7 +5,7 @@ pub mod EucJpDecoder
 pub mod EucJpMachine
 pub mod Iso2022JpMachine
 pub mod Iso2022JpDecoder
-pub mod Iso2022JpRuns
+pub mod Iso2022JpAhead
 pub mod Iso2022JpEncoder
 pub mod Iso2022JpPairs
 pub mod Iso2022JpCached

@@ -3,4 +3,4 @@ pub mod EncoderRuns
 pub mod Latin1Fronts
 pub mod LongestRuns
 pub mod SingleByteShown
-pub mod SingleByteRuns
+pub mod SingleByteAhead

@@ -1,7 +1,7 @@
 -- Laws of event lines, and of streams that are read in pieces.
 pub mod Hexadecimal
 pub mod EventLines
-pub mod PlainLines
+pub mod FourDigitLines
 pub mod Whole
 pub mod PieceUnderWay
 pub mod TextUnderWay

@@ -18,7 +18,7 @@ pub const BATCH: usize = 1024;
 pub const SCALAR_LINE: usize = 9;
 
 /// The number of bytes of the line of a scalar of one code unit.
-const PLAIN_LINE: usize = 7;
+const FOUR_DIGIT_LINE: usize = 7;
 
 /// The maximum number of bytes of a malformed sequence's line.
 pub const MALFORMED_LINE: usize = 46;
@@ -76,8 +76,8 @@ fn entry(table: &[u64; 256], byte: u16) -> u64
 
 /// Returns the line of a scalar of one code unit, followed by one byte of 0.
 #[inline(always)]
-fn plain_line(unit: u16) -> [u8; 8]
-    ensures { take PLAIN_LINE result ≡ event_line (DecodeEvent.Scalar unit) }
+fn four_digit_line(unit: u16) -> [u8; 8]
+    ensures { take FOUR_DIGIT_LINE result ≡ event_line (DecodeEvent.Scalar unit) }
 {
     let head = entry(&HEADS, unit / 256);
     let tail = entry(&TAILS, unit % 256);
@@ -88,7 +88,7 @@ fn plain_line(unit: u16) -> [u8; 8]
 #[inline(always)]
 fn store_line(bytes: &mut [u8], at: usize, line: [u8; 8])
     requires { at + 8 ≤ length bytes.old }
-    ensures { take (at + PLAIN_LINE) bytes.new ≡ take at bytes.old ++ take PLAIN_LINE line }
+    ensures { take (at + FOUR_DIGIT_LINE) bytes.new ≡ take at bytes.old ++ take FOUR_DIGIT_LINE line }
 {
     bytes[at..at + 8].copy_from_slice(&line);
 }
@@ -107,21 +107,21 @@ fn units_from(units: &[u16], place: usize) -> &[u16]
 /// Returns the number of these units.
 // The place of a line is a product, so that no line waits for the one before it.
 #[inline]
-fn put_plain(bytes: &mut [u8], at: usize, units: &[u16]) -> usize
+fn put_four_digit_lines(bytes: &mut [u8], at: usize, units: &[u16]) -> usize
     requires { at + length units.now * SCALAR_LINE ≤ length bytes.old }
     ensures count { result ≤ length units.now }
-    ensures text { take (at + result * PLAIN_LINE) bytes.new ≡ take at bytes.old
+    ensures text { take (at + result * FOUR_DIGIT_LINE) bytes.new ≡ take at bytes.old
         ++ event_lines (map DecodeEvent.Scalar (take result units.now)) }
     ensures scalars { unit_scalars units.now
         ≡ take result units.now ++ unit_scalars (drop result units.now) }
 {
     let mut count = 0;
-    'plain: while count < units.len() {
+    'lines: while count < units.len() {
         let unit = units[count];
         if unit >= 0xD800 && unit < 0xE000 {
             return count;
         }
-        store_line(bytes, at + count * PLAIN_LINE, plain_line(unit));
+        store_line(bytes, at + count * FOUR_DIGIT_LINE, four_digit_line(unit));
         count += 1;
     }
     count
@@ -404,7 +404,7 @@ impl LineBuffer {
 
     /// Appends the lines of the units before the first surrogate, and returns their number.
     #[inline]
-    fn push_plain(&mut self, units: &[u16]) -> usize
+    fn push_four_digit_lines(&mut self, units: &[u16]) -> usize
         requires { length units.now * SCALAR_LINE ≤ line_room self.old }
         ensures count { result ≤ length units.now }
         ensures text { line_bytes self.new ≡ line_bytes self.old
@@ -413,8 +413,8 @@ impl LineBuffer {
         ensures scalars { unit_scalars units.now
             ≡ take result units.now ++ unit_scalars (drop result units.now) }
     {
-        let count = put_plain(&mut self.bytes, self.filled, units);
-        self.filled += count * PLAIN_LINE;
+        let count = put_four_digit_lines(&mut self.bytes, self.filled, units);
+        self.filled += count * FOUR_DIGIT_LINE;
         count
     }
 
@@ -442,10 +442,10 @@ impl LineBuffer {
             ++ event_lines (map DecodeEvent.Scalar (unit_scalars units.now)) }
         ensures room { line_room self.old ≤ line_room self.new + length units.now * SCALAR_LINE }
     {
-        let mut place = self.push_plain(units);
+        let mut place = self.push_four_digit_lines(units);
         'surrogates: while place < units.len() {
             place += self.push_first(units_from(units, place));
-            place += self.push_plain(units_from(units, place));
+            place += self.push_four_digit_lines(units_from(units, place));
         }
     }
 

@@ -1,4 +1,4 @@
--- Laws of texts and of runs of them.
+-- Laws of texts and of parts of them.
 pub mod CodeUnits
 pub mod ShortScalars
 pub mod Ascii

@@ -1,4 +1,4 @@
--- Runs of scalars that were written as one byte each, and the scalars of one and two bytes of UTF-8.
+-- Scalars that were written as one byte each, and the scalars of one and two bytes of UTF-8.
 use Rattle.std.proofs.{lemmas.Bool.Decides.nat_tests, lemmas.Grind.common_steps, Common.{◌≡◌, ℕ, ◌+◌, ◌-◌, ◌*◌, ◌≤◌, ◌<◌, List, [], ◌∷◌, ◌++◌, length, get_or}}
 use Rattle.std.proofs.{Common.{true, drop, sym, ap, arith, append_assoc, append-nil, length-append, length-drop, add-zero}, lemmas.List.get_or_append_left}
 use Rattle.std.proofs.{lemmas.List.{get_or-append-add, get_or-drop, drop-drop}, lemmas.Str.{encodes-chars, IsUtf8-from_is_utf8}, Math.Seq.take-add}
@@ -8,7 +8,7 @@ use Rattle.legacy_text.specs.{EncodingForm.{Utf8, code_units, unit_count, total_
 use Rattle.legacy_text.specs.NextScalars.{StandsAt}
 use Rattle.legacy_text.proofs.{CodeUnits.total_unit_count-append, Texts.{first_some, utf8_next, utf8_stands, by_first}, UnitCopies.writes_none}
 
--- ---- runs
+-- ---- several scalars
 
 -- bytes for scalars, and then bytes for the next ones
 codes_append : (gives : ℕ → ℕ → Type 0) (scalars old mid new : List ℕ) (n m : ℕ) → n ≤ length scalars

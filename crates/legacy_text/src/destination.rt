@@ -13,11 +13,12 @@ use crate::short_units::put_short_units;
 use std::simd::prelude::*;
 
 /// Text in UTF-8 that a function of its own writes to a buffer.
-pub trait Filling {
-    /// The number that a call returns and the bytes that it writes, given the number of bytes of the buffer.
+pub trait FillsBuffer {
+    /// What a call does: the number of bytes of its input that it reads and the bytes that it writes, given the number of
+    /// bytes of the buffer.
     ghost fills: { Self → ℕ → ℕ → List ℕ → Type 0 };
 
-    /// Writes text to the beginning of the buffer. Returns a number, and the number of bytes written.
+    /// Writes text to the beginning of the buffer. Returns the numbers of bytes read and written.
     fn fill(&self, buffer: &mut [u8]) -> (usize, usize)
         ensures written { result.1 ≤ length buffer.old }
         ensures fills { fills self.now (length buffer.old) result.0 (take result.1 buffer.new) };
@@ -89,12 +90,12 @@ pub trait Destination {
         self.put(c);
     }
 
-    /// Lends the free bytes to a call that fills them, and returns its number.
+    /// Lends the free bytes to a call that fills them, and returns the number of bytes that the call read.
     ///
     /// Returns `None` without a call if the destination has no free bytes of UTF-8 to lend, as provided.
     // The destination's place stays in a register: only the free bytes are passed to the call.
     #[inline(always)]
-    fn lend<F: Filling>(&mut self, filling: &F) -> Option<usize>
+    fn lend<F: FillsBuffer>(&mut self, filling: &F) -> Option<usize>
         ensures { MatchOption result (self.new ≡ self.old) (λ count. (form ≡ Utf8) × (loan self.new ≡ loan self.old)
             × ((bytes : List ℕ) × F.fills filling.now (room self.old) count bytes
             × (contents self.new ≡ contents self.old ++ bytes) × (room self.new + length bytes ≡ room self.old))) }
@@ -320,7 +321,7 @@ impl Destination for Utf8Destination<'_> {
     }
 
     #[inline(always)]
-    fn lend<F: Filling>(&mut self, filling: &F) -> Option<usize> {
+    fn lend<F: FillsBuffer>(&mut self, filling: &F) -> Option<usize> {
         let (count, written) = filling.fill(&mut self.buffer[self.filled..]);
         self.filled += written;
         Some(count)

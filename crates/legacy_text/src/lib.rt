@@ -1,6 +1,6 @@
 //! The inputs and outputs of decoders and encoders: byte cursors, text sources and destinations.
 //!
-//! A source is UTF-8 or UTF-16, and is read one scalar at a time or by runs.
+//! A source is UTF-8 or UTF-16, and is read one scalar at a time or by blocks.
 #![tactic(auto)]
 
 mod blocks;
@@ -18,7 +18,7 @@ mod text_source;
 mod unit_codes;
 mod unit_rows;
 
-pub use destination::{Destination, Filling, Utf8Destination, Utf16Destination};
+pub use destination::{Destination, FillsBuffer, Utf8Destination, Utf16Destination};
 pub use eight_units::first_units;
 pub use scalar_bytes::utf8_entry;
 pub use short_units::are_all_below;

@@ -346,7 +346,7 @@ impl DecoderMoves for Gb18030Decoder<'_> {
 
     #[inline(always)]
     #[tactic(auto, using(crate::proofs::Gb18030Held::idle_reads))]
-    fn read_runs<T: Destination>(&mut self, src: &[u8], dst: &mut T) -> usize {
+    fn read_common<T: Destination>(&mut self, src: &[u8], dst: &mut T) -> usize {
         if !self.in_neutral_state() {
             return 0;
         }

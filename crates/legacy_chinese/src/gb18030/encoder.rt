@@ -14,7 +14,7 @@ use legacy_encoder_engine::drive::drive_encoder;
 use legacy_encoder_engine::moves::EncoderMove;
 use legacy_encoder_engine::plain::PlainEncoder;
 use legacy_encoder_engine::plain_codes::PlainCodes;
-use legacy_encoder_engine::read_ahead::read_runs;
+use legacy_encoder_engine::read_ahead::read_common;
 use legacy_tables::{DecoderTables, EncoderTables, FlatTables, RangePart};
 
 /// The encoder of GB18030 or of GBK (Encoding Standard, "gb18030 encoder").
@@ -107,67 +107,67 @@ fn range_bytes_of<V: EncoderTables>(tables: &V, c: char) -> Option<(u8, u8, u8, 
     Some(range_bytes(pointer))
 }
 
-/// Returns the pointer of a scalar outside the range of `near`, and sets `near` to its range.
+/// Returns the pointer of a scalar outside the range of `guess`, and sets `guess` to its range.
 #[tactic(auto, using(crate::proofs::Gb18030Pairs::pointer_bound))]
-fn far_pointer<V: EncoderTables>(tables: &V, near: &mut RangePart, c: char) -> Option<usize>
+fn far_pointer<V: EncoderTables>(tables: &V, guess: &mut RangePart, c: char) -> Option<usize>
     requires { c ≢ 0xE7C7 }
     ensures pointer { result ≡ range_pointer_of (V.indexes tables.now).flat.ranges c }
     ensures within { IfSome result (λ p. p < 1237576) }
-    ensures near { IsRangePart (V.indexes tables.now).flat.ranges near.new }
+    ensures guess { IsRangePart (V.indexes tables.now).flat.ranges guess.new }
 {
     let ranges = tables.ranges();
-    *near = ranges.part_with(c);
-    match ranges.pointer_in(*near, c) {
+    *guess = ranges.part_with(c);
+    match ranges.pointer_in(*guess, c) {
         Some(pointer) => Some(pointer),
         None => ranges.pointer(c),
     }
 }
 
-/// Returns the four bytes of a scalar's range pointer, if any, and keeps its range in `near`.
+/// Returns the four bytes of a scalar's range pointer, if any, and keeps its range in `guess`.
 #[inline(always)]
 #[tactic(auto, using(crate::proofs::Gb18030Pairs::pointer_bound))]
-fn near_range_bytes_of<V: EncoderTables>(
+fn guessed_range_bytes_of<V: EncoderTables>(
     tables: &V,
-    near: &mut RangePart,
+    guess: &mut RangePart,
     c: char,
 ) -> Option<(u8, u8, u8, u8)>
     requires free { c ≢ 0xE7C7 }
-    requires near { IsRangePart (V.indexes tables.now).flat.ranges near.old }
+    requires guess { IsRangePart (V.indexes tables.now).flat.ranges guess.old }
     ensures bytes { option_map (λ four. four.0 ∷ four.1 ∷ four.2 ∷ four.3 ∷ []) result
         ≡ option_map gb18030_range_bytes (range_pointer_of (V.indexes tables.now).flat.ranges c) }
-    ensures near { IsRangePart (V.indexes tables.now).flat.ranges near.new }
+    ensures guess { IsRangePart (V.indexes tables.now).flat.ranges guess.new }
 {
-    if let Some(pointer) = tables.ranges().pointer_in(*near, c) {
+    if let Some(pointer) = tables.ranges().pointer_in(*guess, c) {
         return Some(range_bytes(pointer));
     }
-    let pointer = far_pointer(tables, near, c)?;
+    let pointer = far_pointer(tables, guess, c)?;
     Some(range_bytes(pointer))
 }
 
 /// Returns the four bytes of a scalar that has no lead and trail in index gb18030.
 ///
-/// The index is not searched. The result may be `None` for any scalar. `near` keeps the range.
+/// The index is not searched. The result may be `None` for any scalar. `guess` keeps the range.
 #[inline(always)]
 #[tactic(auto, unfolding(legacy_base::specs::Gb18030::gb18030_code))]
 fn four_past_pairs_of<V: EncoderTables>(
     tables: &V,
-    near: &mut RangePart,
+    guess: &mut RangePart,
     c: char,
 ) -> Option<(u8, u8, u8, u8)>
     requires past { 0x80 ≤ c }
     requires none { (lead trail : ℕ) → gb18030_code (V.indexes tables.now).flat.gb18030
         (V.indexes tables.now).flat.ranges (V.indexes tables.now).flat.gb18030_pua c
         ≡ Some (lead ∷ trail ∷ []) → lead + trail ≡ 0 }
-    requires near { IsRangePart (V.indexes tables.now).flat.ranges near.old }
+    requires guess { IsRangePart (V.indexes tables.now).flat.ranges guess.old }
     ensures code { IfSome result (λ four. gb18030_code (V.indexes tables.now).flat.gb18030
         (V.indexes tables.now).flat.ranges (V.indexes tables.now).flat.gb18030_pua c
         ≡ Some (four.0 ∷ four.1 ∷ four.2 ∷ four.3 ∷ [])) }
-    ensures near { IsRangePart (V.indexes tables.now).flat.ranges near.new }
+    ensures guess { IsRangePart (V.indexes tables.now).flat.ranges guess.new }
 {
     if is_private_use(c) || tables.gb18030_pua_bytes(c).is_some() {
         return None;
     }
-    near_range_bytes_of(tables, near, c)
+    guessed_range_bytes_of(tables, guess, c)
 }
 
 /// Returns the four bytes of a scalar past ASCII, or the scalar as unmappable.
@@ -335,9 +335,9 @@ fn read_by<V: EncoderTables, S: Source>(
         src.old dst.old start src.new dst.new result }
 {
     if extended_range {
-        read_runs(&Gb18030Codes::<V, true, false> { tables }, src, dst, start)
+        read_common(&Gb18030Codes::<V, true, false> { tables }, src, dst, start)
     } else {
-        read_runs(&Gb18030Codes::<V, false, false> { tables }, src, dst, start)
+        read_common(&Gb18030Codes::<V, false, false> { tables }, src, dst, start)
     }
 }
 
@@ -355,11 +355,11 @@ impl<V: EncoderTables, const EXTENDED: bool, const LISTED: bool> PastPairs
     }
 
     #[inline(always)]
-    fn four_past_pairs(&self, near: &mut RangePart, c: char) -> Option<(u8, u8, u8, u8)> {
+    fn four_past_pairs(&self, guess: &mut RangePart, c: char) -> Option<(u8, u8, u8, u8)> {
         if !EXTENDED {
             return None;
         }
-        four_past_pairs_of(self.tables, near, c)
+        four_past_pairs_of(self.tables, guess, c)
     }
 }
 
@@ -378,7 +378,7 @@ fn read_listed_by<V: EncoderTables, S: Source>(
         src.old dst.old start src.new dst.new result }
 {
     let codes = Gb18030Codes::<V, true, true> { tables };
-    read_runs(&WithPairs::new(&codes, pairs), src, dst, start)
+    read_common(&WithPairs::new(&codes, pairs), src, dst, start)
 }
 
 impl EncodesPairs for Gb18030Encoder<'_> {
@@ -405,7 +405,7 @@ impl EncodesPairs for Gb18030Encoder<'_> {
         start: usize,
     ) -> usize {
         if !self.extended_range {
-            return read_runs(&WithPairs::new(self, pairs), src, dst, start);
+            return read_common(&WithPairs::new(self, pairs), src, dst, start);
         }
         match self.tables.flat() {
             Some(tables) => read_listed_by::<FlatTables<'_>, S>(tables, pairs, src, dst, start),

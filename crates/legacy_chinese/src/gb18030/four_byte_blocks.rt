@@ -140,7 +140,7 @@ impl LaneCodec for Gb18030 {
     /// It reads whole sequences while at least five bytes are left.
     // A single ASCII byte often follows a sequence, as between words, and no processor predicts where.
     #[inline(always)]
-    #[tactic(auto, using(legacy_decoder_engine::proofs::WrittenRuns::writes_none, legacy_decoder_engine::proofs::WrittenRuns::four_fit))]
+    #[tactic(auto, using(legacy_decoder_engine::proofs::WrittenReads::writes_none, legacy_decoder_engine::proofs::WrittenReads::four_fit))]
     fn read_longer<T: Destination>(
         tables: &FlatTables<'_>,
         guess: &Cell<usize>,
@@ -174,7 +174,7 @@ impl LaneCodec for Gb18030 {
     }
 
     #[inline(always)]
-    #[tactic(auto, using(legacy_decoder_engine::proofs::WrittenRuns::no_bytes))]
+    #[tactic(auto, using(legacy_decoder_engine::proofs::WrittenReads::no_bytes))]
     fn read_longer_blocks<T: Destination>(
         tables: &FlatTables<'_>,
         guess: usize,
@@ -202,7 +202,7 @@ impl LaneCodec for Gb18030 {
     }
 
     #[inline(always)]
-    fn has_long_runs() -> bool {
+    fn has_eights() -> bool {
         true
     }
 

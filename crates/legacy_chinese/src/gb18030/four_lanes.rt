@@ -105,7 +105,7 @@ fn byte_total(front: &[u16], count: usize) -> usize
 /// It stops at one whose scalar is not in the part of the ranges, and if fewer than 35 code units are free.
 // Eight at a time, and then the last few. The lists have room for eight codes after the last form.
 #[inline(always)]
-#[tactic(auto, using(legacy_decoder_engine::proofs::WrittenRuns::writes_none), unfolding(crate::specs::FourForms::fours_of))]
+#[tactic(auto, using(legacy_decoder_engine::proofs::WrittenReads::writes_none), unfolding(crate::specs::FourForms::fours_of))]
 fn put_fours<T: Destination>(
     tables: &FlatTables<'_>,
     part: RangePart,
@@ -172,7 +172,7 @@ fn read_front<T: Destination>(
 ///
 /// It stops at a sequence outside of the range at the guess. Returns the number of bytes read, which may be 0.
 #[inline(always)]
-#[tactic(auto, using(legacy_decoder_engine::proofs::WrittenRuns::no_bytes))]
+#[tactic(auto, using(legacy_decoder_engine::proofs::WrittenReads::no_bytes))]
 pub fn read_fours<T: Destination>(
     tables: &FlatTables<'_>,
     guess: usize,

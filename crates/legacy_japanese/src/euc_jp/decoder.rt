@@ -275,7 +275,7 @@ impl DecoderMoves for EucJpDecoder<'_> {
     }
 
     #[inline(always)]
-    fn read_runs<T: Destination>(&mut self, src: &[u8], dst: &mut T) -> usize {
+    fn read_common<T: Destination>(&mut self, src: &[u8], dst: &mut T) -> usize {
         match self.held {
             Held::Nothing => {
                 let guess = Cell::new(0);
@@ -328,7 +328,7 @@ impl LaneCodec for EucJp {
     }
 
     #[inline(always)]
-    fn has_long_runs() -> bool {
+    fn has_eights() -> bool {
         true
     }
 }

@@ -12,7 +12,7 @@ use legacy_encoder_engine::asked_pairs::PairEntries;
 use legacy_encoder_engine::cached::PAIR_ROOM;
 use legacy_encoder_engine::drive::{drive_encoder, put_two};
 use legacy_encoder_engine::moves::{EncoderMove, EncoderMoves};
-use legacy_encoder_engine::read_ahead::read_runs;
+use legacy_encoder_engine::read_ahead::read_common;
 use legacy_tables::{EncoderTables, Marks, RangePart};
 
 // The entries of a list of pairs, each looked up in the tables.
@@ -221,7 +221,7 @@ impl EncoderMoves for CachedIso2022JpEncoder<'_, '_> {
         match self.mode {
             Mode::TwoByte => {
                 let listed = self.listed;
-                read_runs(&listed, src, dst, at)
+                read_common(&listed, src, dst, at)
             }
             Mode::Ascii | Mode::Roman => self.without().read_ahead(src, dst, at),
         }

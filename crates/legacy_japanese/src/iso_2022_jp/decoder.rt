@@ -128,7 +128,7 @@ impl<'a> DecoderMoves for Iso2022JpDecoder<'a> {
     }
 
     #[inline(always)]
-    fn read_runs<T: Destination>(&mut self, src: &[u8], dst: &mut T) -> usize {
+    fn read_common<T: Destination>(&mut self, src: &[u8], dst: &mut T) -> usize {
         if !self.held.is_nothing() {
             return 0;
         }
@@ -137,7 +137,7 @@ impl<'a> DecoderMoves for Iso2022JpDecoder<'a> {
         read
     }
 
-    // Holds back an escape that no run follows. Byte by byte it takes three turns of the loop.
+    // Holds back an escape that no text of its mode follows. Byte by byte it takes three turns of the loop.
     #[inline(always)]
     #[tactic(auto, using(legacy_decoder_engine::proofs::CallUnderWay::holds_none, crate::proofs::Iso2022JpFeeding::holds_escape))]
     fn hold_back<T: Destination>(&mut self, src: &[u8], dst: &T) -> usize {

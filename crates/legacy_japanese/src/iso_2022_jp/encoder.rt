@@ -11,7 +11,7 @@ use legacy_base::{EncoderStep, IndexName, RawEncoder, Source, Tables};
 use legacy_encoder_engine::ahead_codes::AheadCodes;
 use legacy_encoder_engine::drive::{drive_encoder, put_move};
 use legacy_encoder_engine::moves::{EncoderMove, EncoderMoves};
-use legacy_encoder_engine::read_ahead::read_runs;
+use legacy_encoder_engine::read_ahead::read_common;
 use legacy_tables::{EncoderTables, RangePart};
 
 /// The mode of the encoder: how the next bytes are read.
@@ -196,8 +196,8 @@ impl EncoderMoves for Iso2022JpEncoder<'_> {
     fn read_ahead<S: Source>(&self, src: &mut S, dst: &mut [u8], at: usize) -> usize {
         let tables = self.tables;
         match self.mode {
-            Mode::Ascii => read_runs(&AsciiCodes { tables }, src, dst, at),
-            Mode::Roman | Mode::TwoByte => read_runs(self, src, dst, at),
+            Mode::Ascii => read_common(&AsciiCodes { tables }, src, dst, at),
+            Mode::Roman | Mode::TwoByte => read_common(self, src, dst, at),
         }
     }
 }

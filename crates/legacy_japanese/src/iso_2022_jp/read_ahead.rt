@@ -1,15 +1,15 @@
-//! The runs of ISO-2022-JP: plain ASCII in ASCII mode, pairs of index jis0208 in two-byte mode, and the
+//! What the decoder reads ahead: ASCII text in ASCII mode, pairs of index jis0208 in two-byte mode, and the
 //! escapes between them.
 // Functions that run for each sequence or block are always inlined, and so are their callers. A call would pass vectors
 // through memory, and keep the destination's place there.
 ghost use Rattle.std.specs.Prelude.{◌≡◌, ◌≤◌, IfSome, length, true};
-ghost use Rattle.legacy_japanese.specs.Iso2022JpRuns.{ArePlain, BeginsEscape, HasEscape, IsPlain, ReadsModes, ReadsPlain};
+ghost use Rattle.legacy_japanese.specs.Iso2022JpAhead.{AreAsciiText, BeginsEscape, HasEscape, IsAsciiText, ReadsModes, ReadsAsciiText};
 ghost use Rattle.legacy_base.specs.{Grammar.iso_2022_jp, Iso2022Jp.two_byte};
 
 use super::places::{LEADS, TRAILS};
 use super::steps::{DOLLAR, ESCAPE, Escape, Mode, PAREN, Start, completed};
 use legacy_base::{Destination, IndexName, Tables};
-use legacy_decoder_engine::common_forms::{CommonForm, CommonForms, read_forms};
+use legacy_decoder_engine::common_forms::{CommonForm, FrontForms, read_forms};
 use legacy_decoder_engine::places::pair_pointer;
 use legacy_decoder_engine::read_ahead::SLACK;
 use legacy_tables::{DecoderTables, FlatTables};
@@ -22,7 +22,7 @@ struct Jis0208Pairs<'a, 'b> {
     tables: &'a FlatTables<'b>,
 }
 
-impl CommonForms for Jis0208Pairs<'_, '_> {
+impl FrontForms for Jis0208Pairs<'_, '_> {
     ghost grammar = { λ pairs. iso_2022_jp pairs.tables.now.flat.jis0208 two_byte };
 
     #[inline(always)]
@@ -32,50 +32,50 @@ impl CommonForms for Jis0208Pairs<'_, '_> {
     }
 }
 
-/// Checks whether the byte is plain: its own scalar in ASCII mode, and not the escape byte.
+/// Checks whether the byte is of ASCII text: its own scalar in ASCII mode, and not the escape byte.
 #[inline]
-fn is_plain(byte: u8) -> bool
-    ensures { result ≡ true → IsPlain byte }
+fn is_ascii_text(byte: u8) -> bool
+    ensures { result ≡ true → IsAsciiText byte }
 {
     byte < 0x80 && byte != 0x0E && byte != 0x0F && byte != 0x1B
 }
 
-/// Returns a number of plain bytes at the front of a block, up to the first byte past ASCII or control from 0E to 1F.
-// The bytes that are not plain are among these. The others among them are rare.
+/// Returns a number of bytes of ASCII text at the front of a block, up to the first byte past ASCII or control from 0E to 1F.
+// The other bytes of ASCII are among these. The rest of these are rare.
 #[inline(always)]
-fn plain_count(block: u8x64) -> usize
+fn ascii_text_count(block: u8x64) -> usize
     ensures most { result ≤ 64 }
-    ensures plain { ArePlain block result }
+    ensures text { AreAsciiText block result }
 {
     let offsets = block - u8x64::splat(0x0E);
     let controls = offsets.simd_lt(u8x64::splat(0x12)).to_bitmask();
     ascii_front(past_ascii(block)).min(controls.trailing_zeros() as usize)
 }
 
-/// Reads plain bytes from the front of a block of 64 in ASCII mode, and returns their number.
+/// Reads bytes of ASCII text from the front of a block of 64 in ASCII mode, and returns their number.
 #[inline(always)]
-fn read_plain_block<T: Destination>(src: &[u8], dst: &mut T) -> usize
+fn read_ascii_text_block<T: Destination>(src: &[u8], dst: &mut T) -> usize
     requires block { 64 ≤ length src.now }
     requires room { 67 ≤ T.room dst.old }
     ensures most { result ≤ 64 }
-    ensures ahead { ReadsPlain T.Destination src.now result dst.old dst.new }
+    ensures ahead { ReadsAsciiText T.Destination src.now result dst.old dst.new }
 {
-    let count = plain_count(u8x64::from_slice(src));
+    let count = ascii_text_count(u8x64::from_slice(src));
     dst.put_block(src, count);
     count
 }
 
-/// Reads plain bytes from the front in ASCII mode by blocks of 64, up to a block with other bytes.
+/// Reads bytes of ASCII text from the front in ASCII mode by blocks of 64, up to a block with other bytes.
 ///
 /// Returns the number of bytes read, which may be 0. If it reads any, three code units stay free.
 #[inline(always)]
-fn read_plain_blocks<T: Destination>(src: &[u8], dst: &mut T) -> usize
+fn read_ascii_text_blocks<T: Destination>(src: &[u8], dst: &mut T) -> usize
     ensures read { result ≤ length src.now }
-    ensures ahead { ReadsPlain T.Destination src.now result dst.old dst.new }
+    ensures ahead { ReadsAsciiText T.Destination src.now result dst.old dst.new }
 {
     let mut at = 0;
     while src.len() - at >= 64 && dst.free() >= 64 + SLACK {
-        let count = read_plain_block(&src[at..], dst);
+        let count = read_ascii_text_block(&src[at..], dst);
         at += count;
         if count < 64 {
             return at;
@@ -84,33 +84,33 @@ fn read_plain_blocks<T: Destination>(src: &[u8], dst: &mut T) -> usize
     at
 }
 
-/// Reads plain bytes one by one from the front in ASCII mode.
+/// Reads bytes of ASCII text one by one from the front in ASCII mode.
 ///
 /// Returns the number of bytes read, which may be 0. If it reads any, three code units stay free.
 #[inline(always)]
-fn read_plain_bytes<T: Destination>(src: &[u8], dst: &mut T) -> usize
+fn read_ascii_text_bytes<T: Destination>(src: &[u8], dst: &mut T) -> usize
     ensures read { result ≤ length src.now }
-    ensures ahead { ReadsPlain T.Destination src.now result dst.old dst.new }
+    ensures ahead { ReadsAsciiText T.Destination src.now result dst.old dst.new }
 {
     let mut at = 0;
-    while at < src.len() && is_plain(src[at]) && dst.free() >= 1 + SLACK {
+    while at < src.len() && is_ascii_text(src[at]) && dst.free() >= 1 + SLACK {
         dst.put(char::from(src[at]));
         at += 1;
     }
     at
 }
 
-/// Reads plain bytes from the front in ASCII mode. Returns the number of bytes read, which may be 0.
+/// Reads bytes of ASCII text from the front in ASCII mode. Returns the number of bytes read, which may be 0.
 #[inline(always)]
-fn read_plain<T: Destination>(src: &[u8], dst: &mut T) -> usize
-    ensures { ReadsPlain T.Destination src.now result dst.old dst.new }
+fn read_ascii_text<T: Destination>(src: &[u8], dst: &mut T) -> usize
+    ensures { ReadsAsciiText T.Destination src.now result dst.old dst.new }
 {
     // A single byte before a malformed one is read without a block.
     if src.len() > 1 && src[1] >= 0x80 {
-        return read_plain_bytes(&src[..1], dst);
+        return read_ascii_text_bytes(&src[..1], dst);
     }
-    let blocks = read_plain_blocks(src, dst);
-    blocks + read_plain_bytes(&src[blocks..], dst)
+    let blocks = read_ascii_text_blocks(src, dst);
+    blocks + read_ascii_text_bytes(&src[blocks..], dst)
 }
 
 /// Reads pairs from the front, or over packed tables nothing. Returns the number of bytes read, which may be 0.
@@ -124,7 +124,7 @@ fn read_pairs<T: Destination>(tables: &Tables, src: &[u8], dst: &mut T) -> usize
     }
 }
 
-/// Checks whether a run of the mode may begin at the front.
+/// Checks whether text of the mode may begin at the front.
 ///
 /// It is a guess from the first two bytes, and may be wrong either way.
 #[inline(always)]
@@ -133,13 +133,13 @@ fn may_begin(mode: Mode, src: &[u8]) -> bool {
         return false;
     }
     match mode {
-        Mode::Ascii => is_plain(src[0]),
+        Mode::Ascii => is_ascii_text(src[0]),
         Mode::TwoByte => src[0] >= 0x21,
         Mode::Roman | Mode::Katakana => false,
     }
 }
 
-/// Reads a run of the mode from the front, if one may begin there. Returns the number of bytes read, which may be 0.
+/// Reads text of the mode from the front, if any may begin there. Returns the number of bytes read, which may be 0.
 #[inline(always)]
 fn read_begun<T: Destination>(tables: &Tables, mode: Mode, src: &[u8], dst: &mut T) -> usize
     ensures { ReadsModes T.Destination tables.now.flat.jis0208 mode mode src.now result dst.old dst.new }
@@ -148,7 +148,7 @@ fn read_begun<T: Destination>(tables: &Tables, mode: Mode, src: &[u8], dst: &mut
         return 0;
     }
     match mode {
-        Mode::Ascii => read_plain(src, dst),
+        Mode::Ascii => read_ascii_text(src, dst),
         Mode::TwoByte => read_pairs(tables, src, dst),
         Mode::Roman | Mode::Katakana => 0,
     }
@@ -171,7 +171,7 @@ pub fn front_escape(src: &[u8]) -> Option<Escape>
 
 /// Returns the valid escape at the front, if a byte follows that is not the escape byte.
 #[inline(always)]
-fn lone_escape(src: &[u8]) -> Option<Escape>
+fn escape_alone(src: &[u8]) -> Option<Escape>
     ensures { IfSome result (λ escape. HasEscape escape src.now) }
 {
     if src.len() < 4 || src[3] == ESCAPE {
@@ -180,7 +180,7 @@ fn lone_escape(src: &[u8]) -> Option<Escape>
     front_escape(src)
 }
 
-/// Reads a run of the mode from the front, and then each escape that has a run of its mode after it.
+/// Reads text of the mode from the front, and then each escape that has text of its mode after it.
 ///
 /// Returns the mode at the end, and the number of bytes read.
 #[inline(always)]
@@ -194,7 +194,7 @@ pub fn read_modes<T: Destination>(
 {
     let mut mode = first;
     let mut at = read_begun(tables, mode, src, dst);
-    while let Some(escape) = lone_escape(&src[at..]) {
+    while let Some(escape) = escape_alone(&src[at..]) {
         let next = escape.mode();
         let read = read_begun(tables, next, &src[at + 3..], dst);
         if read == 0 {

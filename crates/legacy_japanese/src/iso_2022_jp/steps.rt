@@ -218,8 +218,8 @@ pub fn completed(start: Start, byte: u8) -> Option<Escape>
 
 /// Reads a byte that is not the escape byte, with nothing held back.
 #[inline]
-fn read_plain(mode: Mode, byte: u8) -> Outcome
-    ensures { result ≡ machine.read_plain mode byte }
+fn read_in_mode(mode: Mode, byte: u8) -> Outcome
+    ensures { result ≡ machine.read_in_mode mode byte }
 {
     // Bytes past ASCII are malformed in every mode, and often follow one another.
     if byte >= 0x80 {
@@ -286,7 +286,7 @@ fn read_start(mode: Mode, escape: Option<Escape>, start: Start, byte: u8) -> Out
             if byte == ESCAPE {
                 (Fed::Nothing, mode, Held::Begun(escape, Start::EscapeByte))
             } else {
-                read_plain(new_mode, byte)
+                read_in_mode(new_mode, byte)
             }
         }
         Start::EscapeByte => match byte {

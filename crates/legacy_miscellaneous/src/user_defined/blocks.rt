@@ -1,7 +1,7 @@
 //! Decodes blocks of x-user-defined: ASCII with single bytes past it, or eight bytes at a time.
 // Functions that run for each block are always inlined. A call would pass vectors through memory, and
 // keep the destination's place there.
-#![tactic(auto, using(crate::proofs::UserDefinedRuns::steps))]
+#![tactic(auto, using(crate::proofs::UserDefinedAhead::steps))]
 
 ghost use Rattle.std.specs.Prelude.{◌≡◌, ◌<◌, ◌≤◌, ℕ, length, slice_index};
 ghost use Rattle.legacy_base.specs.Grammar.{user_defined};
@@ -10,14 +10,14 @@ ghost use Rattle.legacy_decoder_engine.specs.ReadAhead.{ReadsAhead};
 ghost use Rattle.legacy_miscellaneous.specs.UserDefinedMachine.{unit_of_byte};
 
 use legacy_base::Destination;
-use legacy_decoder_engine::read_ahead::{Blocks, SLACK, read_blocks};
+use legacy_decoder_engine::read_ahead::{BlockReader, SLACK, read_blocks};
 use legacy_text::past_ascii::has_past_ascii;
 use std::simd::prelude::*;
 
 /// Returns the code unit of any byte: ASCII for ASCII, and a private-use scalar for any other.
 // Copies bit 7 into all higher bits and clears bit 11: the compiler makes vectors of it, without a branch.
 #[inline(always)]
-#[tactic(auto, using(crate::proofs::UserDefinedRuns::bits_are))]
+#[tactic(auto, using(crate::proofs::UserDefinedAhead::bits_are))]
 fn unit_of(byte: u8) -> u16
     ensures { result ≡ unit_of_byte byte }
 {
@@ -26,7 +26,7 @@ fn unit_of(byte: u8) -> u16
 
 /// Returns the scalar of any byte.
 #[inline(always)]
-#[tactic(auto, using(crate::proofs::UserDefinedRuns::unit_scalar))]
+#[tactic(auto, using(crate::proofs::UserDefinedAhead::unit_scalar))]
 pub fn scalar_of(byte: u8) -> char
     ensures { result ≡ unit_of_byte byte }
 {
@@ -88,7 +88,7 @@ pub fn read_few<T: Destination>(src: &[u8], dst: &mut T) -> usize
 #[derive(Drop)]
 struct Mixed {}
 
-impl Blocks for Mixed {
+impl BlockReader for Mixed {
     ghost grammar = { λ _. user_defined };
 
     /// Reads the ASCII of the first 64 bytes, and the byte after it or eights if the next one is past ASCII too.

@@ -55,7 +55,7 @@ impl DecoderMoves for UserDefinedDecoder {
     }
 
     #[inline]
-    #[tactic(auto, using(crate::proofs::UserDefinedRuns::feeds))]
+    #[tactic(auto, using(crate::proofs::UserDefinedAhead::feeds))]
     fn feed(&mut self, byte: u8) -> Fed {
         Fed::One(scalar_of(byte))
     }
@@ -72,7 +72,7 @@ impl DecoderMoves for UserDefinedDecoder {
     }
 
     #[inline(always)]
-    fn read_runs<T: Destination>(&mut self, src: &[u8], dst: &mut T) -> usize {
+    fn read_common<T: Destination>(&mut self, src: &[u8], dst: &mut T) -> usize {
         if T::narrow() == 1 {
             read_few(src, dst)
         } else {

@@ -8,7 +8,7 @@ use legacy_encoder_engine::drive::drive_encoder;
 use legacy_encoder_engine::moves::EncoderMove;
 use legacy_encoder_engine::plain::PlainEncoder;
 use legacy_encoder_engine::plain_codes::PlainCodes;
-use legacy_encoder_engine::read_ahead::read_runs;
+use legacy_encoder_engine::read_ahead::read_common;
 
 /// The encoder of x-user-defined (Encoding Standard, "x-user-defined encoder").
 ///
@@ -75,7 +75,7 @@ impl PlainCodes for UserDefinedEncoder {
 impl PlainEncoder for UserDefinedEncoder {
     #[inline]
     fn read_codes<S: Source>(&self, src: &mut S, dst: &mut [u8], start: usize) -> usize {
-        read_runs(self, src, dst, start)
+        read_common(self, src, dst, start)
     }
 }
 

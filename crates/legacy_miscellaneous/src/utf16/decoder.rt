@@ -128,7 +128,7 @@ impl DecoderMoves for Utf16Decoder {
 
     // The byte order is decided here, and not at each unit.
     #[inline(always)]
-    fn read_runs<T: Destination>(&mut self, src: &[u8], dst: &mut T) -> usize {
+    fn read_common<T: Destination>(&mut self, src: &[u8], dst: &mut T) -> usize {
         if !matches!(self.held, Held::Nothing) {
             0
         } else if self.big_endian {

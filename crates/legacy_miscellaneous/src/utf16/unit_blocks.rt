@@ -1,7 +1,7 @@
 //! Blocks of UTF-16 code units without surrogates: by 64, by eight, and one by one.
 // Functions that run for each block are always inlined. A call would pass vectors through memory, and
 // keep the destination's place there.
-#![tactic(auto, using(crate::proofs::Utf16Runs::steps))]
+#![tactic(auto, using(crate::proofs::Utf16Ahead::steps))]
 
 ghost use Rattle.std.specs.Prelude.{◌≡◌, ◌+◌, ◌*◌, ◌%◌, ◌<◌, ◌≤◌, ℕ, length, true, false, slice_index};
 ghost use Rattle.std.specs.Char.{IsScalar};
@@ -13,8 +13,8 @@ ghost use Rattle.legacy_miscellaneous.specs.Utf16Decoder.{HasAsciiUnits, IsNarro
 use super::unit_steps::unit;
 use super::vectors::{eight_units, sixteen_units};
 use legacy_base::Destination;
-use legacy_decoder_engine::common_forms::{CommonForm, CommonForms, read_forms};
-use legacy_decoder_engine::read_ahead::{Blocks, SLACK, read_blocks};
+use legacy_decoder_engine::common_forms::{CommonForm, FrontForms, read_forms};
+use legacy_decoder_engine::read_ahead::{BlockReader, SLACK, read_blocks};
 use legacy_text::are_all_below;
 
 /// The code units of a byte order.
@@ -23,7 +23,7 @@ pub struct Units {
     pub big_endian: bool,
 }
 
-impl CommonForms for Units {
+impl FrontForms for Units {
     ghost use Rattle.legacy_miscellaneous.specs.Utf16Decoder.{units_grammar};
 
     ghost grammar = { units_grammar };
@@ -55,7 +55,7 @@ struct Sixteens<'a> {
     units: &'a Units,
 }
 
-impl Blocks for Sixteens<'_> {
+impl BlockReader for Sixteens<'_> {
     ghost grammar = { λ blocks. utf16 blocks.units.now.big_endian };
 
     /// Decodes sixteen units, or none if one of them is a surrogate.
@@ -100,7 +100,7 @@ struct AsciiUnits<'a> {
     units: &'a Units,
 }
 
-impl Blocks for AsciiUnits<'_> {
+impl BlockReader for AsciiUnits<'_> {
     ghost grammar = { λ blocks. utf16 blocks.units.now.big_endian };
 
     /// Decodes 64 units if all are ASCII. If fewer are left, it decodes the ASCII at the start of sixteen.
@@ -234,7 +234,7 @@ impl Units {
     }
 }
 
-impl Blocks for Units {
+impl BlockReader for Units {
     ghost grammar = { λ units. utf16 units.big_endian };
 
     /// Decodes units by vectors, or up to eight one by one if no vector can be read.

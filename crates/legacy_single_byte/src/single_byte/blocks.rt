@@ -1,7 +1,7 @@
 //! Decodes blocks of single-byte text: ASCII with single bytes past it, or eight bytes at a time.
 // Functions that run for each block are always inlined. A call would pass vectors through memory,
 // and keep the destination's place there.
-#![tactic(auto, using(crate::proofs::SingleByteRuns::steps))]
+#![tactic(auto, using(crate::proofs::SingleByteAhead::steps))]
 
 ghost use Rattle.std.specs.Prelude.{◌≡◌, ◌≢◌, ◌+◌, ◌*◌, ◌<◌, ◌≤◌, ◌++◌, ℕ, All, true, false, length, take, slice_index};
 ghost use Rattle.std.specs.Char.{IsScalar};
@@ -108,12 +108,12 @@ fn read_units<T: Destination>(scalars: &ByteScalars, src: &[u8], most: usize, ds
 // next ASCII bytes is overwritten. So no branch depends on the place of the next byte past ASCII, which no processor
 // predicts.
 #[derive(Drop)]
-struct Fronts<'a> {
+struct MostlyAscii<'a> {
     scalars: &'a ByteScalars<'a>,
 }
 
-impl Parts for Fronts<'_> {
-    ghost grammar = { λ fronts. single_byte fronts.scalars.now.table.now.entries };
+impl Parts for MostlyAscii<'_> {
+    ghost grammar = { λ mostly_ascii. single_byte mostly_ascii.scalars.now.table.now.entries };
 
     /// Reads up to 64 bytes, or nothing if many are past ASCII.
     ///
@@ -172,12 +172,12 @@ fn read_singly<T: Destination>(scalars: &ByteScalars, src: &[u8], most: usize, d
 
 /// Eight bytes at a time, of any kind.
 #[derive(Drop)]
-struct Eights<'a> {
+struct AnyBytes<'a> {
     scalars: &'a ByteScalars<'a>,
 }
 
-impl Parts for Eights<'_> {
-    ghost grammar = { λ eights. single_byte eights.scalars.now.table.now.entries };
+impl Parts for AnyBytes<'_> {
+    ghost grammar = { λ any_bytes. single_byte any_bytes.scalars.now.table.now.entries };
 
     /// Decodes up to a byte that has no scalar.
     ///
@@ -207,8 +207,13 @@ impl Parts for ByteScalars<'_> {
     /// Reads ASCII with single bytes past it, and then eights with more of them.
     #[inline(always)]
     fn read_part<T: Destination>(&self, src: &[u8], most: usize, dst: &mut T) -> (usize, bool) {
-        let front = read_parts(&Fronts { scalars: self }, src, most, dst);
-        let read = read_parts(&Eights { scalars: self }, &src[front..], most - front, dst);
+        let front = read_parts(&MostlyAscii { scalars: self }, src, most, dst);
+        let read = read_parts(
+            &AnyBytes { scalars: self },
+            &src[front..],
+            most - front,
+            dst,
+        );
         (front + read, read > 0)
     }
 }

@@ -132,7 +132,7 @@ impl DecoderMoves for SingleByteDecoder<'_> {
     }
 
     #[inline(always)]
-    fn read_runs<T: Destination>(&mut self, src: &[u8], dst: &mut T) -> usize {
+    fn read_common<T: Destination>(&mut self, src: &[u8], dst: &mut T) -> usize {
         read_text(&self.scalars, src, dst)
     }
 }

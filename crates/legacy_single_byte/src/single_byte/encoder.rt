@@ -10,7 +10,7 @@ use legacy_encoder_engine::drive::drive_encoder;
 use legacy_encoder_engine::moves::EncoderMove;
 use legacy_encoder_engine::plain::PlainEncoder;
 use legacy_encoder_engine::plain_codes::PlainCodes;
-use legacy_encoder_engine::read_ahead::read_runs;
+use legacy_encoder_engine::read_ahead::read_common;
 
 /// The encoder of a single-byte encoding (Encoding Standard, "single-byte encoder").
 ///
@@ -200,7 +200,7 @@ impl PlainCodes for SingleByteEncoder<'_> {
 impl PlainEncoder for SingleByteEncoder<'_> {
     #[inline]
     fn read_codes<S: Source>(&self, src: &mut S, dst: &mut [u8], start: usize) -> usize {
-        read_runs(&self.copied(), src, dst, start)
+        read_common(&self.copied(), src, dst, start)
     }
 }
 

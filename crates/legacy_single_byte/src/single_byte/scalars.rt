@@ -27,7 +27,7 @@ pub struct ByteScalars<'a> {
 }
 
 /// Returns the entry of a byte.
-#[tactic(auto, using(crate::proofs::SingleByteRuns::place_below))]
+#[tactic(auto, using(crate::proofs::SingleByteAhead::place_below))]
 fn entry_of(table: &SingleByteTable, byte: usize) -> u16
     requires { byte < 0x100 }
     ensures { IsByteEntry table.now.entries byte result }
@@ -56,7 +56,7 @@ fn byte_entries(table: &SingleByteTable) -> [u16; 256]
 }
 
 /// Returns the entries in UTF-8 of the bytes past ASCII.
-#[tactic(auto, using(crate::proofs::SingleByteRuns::place_below))]
+#[tactic(auto, using(crate::proofs::SingleByteAhead::place_below))]
 fn utf8_entries_of(table: &SingleByteTable) -> [u32; 128]
     ensures count { length result ≡ 128 }
     ensures same { AreUtf8Entries table.now.entries result 128 }

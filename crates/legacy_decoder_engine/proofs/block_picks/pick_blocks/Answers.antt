@@ -1,5 +1,5 @@
 use Rattle.std.proofs.{Common.{◌≡◌, ◌∙◌, length, take, drop, ap, sym, arith}, lemmas.List.length-take-le}
-use Rattle.legacy_decoder_engine.proofs.{LaneUnits.{picked_more, shorter_front}, WrittenRuns.rest_of}
+use Rattle.legacy_decoder_engine.proofs.{LaneUnits.{picked_more, shorter_front}, WrittenReads.rest_of}
 use Rattle.legacy_decoder_engine.proofs.block_picks.pick_blocks.Goals.{then-rest-ge72, else-rest-ge72}
 use Rattle.legacy_decoder_engine.proofs.block_picks.pick_blocks.Goals as goal
 

@@ -7,7 +7,7 @@ abbrev pub invariant-loop-left : goal.invariant-loop-left
 invariant-loop-left g l =
     let T = g.T.Destination in
     (l.at + 2 * l.left ≤ 2 * l.most) × (l.most ≤ l.at + l.left) × (T.room l.fn.dst + 3 * l.left ≤ T.room l.dst + 3 * l.most)
-    × Writes T (g.F.CommonForms.grammar l.forms) (take l.at l.src) l.fn.dst l.dst
+    × Writes T (g.F.FrontForms.grammar l.forms) (take l.at l.src) l.fn.dst l.dst
 
 abbrev pub decreases-loop-left : goal.decreases-loop-left
 decreases-loop-left g l = l.left

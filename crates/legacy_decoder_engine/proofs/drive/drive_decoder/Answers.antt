@@ -1,7 +1,7 @@
 use Rattle.std.proofs.Common.{◌∙◌, ◌++◌, [], ◌∷◌, arith, refl, sym, ap, append-nil, add-zero, length-append}
 use Rattle.legacy_text.specs.EncodingForm.{code_units}
 use Rattle.legacy_decoder_engine.proofs.CallUnderWay.{going_start, going_release, call_full_release, call_end}
-use Rattle.legacy_decoder_engine.proofs.AheadRuns.{read_going, front_going, left_malformed, byte_going, byte_ends}
+use Rattle.legacy_decoder_engine.proofs.AheadInCalls.{read_going, front_going, left_malformed, byte_going, byte_ends}
 use Rattle.legacy_decoder_engine.proofs.drive.drive_decoder.Goals.{then-not-rests+else-not-has_room+in-Some, else-not-rests}
 use Rattle.legacy_decoder_engine.proofs.drive.drive_decoder.Goals as goal
 

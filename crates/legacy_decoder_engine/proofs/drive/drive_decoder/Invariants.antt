@@ -1,5 +1,5 @@
 use Rattle.std.proofs.Common.{◌-◌, length}
-use Rattle.legacy_decoder_engine.proofs.AheadRuns.{IsUnderWay}
+use Rattle.legacy_decoder_engine.proofs.AheadInCalls.{IsUnderWay}
 use Rattle.legacy_decoder_engine.proofs.drive.drive_decoder.Given as goal
 
 abbrev pub invariant-loop-decoder : goal.invariant-loop-decoder

@@ -1,5 +1,5 @@
 use Rattle.std.proofs.Common.{◌≡◌, arith}
-use Rattle.legacy_decoder_engine.proofs.{JoinedRuns.{reads_more}}
+use Rattle.legacy_decoder_engine.proofs.{JoinedReads.{reads_more}}
 use Rattle.legacy_decoder_engine.proofs.eights.read_eights.Goals as goal
 
 pub loop-at-preserved : goal.loop-at-preserved

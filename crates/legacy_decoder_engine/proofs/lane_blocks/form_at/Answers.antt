@@ -1,11 +1,11 @@
 use Rattle.std.proofs.{Common.{arith}, lemmas.List.take_more}
-use Rattle.legacy_decoder_engine.proofs.WrittenRuns.{runs_byte}
+use Rattle.legacy_decoder_engine.proofs.WrittenReads.{yields_byte}
 use Rattle.legacy_decoder_engine.proofs.lane_blocks.form_at.Goals as goal
 
 pub returns-then-byte-lt128 : goal.returns-then-byte-lt128
 returns-then-byte-lt128 g c =
-    let run = runs_byte c.requires.ascii _ _ c.if-byte-lt128.true c.from.ensures in
-    grind (arith, run, take_more c.args.src.now 0 0)
+    let yields = yields_byte c.requires.ascii _ _ c.if-byte-lt128.true c.from.ensures in
+    grind (arith, yields, take_more c.args.src.now 0 0)
 
 pub returns-then-begins_longer : goal.returns-then-begins_longer
 returns-then-begins_longer g c = c.longer_at.ensures

@@ -1,5 +1,5 @@
 use Rattle.std.proofs.Common.{arith}
-use Rattle.legacy_decoder_engine.proofs.JoinedRuns.{reads_first}
+use Rattle.legacy_decoder_engine.proofs.JoinedReads.{reads_first}
 use Rattle.legacy_decoder_engine.proofs.lane_blocks.read_at_most.Goals as goal
 
 pub returns-then-eights-gt0 : goal.returns-then-eights-gt0

@@ -1,5 +1,5 @@
 use Rattle.std.proofs.Common.{arith}
-use Rattle.legacy_decoder_engine.proofs.{JoinedRuns.reads_more}
+use Rattle.legacy_decoder_engine.proofs.{JoinedReads.reads_more}
 use Rattle.legacy_decoder_engine.proofs.lane_blocks.read_few.Goals as goal
 
 pub returns-then-src-at-lt-SHORT_BLOCK-clause-ahead : goal.returns-then-src-at-lt-SHORT_BLOCK-clause-ahead

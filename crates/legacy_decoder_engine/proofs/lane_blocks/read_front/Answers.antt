@@ -1,6 +1,6 @@
 use Rattle.std.proofs.{Common.{◌≡◌, ◌≤◌, length, take, ap, arith}, lemmas.List.length-take}
 use Rattle.legacy_decoder_engine.specs.{PickedForms.forms_of}
-use Rattle.legacy_decoder_engine.proofs.{JoinedRuns.reads_front, LaneUnits.front_forms}
+use Rattle.legacy_decoder_engine.proofs.{JoinedReads.reads_front, LaneUnits.front_forms}
 use Rattle.legacy_decoder_engine.proofs.lane_blocks.read_front.Goals as goal
 
 pub returns-then-done-count-clause-ahead : goal.returns-then-done-count-clause-ahead

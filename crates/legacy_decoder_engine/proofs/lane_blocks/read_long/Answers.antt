@@ -1,4 +1,4 @@
-use Rattle.legacy_decoder_engine.proofs.{JoinedRuns.reads_more}
+use Rattle.legacy_decoder_engine.proofs.{JoinedReads.reads_more}
 use Rattle.legacy_decoder_engine.proofs.lane_blocks.read_long.Goals as goal
 
 pub loop-codes-preserved : goal.loop-codes-preserved

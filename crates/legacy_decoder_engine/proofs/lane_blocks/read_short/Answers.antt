@@ -1,5 +1,5 @@
 use Rattle.std.proofs.{Common.arith, lemmas.List.{length-take, length-drop}}
-use Rattle.legacy_decoder_engine.proofs.{JoinedRuns.reads_more}
+use Rattle.legacy_decoder_engine.proofs.{JoinedReads.reads_more}
 use Rattle.legacy_decoder_engine.proofs.lane_blocks.read_short.Goals as goal
 
 pub loop-codes-smaller : goal.loop-codes-smaller

@@ -1,5 +1,5 @@
 use Rattle.std.proofs.{Common.{◌≡◌, ◌*◌, ◌+◌, length, take, arith}, lemmas.List.take_all}
-use Rattle.legacy_decoder_engine.proofs.{LaneUnits.{known_scalars, next_written}, WrittenRuns.all_short}
+use Rattle.legacy_decoder_engine.proofs.{LaneUnits.{known_scalars, next_written}, WrittenReads.all_short}
 use Rattle.legacy_decoder_engine.proofs.lanes.put_groups.Goals as goal
 
 pub put_eight-requires-clause-scalars : goal.put_eight-requires-clause-scalars

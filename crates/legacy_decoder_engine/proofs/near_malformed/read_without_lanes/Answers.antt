@@ -1,4 +1,4 @@
-use Rattle.legacy_decoder_engine.proofs.{JoinedRuns.reads_more}
+use Rattle.legacy_decoder_engine.proofs.{JoinedReads.reads_more}
 use Rattle.legacy_decoder_engine.proofs.near_malformed.read_without_lanes.Goals as goal
 
 pub returns-then-begins_uncommon : goal.returns-then-begins_uncommon

@@ -4,7 +4,7 @@ use Rattle.legacy_decoder_engine.specs.ReadAhead.{ReadsAhead}
 use Rattle.legacy_decoder_engine.proofs.read_ahead.read_blocks.Given as goal
 
 abbrev pub invariant-loop-at : goal.invariant-loop-at
-invariant-loop-at g l = ReadsAhead g.T.Destination (new_state (g.B.Blocks.grammar l.blocks)) l.src l.at l.fn.dst l.dst
+invariant-loop-at g l = ReadsAhead g.T.Destination (new_state (g.B.BlockReader.grammar l.blocks)) l.src l.at l.fn.dst l.dst
 
 abbrev pub decreases-loop-at : goal.decreases-loop-at
 decreases-loop-at g l = length l.src - l.at

@@ -1,5 +1,5 @@
 use Rattle.std.proofs.{Common.{◌≡◌, length, take, arith}, lemmas.List.take_all}
-use Rattle.legacy_decoder_engine.proofs.{LaneUnits.few_units, WrittenRuns.all_short}
+use Rattle.legacy_decoder_engine.proofs.{LaneUnits.few_units, WrittenReads.all_short}
 use Rattle.legacy_chinese.proofs.FourWrites.{next_written}
 use Rattle.legacy_chinese.proofs.gb18030.four_lanes.put_fours.Goals as goal
 

@@ -1,4 +1,4 @@
-use Rattle.legacy_decoder_engine.proofs.JoinedRuns.{reads_more}
+use Rattle.legacy_decoder_engine.proofs.JoinedReads.{reads_more}
 use Rattle.legacy_chinese.proofs.gb18030.four_lanes.read_fours.Goals as goal
 
 pub returns-then-not-goes_on : goal.returns-then-not-goes_on

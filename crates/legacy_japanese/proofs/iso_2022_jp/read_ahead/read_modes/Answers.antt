@@ -1,4 +1,4 @@
-use Rattle.legacy_japanese.proofs.Iso2022JpRuns.{reads_on, reads_end}
+use Rattle.legacy_japanese.proofs.Iso2022JpAhead.{reads_on, reads_end}
 use Rattle.std.proofs.Common.{arith}
 use Rattle.legacy_japanese.proofs.iso_2022_jp.read_ahead.read_modes.Goals as goal
 

@@ -1,5 +1,5 @@
-use Rattle.{std.{proofs.{lemmas.List.Elements.All-from_get_or, Common.arith}, specs.Char.IsScalar}, legacy_miscellaneous.proofs.UserDefinedRuns.unit_scalar}
-use Rattle.legacy_miscellaneous.proofs.UserDefinedRuns.{rest_bytes, eight_more}
+use Rattle.{std.{proofs.{lemmas.List.Elements.All-from_get_or, Common.arith}, specs.Char.IsScalar}, legacy_miscellaneous.proofs.UserDefinedAhead.unit_scalar}
+use Rattle.legacy_miscellaneous.proofs.UserDefinedAhead.{rest_bytes, eight_more}
 use Rattle.legacy_miscellaneous.proofs.user_defined.blocks.read_eights.Goals as goal
 
 pub put_eight-requires-clause-scalars : goal.put_eight-requires-clause-scalars

@@ -1,4 +1,4 @@
-use Rattle.legacy_decoder_engine.proofs.JoinedRuns.{reads_more}
+use Rattle.legacy_decoder_engine.proofs.JoinedReads.{reads_more}
 use Rattle.legacy_miscellaneous.proofs.user_defined.blocks.read_text.Goals as goal
 
 pub returns : goal.returns

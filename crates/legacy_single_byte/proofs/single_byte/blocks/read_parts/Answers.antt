@@ -1,5 +1,5 @@
 use Rattle.std.proofs.Common.{arith}
-use Rattle.legacy_decoder_engine.proofs.{JoinedRuns.reads_more}
+use Rattle.legacy_decoder_engine.proofs.{JoinedReads.reads_more}
 use Rattle.legacy_single_byte.proofs.single_byte.blocks.read_parts.Goals as goal
 
 pub loop-at-preserved : goal.loop-at-preserved

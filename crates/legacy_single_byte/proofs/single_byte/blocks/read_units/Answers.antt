@@ -1,5 +1,5 @@
 use Rattle.std.proofs.Common.{arith}
-use Rattle.legacy_single_byte.proofs.SingleByteRuns.{reads_units}
+use Rattle.legacy_single_byte.proofs.SingleByteAhead.{reads_units}
 use Rattle.legacy_single_byte.proofs.single_byte.blocks.read_units.Goals as goal
 
 pub returns-clause-ahead : goal.returns-clause-ahead

@@ -1,5 +1,5 @@
 use Rattle.std.proofs.{Common.{arith, length-drop}, lemmas.List.drop-drop}
-use Rattle.legacy_streams.proofs.PlainLines.{front_lines, all_lines}
+use Rattle.legacy_streams.proofs.FourDigitLines.{front_lines, all_lines}
 use Rattle.legacy_streams.proofs.lines.LineBuffer.push_units.Goals as goal
 
 pub surrogates-init : goal.surrogates-init

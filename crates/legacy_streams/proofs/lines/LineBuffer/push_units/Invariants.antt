@@ -1,7 +1,7 @@
 use Rattle.std.proofs.Common.{◌≡◌, ◌+◌, ◌*◌, ◌-◌, ◌≤◌, ◌++◌, length, drop}
 use Rattle.legacy_text.specs.Texts.{unit_scalars}
 use Rattle.legacy_streams.specs.LineBuffers.{line_bytes, line_room}
-use Rattle.legacy_streams.proofs.PlainLines.{scalar_lines}
+use Rattle.legacy_streams.proofs.FourDigitLines.{scalar_lines}
 use Rattle.legacy_streams.proofs.lines.LineBuffer.push_units.Given as goal
 
 abbrev pub invariant-surrogates : goal.invariant-surrogates

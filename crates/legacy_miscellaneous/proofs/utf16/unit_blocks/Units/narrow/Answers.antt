@@ -1,4 +1,4 @@
-use Rattle.{std.proofs.Common.{◌-◌, arith, refl}, legacy_miscellaneous.proofs.Utf16Runs.unit_after}
+use Rattle.{std.proofs.Common.{◌-◌, arith, refl}, legacy_miscellaneous.proofs.Utf16Ahead.unit_after}
 use Rattle.legacy_miscellaneous.proofs.utf16.unit_blocks.Units.narrow.Goals as goal
 
 pub loop-at-preserved : goal.loop-at-preserved

@@ -1,4 +1,4 @@
-use Rattle.{std.proofs.Common.◌-◌, legacy_miscellaneous.proofs.Utf16Runs.EightsWritten}
+use Rattle.{std.proofs.Common.◌-◌, legacy_miscellaneous.proofs.Utf16Ahead.EightsWritten}
 use Rattle.legacy_miscellaneous.proofs.utf16.unit_blocks.Units.read_eights.Given as goal
 
 abbrev pub invariant-loop-group : goal.invariant-loop-group

@@ -1,4 +1,4 @@
-use Rattle.legacy_decoder_engine.proofs.JoinedRuns.{reads_more}
+use Rattle.legacy_decoder_engine.proofs.JoinedReads.{reads_more}
 use Rattle.legacy_single_byte.proofs.single_byte.blocks.ByteScalarsParts.read_part.Goals as goal
 
 pub returns-clause-ahead : goal.returns-clause-ahead

@@ -1,4 +1,4 @@
-use Rattle.legacy_single_byte.proofs.SingleByteRuns.{byte_scalars}
+use Rattle.legacy_single_byte.proofs.SingleByteAhead.{byte_scalars}
 use Rattle.legacy_single_byte.proofs.single_byte.scalars.ByteScalars.entries.Goals as goal
 
 pub returns-clause-all : goal.returns-clause-all

@@ -1,5 +1,5 @@
 use Rattle.std.proofs.Common.{arith}
-use Rattle.legacy_single_byte.proofs.SingleByteRuns.{entry_below, entry_runs}
+use Rattle.legacy_single_byte.proofs.SingleByteAhead.{entry_below, entry_yields}
 use Rattle.legacy_single_byte.proofs.single_byte.scalars.ByteScalars.scalar.Goals as goal
 
 pub from_u32_unchecked-requires : goal.from_u32_unchecked-requires
@@ -10,4 +10,4 @@ returns-clause-entry c = grind (arith, c.args.self.now.same c.args.byte)
 
 pub returns-clause-single : goal.returns-clause-single
 returns-clause-single c =
-    entry_runs c.args.self.now.table.now c.args.byte c.from_u32_unchecked.result (omega arith) (grind (arith, c.args.self.now.same c.args.byte)) (grind arith)
+    entry_yields c.args.self.now.table.now c.args.byte c.from_u32_unchecked.result (omega arith) (grind (arith, c.args.self.now.same c.args.byte)) (grind arith)

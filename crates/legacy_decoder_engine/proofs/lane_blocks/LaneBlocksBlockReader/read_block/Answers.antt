@@ -1,0 +1,9 @@
+use Rattle.std.proofs.Common.{arith}
+use Rattle.legacy_decoder_engine.proofs.{JoinedReads.{reads_first, reads_more}}
+use Rattle.legacy_decoder_engine.proofs.lane_blocks.LaneBlocksBlockReader.read_block.Goals as goal
+
+pub returns-then-src-at-lt2-clause-ahead : goal.returns-then-src-at-lt2-clause-ahead
+returns-then-src-at-lt2-clause-ahead g c = reads_first (omega arith) c.read_longer_blocks-longer.ensures c.read_lanes-at.ensures
+
+pub returns-clause-ahead : goal.returns-clause-ahead
+returns-clause-ahead g c = reads_first (omega arith) c.read_longer_blocks-longer.ensures (reads_more c.read_lanes-at.ensures c.read_few-few.ensures.ahead)

@@ -1,0 +1,182 @@
+-- The text that the ISO-2022-JP decoder reads ahead, and the escapes in it.
+use Rattle.std.proofs.Common.{◌≡◌, ◌≢◌, ◌∙◌, ℕ, suc, ◌+◌, ◌-◌, ◌*◌, ◌%◌, ◌^◌, ◌<◌, ◌≤◌, Bool, false, cond, ltb, Some, List, [], ◌∷◌, ◌++◌, length, map}
+use Rattle.std.proofs.Common.{take, drop, get_or, replicate, w8, w64, IsAscii, refl, sym, ap, arith, append-nil, length-drop}
+use Rattle.std.proofs.lemmas.{Bool.{cases_lt, ne_eqb, Decides.nat_tests}, Nat.Bits.{bit_at-trailing_zeros, bit_at-zero}, Grind.common_steps}
+use Rattle.std.proofs.lemmas.{List.{length-take-le, length-map, get_or-map, get_or-take, drop-drop, Elements.{All-nil, All-cons, All-from_get_or}}}
+use Rattle.std.proofs.{lemmas.{Simd.{bit_mask_l, bitmask_splat, mask_l-lt, zip2_splat}, Str.Ascii.IsAscii-from_all}, Math.Seq.{drop-cons, take-add}}
+use Rattle.std.specs.{Prelude.{All}, Char.IsScalar, Int.trailing_zeros}
+use lib.Lanes.{mask_l, zip2, top}
+use Rattle.legacy_text.{specs.{declared.destination.Destination.{Ghosts}, EncodingForm.{code_units, unit_count}}, proofs.CodeUnits.{code_units_ascii}}
+use Rattle.legacy_base.specs.{Iso2022Jp.{ascii, two_byte, iso_2022_jp_front, esc}, Grammar.{iso_2022_jp, events_of}, States.DecoderState}
+use Rattle.legacy_base.proofs.{Iso2022JpFronts.{step_one, step_two}, Iso2022JpParts.no_escape, Shifts.{shift-append, shift-shift, shift-scalars}}
+use Rattle.legacy_tables.{specs.{AcceptedTables.AcceptedIndexes, Indexes.idx}, proofs.Accepted.length-jis0208}
+use Rattle.legacy_japanese.specs.declared.iso_2022_jp.{steps.{Mode.{TheVariants.Ascii, Mode}, Escape.Escape}, places.TheConstants.{LEADS, TRAILS}}
+use Rattle.legacy_japanese.specs.{Iso2022JpAhead.{AreAsciiText, IsAsciiText, begun_state, HasEscape}, Iso2022JpAhead.jis_lead_place}
+use Rattle.legacy_japanese.specs.{Iso2022JpAhead.jis_trail_place, Iso2022JpMachine.{mode_meaning, mode_of, second_of, third_of}}
+use Rattle.legacy_japanese.proofs.{Iso2022JpRooms.{entry_narrow, one_fits, room-falls, times_one, same_rooms}, Iso2022JpStep.{events_in, escape_alone}}
+use Rattle.legacy_decoder_engine.{specs.{ReadAhead.{Yields, IsPair, ReadsAhead, YieldsTo, ReadsTo}, Places.IsTableOf}, proofs.WrittenReads.{yields_none, yields_more}}
+use Rattle.legacy_decoder_engine.proofs.{WrittenReads.{all_code_units_ascii, rest_of}, PairPlaces.idx_past, JoinedReads.{reads_front, reads_then}}
+use Rattle.legacy_decoder_engine.proofs.AheadInCalls.{reads_nothing}
+
+-- ---- the places of leads and trails in two-byte mode
+
+pub jis_leads_are : IsTableOf jis_lead_place LEADS
+unfolding jis_lead_place
+jis_leads_are = refl
+
+pub jis_trails_are : IsTableOf jis_trail_place TRAILS
+unfolding jis_trail_place
+jis_trails_are = refl
+
+-- ---- a byte of ASCII text
+
+ascii_text_yields : (jis0208 : List ℕ) (b : ℕ) → IsAsciiText b → Yields (iso_2022_jp jis0208 ascii) (b ∷ []) (b ∷ [])
+unfolding events_of iso_2022_jp_front
+ascii_text_yields jis0208 b h = grind (arith, nat_tests, step_one, ne_eqb, All-cons, All-nil, room-falls, times_one, one_fits)
+
+ascii_text_bytes : (jis0208 : List ℕ) (bytes : List ℕ) → All IsAsciiText bytes → Yields (iso_2022_jp jis0208 ascii) bytes bytes
+ascii_text_bytes jis0208 [] h = yields_none (iso_2022_jp jis0208 ascii)
+ascii_text_bytes jis0208 (b ∷ bytes) h = yields_more (iso_2022_jp jis0208 ascii) (b ∷ []) bytes (b ∷ []) bytes
+    (ascii_text_yields jis0208 b (h 0 0 (omega arith))) (ascii_text_bytes jis0208 bytes (λ i y l. h (suc i) y (omega arith)))
+
+-- ---- a pair
+
+pair_yield : (jis0208 : List ℕ) (a b c : ℕ) → 0x21 ≤ a → a ≤ 0x7E → 0x21 ≤ b → b ≤ 0x7E → c < 0x1_0000 → IsScalar c
+    → idx jis0208 ((a - 0x21) * 94 + (b - 0x21)) ≡ Some c → IsPair (iso_2022_jp jis0208 two_byte) a b c
+unfolding events_of iso_2022_jp_front
+pair_yield jis0208 a b c low high low' high' narrow scalar is = grind (arith, nat_tests, step_two, ne_eqb, All-cons, All-nil, room-falls, times_one, one_fits)
+
+-- the scalar of two bytes, by the sum of their places
+pub placed_scalar : (tables : AcceptedIndexes) (a b c : ℕ) → idx tables.flat.jis0208 (jis_lead_place a + jis_trail_place b) ≡ Some c
+    → IsPair (iso_2022_jp tables.flat.jis0208 two_byte) a b c
+unfolding jis_lead_place jis_trail_place
+placed_scalar tables a b c is =
+    let short = length-jis0208 tables.flat tables.accepted in
+    let small = entry_narrow tables (jis_lead_place a + jis_trail_place b) c is in grind (arith, cases_lt, nat_tests, pair_yield, idx_past)
+
+-- ---- ASCII text
+
+-- a front of a block
+pub ascii_text_front : (source : List ℕ) (count : ℕ) → 64 ≤ length source → count ≤ 64 → AreAsciiText (take 64 source) count
+    → (count ≤ length source) × AreAsciiText source count
+ascii_text_front source count block most text = (omega arith, λ k h. rw (get_or-take 64 source k 0 (omega arith)) at (text k h))
+
+ascii_text_all : (source : List ℕ) (count : ℕ) → count ≤ length source → AreAsciiText source count → All IsAsciiText (take count source)
+ascii_text_all source count within text =
+    let l = length-take-le count source within in
+    All-from_get_or IsAsciiText (take count source) 0 (λ k h. rw (get_or-take count source k 0 (omega (arith, h, l))) (text k (omega (arith, h, l))))
+
+pub ascii_text : (source : List ℕ) (count : ℕ) → count ≤ length source → AreAsciiText source count → IsAscii (take count source)
+ascii_text source count within text = IsAscii-from_all _ (λ i d l. (ascii_text_all source count within text i d l).0)
+
+pub reads_ascii_text : {D : Type 0} (T : Ghosts D) (jis0208 source : List ℕ) (old new : D) (count : ℕ) → count ≤ length source → AreAsciiText source count
+    → T.contents new ≡ T.contents old ++ take count source → T.room new + count ≡ T.room old → T.loan new ≡ T.loan old → (0 < count → count + 3 ≤ T.room old)
+    → ReadsAhead T (begun_state jis0208 Ascii) source count old new
+reads_ascii_text T jis0208 source old new count within text contents room loan enough =
+    let l : length (take count source) ≡ count = length-take-le count source within in
+    let same = all_code_units_ascii T.form (take count source) (ascii_text source count within text) in
+    reads_front within (record {
+      scalars = take count source;
+      yields = ascii_text_bytes jis0208 (take count source) (ascii_text_all source count within text);
+      written = contents ∙ ap (λ units. T.contents old ++ units) (sym same);
+      room = omega (arith, ap length same, l, room);
+      loan = loan;
+    }) (λ h. omega (arith, enough h)) (λ h. omega (arith, enough h))
+
+-- a byte of ASCII text
+pub reads_ascii_text_byte : {D : Type 0} (T : Ghosts D) (jis0208 source : List ℕ) {mid new : D} (at : ℕ) → at < length source → IsAsciiText (get_or source at 0)
+    → 4 ≤ T.room mid → T.contents new ≡ T.contents mid ++ code_units T.form (get_or source at 0)
+    → T.room new + unit_count T.form (get_or source at 0) ≡ T.room mid → T.loan new ≡ T.loan mid
+    → ReadsAhead T (begun_state jis0208 Ascii) (take (length source - at) (drop at source)) 1 mid new
+reads_ascii_text_byte T jis0208 source {mid} {new} at within text enough contents room loan =
+    let b : ℕ = get_or source at 0 in
+    let rest : take (length source - at) (drop at source) ≡ b ∷ drop (suc at) source = rest_of source at ∙ drop-cons source at 0 within in
+    let unit : code_units T.form b ≡ b ∷ [] = code_units_ascii T.form b text.0 in
+    let front : AreAsciiText (b ∷ drop (suc at) source) 1 = λ k h. (let first : k ≡ 0 = omega (arith, h) in rw first text) in
+    rw rest (reads_ascii_text T jis0208 (b ∷ drop (suc at) source) mid new 1 (omega arith) front (rw unit at contents)
+    (omega (arith, room, ap length unit)) loan (λ h. enough))
+
+-- ---- a block of ASCII text
+
+-- before the lowest bit of a mask no lane passes the test
+none_before : (p : ℕ → Bool) (xs : List ℕ) (k : ℕ) → length xs ≡ 64 → k < 64 → k < trailing_zeros w64 (mask_l (map p xs)) → p (get_or xs k 0) ≡ false
+none_before p xs k long within h =
+    let small : mask_l (map p xs) < 2 ^ 64 = rw (length-map xs p, long) at (mask_l-lt (map p xs)) in
+    grind (arith, nat_tests, bit_at-zero k, bit_at-trailing_zeros w64 (mask_l (map p xs)), bit_mask_l (map p xs) k, get_or-map)
+
+-- the distances from 0E, which wrap
+abbrev distances : List ℕ → List ℕ
+distances block = zip2 (λ a b. (a + (2 ^ 8 - b)) % 2 ^ 8) block (replicate 64 14)
+
+-- the bits of the bytes 0E to 1F
+abbrev controls : List ℕ → ℕ
+controls block = mask_l (map (top 7) (zip2 (λ a b. cond (ltb a b) (2 ^ 8 - 1) 0) (distances block) (replicate 64 18))) % 2 ^ 64
+
+pub ascii_text_before : (block : List ℕ) (k : ℕ) → length block ≡ 64 → k < 64 → get_or block k 0 < 128 → k < trailing_zeros w64 (controls block)
+    → IsAsciiText (get_or block k 0)
+ascii_text_before block k long within low h =
+    let moved : distances block ≡ map (λ b. (b + 242) % 256) block = zip2_splat (λ a b. (a + (2 ^ 8 - b)) % 2 ^ 8) block 64 14 long in
+    let mask = bitmask_splat w8 ltb (distances block) 64 18 (ap length moved ∙ length-map block (λ b. (b + 242) % 256) ∙ long) (omega arith) in
+    let none = none_before (λ b. ltb b 18) (distances block) k (ap length moved ∙ length-map block (λ b. (b + 242) % 256) ∙ long) within (rw mask at h) in
+    grind (arith, nat_tests, rw moved at none, get_or-map)
+
+-- ---- before and after an escape
+
+-- an escape before text of its mode, which does not begin with an escape byte
+escape_yields : (jis0208 : List ℕ) (mode : Mode) (e : Escape) (x : ℕ) (bytes ds : List ℕ) → x ≢ esc →
+    Yields (iso_2022_jp jis0208 (mode_meaning (mode_of e))) (x ∷ bytes) ds
+    → YieldsTo (iso_2022_jp jis0208 (mode_meaning mode)) (iso_2022_jp jis0208 (mode_meaning (mode_of e))) (esc ∷ second_of e ∷ third_of e ∷ x ∷ bytes) ds
+unfolding events_of
+escape_yields jis0208 mode e x bytes ds alone yields =
+    grind (arith, events_in, escape_alone, no_escape, ne_eqb, shift-append, shift-scalars, shift-shift, room-falls)
+
+-- the bytes of a text after three others, and those of an escape and the text after it
+bytes_after_escape : (source : List ℕ) (read : ℕ) → 3 < length source → 0 < read → take read (drop 3 source) ≡ get_or source 3 0 ∷ take (read - 1) (drop 4 source)
+bytes_after_escape source read within some = grind (arith, common_steps, drop-cons source 3 0)
+
+escape_bytes : (e : Escape) (source : List ℕ) (read : ℕ) → HasEscape e source → 0 < read
+    → take (3 + read) source ≡ esc ∷ second_of e ∷ third_of e ∷ get_or source 3 0 ∷ take (read - 1) (drop 4 source)
+escape_bytes e source read has some = grind (arith, take-add, bytes_after_escape)
+
+module _ {D : Type 0} {T : Ghosts D} where
+  -- an escape and text of its mode
+  reads_escape : (jis0208 : List ℕ) (mode : Mode) (e : Escape) (source : List ℕ) (old new : D) (read : ℕ) → HasEscape e source → 0 < read
+      → ReadsAhead T (begun_state jis0208 (mode_of e)) (drop 3 source) read old new →
+      ReadsTo T (begun_state jis0208 mode) (begun_state jis0208 (mode_of e)) source (3 + read) old new
+  reads_escape jis0208 mode e source old new read has some reads = record {
+    within = let w = reads.within in let l = length-drop 3 source in let k = has.within in omega arith;
+    idle = λ h. refl;
+    empties = λ h. refl;
+    stays = λ z. absurd (omega arith);
+    rooms = same_rooms jis0208 mode (mode_of e);
+    writes = record {
+      scalars = reads.writes.scalars;
+      yields =
+          let yields = rw (bytes_after_escape source read has.within some) at reads.writes.yields in
+          rw (escape_bytes e source read has some) (escape_yields jis0208 mode e _ _ _ has.alone yields);
+      written = reads.writes.written;
+      room = reads.writes.room;
+      loan = reads.writes.loan;
+    };
+    slack = λ h. reads.slack some;
+    had = λ h. reads.had some;
+  }
+
+  -- text, then an escape and text of its mode
+  pub reads_on : (jis0208 : List ℕ) (first mode next : Mode) (e : Escape) (source : List ℕ) {old mid new : D} (at read : ℕ) → next ≡ mode_of e
+      → HasEscape e (take (length source - at) (drop at source)) → 0 < read
+      → ReadsTo T (begun_state jis0208 first) (begun_state jis0208 mode) source at old mid
+      → ReadsAhead T (begun_state jis0208 next) (take (length source - (at + 3)) (drop (at + 3) source)) read mid new
+      → ReadsTo T (begun_state jis0208 first) (begun_state jis0208 next) source (at + (3 + read)) old new
+  reads_on jis0208 first mode next e source {old} {mid} {new} at read is has some front reads =
+      let S : List ℕ = take (length source - at) (drop at source) in
+      let rest : take (length source - (at + 3)) (drop (at + 3) source) ≡ drop 3 S = rest_of source (at + 3) ∙ sym (drop-drop 3 at source)
+      ∙ ap (drop 3) (sym (rest_of source at)) in
+      rw is (reads_then front (reads_escape jis0208 mode e S mid new read has some (rw (is, rest) at reads)))
+
+  -- text, after which nothing was read
+  pub reads_end : {before after other : DecoderState} {source behind : List ℕ} {old mid new : D} {at read : ℕ} → read ≡ 0 →
+      ReadsTo T before after source at old mid
+      → ReadsAhead T other behind read mid new
+      → ReadsTo T before after source at old new
+  reads_end none front reads = let nothing = reads_nothing reads none in grind (arith, append-nil)

@@ -1,9 +1,0 @@
-use Rattle.std.proofs.Common.{◌-◌, ◌≤◌, length}
-use Rattle.legacy_japanese.specs.Iso2022JpRuns.{ReadsPlain}
-use Rattle.legacy_japanese.proofs.iso_2022_jp.read_ahead.read_plain_bytes.Given as goal
-
-abbrev pub invariant-loop-at : goal.invariant-loop-at
-invariant-loop-at g l = (l.at ≤ length l.src) × ReadsPlain g.T.Destination l.src l.at l.fn.dst l.dst
-
-abbrev pub decreases-loop-at : goal.decreases-loop-at
-decreases-loop-at g l = length l.src - l.at

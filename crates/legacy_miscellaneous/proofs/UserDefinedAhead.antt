@@ -1,0 +1,78 @@
+-- What the x-user-defined decoder reads ahead.
+use Rattle.std.proofs.Common.{◌≡◌, true, ℕ, zero, suc, ◌+◌, ◌-◌, ◌%◌, ◌<◌, ◌≤◌, ◌^◌, ◌==◌, List, [], ◌++◌, bit_and, bit_xor, refl, arith, IsAscii, length, take}
+use Rattle.std.proofs.{Common.{drop, get_or}, lemmas.{Bool.{agree_below_at, eqb-true, Decides.nat_tests}, List.{Elements.All-nil, take_more, take_all}}}
+use Rattle.{std.{proofs.lemmas.List.{length-drop, get_or-drop}, specs.Char.IsScalar}, legacy_tables.specs.Unicode.IsByte, legacy_base.specs.States.new_state}
+use Rattle.{legacy_base.specs.Grammar.user_defined, legacy_text.specs.{declared.destination.Destination.Ghosts, EncodingForm.{code_units, all_code_units}}}
+use Rattle.{legacy_text.specs.EncodingForm.total_unit_count, legacy_decoder_engine.specs.{declared.moves.Fed.TheVariants.One, ReadAhead.{Yields, IsSingle}}}
+use Rattle.legacy_decoder_engine.{specs.{ReadAhead.{HasAscii, ReadsAhead}, Moves.Feeds}, proofs.YieldedForms.{ascii_is, single_yields, has_ascii}}
+use Rattle.legacy_decoder_engine.proofs.JoinedReads.{reads_more, reads_written, reads_ascii}
+use Rattle.legacy_decoder_engine.proofs.WrittenReads.{yields_none, yields_more, rest_of, all_short, short, reads_none, three_fit, writes_none, writes_one}
+use Rattle.legacy_miscellaneous.specs.UserDefinedMachine.{unit_of_byte}
+use Rattle.legacy_miscellaneous.proofs.UserDefinedShown.{user_defined_shown}
+use Rattle.legacy_decoder_engine.proofs.Feeding as moves
+
+pub user_defined_ascii : HasAscii user_defined
+user_defined_ascii = has_ascii user_defined_shown (λ b. refl) (λ b h. let a = ascii_is b h in rw a refl)
+
+-- each byte yields its scalar
+pub is_single : (b c : ℕ) → b < 2 ^ 8 → IsScalar c → c ≡ unit_of_byte b → IsSingle user_defined b c
+is_single b c byte scalar e = (grind arith, single_yields user_defined_shown b c byte scalar refl (rw e (grind arith)))
+
+-- the move of a byte
+pub feeds : (b c : ℕ) → b < 2 ^ 8 → IsScalar c → c ≡ unit_of_byte b → Feeds (new_state user_defined) b (new_state user_defined) (One c)
+feeds b c byte scalar e = moves.feeds user_defined_shown [] refl (All-nil IsByte) b byte refl (One c) [] (grind arith)
+
+-- the unit of a byte by its bits
+pub bits_are : (b : ℕ) → b < 256 → bit_and ((bit_xor b 128 + 65408) % 65536) 63487 ≡ unit_of_byte b
+bits_are b h = eqb-true _ _ (agree_below_at (λ b. bit_and ((bit_xor b 128 + 65408) % 65536) 63487 == unit_of_byte b) (λ _. true) 256 b refl h)
+
+-- each unit is a scalar
+pub unit_scalar : (b : ℕ) → b < 256 → IsScalar (unit_of_byte b)
+unit_scalar b h = grind (arith, nat_tests)
+
+-- ---- eight bytes at once
+
+-- the first bytes yield the first units
+units_yield : (source units : List ℕ) (r : ℕ) → ((k : ℕ) → get_or source k 0 < 2 ^ 8) → r ≤ length source → r ≤ length units →
+    ((k : ℕ) → k < r → get_or units k 0 ≡ unit_of_byte (get_or source k 0)) → Yields user_defined (take r source) (take r units)
+units_yield source units zero bytes within room are = yields_none user_defined
+units_yield source units (suc r) bytes within room are =
+    let is = are r (omega arith) in
+    let more : suc r ≡ r + 1 = omega arith in
+    rw (more, take_more units r 0 (omega arith), take_more source r 0 (omega arith))
+    (yields_more _ _ _ _ _ (units_yield source units r bytes (omega arith) (omega arith) (λ k h. are k (omega arith)))
+    (is_single _ _ (bytes r) (rw is (unit_scalar _ (bytes r))) is).1)
+
+-- each byte of the rest of a source is a byte
+pub rest_bytes : (source : List ℕ) (at : ℕ) → ((k : ℕ) → get_or source k 0 < 2 ^ 8) → (k : ℕ) → get_or (take (length source - at) (drop at source)) k 0 < 2 ^ 8
+rest_bytes source at bytes k = grind (arith, rest_of, get_or-drop)
+
+-- eight more bytes are read, and their units are written
+pub eight_more : {D : Type 0} (T : Ghosts D) (source units : List ℕ) {old mid new : D} (at : ℕ) → ((k : ℕ) → get_or source k 0 < 2 ^ 8) →
+    at + 8 ≤ length source → length units ≡ 8 → ReadsAhead T (new_state user_defined) source at old mid → 35 ≤ T.room mid →
+    ((k : ℕ) → k < 8 → get_or units k 0 ≡ unit_of_byte (get_or (take (length source - at) (drop at source)) k 0)) →
+    T.contents new ≡ T.contents mid ++ all_code_units T.form units → T.room new + total_unit_count T.form units ≡ T.room mid → T.loan new ≡ T.loan mid →
+    ReadsAhead T (new_state user_defined) source (at + 8) old new
+eight_more T source units {old} {mid} {new} at bytes within long before enough are contents room loan =
+    let rest : List ℕ = take (length source - at) (drop at source) in
+    let longer : 8 ≤ length rest = grind (arith, rest_of, length-drop) in
+    let few = all_short T.form units (λ k h. grind (arith, are k, rest_bytes source at bytes k)) in
+    let yields = units_yield rest units 8 (rest_bytes source at bytes) longer (omega arith) are in
+    reads_more before (grind (arith, reads_written, take_all 8 units, yields))
+
+-- ---- ASCII, and a byte after it
+
+module _ {D : Type 0} (T : Ghosts D) (source : List ℕ) (r : ℕ) {old mid : D} where
+  pub reads_front : r ≤ 64 → 64 ≤ length source → IsAscii (take r source) → 67 ≤ T.room old → T.contents mid ≡ T.contents old ++ take r source →
+      T.room mid + r ≡ T.room old → T.loan mid ≡ T.loan old → ReadsAhead T (new_state user_defined) source r old mid
+  reads_front few long ascii enough contents room loan =
+      reads_ascii user_defined_ascii (omega arith) ascii contents room loan (λ h. omega (arith, room))
+
+  pub reads_byte : {new : D} (c : ℕ) → ReadsAhead T (new_state user_defined) source r old mid → r < length source → 7 ≤ T.room mid →
+      IsSingle user_defined (get_or source r 0) c → T.contents new ≡ T.contents mid ++ code_units T.form c →
+      T.room new + length (code_units T.form c) ≡ T.room mid → T.loan new ≡ T.loan mid → ReadsAhead T (new_state user_defined) source (r + 1) old new
+  reads_byte c before within enough single contents room loan = grind (arith, writes_one, reads_written, short)
+
+-- the lemmas for the functions that read blocks
+pub ruleset steps =
+    (writes_none, writes_one, three_fit, short, is_single, reads_none, reads_front, reads_byte, unit_scalar)

@@ -1,0 +1,112 @@
+-- What the UTF-16 decoders read ahead.
+use Rattle.std.proofs.Common.{rules, ◌≡◌, ℕ, zero, suc, ◌+◌, ◌-◌, ◌*◌, ◌<◌, ◌≤◌, List, ◌++◌, Bool, length, take, drop, get_or, sym, arith, refl}
+use Rattle.std.proofs.lemmas.{Bool.Decides.nat_tests, List.{take_more, length-take-le, length-drop, get_or-take, get_or-drop, take_all}}
+use Rattle.{std.specs.{Prelude.IsAscii, Char.IsScalar}, legacy_text.specs.{declared.destination.Destination.Ghosts, EncodingForm.{code_units, all_code_units}}}
+use Rattle.{legacy_text.specs.EncodingForm.total_unit_count, legacy_tables.specs.Unicode.IsByte, legacy_base.specs.{Grammar.utf16, Utf16.unit_of}}
+use Rattle.{legacy_base.specs.States.new_state, legacy_decoder_engine.{specs.ReadAhead.{Yields, IsPair, Writes, ReadsAhead}, proofs.YieldedForms.pair_yields}}
+use Rattle.legacy_decoder_engine.proofs.{JoinedReads.reads_written, WrittenReads.{yields_none, yields_more, take_two, writes_two, rest_of, writes_next}}
+use Rattle.legacy_decoder_engine.proofs.WrittenReads.{all_code_units_ascii, all_short, short, three_fit, writes_none, reads_none}
+use Rattle.legacy_miscellaneous.specs.Utf16Decoder.{HasAsciiUnits, AreUnitsBelow}
+use Rattle.legacy_text.proofs.Ascii.{ascii_front}
+use Rattle.legacy_miscellaneous.{specs.Utf16Decoder.unit_at, proofs.{Utf16Held.{unit_below, utf16_shown}, UserDefinedAhead.rest_bytes}}
+
+-- a unit that is not a surrogate yields itself
+pub unit_pair : (be : Bool) (a b c : ℕ) → IsByte a → IsByte b → c ≡ unit_of be a b → IsScalar c → IsPair (utf16 be) a b c
+unit_pair be a b c byte byte' is scalar = (
+  rw is (unit_below be a b byte byte'),
+  pair_yields (utf16_shown be) a b c byte byte' scalar refl refl refl refl refl (rw (← is) (grind (arith, nat_tests))),
+)
+
+-- ---- units of a vector, none of them a surrogate
+
+-- the first units of the source are these scalars
+units_yield : (be : Bool) (source units : List ℕ) (r : ℕ) → ((k : ℕ) → IsByte (get_or source k 0)) → 2 * r ≤ length source → r ≤ length units →
+    ((k : ℕ) → k < r → (get_or units k 0 ≡ unit_at be source k) × IsScalar (get_or units k 0)) → Yields (utf16 be) (take (2 * r) source) (take r units)
+units_yield be source units zero bytes within room are = yields_none (utf16 be)
+units_yield be source units (suc r) bytes within room are =
+    let is = are r (omega arith) in
+    let place : 2 * suc r ≡ 2 * r + 2 = omega arith in
+    let more : suc r ≡ r + 1 = omega arith in
+    rw (place, more, take_two source (2 * r) (omega arith), take_more units r 0 (omega arith))
+    (yields_more _ _ _ _ _ (units_yield be source units r bytes (omega arith) (omega arith) (λ k h. are k (omega arith)))
+    (unit_pair be _ _ _ (bytes (2 * r)) (bytes (2 * r + 1)) is.0 is.1).1)
+
+-- these scalars were written
+pub writes_units : {D : Type 0} (T : Ghosts D) (be : Bool) (source units : List ℕ) {old new : D} (r : ℕ) → ((k : ℕ) → IsByte (get_or source k 0)) →
+    2 * r ≤ length source → length units ≡ r → ((k : ℕ) → k < r → (get_or units k 0 ≡ unit_at be source k) × IsScalar (get_or units k 0)) →
+    T.contents new ≡ T.contents old ++ all_code_units T.form units → T.room new + total_unit_count T.form units ≡ T.room old →
+    T.loan new ≡ T.loan old → Writes T (utf16 be) (take (2 * r) source) old new
+writes_units T be source units r bytes within long are contents room loan =
+    let yields = rw (take_all r units (omega arith)) at (units_yield be source units r bytes within (omega arith) are) in
+    record { scalars = units; yields = yields; written = contents; room = room; loan = loan }
+
+-- no unit below U+0800 is a surrogate
+pub below_scalar : (c : ℕ) → c < 0x800 → IsScalar c
+below_scalar c h = search rules
+
+-- a block of which `r` units of ASCII were written
+pub reads_block : {D : Type 0} (T : Ghosts D) (be : Bool) (source block : List ℕ) (old new : D) (r : ℕ) → ((k : ℕ) → IsByte (get_or source k 0)) →
+    2 * length block ≤ length source → HasAsciiUnits be source block (length block) → r ≤ length block → IsAscii (take r block) →
+    T.contents new ≡ T.contents old ++ take r block → T.room new + r ≡ T.room old → T.loan new ≡ T.loan old → 1 ≤ length block → length block + 3 ≤ T.room old →
+    ReadsAhead T (new_state (utf16 be)) source (2 * r) old new
+reads_block T be source block old new r bytes within narrow count ascii contents room loan some enough =
+    let same = all_code_units_ascii T.form (take r block) ascii in
+    let are = λ (k : ℕ) (h : k < r). rw (get_or-take r block k 0 h) at (ascii k) in
+    reads_written (omega arith)
+    (writes_units T be source (take r block) r bytes (omega arith) (length-take-le r block count)
+    (λ k h. rw (get_or-take r block k 0 h) (sym ((narrow k (omega arith)).0 (are k h)), below_scalar (get_or block k 0) (omega (arith, are k h))))
+    (rw same contents) (rw (same, length-take-le r block count) room) loan) (omega arith) (omega arith)
+
+-- units below 0x80 are ASCII in their block
+pub ascii_block : (be : Bool) (source block : List ℕ) (n : ℕ) → HasAsciiUnits be source block (length block) → AreUnitsBelow be source n 0x80 →
+    n ≤ length block → IsAscii (take n block)
+ascii_block be source block n narrow below long =
+    ascii_front block n (λ k h. rw ((narrow k (omega arith)).1 (below k h)) at (below k h))
+
+-- ---- eight more units
+
+-- a unit of the rest of a source
+pub unit_after : (be : Bool) (source : List ℕ) (at from k : ℕ) → from ≡ 2 * at
+    → unit_at be (take (length source - from) (drop from source)) k ≡ unit_at be source (at + k)
+unit_after be source at from k e = grind (arith, rest_of source from, get_or-drop)
+
+-- The units of the first `group` groups of eight are written, each as at most three code units.
+pub record EightsWritten {D : Type 0} (T : Ghosts D) (be : Bool) (source : List ℕ) (eights group : ℕ) (old new : D) : Type 0 where
+  pub within : group ≤ eights
+  pub room : T.room old ≤ T.room new + 24 * group
+  pub writes : Writes T (utf16 be) (take (16 * group) source) old new
+
+pub eight_more : {D : Type 0} {T : Ghosts D} {be : Bool} {source : List ℕ} (units : List ℕ) {old mid new : D} {eights group : ℕ} →
+    ((k : ℕ) → IsByte (get_or source k 0)) →
+    16 * eights ≤ length source → group < eights → length units ≡ 8 → EightsWritten T be source eights group old mid →
+    ((k : ℕ) → k < 8 → (get_or units k 0 ≡ unit_at be (take (length source - 16 * group) (drop (16 * group) source)) k) × IsScalar (get_or units k 0)) →
+    T.contents new ≡ T.contents mid ++ all_code_units T.form units → T.room new + total_unit_count T.form units ≡ T.room mid → T.loan new ≡ T.loan mid →
+    EightsWritten T be source eights (group + 1) old new
+eight_more {T = T} {be} {source} units {old} {mid} {new} {eights} {group} bytes within less long before are contents room loan =
+    let at = 16 * group in
+    let rest : List ℕ = take (length source - at) (drop at source) in
+    let low = rest_bytes source at bytes in
+    let longer : 2 * 8 ≤ length rest = grind (arith, rest_of, length-drop) in
+    let few = all_short T.form units (λ k h. rw ((are k (omega (arith, h, long))).0) (unit_below be _ _ (low (2 * k)) (low (2 * k + 1)))) in
+    let more = writes_next T source at 16 before.writes (writes_units T be rest units 8 low longer long are contents room loan) in
+    let place : at + 16 ≡ 16 * (group + 1) = omega arith in grind (arith, before, few, more)
+
+-- eight units of a source that is below U+0800 are below it
+pub short_eight : (be : Bool) (source units : List ℕ) (group eights : ℕ) → AreUnitsBelow be source (8 * eights) 0x800 → group < eights
+    → ((k : ℕ) → k < 8 → get_or units k 0 ≡ unit_at be (take (length source - 16 * group) (drop (16 * group) source)) k) → (k : ℕ) → k < 8 →
+    get_or units k 0 < 0x800
+short_eight be source units group eights below h are k l =
+    grind (arith, are k, unit_after be source (8 * group) (16 * group) k, below (8 * group + k))
+
+-- one more unit is written
+pub writes_unit : {D : Type 0} (T : Ghosts D) (be : Bool) (source : List ℕ) {old mid new : D} (at c : ℕ) → ((k : ℕ) → IsByte (get_or source k 0)) →
+    2 * at + 1 < length source → Writes T (utf16 be) (take (2 * at) source) old mid → IsScalar (unit_at be source at) → c ≡ unit_at be source at →
+    T.contents new ≡ T.contents mid ++ code_units T.form c → T.room new + length (code_units T.form c) ≡ T.room mid → T.loan new ≡ T.loan mid →
+    Writes T (utf16 be) (take (2 * (at + 1)) source) old new
+writes_unit T be source at c bytes within before scalar is contents room loan =
+    let place : 2 * (at + 1) ≡ 2 * at + 2 = omega arith in
+    let yields = unit_pair be _ _ c (bytes (2 * at)) (bytes (2 * at + 1)) is (rw is scalar) in
+    rw place (writes_two T source (2 * at) c within before yields.1 contents room loan)
+
+-- the lemmas for the functions that read blocks
+pub ruleset steps = (reads_none, reads_block, writes_none, writes_unit, three_fit, short, unit_pair)

@@ -1,0 +1,43 @@
+use Rattle.std.proofs.Common.{arith}
+use Rattle.legacy_decoder_engine.proofs.{JoinedReads.reads_front, WrittenReads.{writes_one, short}}
+use Rattle.legacy_single_byte.proofs.SingleByteAhead.{ascii_next}
+use Rattle.legacy_single_byte.proofs.single_byte.blocks.MostlyAsciiParts.read_part.Goals as goal
+
+pub returns-then-at-gt0-clause-ahead : goal.returns-then-at-gt0-clause-ahead
+returns-then-at-gt0-clause-ahead g c =
+    grind (arith, reads_front, ascii_next, c.ascii_front.ensures.ascii c.args.src.now c.loop-at.at c.loop-at.invariant.past)
+
+pub returns-in-None-clause-ahead : goal.returns-in-None-clause-ahead
+returns-in-None-clause-ahead g c =
+    grind (arith, reads_front, ascii_next, c.ascii_front.ensures.ascii c.args.src.now c.loop-at.at c.loop-at.invariant.past)
+
+pub utf8_entry-requires : goal.utf8_entry-requires
+utf8_entry-requires g c = grind (arith, c.ascii_front.ensures.stops c.args.src.now c.loop-at.at c.loop-at.invariant.past)
+
+pub returns-then-at-end-2-clause-ahead : goal.returns-then-at-end-2-clause-ahead
+returns-then-at-end-2-clause-ahead g c =
+    let i = c.loop-at.invariant in
+    let n = c.min-count.ensures in
+    let p = c.put_entry.ensures in
+    let ascii = c.ascii_front.ensures.ascii c.args.src.now c.loop-at.at i.past in
+    let few = short g.T.Destination.form c.in-Some.scalar c.in-Some.ensures.single.0 in
+    reads_front (omega (arith, n, i.within, i.most, c.requires.source))
+    (writes_one g.T.Destination _ _ c.in-Some.scalar (omega (arith, n, i.within, i.most, c.requires.source)) (grind (arith, ascii_next, ascii))
+    c.in-Some.ensures.single.1 p.contents p.room p.loan)
+    (λ h. omega (arith, n, c.put_block.ensures.room, p.room, few, i.room, i.within, i.most)) (λ h. omega (arith, c.requires.room))
+
+pub loop-at-preserved : goal.loop-at-preserved
+loop-at-preserved g c =
+    let i = c.loop-at.invariant in
+    let n = c.min-count.ensures in
+    let p = c.put_entry.ensures in
+    let ascii = c.ascii_front.ensures.ascii c.args.src.now c.loop-at.at i.past in
+    record {
+      within = omega (arith, n, i.within, c.if-at-end.false);
+      most = i.most;
+      long = omega (arith, c.if-src-at-lt64.false);
+      room = omega (arith, c.free.ensures, c.if-free.false);
+      writes = writes_one g.T.Destination _ _ c.in-Some.scalar (omega (arith, n, i.within, i.most, c.requires.source)) (grind (arith, ascii_next, ascii))
+          c.in-Some.ensures.single.1 p.contents p.room p.loan;
+      past = c.past_after-past.ensures c.args.src.now c.loop-at.at i.past;
+    }
