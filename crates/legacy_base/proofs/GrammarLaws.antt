@@ -2,7 +2,8 @@
 use Rattle.std.proofs.{lemmas.Bool.Decides.nat_tests, Common.{arith, ◌≡◌, ℕ, List, [], ◌∷◌, length, refl, true}}
 use Rattle.legacy_base.specs.{Fronts.{Front, cut}, Iso2022Jp.{parts_of, part_mode, escape_length, escape_events, part_events, parts_events, iso_2022_jp_events}}
 use Rattle.legacy_base.specs.{Utf16.{units_of, has_odd_byte, units_events, utf16_events}, Replacement.replacement_events, Grammar.{Grammar, single_byte}}
-use Rattle.legacy_base.specs.{Grammar.{user_defined, replacement, lead_trail, big5, shift_jis, euc_jp, gb18030, events_of}, States.{may_hold, rests}, Laws.IsFrontOf}
+use Rattle.legacy_base.specs.{Grammar.{user_defined, replacement, lead_trail, big5, shift_jis, euc_jp, gb18030, events_of}}
+use Rattle.legacy_base.specs.{States.{may_hold, rests}, Laws.IsFrontOf}
 use Rattle.legacy_base.specs.Laws.{IsReadByFronts, AreReadByFronts, HasNoneOfNothing}
 use Rattle.legacy_tables.specs.{Unicode.IsByte, Tables.index_list}
 use Rattle.legacy_tables.proofs.Accepted.{index-scalars, big5-scalars, jis0208-scalars, jis0212-scalars, gb18030-scalars, range-scalar}

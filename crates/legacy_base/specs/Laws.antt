@@ -13,7 +13,8 @@ use Rattle.legacy_base.specs.LeadForms.{lead_front}
 use Rattle.legacy_base.specs.ShiftJis.{shift_jis_front}
 use Rattle.legacy_base.specs.EucJp.{euc_jp_front}
 use Rattle.legacy_base.specs.Gb18030.{gb18030_front}
-use Rattle.legacy_base.specs.Grammar.{Grammar, single_byte, user_defined, replacement, utf16, lead_trail, big5, shift_jis, euc_jp, gb18030, iso_2022_jp, events_of}
+use Rattle.legacy_base.specs.Grammar.{Grammar, single_byte, user_defined, replacement, utf16, lead_trail, big5, shift_jis, euc_jp, gb18030}
+use Rattle.legacy_base.specs.Grammar.{iso_2022_jp, events_of}
 use Rattle.legacy_tables.specs.Indexes.{FlatIndexes}
 use Rattle.legacy_tables.specs.TableChecks.{AreAccepted, IsAcceptedTable}
 use Rattle.legacy_tables.specs.Tables.{index_list}

@@ -7,7 +7,8 @@ use Rattle.legacy_tables.proofs.Accepted.{index-scalars, big5-scalars, jis0208-s
 use Rattle.legacy_tables.proofs.AcceptedTable.{table-scalars}
 use Rattle.legacy_base.specs.{Fronts.{reads, malformed}, SingleByte.single_byte_front, UserDefined.user_defined_front, Big5.big5_front, LeadForms.lead_front}
 use Rattle.legacy_base.specs.{ShiftJis.shift_jis_front, EucJp.euc_jp_front, Gb18030.gb18030_front, Replacement.replacement_events, Utf16.unit_of}
-use Rattle.legacy_base.specs.{Utf16.utf16_events, Grammar.{single_byte, user_defined, replacement, utf16, lead_trail, big5, shift_jis, euc_jp, gb18030, iso_2022_jp}}
+use Rattle.legacy_base.specs.{Utf16.utf16_events, Grammar.{single_byte, user_defined, replacement, utf16, lead_trail, big5, shift_jis}}
+use Rattle.legacy_base.specs.Grammar.{euc_jp, gb18030, iso_2022_jp}
 use Rattle.legacy_base.specs.{Grammar.events_of, Laws.{IsFrontOf, IsOfAcceptedTables, HasSoundEvents}}
 use Rattle.legacy_base.proofs.FrontLaws.{front_of-malformed, single_byte_front-of, user_defined_front-of, lead_front-of, big5_front-of, shift_jis_front-of}
 use Rattle.legacy_base.proofs.{FrontLaws.{euc_jp_front-of, gb18030_front-of}, EventLaws.{none_of, bad_of, cut_sound, iso_2022_jp_sound}}

@@ -14,7 +14,8 @@ use Rattle.legacy_japanese.specs.declared.iso_2022_jp.{steps.{Mode.{TheVariants.
 use Rattle.legacy_japanese.specs.{Iso2022JpAhead.{AreAsciiText, IsAsciiText, begun_state, HasEscape}, Iso2022JpAhead.jis_lead_place}
 use Rattle.legacy_japanese.specs.{Iso2022JpAhead.jis_trail_place, Iso2022JpMachine.{mode_meaning, mode_of, second_of, third_of}}
 use Rattle.legacy_japanese.proofs.{Iso2022JpRooms.{entry_narrow, one_fits, room-falls, times_one, same_rooms}, Iso2022JpStep.{events_in, escape_alone}}
-use Rattle.legacy_decoder_engine.{specs.{ReadAhead.{Yields, IsPair, ReadsAhead, YieldsTo, ReadsTo}, Places.IsTableOf}, proofs.WrittenReads.{yields_none, yields_more}}
+use Rattle.legacy_decoder_engine.specs.{ReadAhead.{Yields, IsPair, ReadsAhead, YieldsTo, ReadsTo}, Places.IsTableOf}
+use Rattle.legacy_decoder_engine.proofs.WrittenReads.{yields_none, yields_more}
 use Rattle.legacy_decoder_engine.proofs.{WrittenReads.{all_code_units_ascii, rest_of}, PairPlaces.idx_past, JoinedReads.{reads_front, reads_then}}
 use Rattle.legacy_decoder_engine.proofs.AheadInCalls.{reads_nothing}
 
@@ -131,7 +132,8 @@ escape_yields jis0208 mode e x bytes ds alone yields =
     grind (arith, events_in, escape_alone, no_escape, ne_eqb, shift-append, shift-scalars, shift-shift, room-falls)
 
 -- the bytes of a text after three others, and those of an escape and the text after it
-bytes_after_escape : (source : List ℕ) (read : ℕ) → 3 < length source → 0 < read → take read (drop 3 source) ≡ get_or source 3 0 ∷ take (read - 1) (drop 4 source)
+bytes_after_escape : (source : List ℕ) (read : ℕ) → 3 < length source → 0 < read
+    → take read (drop 3 source) ≡ get_or source 3 0 ∷ take (read - 1) (drop 4 source)
 bytes_after_escape source read within some = grind (arith, common_steps, drop-cons source 3 0)
 
 escape_bytes : (e : Escape) (source : List ℕ) (read : ℕ) → HasEscape e source → 0 < read

@@ -6,7 +6,8 @@ use Rattle.legacy_tables.{specs.{AcceptedTables.AcceptedIndexes, Indexes.idx, Un
 use Rattle.legacy_tables.proofs.Accepted.{length-jis0208, jis0208-below, jis0208-scalars}
 use Rattle.legacy_base.specs.{ShiftJis.{is_shift_jis_lead, shift_jis_scalars, shift_jis_pointer}, Grammar.shift_jis}
 use Rattle.legacy_decoder_engine.specs.{Places.IsTableOf, ReadAhead.{Yields, HasAscii}, StepUnits.IsNarrowIndex, LaneCodes.ArePairs, LanePlaces.lead_place_of}
-use Rattle.legacy_decoder_engine.proofs.{PairPlaces.{none_past, pair_entry, found}, LeadHeld.pair, YieldedForms.single_yields, Widths.idx_below, LanePlaces.entry_is}
+use Rattle.legacy_decoder_engine.proofs.{PairPlaces.{none_past, pair_entry, found}, LeadHeld.pair, YieldedForms.single_yields}
+use Rattle.legacy_decoder_engine.proofs.{Widths.idx_below, LanePlaces.entry_is}
 use Rattle.legacy_japanese.specs.{ShiftJisPlaces.{shift_jis_lead_place, shift_jis_place, shift_jis_trail_place}, ShiftJisMachine.shift_jis_pair_scalars}
 use Rattle.legacy_japanese.specs.{declared.shift_jis.places.TheConstants.{LEADS, TRAILS}, ShiftJisShown.shift_jis_codec}
 use lib.Lanes.{Each1, zip2}

@@ -16,7 +16,7 @@ use Rattle.legacy_decoder_engine.specs.ReadAhead.{Yields, IsSingle, HasAscii, Wr
 use Rattle.legacy_single_byte.specs.{ByteEntries.{IsByteEntry, AreByteEntries}}
 use Rattle.legacy_decoder_engine.proofs.{YieldedForms.{single_yields, has_ascii, ascii_is}, JoinedReads.{reads_written}}
 use Rattle.legacy_decoder_engine.proofs.WrittenReads.{yields_none, yields_more, writes_none, writes_one, writes_next, writes_ascii, rest_of}
-use Rattle.legacy_decoder_engine.proofs.WrittenReads.{all_short, short, three_fit, reads_none}
+use Rattle.legacy_decoder_engine.proofs.WrittenReads.{all_short, short, three_fit, one_unit, reads_none}
 use Rattle.legacy_single_byte.proofs.SingleByteShown.{shown}
 
 small : (x : ℕ) → x < 0x80 → IsScalar x
@@ -132,4 +132,4 @@ past_of source past are i h =
     are i below ∙ ap (λ b. cond (ltb b 128) 0 1) (get_or-take 64 source i 0 below) ∙ ap (λ j. cond (ltb (get_or source j 0) 128) 0 1) place
 
 -- the lemmas for the functions that read blocks
-pub ruleset steps = (past_of, writes_none, writes_one, three_fit, short, reads_none, reads_padded, take-append_seam, length-take-le)
+pub ruleset steps = (past_of, writes_none, writes_one, three_fit, short, one_unit, reads_none, reads_padded, take-append_seam, length-take-le)

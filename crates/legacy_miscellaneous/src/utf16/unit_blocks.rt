@@ -5,6 +5,7 @@
 
 ghost use Rattle.std.specs.Prelude.{◌≡◌, ◌+◌, ◌*◌, ◌%◌, ◌<◌, ◌≤◌, ℕ, length, true, false, slice_index};
 ghost use Rattle.std.specs.Char.{IsScalar};
+ghost use Rattle.legacy_text.specs.EncodingForm.{bmp_room};
 ghost use Rattle.legacy_base.specs.Grammar.{utf16};
 ghost use Rattle.legacy_base.specs.States.{new_state};
 ghost use Rattle.legacy_decoder_engine.specs.ReadAhead.{ReadsAhead};
@@ -47,35 +48,6 @@ fn has_surrogate(units: &[u16]) -> bool
         at += 1;
     }
     found
-}
-
-/// Sixteen units at a time, for UTF-16 output.
-#[derive(Drop)]
-struct Sixteens<'a> {
-    units: &'a Units,
-}
-
-impl BlockReader for Sixteens<'_> {
-    ghost grammar = { λ blocks. utf16 blocks.units.now.big_endian };
-
-    /// Decodes sixteen units, or none if one of them is a surrogate.
-    // No turn ends early and the units are those of a vector, so the compiler stores the vector as it is.
-    #[inline(always)]
-    fn read_block<T: Destination>(&self, src: &[u8], dst: &mut T) -> (usize, bool) {
-        if src.len() < 32 || dst.free() < 48 + SLACK {
-            return (0, false);
-        }
-        let units = sixteen_units(self.units.big_endian, src).to_array();
-        if has_surrogate(&units) {
-            return (0, false);
-        }
-        let mut at = 0;
-        while at < 16 {
-            dst.put(unsafe { char::from_u32_unchecked(u32::from(units[at])) });
-            at += 1;
-        }
-        (32, true)
-    }
 }
 
 /// Stores sixteen units as bytes from the place `at` on: a unit below 0x100 as it is, and 0xFF for others.
@@ -213,6 +185,54 @@ impl Units {
         16 * eights
     }
 
+    /// Decodes sixteen units, or none if one of them is a surrogate. Returns the number of bytes read.
+    ///
+    /// Each unit is written as one code unit.
+    // No turn ends early and the units are those of a vector, so the compiler stores the vector as it is.
+    #[inline(always)]
+    fn read_sixteen<T: Destination>(&self, src: &[u8], dst: &mut T) -> usize
+        requires form { bmp_room T.form ≡ 1 }
+        requires source { 32 ≤ length src.now }
+        requires room { 16 + SLACK ≤ T.room dst.old }
+        ensures most { result ≤ 32 }
+        ensures room { T.room dst.old ≤ T.room dst.new + 16 }
+        ensures ahead { ReadsAhead T.Destination (new_state (utf16 self.now.big_endian)) src.now result
+            dst.old dst.new }
+    {
+        let units = sixteen_units(self.big_endian, src).to_array();
+        if has_surrogate(&units) {
+            return 0;
+        }
+        let mut at = 0;
+        while at < 16 {
+            dst.put(unsafe { char::from_u32_unchecked(u32::from(units[at])) });
+            at += 1;
+        }
+        32
+    }
+
+    /// Decodes units for UTF-16 output, sixteen at a time. Returns the number of bytes read.
+    ///
+    /// It stops before sixteen units with a surrogate, and if fewer are left or few code units are free.
+    #[inline(always)]
+    fn read_sixteens<T: Destination>(&self, src: &[u8], dst: &mut T) -> usize
+        requires { bmp_room T.form ≡ 1 }
+        ensures { ReadsAhead T.Destination (new_state (utf16 self.now.big_endian)) src.now result
+            dst.old dst.new }
+    {
+        let mut left = (src.len() / 32).min(dst.free().saturating_sub(SLACK) / 16);
+        let mut at = 0;
+        while left > 0 {
+            let read = self.read_sixteen(&src[at..], dst);
+            at += read;
+            if read == 0 {
+                return at;
+            }
+            left -= 1;
+        }
+        at
+    }
+
     /// Decodes up to 64 units by vectors. Returns the number of bytes read.
     // The numbers of groups are constants, so that the compiler unrolls the loops over them.
     #[inline(always)]
@@ -221,7 +241,7 @@ impl Units {
             dst.old dst.new }
     {
         if T::narrow() == 1 {
-            return read_blocks(&Sixteens { units: self }, src, dst);
+            return self.read_sixteens(src, dst);
         }
         let eights = (src.len() / 16).min(dst.free().saturating_sub(8 + SLACK) / 24);
         if eights >= 8 {

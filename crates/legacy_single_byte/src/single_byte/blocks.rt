@@ -156,6 +156,7 @@ fn read_singly<T: Destination>(scalars: &ByteScalars, src: &[u8], most: usize, d
     requires source { most ≤ length src.now }
     requires room { 0 < most → 3 * most + 3 ≤ T.room dst.old }
     ensures most { result ≤ most }
+    ensures units { bmp_room T.form ≡ 1 → T.room dst.old ≤ T.room dst.new + result }
     ensures ahead { ReadsAhead T.Destination (new_state (single_byte scalars.now.table.now.entries))
         src.now result dst.old dst.new }
 {
@@ -170,6 +171,40 @@ fn read_singly<T: Destination>(scalars: &ByteScalars, src: &[u8], most: usize, d
     at
 }
 
+/// Decodes eight bytes at a time, if each scalar is one code unit.
+///
+/// Returns the number of bytes read, and whether another part may follow: one of the next eight bytes is past ASCII, or
+/// fewer than eight bytes are left or free.
+// Eight puts are faster than a vector of entries. A byte takes one code unit, but `read_singly` asks for three for each of
+// its eight, and leaves three.
+#[inline(always)]
+fn read_eights<T: Destination>(
+    scalars: &ByteScalars,
+    src: &[u8],
+    most: usize,
+    dst: &mut T,
+) -> (usize, bool)
+    requires form { bmp_room T.form ≡ 1 }
+    requires source { 64 < length src.now }
+    requires room { 70 ≤ T.room dst.old }
+    ensures most { result.0 ≤ most }
+    ensures ahead { ReadsAhead T.Destination (new_state (single_byte scalars.now.table.now.entries)) src.now result.0
+        dst.old dst.new }
+    ensures goes_on { result.1 ≡ true → 0 < result.0 }
+{
+    let mut left = most.min(src.len() - 64).min(dst.free() - 24) / 8;
+    let mut at = 0;
+    while left > 0 {
+        let read = read_singly(scalars, &src[at..], 8, dst);
+        at += read;
+        if read < 8 || !has_past_ascii(&src[at..]) {
+            return (at, false);
+        }
+        left -= 1;
+    }
+    (at, at > 0)
+}
+
 /// Eight bytes at a time, of any kind.
 #[derive(Drop)]
 struct AnyBytes<'a> {
@@ -182,15 +217,13 @@ impl Parts for AnyBytes<'_> {
     /// Decodes up to a byte that has no scalar.
     ///
     /// Another part may follow if one of the next eight bytes is past ASCII.
-    // If each scalar is one code unit, eight puts are faster than a vector of entries.
     #[inline(always)]
     fn read_part<T: Destination>(&self, src: &[u8], most: usize, dst: &mut T) -> (usize, bool) {
         if most < 8 {
             return (read_singly(self.scalars, src, most, dst), false);
         }
         if T::narrow() == 1 {
-            let read = read_singly(self.scalars, src, 8, dst);
-            return (read, read == 8 && has_past_ascii(&src[8..]));
+            return read_eights(self.scalars, src, most, dst);
         }
         let units = self.scalars.units(src);
         if has_zero(&units) {

@@ -1,6 +1,7 @@
 use Rattle.std.proofs.Common.{arith}
 use Rattle.legacy_streams.proofs.{EventLines.no_lines, FourDigitLines.{four_digit_more, four_digit_line_more}}
-use Rattle.legacy_streams.proofs.lines.put_four_digit_lines.Goals.{else-unit-ge55296-via-then-unit-ge55296+else-unit-lt57344, else-unit-ge55296-via-else-unit-ge55296}
+use Rattle.legacy_streams.proofs.lines.put_four_digit_lines.Goals.{else-unit-ge55296-via-then-unit-ge55296+else-unit-lt57344}
+use Rattle.legacy_streams.proofs.lines.put_four_digit_lines.Goals.{else-unit-ge55296-via-else-unit-ge55296}
 use Rattle.legacy_streams.proofs.lines.put_four_digit_lines.Goals as goal
 
 pub lines-init : goal.lines-init

@@ -13,5 +13,6 @@ returns-clause-ahead g c jis0208 =
     let e = c.ascii_text_count-count.ensures in
     let front = ascii_text_front c.args.src.now c.ascii_text_count-count.result c.requires.block e.most e.text in
     let put = c.put_block.ensures in
-    reads_ascii_text g.T.Destination jis0208 c.args.src.now c.args.dst.now c.put_block.new.self c.ascii_text_count-count.result front.0 front.1 put.contents put.room
+    reads_ascii_text g.T.Destination jis0208 c.args.src.now c.args.dst.now c.put_block.new.self c.ascii_text_count-count.result
+    front.0 front.1 put.contents put.room
     put.loan (λ h. omega (arith, c.requires.room, e.most))

@@ -11,7 +11,8 @@ returns-then-src-at-lt128 g c =
 
 pub loop-at-preserved-else-src-at-lt128 : goal.loop-at-preserved-else-src-at-lt128
 loop-at-preserved-else-src-at-lt128 g c =
-    let yields = yields_byte (ascii c.args.tables.now) (get_or c.args.src.now c.loop-at.at 0) c.from.result in grind (arith, writes_one, yields, code_units_ascii)
+    let yields = yields_byte (ascii c.args.tables.now) (get_or c.args.src.now c.loop-at.at 0) c.from.result in
+    grind (arith, writes_one, yields, code_units_ascii)
 
 pub loop-at-preserved : goal.loop-at-preserved
 loop-at-preserved g c =

@@ -1,4 +1,5 @@
-use Rattle.{std.proofs.{Common.{◌-◌, ◌*◌, arith}, lemmas.List.Elements.All-get_or}, legacy_miscellaneous.proofs.{Utf16Ahead.unit_after, Utf16Vectors.both_below}}
+use Rattle.std.proofs.{Common.{◌-◌, ◌*◌, arith}, lemmas.List.Elements.All-get_or}
+use Rattle.legacy_miscellaneous.proofs.{Utf16Ahead.unit_after, Utf16Vectors.both_below}
 use Rattle.legacy_miscellaneous.proofs.utf16.unit_blocks.Units.are_below.Goals as goal
 
 pub loop-group-preserved : goal.loop-group-preserved
