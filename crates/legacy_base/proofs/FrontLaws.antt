@@ -61,12 +61,12 @@ module _ {P : Type 0} where
       IsFrontOf size P (trail_front n scalars rest)
   front_of-trail_front size n scalars rest h k m e = grind arith
 
-  pub bad : (rest : List ℕ) → IsFrontOf (suc (length rest)) P (malformed 1)
-  bad rest = front_of-malformed (suc (length rest)) 1 (omega arith) (omega arith) (omega arith)
+  pub malformed_one : (rest : List ℕ) → IsFrontOf (suc (length rest)) P (malformed 1)
+  malformed_one rest = front_of-malformed (suc (length rest)) 1 (omega arith) (omega arith) (omega arith)
 
   -- a front of one byte
   pub byte : (rest : List ℕ) (c : ℕ) → (P → IsScalar c) → IsFrontOf (suc (length rest)) P (reads 1 (c ∷ []))
-  byte rest c h = front_of-reads_or _ 1 (c ∷ []) (malformed 1) (omega arith) (omega arith) (omega arith) (give-one c h) (bad rest)
+  byte rest c h = front_of-reads_or _ 1 (c ∷ []) (malformed 1) (omega arith) (omega arith) (omega arith) (give-one c h) (malformed_one rest)
 
   -- an ASCII byte is its own scalar
   ascii_or : (b : ℕ) (rest : List ℕ) (other : Front) → IsFrontOf (suc (length rest)) P other →
@@ -87,7 +87,7 @@ module _ {P : Type 0} (index : List ℕ) (checked : P → AreScalars index) wher
   pub single_byte_front-of : (b : ℕ) (rest : List ℕ) → IsFrontOf (suc (length rest)) P (single_byte_front index b rest)
   unfolding single_byte_front
   single_byte_front-of b rest =
-      ascii_or b rest _ (front_of-reads_or _ 1 _ _ (omega arith) (omega arith) (omega arith) (give-idx index checked (b - 0x80)) (bad rest))
+      ascii_or b rest _ (front_of-reads_or _ 1 _ _ (omega arith) (omega arith) (omega arith) (give-idx index checked (b - 0x80)) (malformed_one rest))
 
   big5-gives : (p : ℕ) → MayGive P (big5_scalars index p)
   big5-gives p =
@@ -98,13 +98,15 @@ module _ {P : Type 0} (index : List ℕ) (checked : P → AreScalars index) wher
   pub big5_front-of : (b : ℕ) (rest : List ℕ) → IsFrontOf (suc (length rest)) P (big5_front index b rest)
   unfolding big5_front big5_pair
   big5_front-of b rest =
-      ascii_or b rest _ (front_of-cond _ (is_lead b) _ _ (λ _. pair _ rest (λ t. give-pointer (big5_scalars index) (big5_pointer b t) big5-gives)) (bad rest))
+      ascii_or b rest _ (front_of-cond _ (is_lead b) _ _ (λ _. pair _ rest (λ t. give-pointer (big5_scalars index) (big5_pointer b t) big5-gives))
+      (malformed_one rest))
 
   pub lead_front-of : (is_lead_byte : ℕ → Bool) (pointers : ℕ → ℕ → Option ℕ) (b : ℕ) (rest : List ℕ) →
       IsFrontOf (suc (length rest)) P (lead_front is_lead_byte pointers index b rest)
   unfolding lead_front lead_pair
   lead_front-of is_lead_byte pointers b rest =
-      ascii_or b rest _ (front_of-cond _ (is_lead_byte b) _ _ (λ _. pair _ rest (λ t. give-pointer _ (pointers b t) (give-idx index checked))) (bad rest))
+      ascii_or b rest _ (front_of-cond _ (is_lead_byte b) _ _ (λ _. pair _ rest (λ t. give-pointer _ (pointers b t) (give-idx index checked)))
+      (malformed_one rest))
 
   shift_jis-gives : (p : ℕ) → MayGive P (shift_jis_scalars index p)
   shift_jis-gives p = give-cond (is_in_range 8836 10715 p) _ _ (λ e. give-one _ (λ _. grind (arith, nat_tests))) (give-idx index checked p)
@@ -115,14 +117,14 @@ module _ {P : Type 0} (index : List ℕ) (checked : P → AreScalars index) wher
       front_of-cond _ (is_ascii b || b == 0x80) _ _ (λ e. byte rest b (λ _. grind (arith, nat_tests)))
       (front_of-cond _ (is_katakana_byte b) _ _ (λ e. byte rest _ (λ _. grind (arith, nat_tests)))
       (front_of-cond _ (is_shift_jis_lead b) _ _ (λ _. pair _ rest (λ t. give-pointer (shift_jis_scalars index) (shift_jis_pointer b t) shift_jis-gives))
-      (bad rest)))
+      (malformed_one rest)))
 
   euc_jp-gives : (lead t : ℕ) → MayGive P (euc_jp_scalars index lead t)
   euc_jp-gives lead t = give-cond (is_euc_jp_lead t) _ _ (λ _. give-idx index checked _) give-none
 
   euc_jp_second-of : (rest : List ℕ) → IsFrontOf (suc (length rest)) P (euc_jp_second index rest)
   unfolding euc_jp_second euc_jp_third
-  euc_jp_second-of rest = grind (arith, nat_tests, bad, front_of-cond, front_of-trail_front, euc_jp-gives, front_of-trail_rule)
+  euc_jp_second-of rest = grind (arith, nat_tests, malformed_one, front_of-cond, front_of-trail_front, euc_jp-gives, front_of-trail_rule)
 
 module _ {P : Type 0} (jis0208 jis0212 : List ℕ) (checked : P → AreScalars jis0208) (checked_too : P → AreScalars jis0212) where
   euc_jp_katakana-of : (rest : List ℕ) → IsFrontOf (suc (length rest)) P (euc_jp_katakana rest)
@@ -149,7 +151,7 @@ module _ {P : Type 0} (index : List ℕ) (ranges : List (ℕ × ℕ)) (checked :
 
   gb18030_second-of : (first : ℕ) (rest : List ℕ) → IsFrontOf (suc (length rest)) P (gb18030_second index ranges first rest)
   unfolding gb18030_second
-  gb18030_second-of first [] = bad []
+  gb18030_second-of first [] = malformed_one []
   gb18030_second-of first (second ∷ rest) =
       front_of-cond _ (is_ascii_digit second) _ _ (λ _. gb18030_third-of first second rest) (pair _ (second ∷ rest) (gb18030-gives first))
 
@@ -162,10 +164,10 @@ module _ {P : Type 0} (index : List ℕ) (ranges : List (ℕ × ℕ)) (checked :
 module _ {P : Type 0} (jis0208 : List ℕ) (checked : P → AreScalars jis0208) where
   pub iso_2022_jp_front-of : (mode : Mode) (b : ℕ) (rest : List ℕ) → IsFrontOf (suc (length rest)) P (iso_2022_jp_front jis0208 mode b rest)
   unfolding iso_2022_jp_front
-  iso_2022_jp_front-of ascii b rest = grind (arith, nat_tests, byte, bad)
-  iso_2022_jp_front-of roman b rest = grind (arith, nat_tests, byte, bad)
-  iso_2022_jp_front-of katakana b rest = grind (arith, nat_tests, byte, bad)
-  iso_2022_jp_front-of two_byte b [] = bad []
+  iso_2022_jp_front-of ascii b rest = grind (arith, nat_tests, byte, malformed_one)
+  iso_2022_jp_front-of roman b rest = grind (arith, nat_tests, byte, malformed_one)
+  iso_2022_jp_front-of katakana b rest = grind (arith, nat_tests, byte, malformed_one)
+  iso_2022_jp_front-of two_byte b [] = malformed_one []
   iso_2022_jp_front-of two_byte b (t ∷ rest) = grind (arith, nat_tests, give-idx jis0208 checked ((b - 0x21) * 94 + (t - 0x21)))
 
 pub iso_2022_jp_front-short : (jis0208 : List ℕ) (mode : Mode) (b : ℕ) (rest : List ℕ) → front_length (iso_2022_jp_front jis0208 mode b rest) ≤ 2

@@ -1,8 +1,8 @@
 -- The entry of index Big5 at the sum of a lead's place and a trail's place.
 use Rattle.std.proofs.{Common.{◌≡◌, ℕ, ◌+◌, [], ◌∷◌, cond, refl, arith, Some}, lemmas.Bool.Decides.nat_tests}
 use Rattle.legacy_tables.{specs.{Indexes.idx, AcceptedTables.AcceptedIndexes, Unicode.IsByte}, proofs.Accepted.{length-big5, entry-used}}
-use Rattle.{legacy_base.specs.{Big5.big5_scalars, States.is_lead, Grammar.big5}, legacy_decoder_engine.specs.{ReadAhead.{HasAscii, Yields}, Places.IsTableOf}}
-use Rattle.{legacy_decoder_engine.proofs.{LeadHeld.{ascii, pair}, PairPlaces.{none_past, pair_entry}}, legacy_chinese.specs.Big5Shown.big5_codec}
+use Rattle.{legacy_base.specs.{Big5.big5_scalars, States.is_lead, Grammar.big5}, legacy_decoder_engine.specs.{ReadAhead.Yields, Places.IsTableOf}}
+use Rattle.{legacy_decoder_engine.proofs.{LeadHeld.pair, PairPlaces.{none_past, pair_entry}}, legacy_chinese.specs.Big5Shown.big5_codec}
 use Rattle.legacy_chinese.specs.{Big5Machine.big5_pair_scalars, Big5Places.{big5_lead_place, big5_trail_place}, declared.big5.places.TheConstants.ROWS_OF_157}
 use Rattle.legacy_chinese.{specs.declared.big5.places.TheConstants.TRAILS, proofs.EntryScalars.scalar_at}
 use Rattle.legacy_tables.specs.declared.tables.IndexName.TheVariants as names
@@ -19,9 +19,6 @@ pub big5_at : (tables : AcceptedIndexes) (lead trail : ℕ) → big5_scalars tab
     ≡ cond (is_lead lead) (big5_pair_scalars tables.flat.big5 lead trail) []
 unfolding big5_lead_place big5_trail_place
 big5_at tables lead trail = grind (arith, pair_entry, none_past, nat_tests, length-big5 tables.flat tables.accepted)
-
-pub big5_ascii : (tables : AcceptedIndexes) → HasAscii (big5 tables.flat.big5)
-big5_ascii = ascii big5_codec
 
 -- an entry at the sum of the places is the scalar of the lead and the trail
 pub big5_yields : (tables : AcceptedIndexes) (lead trail c : ℕ) → IsByte lead → IsByte trail →

@@ -1,6 +1,6 @@
 -- The forms that are picked at their starts are the front of the block: ASCII bytes, and sequences of four bytes.
-use Rattle.std.proofs.Common.{◌≡◌, ◌∙◌, ℕ, zero, suc, ◌+◌, ◌-◌, ◌*◌, ◌/◌, ◌%◌, ◌^◌, ◌<◌, ◌≤◌, min, List, [], ◌∷◌, ◌++◌, cond, ◌==◌}
-use Rattle.std.proofs.Common.{length, map, flat_map, take, drop, get_or, w64, inl, inr, bit_and, bit_or, bit_xor, refl, sym, ap, ap₂, arith}
+use Rattle.std.proofs.Common.{◌≡◌, ◌∙◌, ℕ, zero, suc, ◌+◌, ◌-◌, ◌*◌, ◌/◌, ◌^◌, ◌<◌, ◌≤◌, List, [], ◌∷◌, ◌++◌, cond, ◌==◌}
+use Rattle.std.proofs.Common.{length, map, flat_map, take, drop, get_or, w64, inl, inr, bit_and, bit_or, bit_xor, refl, sym, ap, arith}
 use Rattle.std.proofs.lemmas.List.{length-drop, take_more, get_or-drop, length-map, length-take-le}
 use Rattle.std.proofs.lemmas.{Bool.{Decides.nat_tests, cases_lt}, Nat.{shr-shr, or_lt, and_le_l}}
 use Rattle.std.proofs.Common.{length-append, append_assoc, append-nil}

@@ -1,6 +1,6 @@
 -- Forms whose codes are read eight at a time are written.
-use Rattle.std.proofs.Common.{◌≡◌, ◌≢◌, ◌∙◌, ℕ, zero, suc, ◌+◌, ◌/◌, ◌%◌, ◌<◌, ◌≤◌, cond, ltb, min, List, [], ◌∷◌, ◌++◌}
-use Rattle.std.proofs.{Common.{ap, ap₂, arith, drop, get_or, length, length-append, refl, sym, take}, lemmas.List.{take-take, take-append-drop}}
+use Rattle.std.proofs.Common.{◌≡◌, ◌≢◌, ℕ, zero, suc, ◌+◌, ◌/◌, ◌%◌, ◌<◌, ◌≤◌, cond, ltb, min, List, [], ◌∷◌, ◌++◌}
+use Rattle.std.proofs.{Common.{ap, arith, drop, get_or, length, length-append, refl, take}, lemmas.List.{take-take, take-append-drop}}
 use Rattle.std.proofs.lemmas.{Bool.{Decides.nat_tests}, List.{take_more, get_or-drop, get_or-take, length-drop, length-take, length-take-le}}
 use Rattle.std.proofs.{Math.Seq.{take-add, take-append_seam}, lemmas.Simd.get_or-chunk}
 use lib.Lanes.{chunk}

@@ -3,18 +3,16 @@ use Rattle.std.proofs.Common.{◌≡◌, ◌≢◌, ◌∙◌, ℕ, ◌+◌, ◌
 use Rattle.std.{proofs.lemmas.{Bool.Decides.nat_tests, List.Elements.{All-nil, All-cons}}, specs.{Prelude.option_to_list, Char.{IsScalar, is_ascii_digit}}}
 use Rattle.{legacy_text.specs.EncodingForm.{EncodingForm, wide_room}, legacy_tables.specs.{Unicode.{IsByte, AreBytes}, Indexes.{idx, range}}}
 use Rattle.legacy_tables.{specs.AcceptedTables.AcceptedIndexes, proofs.Accepted.{gb18030-below, gb18030-scalars, range-scalar}}
-use Rattle.legacy_base.specs.{Gb18030.{gb18030_scalars, gb18030_range_pointer}, States.{is_lead, gb18030_may_hold, is_neutral, rests}}
+use Rattle.legacy_base.specs.{Gb18030.{gb18030_scalars, gb18030_range_pointer}, States.{is_lead, gb18030_may_hold, rests}}
 use Rattle.legacy_base.specs.{States.{DecoderState, state_of}, Grammar.{Grammar, gb18030, events_of}}
-use Rattle.legacy_chinese.specs.declared.gb18030.{decoder.{Gb18030Decoder.Gb18030Decoder, Held.{Held, TheVariants.Nothing}}, digit.Digit.Digit as HeldDigit}
-use Rattle.legacy_chinese.specs.{Gb18030Decoder.gb18030_state, Gb18030Machine.{gb18030_step, gb18030_machine}, Gb18030Held.{held_bytes, is_resting}}
+use Rattle.legacy_chinese.specs.declared.gb18030.{decoder.Held.{Held, TheVariants.Nothing}, digit.Digit.Digit as HeldDigit}
+use Rattle.legacy_chinese.specs.{Gb18030Machine.{gb18030_step, gb18030_machine}, Gb18030Held.{held_bytes, is_resting}}
 use Rattle.legacy_chinese.{specs.Gb18030Places.{gb18030_place, gb18030_trail_place}, proofs.{Gb18030Places.{gb18030_entry, short}, EntryScalars.scalar_at}}
 use Rattle.{legacy_chinese.proofs.Gb18030Shown.{lead_other, gb18030_shown}, legacy_decoder_engine.specs.declared.{held_lead.Lead.Lead, moves.Fed.Fed}}
-use Rattle.legacy_decoder_engine.specs.{declared.moves.Fed.TheVariants.One, ReadAhead.{Yields, HasAscii, IsIdle, IsPair}, Moves.{IsCovered, Feeds, Releases}}
+use Rattle.legacy_decoder_engine.specs.{declared.moves.Fed.TheVariants.One, ReadAhead.{Yields, HasAscii, IsPair}, Moves.{IsCovered, Feeds, Releases}}
 use Rattle.legacy_decoder_engine.specs.{Moves.{FeedsMalformedByte, Reports, read_room}, Feeding.Took, Places.lead_place, Shown.IsShown}
-use Rattle.legacy_decoder_engine.proofs.LeadHeld.{neutral_empty}
 use Rattle.legacy_decoder_engine.proofs.{YieldedForms.{pair_yields, four_yields, has_ascii, ascii_is}, Widths.idx_below, LanePlaces.entry_is, PairPlaces.found}
 use Rattle.legacy_tables.specs.declared.tables.IndexName.TheVariants as names
-use Rattle.legacy_decoder_engine.proofs.{JoinedReads.reads_idle, WrittenReads.no_bytes}
 use Rattle.legacy_decoder_engine.proofs.Feeding as moves
 
 may : (held : Held) → gb18030_may_hold (held_bytes held) ≡ true
@@ -108,9 +106,3 @@ module _ (tables : AcceptedIndexes) where
   four a b c d x first second third fourth e =
       let scalar = range-scalar tables.flat tables.accepted (gb18030_range_pointer a b c d) x (sym e) in
       let yields = four_yields shown a b c d x in grind (arith, nat_tests, lead_other, yields)
-
--- a decoder that holds nothing back is idle
-pub idle : (decoder : Gb18030Decoder) → is_neutral (gb18030_state decoder) ≡ true → IsIdle (gb18030_state decoder)
-idle decoder neutral = record { empty = neutral_empty (held_bytes decoder.held) neutral; ascii = ascii decoder.tables.now }
-
-pub ruleset idle_reads = (reads_idle, idle, no_bytes)

@@ -9,6 +9,6 @@ pub mod FourPlaces
 pub mod EntryScalars
 pub mod Big5Places
 pub mod Gb18030Places
-pub mod Gb18030Pairs
+pub mod FourBytePointers
 pub mod Big5Walk
 pub mod Gb18030Walk

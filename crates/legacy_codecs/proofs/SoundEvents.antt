@@ -13,13 +13,9 @@ use Rattle.legacy_base.specs.{Grammar.events_of, Laws.{IsFrontOf, IsOfAcceptedTa
 use Rattle.legacy_base.proofs.FrontLaws.{front_of-malformed, single_byte_front-of, user_defined_front-of, lead_front-of, big5_front-of, shift_jis_front-of}
 use Rattle.legacy_base.proofs.{FrontLaws.{euc_jp_front-of, gb18030_front-of}, EventLaws.{none_of, bad_of, cut_sound, iso_2022_jp_sound}}
 use Rattle.legacy_miscellaneous.specs.Utf16Fronts.{single_unit_front, unit_front, utf16_front}
-use Rattle.legacy_miscellaneous.proofs.Utf16Cut.{utf16_cut}
+use Rattle.legacy_miscellaneous.proofs.{Utf16Cut.utf16_cut, Utf16Held.unit_below}
 
 -- ---- UTF-16
-
-unit_below : (be : Bool) (a b : ℕ) → IsByte a → IsByte b → unit_of be a b < 0x1_0000
-unit_below true a b h k = omega arith
-unit_below false a b h k = omega arith
 
 unpaired_scalar : (u : ℕ) → u < 0x1_0000 → (is_high_surrogate u || is_low_surrogate u) ≡ false → IsScalar u
 unpaired_scalar u h k = grind (arith, nat_tests)

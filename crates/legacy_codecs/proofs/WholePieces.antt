@@ -2,10 +2,10 @@
 use Rattle.std.proofs.Common.{◌≡◌, ◌∙◌, ℕ, List, [], ◌∷◌, ◌++◌, length, refl, sym, ap, arith, take, ◌≤◌, Bool, true, IsTrue, All, Some, append-nil}
 use Rattle.std.proofs.{lemmas.List.{drop_all, take-take, take-append-le}, lemmas.List.Elements.{All-head, All-tail}, lemmas.Str.chars_from_encodes}
 use Rattle.std.specs.{Char.IsScalar, Str.{chars, IsUtf8}}
-use lib.Utf8.{encode, encodes, scalars}
+use lib.Utf8.{encodes, scalars}
 use Rattle.legacy_text.specs.EncodingForm.{EncodingForm, Utf8, all_code_units}
 use Rattle.legacy_base.specs.{Grammar.events_of, Lengths.{query_answer, to_utf8}, States.DecoderState}
-use Rattle.legacy_text.proofs.CodeUnits.{all_code_units-append}
+use Rattle.legacy_text.proofs.{CodeUnits.all_code_units-append, Texts.encodes-code_units}
 use Rattle.legacy_codecs.specs.{declared.results.CoderResult.CoderResult, declared.results.CoderResult.TheVariants.InputEmpty, Replacing.replaced_scalars}
 use Rattle.legacy_codecs.specs.{Replacing.ReplacingDecoderCall, WholeTexts.{text_of, TextGoesOn}}
 use Rattle.legacy_codecs.proofs.{Replacements.end_found-last, Replaced.{replaced-append, replaced-shift}}
@@ -16,14 +16,10 @@ all_scalars : (cs : List ℕ) → All IsScalar cs → scalars cs ≡ true
 all_scalars [] h = refl
 all_scalars (c ∷ cs) h = rw (All-head IsScalar c cs h) (all_scalars cs (All-tail IsScalar c cs h))
 
-encodes_units : (cs : List ℕ) → encodes cs ≡ all_code_units Utf8 cs
-encodes_units [] = refl
-encodes_units (c ∷ cs) = ap (λ l. encode c ++ l) (encodes_units cs)
-
 -- bytes that are those of scalars are UTF-8, and have these as characters
 pub utf8_of : (bytes cs : List ℕ) → All IsScalar cs → bytes ≡ all_code_units Utf8 cs → IsUtf8 bytes × (chars bytes ≡ cs)
 utf8_of bytes cs h e =
-    let spells : encodes cs ≡ bytes = encodes_units cs ∙ sym e in
+    let spells : encodes cs ≡ bytes = encodes-code_units cs ∙ sym e in
     let is : IsUtf8 bytes = (cs, (all_scalars cs h, spells)) in
     (is, sym (chars_from_encodes cs bytes is spells))
 

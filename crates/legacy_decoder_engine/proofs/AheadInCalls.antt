@@ -23,7 +23,7 @@ unfolding HadRoom
 ample form g previous free [] h = tt
 ample form g previous free (c ∷ cs) h = grind (arith, length-append, some_unit, full_most, wide_most, ample form g (Some c) (free - unit_count form c) cs)
 
-pub with_empty : (s : DecoderState) → s.held ≡ [] → s ≡ new_state s.grammar
+with_empty : (s : DecoderState) → s.held ≡ [] → s ≡ new_state s.grammar
 with_empty s e = ap (λ h. record { grammar = s.grammar; held = h }) e
 
 yields_nothing : (g : Grammar) (cs : List ℕ) → Yields g [] cs → cs ≡ []
@@ -84,19 +84,16 @@ module _ {D : Type 0} {T : Ghosts D} where
 
   module _ {last : Bool} {before : DecoderState} {source : List ℕ} (first : D) where
     -- a call in progress, after sequences were read ahead
-    ahead_going : {now next : DecoderState} {read r : ℕ} {old new : D} → IsUnderWay T last before source first now read old
-        → ReadsTo T now next (drop read source) r old new → IsUnderWay T last before source first next (read + r) new
-    ahead_going {now} {next} {read} {r} {old} {new} i reads = (
-      i.0 ++ reads.writes.scalars,
-      grind (arith, cases_lt 0 r, some_going {last = last} reads, going_then i.1 _ i.3, reads.stays, reads_nothing reads, append-nil i.0),
-      written T first old new i.0 reads.writes.scalars i.2 reads.writes.written,
-      omega (arith, total_unit_count-append T.form i.0 reads.writes.scalars, reads.writes.room, i.3),
-      reads.writes.loan ∙ i.4,
-    )
-
     pub read_going : {now next : DecoderState} {read r : ℕ} {old new : D} → IsUnderWay T last before source first now read old
         → ReadsTo T now next (take (length source - read) (drop read source)) r old new → IsUnderWay T last before source first next (read + r) new
-    read_going {now} {next} {read} {r} {old} {new} i reads = ahead_going i (subst (λ l. ReadsTo T now next l r old new) (rest_of source read) reads)
+    read_going {now} {next} {read} {r} {old} {new} i reads =
+        let reads : ReadsTo T now next (drop read source) r old new = subst (λ l. ReadsTo T now next l r old new) (rest_of source read) reads in (
+          i.0 ++ reads.writes.scalars,
+          grind (arith, cases_lt 0 r, some_going {last = last} reads, going_then i.1 _ i.3, reads.stays, reads_nothing reads, append-nil i.0),
+          written T first old new i.0 reads.writes.scalars i.2 reads.writes.written,
+          omega (arith, total_unit_count-append T.form i.0 reads.writes.scalars, reads.writes.room, i.3),
+          reads.writes.loan ∙ i.4,
+        )
 
     -- a call in progress, after sequences were read ahead and the bytes after them were held back
     pub front_going : {now mid next : DecoderState} {read r h : ℕ} {old new : D} → IsUnderWay T last before source first now read old

@@ -1,7 +1,7 @@
 -- The moves of a decoder make a call.
 use Rattle.std.proofs.Common.{◌≡◌, ◌≢◌, ◌∙◌, ℕ, zero, suc, ◌+◌, ◌-◌, ◌≤◌, ◌<◌, List, [], ◌∷◌, ◌++◌, length, map, get_or, take, drop, refl, ap, subst, arith}
-use Rattle.std.proofs.Common.{add-zero, add-one, append-nil, drop-cons, drop_of_length-le, length-append, length-drop, Bool, true, false, IsTrue, Some, None}
-use Rattle.std.proofs.{Common.{Option, ◌⊎◌, inl, inr, All}, lemmas.List.{map-append, drop-drop, nil_from_length}, lemmas.List.Elements.{All-append, All-nil}}
+use Rattle.std.proofs.Common.{add-zero, append-nil, drop_of_length-le, length-append, length-drop, Bool, true, false, IsTrue, Some, None, Option}
+use Rattle.std.proofs.{Common.{◌⊎◌, inl, inr, All}, lemmas.List.{map-append, drop-drop, drop_more, nil_from_length}, lemmas.List.Elements.{All-append, All-nil}}
 use Rattle.std.proofs.{lemmas.List.Elements.All-cons, Math.Nat.sub-zero, lemmas.Bool.true≢false, lemmas.Bool.Decides.nat_tests}
 use Rattle.std.specs.Char.{IsScalar}
 use Rattle.legacy_text.specs.EncodingForm.{EncodingForm, unit_count, total_unit_count}
@@ -31,9 +31,6 @@ pub holds_more : (form : EncodingForm) (free : ℕ) (a b c : DecoderState) (byte
 unfolding HoldsBytes
 holds_more form free a b c [] byte e feeds room = grind (arith, nat_tests)
 holds_more form free a b c (x ∷ bytes) byte held feeds room = (held.0, held.1, held.2, holds_more form free held.0 b c bytes byte held.3 feeds room)
-
-next_byte : (source : List ℕ) (read : ℕ) → read < length source → drop read source ≡ get_or source read 0 ∷ drop (read + 1) source
-next_byte source read h = drop-cons source read 0 h ∙ rw add-one refl
 
 module _ (form : EncodingForm) (g : Grammar) where
   pub HadRoom-same : (h : Grammar) (previous : Option ℕ) (free : ℕ) (cs : List ℕ) → SameRooms g h → HadRoom form h previous free cs
@@ -230,23 +227,23 @@ module _ {form : EncodingForm} {last : Bool} where
 
     pub going_feed : {next : DecoderState} (fed : Fed) → read < length source → Feeds now (get_or source read 0) next fed → (RevealsMalformed fed → ⊥)
         → read_room form now (get_or source read 0) ≤ left → Going form last before source free next (read + 1) (scalars ++ fed_scalars fed)
-    going_feed fed h f sound enough = going_then (rw (next_byte source read h) (fed_going fed a.resting f sound enough)) (omega arith)
+    going_feed fed h f sound enough = going_then (rw (drop_more source read 0 h) (fed_going fed a.resting f sound enough)) (omega arith)
 
     pub call_lacks : read < length source → IsCovered now → left < read_room form now (get_or source read 0)
         → DecoderCall form before source last free now OutputFull read scalars
     call_lacks h c lacks =
-        call_here (call_full a.allowed c (rw (next_byte source read h)
+        call_here (call_full a.allowed c (rw (drop_more source read 0 h)
         (omega (arith, lacks, room_needed-read form now (get_or source read 0) (drop (read + 1) source) last a.resting)))) (inr refl)
 
     -- the next byte reveals a malformed sequence, and is read or not
     module _ {next : DecoderState} {x y : ℕ} (h : read < length source) (enough : read_room form now (get_or source read 0) ≤ left) where
       pub call_read : Feeds now (get_or source read 0) next (MalformedSequence x y false)
           → DecoderCall form before source last free next (Malformed x y) (read + 1) scalars
-      call_read f = call_then (rw (next_byte source read h) (call_fed false 1 a.resting f enough (omega arith) refl)) (inl tt)
+      call_read f = call_then (rw (drop_more source read 0 h) (call_fed false 1 a.resting f enough (omega arith) refl)) (inl tt)
 
       pub call_unread : Feeds now (get_or source read 0) next (MalformedSequence x y true)
           → DecoderCall form before source last free next (Malformed x y) read scalars
-      call_unread f = call_here (rw (next_byte source read h) (call_fed true 0 a.resting f enough (omega arith) refl)) (inl tt)
+      call_unread f = call_here (rw (drop_more source read 0 h) (call_fed true 0 a.resting f enough (omega arith) refl)) (inl tt)
 
     pub call_end : {next : DecoderState} {answer : DecoderResult} → read ≡ length source → Finishes form now last left next answer
         → DecoderCall form before source last free next answer read scalars
@@ -262,7 +259,7 @@ module _ {form : EncodingForm} {last : Bool} where
   held_going {before} {source} {free} {now} {read} {scalars} a left room_is zero within holds = rw (holds, add-zero read) a
   held_going {before} {source} {free} {now} {read} {scalars} {next} a left room_is (suc n) within holds =
       let some : read < length source = omega (arith, within, length-drop read source) in
-      let h = rw (next_byte source read some) at holds in
+      let h = rw (drop_more source read 0 some) at holds in
       let step =
       subst (λ cs. Going form last before source free h.0 (read + 1) cs) (append-nil scalars) (going_feed a left room_is Nothing some h.1 (λ x. x) h.2) in
       let place : read + 1 + n ≡ read + suc n = omega arith in

@@ -1,23 +1,18 @@
 -- Eight pairs whose bytes are all past ASCII.
 use Rattle.std.proofs.Common.{◌≡◌, ◌≢◌, ℕ, zero, suc, ◌+◌, ◌-◌, ◌*◌, ◌%◌, ◌^◌, ◌<◌, ◌≤◌, cond, ltb, List, [], ◌∷◌, ◌++◌, length, get_or, map, take, replicate}
 use Rattle.std.proofs.{Common.{arith, w8}, lemmas.Bool.Decides.nat_tests, lemmas.List.{take_more, get_or-map}, lemmas.Simd.{bitmask_splat, bit_mask_l}}
-use Rattle.std.proofs.lemmas.Simd.{get_or-chunk, get_or_wider}
+use Rattle.std.proofs.lemmas.Simd.{get_or-chunk}
 use Rattle.std.specs.{Char.IsScalar, Int.bit_at}
 use Rattle.legacy_text.specs.{declared.destination.Destination.Ghosts, EncodingForm.{all_code_units, total_unit_count}}
 use Rattle.legacy_base.specs.{Grammar.Grammar, States.new_state}
 use Rattle.legacy_decoder_engine.specs.{ReadAhead.{HasAscii, Yields, ReadsAhead}, LaneCodes.{kept_of, place_of, unit_at, ArePairs, AreUnits, IsForm, IsLane}}
 use Rattle.legacy_decoder_engine.proofs.{WrittenReads.{yields_none, yields_more, take_two}, JoinedReads.reads_written, LaneUnits.{few_units, is_form, lane_is}}
-use lib.Lanes.{Each1, zip2, top, mask_l, chunk, digits_l, number_l}
+use lib.Lanes.{zip2, top, mask_l, chunk}
 
 -- the bits of the ASCII bytes among sixteen
 pub byte_past : (bs : List ℕ) → length bs ≡ 16 → (k : ℕ) → k < 16
     → bit_at (mask_l (map (top 7) (zip2 (λ a b. cond (ltb a b) (2 ^ 8 - 1) 0) bs (replicate 16 128))) % 2 ^ 64) k ≡ 0 → 128 ≤ get_or bs k 0
 byte_past bs long k h unset = grind (arith, nat_tests, bit_mask_l, get_or-map, rw (bitmask_splat w8 ltb bs 16 128 long (omega arith)) at unset)
-
--- a code is that of two bytes
-pub code_is : (bs : List ℕ) → Each1 (λ x. x < 256) bs → length bs ≡ 16 → (k : ℕ) → k < 8
-    → get_or (digits_l 65536 8 (number_l 256 bs)) k 0 ≡ get_or bs (2 * k) 0 + 256 * get_or bs (2 * k + 1) 0
-code_is bs small long k h = grind (arith, get_or_wider 256 2 65536 8 bs k, get_or-chunk (2 * k) 2 bs 0 0, get_or-chunk (2 * k) 2 bs 1 0)
 
 -- eight codes, what is kept of them, and the places of their entries
 module _ (pointer : ℕ → ℕ) (last : ℕ) (codes kept places : List ℕ) (long : length codes ≡ 8) (small : (k : ℕ) → k < 8 → get_or codes k 0 < 65536)

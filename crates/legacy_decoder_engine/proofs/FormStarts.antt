@@ -1,11 +1,11 @@
 -- The forms that are picked at their starts are the front of the block.
-use Rattle.std.proofs.Common.{◌≡◌, ◌∙◌, ℕ, zero, suc, ◌+◌, ◌-◌, ◌/◌, ◌%◌, ◌^◌, ◌<◌, ◌≤◌, min, List, [], ◌∷◌, ◌++◌, Bool, true, false, cond, ltb, leb}
-use Rattle.std.proofs.Common.{length, map, take, get_or, replicate, w8, w64, bit_and, bit_or, bit_xor, sym, ap, arith, append_assoc, append-nil}
-use Rattle.std.proofs.lemmas.{List.{take_more, get_or-map, length-map}, Bool.{Decides.nat_tests, cases_lt}, Nat.shr-shr}
-use Rattle.std.proofs.lemmas.Nat.Bits.{bit_at-suc, bit_at-lt, bit_at-zero, bit_at_and, bit_at_xor, bit_at_or, bit_at_ones, shr_and_one, bit_at-trailing_zeros}
-use Rattle.std.proofs.lemmas.Simd.{bit_mask_l, tops_compared, mask_l-mod, get_or-chunk}
-use Rattle.std.specs.Int.{bit_at, trailing_zeros, Count.trailing_of_zero}
-use lib.Lanes.{mask_l, zip2, top, chunk}
+use Rattle.std.proofs.Common.{◌≡◌, ◌∙◌, ℕ, zero, suc, ◌+◌, ◌-◌, ◌/◌, ◌%◌, ◌^◌, ◌<◌, ◌≤◌, min, List, [], ◌∷◌, ◌++◌, Bool, true, false, cond, ltb}
+use Rattle.std.proofs.Common.{length, map, take, get_or, bit_and, bit_or, bit_xor, sym, ap, arith, append_assoc, append-nil}
+use Rattle.std.proofs.lemmas.{List.{take_more}, Bool.{Decides.nat_tests, cases_lt}, Nat.shr-shr}
+use Rattle.std.proofs.lemmas.Nat.Bits.{bit_at-suc, bit_at-lt, bit_at_and, bit_at_xor, bit_at_or, bit_at_ones, shr_and_one}
+use Rattle.std.proofs.lemmas.Simd.{get_or-chunk}
+use Rattle.std.specs.Int.{bit_at}
+use lib.Lanes.{chunk}
 use Rattle.legacy_decoder_engine.specs.PickedForms.{places, code_at, form_of, forms_of, AreStarts, IsEnd}
 use Rattle.legacy_text.specs.PastAscii.{ArePast}
 use Rattle.legacy_decoder_engine.proofs.WrittenReads.{take_two}

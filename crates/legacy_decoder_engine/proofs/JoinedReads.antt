@@ -3,8 +3,8 @@ use Rattle.std.proofs.Common.{◌≡◌, ℕ, ◌+◌, ◌-◌, ◌<◌, ◌≤�
 use Rattle.std.proofs.{lemmas.List.{length-take, length-take-le, length-drop}, Math.Seq.take-add}
 use Rattle.legacy_text.specs.{declared.destination.Destination.Ghosts}
 use Rattle.legacy_base.specs.{Grammar.Grammar, States.{DecoderState, new_state}}
-use Rattle.legacy_decoder_engine.specs.ReadAhead.{HasAscii, IsIdle, Writes, WritesTo, ReadsTo, ReadsAhead}
-use Rattle.legacy_decoder_engine.proofs.{AheadInCalls.{reads_nothing, with_empty}, CallUnderWay.{same_rooms, both_rooms}}
+use Rattle.legacy_decoder_engine.specs.ReadAhead.{HasAscii, Writes, WritesTo, ReadsTo, ReadsAhead}
+use Rattle.legacy_decoder_engine.proofs.{AheadInCalls.reads_nothing, CallUnderWay.{same_rooms, both_rooms}}
 use Rattle.legacy_decoder_engine.proofs.WrittenReads.{rest_of, reads_none, writes_none, writes_then, writes_next, writes_ascii}
 
 module _ {D : Type 0} {T : Ghosts D} {source : List ℕ} {old mid new : D} {r s : ℕ} where
@@ -27,22 +27,17 @@ reads_first {T = T} {state} {source} {old} {mid} {new} {s = s} none a b =
     let sum : 0 + s ≡ s = omega arith in
     subst (λ n. ReadsAhead T state source n old new) sum (reads_more (rw none at a) (subst (λ bytes. ReadsAhead T state bytes s mid new) (sym all) b))
 
-module _ {D : Type 0} {T : Ghosts D} {source : List ℕ} {old new : D} {r : ℕ} where
-  -- a decoder that holds nothing back reads as a new one
-  pub reads_idle : {state : DecoderState} → IsIdle state → ReadsAhead T (new_state state.grammar) source r old new → ReadsAhead T state source r old new
-  reads_idle {state} idle reads = grind (arith, with_empty)
+module _ {D : Type 0} {T : Ghosts D} {source : List ℕ} {old new : D} {r : ℕ} {g : Grammar} where
+  -- the bytes read and the scalars written, with the room left if there are any
+  pub reads_front : r ≤ length source → Writes T g (take r source) old new → (0 < r → 3 ≤ T.room new) → (0 < r → 4 ≤ T.room old)
+      → ReadsAhead T (new_state g) source r old new
+  reads_front within writes slack had = grind (arith, same_rooms)
 
-  module _ {g : Grammar} where
-    -- the bytes read and the scalars written, with the room left if there are any
-    pub reads_front : r ≤ length source → Writes T g (take r source) old new → (0 < r → 3 ≤ T.room new) → (0 < r → 4 ≤ T.room old)
-        → ReadsAhead T (new_state g) source r old new
-    reads_front within writes slack had = grind (arith, same_rooms)
+  pub reads_written : r ≤ length source → Writes T g (take r source) old new → 3 ≤ T.room new → 4 ≤ T.room old → ReadsAhead T (new_state g) source r old new
+  reads_written within writes slack had = reads_front within writes (λ h. slack) (λ h. had)
 
-    pub reads_written : r ≤ length source → Writes T g (take r source) old new → 3 ≤ T.room new → 4 ≤ T.room old → ReadsAhead T (new_state g) source r old new
-    reads_written within writes slack had = reads_front within writes (λ h. slack) (λ h. had)
-
-    pub reads_ascii : HasAscii g → r ≤ length source → IsAscii (take r source) → T.contents new ≡ T.contents old ++ take r source → T.room new + r ≡ T.room old
-        → T.loan new ≡ T.loan old → (0 < r → 3 ≤ T.room new) → ReadsAhead T (new_state g) source r old new
-    reads_ascii law within ascii written room loan slack = grind (arith, length-take-le, reads_front, writes_ascii)
+  pub reads_ascii : HasAscii g → r ≤ length source → IsAscii (take r source) → T.contents new ≡ T.contents old ++ take r source → T.room new + r ≡ T.room old
+      → T.loan new ≡ T.loan old → (0 < r → 3 ≤ T.room new) → ReadsAhead T (new_state g) source r old new
+  reads_ascii law within ascii written room loan slack = grind (arith, length-take-le, reads_front, writes_ascii)
 
 pub ruleset turn_by_turn = (reads_written, reads_none, writes_none, writes_next)

@@ -1,17 +1,14 @@
 -- The moves of a decoder with leads, by the lead that it holds back.
-use Rattle.std.proofs.Common.{arith, ◌≡◌, ◌≢◌, ◌∙◌, ℕ, List, [], ◌∷◌, Bool, Option, Some, None, is_some, ◌&&◌, true, false, refl}
+use Rattle.std.proofs.Common.{arith, ◌≡◌, ◌≢◌, ◌∙◌, ℕ, List, [], ◌∷◌, Bool, Option, Some, None, is_some, true, false, refl}
 use Rattle.std.proofs.lemmas.List.Elements.{All-nil, All-cons}
 use Rattle.std.specs.Char.{IsScalar}
 use Rattle.legacy_tables.specs.{Unicode.{IsByte, AreBytes}, AcceptedTables.AcceptedIndexes, Indexes.FlatIndexes}
-use Rattle.legacy_base.specs.{States.{may_hold, is_empty}, Grammar.{Grammar, events_of}, Fronts.malformed}
+use Rattle.legacy_base.specs.{States.may_hold, Grammar.{Grammar, events_of}, Fronts.malformed}
 use Rattle.legacy_decoder_engine.specs.{declared.moves.Fed.Fed, Steps.{Step, finish}, Moves.{IsCovered, Feeds, FeedsMalformedByte, Reports}}
-use Rattle.legacy_decoder_engine.specs.{LeadMachines.{two_byte_machine, two_byte_step}, Shown.IsShown, Feeding.Took, ReadAhead.{Yields, HasAscii, IsIdle}}
+use Rattle.legacy_decoder_engine.specs.{LeadMachines.{two_byte_machine, two_byte_step}, Shown.IsShown, Feeding.Took, ReadAhead.{Yields, HasAscii}}
 use Rattle.legacy_decoder_engine.specs.LeadCodecs.{IsLeadCodec, held_bytes, lead_state}
 use Rattle.legacy_decoder_engine.proofs.YieldedForms.{has_ascii, pair_yields, ascii_is}
 use Rattle.legacy_decoder_engine.proofs.Feeding as feeding
-
-pub neutral_empty : (bytes : List ℕ) → (is_empty bytes && true) ≡ true → bytes ≡ []
-neutral_empty bytes h = grind arith
 
 -- ASCII, and a pair that gives one scalar
 module _ {grammar : FlatIndexes → Grammar} {is_lead_byte : ℕ → Bool} {first : ℕ → Step} {scalars : FlatIndexes → ℕ → ℕ → List ℕ}
@@ -55,6 +52,3 @@ module _ {L : Type 0} {grammar : FlatIndexes → Grammar} {is_lead_byte : ℕ �
 
   pub malformed_byte : (b : ℕ) → IsByte b → first b ≡ finish (malformed 1) → FeedsMalformedByte (lead_state grammar byte tables None) b
   malformed_byte b is_byte e = feeding.malformed_byte shown b is_byte e refl
-
-  pub idle : (held : Option L) → is_some held ≡ false → IsIdle (lead_state grammar byte tables held)
-  idle held e = record { empty = grind arith; ascii = ascii is tables }

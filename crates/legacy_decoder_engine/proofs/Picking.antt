@@ -1,11 +1,11 @@
 -- Codes of two bytes at places, by a shuffle from a table.
 use Rattle.std.proofs.Common.{◌≡◌, ℕ, zero, suc, ◌+◌, ◌*◌, ◌/◌, ◌%◌, ◌<◌, ◌≤◌, true, eqb, List, [], ◌∷◌, ◌++◌, length, get_or, map, take, replicate, refl, sym}
-use Rattle.std.proofs.{Common.{ap, ◌∙◌, arith, w8, Fits, ◌-◌, ◌^◌}, lemmas.Bool.{leb-true, eqb-true, agree_below_at, cases_lt}, lemmas.List.take-take}
-use Rattle.std.proofs.{lemmas.List.{take-map, get_or_past, length-take-le, take-append-le, map-append, append_assoc, append-nil}, lemmas.Simd.swz_l}
-use Rattle.std.proofs.{lemmas.Simd.{Each1-get_or, below_from_Fits, get_or-chunk, put_chunk_is}, lemmas.Bool.Decides.nat_tests, Math.Seq.take-append_seam}
+use Rattle.std.proofs.{Common.{ap, ◌∙◌, arith, w8, Fits, ◌-◌, ◌^◌}, lemmas.Bool.{leb-true, eqb-true, agree_below_at}, lemmas.List.take-take}
+use Rattle.std.proofs.{lemmas.List.{take-map, length-take-le, take-append-le, map-append, append_assoc, append-nil}, lemmas.Simd.swz_l}
+use Rattle.std.proofs.{lemmas.Simd.{get_or-chunk, put_chunk_is}, lemmas.Bool.Decides.nat_tests, Math.Seq.take-append_seam}
 use Rattle.std.proofs.{Math.Seq.take-append-add, lemmas.Nat.{and_mask, pow_pos}, lemmas.Nat.Bits.ones_shr, Math.Nat.{div-eq_of_lt, mod-lt}}
 use Rattle.std.specs.{List.range_with_len, Int.RustNames.count_ones, Int.Bits.bit_and}
-use Rattle.legacy_text.proofs.UnitLanes.{shuffled, each_below}
+use Rattle.legacy_text.proofs.{UnitLanes.{shuffled, each_below}, ScalarTurns.below_256}
 use Rattle.legacy_decoder_engine.specs.{PickedForms.{places, pairs, row, code_at}, declared.picks.TheConstants.PICKED}
 use lib.{Lanes.{Each1, number_l, digits_l, all_below, chunk, put_chunk}, Pow.{field, mod-mod-pow, shr-shr}}
 
@@ -40,9 +40,6 @@ codes : (xs : List ℕ) (small : (j : ℕ) → get_or xs j 0 < 256) (ps : List �
     → digits_l 65536 (length ps) (number_l 256 (map (λ j. get_or xs j 0) (pairs ps))) ≡ map (code_at xs) ps
 codes xs small [] = refl
 codes xs small (p ∷ ps) = grind (arith, small p, small (p + 1), codes xs small ps)
-
-pub below_256 : (v : List ℕ) → Each1 (Fits w8) v → (i : ℕ) → get_or v i 0 < 256
-below_256 v fits i = grind (arith, cases_lt, Each1-get_or, below_from_Fits, w8, get_or_past)
 
 all_codes : (xs : List ℕ) → Each1 (Fits w8) xs → (x : ℕ) → x < 256
     → digits_l 65536 8 (number_l 256 (swz_l w8 16 xs 0 (row x))) ≡ map (code_at xs) (eight_places x)

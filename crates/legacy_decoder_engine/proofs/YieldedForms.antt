@@ -1,6 +1,6 @@
 -- What the sequences of a machine yield, which a loop may read ahead.
 use Rattle.std.proofs.Common.{rules, ◌≡◌, ℕ, suc, ◌+◌, ◌≤◌, ◌<◌, List, [], ◌∷◌, ◌++◌, length, append_assoc, length-append, refl, arith, true}
-use Rattle.std.proofs.{Common.{false, add-zero}, lemmas.List.Elements.{All-nil, All-cons, All-append}, lemmas.Bool.Decides.nat_tests}
+use Rattle.std.proofs.{Common.{add-zero}, lemmas.List.Elements.{All-nil, All-cons, All-append}, lemmas.Bool.Decides.nat_tests}
 use Rattle.std.specs.Char.{IsScalar, is_ascii}
 use Rattle.legacy_tables.specs.Unicode.{IsByte, AreBytes}
 use Rattle.legacy_text.specs.EncodingForm.{total_unit_count}
@@ -12,9 +12,6 @@ use Rattle.legacy_decoder_engine.proofs.Feeding.{units-total, all_dropped}
 
 pub ascii_is : (b : ℕ) → b < 0x80 → is_ascii b ≡ true
 ascii_is b h = grind (arith, nat_tests)
-
-pub past_ascii : (b : ℕ) → 0x80 ≤ b → is_ascii b ≡ false
-past_ascii b h = grind (arith, nat_tests)
 
 -- after the held-back bytes, the machine holds back each byte but the last, which completes a sequence of the scalar
 abbrev Leads : Grammar → DecoderMachine → List ℕ → ℕ → List ℕ → ℕ → Type 0

@@ -1,5 +1,5 @@
 -- The codecs whose sequences are one byte, or a lead and a trail: what their common decoder requires of each.
-use Rattle.std.specs.{Prelude.{◌≡◌, ℕ, ◌<◌, ◌≤◌, List, [], ◌∷◌, Bool, true, false, length, Option, Some, None, MatchOption}, Char.is_ascii}
+use Rattle.std.specs.{Prelude.{◌≡◌, ℕ, ◌<◌, ◌≤◌, List, [], ◌∷◌, Bool, true, false, length, Option, Some, None}, Char.is_ascii}
 use Rattle.legacy_base.specs.{States.{DecoderState, single_lead_may_hold, may_hold, rests, begins_in_ascii}, Fronts.reads, Grammar.Grammar}
 use Rattle.legacy_base.specs.{DecoderActs.{has_short_ascii, has_reported}, Lengths.weight}
 use Rattle.legacy_tables.specs.{Indexes.FlatIndexes, TableChecks.AreAccepted, AcceptedTables.AcceptedIndexes}
@@ -8,10 +8,6 @@ use Rattle.legacy_decoder_engine.specs.{Steps.{Step, hold, finish}, LeadMachines
 -- a byte past ASCII
 abbrev pub IsPastAscii : ℕ → Type 0
 IsPastAscii b = (0x80 ≤ b) × (b < 0x100)
-
--- the byte as a lead, or none
-abbrev pub IsLeadOf : {L : Type 0} → (ℕ → Bool) → (L → ℕ) → ℕ → Option L → Type 0
-IsLeadOf is_lead_byte byte_of b lead = MatchOption lead (is_lead_byte b ≡ false) (λ l. (byte_of l ≡ b) × (is_lead_byte b ≡ true))
 
 -- the byte of a lead, or nothing
 abbrev pub held_bytes : {L : Type 0} → (L → ℕ) → Option L → List ℕ

@@ -22,11 +22,6 @@ Yields grammar bytes scalars = YieldsTo grammar grammar bytes scalars
 abbrev pub HasAscii : Grammar → Type 0
 HasAscii grammar = (b : ℕ) → b < 0x80 → Yields grammar (b ∷ []) (b ∷ [])
 
--- a decoder that holds nothing back, with ASCII bytes that are their own scalars
-pub record IsIdle (state : DecoderState) : Type 0 where
-  pub empty : state.held ≡ []
-  pub ascii : HasAscii state.grammar
-
 -- a byte that gives one scalar up to U+FFFF
 abbrev pub IsSingle : Grammar → ℕ → ℕ → Type 0
 IsSingle grammar byte c = (c < 0x1_0000) × Yields grammar (byte ∷ []) (c ∷ [])

@@ -135,18 +135,23 @@ pub(crate) fn read_four<F: FrontForms, T: Destination>(
     read_turns(forms, src, dst, 4)
 }
 
-/// Reads a run of forms from the front, up to an uncommon one, and returns the number of bytes read, which may be 0.
+/// Reads common forms from the front of at most `most` bytes, up to an uncommon one.
 ///
-/// If it reads any, three code units stay free.
+/// Returns the number of bytes read, which may be 0. If it reads any, three code units stay free.
 // Four at a time: the compiler unrolls a loop of that size, so each place has its own branches, and the processor
 // predicts each of them by its own history.
 #[inline(always)]
 #[tactic(auto, using(crate::proofs::JoinedReads::turn_by_turn))]
-fn read_run<F: FrontForms, T: Destination>(forms: &F, src: &[u8], dst: &mut T) -> usize
+pub fn read_forms<F: FrontForms, T: Destination>(
+    forms: &F,
+    src: &[u8],
+    most: usize,
+    dst: &mut T,
+) -> usize
     requires { F.ready forms.now }
     ensures { ReadsAhead T.Destination (new_state (F.grammar forms.now)) src.now result dst.old dst.new }
 {
-    let turns = fitting(src.len(), dst.free().saturating_sub(SLACK));
+    let turns = fitting(src.len().min(most), dst.free().saturating_sub(SLACK));
     if turns == 0 {
         return 0;
     }
@@ -161,21 +166,4 @@ fn read_run<F: FrontForms, T: Destination>(forms: &F, src: &[u8], dst: &mut T) -
         left -= 1;
     }
     at + read_turns(forms, &src[at..], dst, turns % 4).0
-}
-
-/// Reads common forms from the front of at most `most` bytes, up to an uncommon one.
-///
-/// Returns the number of bytes read, which may be 0. If it reads any, three code units stay free.
-#[inline(always)]
-pub fn read_forms<F: FrontForms, T: Destination>(
-    forms: &F,
-    src: &[u8],
-    most: usize,
-    dst: &mut T,
-) -> usize
-    requires { F.ready forms.now }
-    ensures { ReadsAhead T.Destination (new_state (F.grammar forms.now)) src.now result dst.old dst.new }
-{
-    let part = src.len().min(most);
-    read_run(forms, &src[..part], dst)
 }

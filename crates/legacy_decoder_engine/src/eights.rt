@@ -1,4 +1,4 @@
-//! Pairs whose bytes are all past ASCII, eight at a time and without codes in memory: between tags.
+//! Reads pairs between tags: eight at a time, if all their bytes are past ASCII, and without codes in memory.
 // The functions are always inlined, because a call would pass vectors through memory.
 #![tactic(auto, using(crate::proofs::WrittenReads::no_bytes))]
 

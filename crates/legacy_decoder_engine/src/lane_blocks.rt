@@ -13,9 +13,10 @@ use crate::common_forms::{CommonForm, FrontForms, read_forms};
 use crate::eights::read_eights;
 use crate::lane_codec::LaneCodec;
 use crate::lanes::{byte_total, put_codes};
+use crate::near_malformed::read_without_lanes;
 use crate::read_ahead::{BlockReader, SHORT_BLOCK, SLACK, read_ascii, read_blocks};
-use legacy_base::{Destination, Utf8Destination};
-use legacy_tables::FlatTables;
+use legacy_base::{Destination, Tables, Utf8Destination};
+use legacy_tables::{DecoderTables, FlatTables};
 use legacy_text::FillsBuffer;
 use legacy_text::past_ascii::past_ascii;
 use std::cell::Cell;
@@ -171,6 +172,20 @@ pub(crate) fn begins_uncommon<C: LaneCodec>(src: &[u8]) -> bool
     C::is_uncommon(if src.is_empty() { 0 } else { src[0] })
 }
 
+/// Returns whether an uncommon byte follows the form at the front, which is taken to be one ASCII byte or two bytes.
+///
+/// Returns false if there are fewer than three bytes.
+#[inline(always)]
+fn is_before_uncommon<C: LaneCodec>(src: &[u8]) -> bool {
+    if src.len() < 3 {
+        return false;
+    }
+    if src[0] < 0x80 {
+        return C::is_uncommon(src[1]);
+    }
+    C::is_uncommon(src[2])
+}
+
 /// The least number of bytes of ASCII between tags.
 const LONG_ASCII: usize = 32;
 
@@ -219,7 +234,7 @@ impl<C: LaneCodec> FrontForms for LaneForms<'_, C> {
 
 /// Reads common forms from the front of at most `most` bytes, up to an uncommon one, and returns the number of bytes read.
 #[inline(always)]
-pub(crate) fn read_in_turn<C: LaneCodec, T: Destination>(
+fn read_in_turn<C: LaneCodec, T: Destination>(
     tables: &FlatTables<'_>,
     src: &[u8],
     most: usize,
@@ -234,7 +249,7 @@ pub(crate) fn read_in_turn<C: LaneCodec, T: Destination>(
 
 /// Reads common forms from the front of at most `most` bytes, up to an uncommon one, and returns the number of bytes read.
 ///
-/// Pairs at the front are read eight at a time, if pairs of the codec stand so, and then nothing after them.
+/// If the codec has eights, it first reads pairs eight at a time, and then nothing after them.
 // What follows them is mostly ASCII, or begins a form of more than two bytes. Both have ways of their own.
 #[inline(always)]
 fn read_at_most<C: LaneCodec, T: Destination>(
@@ -280,7 +295,7 @@ impl<'a, 'b, C: LaneCodec> LaneBlocks<'a, 'b, C> {
         }
     }
 
-    /// Returns the number of bytes to read form by form after so many bytes of ASCII.
+    /// Returns the number of bytes to read form by form after `ascii` bytes of ASCII.
     // Text with tags has long ASCII between its rows of pairs, and most of these are too short for lanes.
     #[inline(always)]
     fn delay_after(&self, ascii: usize) -> usize {
@@ -320,8 +335,10 @@ fn form_at<C: LaneCodec>(
     }
 }
 
-/// Reads the last bytes of the input, up to an uncommon form. Returns the number of bytes read, which may be 0.
-// Any block is longer, so one loop reads every form.
+/// Reads forms one by one from the front, up to an uncommon one or to the end of the room.
+///
+/// Returns the number of bytes read, which may be 0.
+// For the last bytes of the input, which are fewer than any block, and for outputs with little room.
 #[inline(always)]
 #[tactic(auto, using(crate::proofs::WrittenReads::writes_none, crate::proofs::WrittenReads::four_fit))]
 pub(crate) fn read_last<C: LaneCodec, T: Destination>(
@@ -437,9 +454,9 @@ impl<C: LaneCodec> BlockReader for LaneBlocks<'_, '_, C> {
 
 /// Text, and the blocks that read it.
 #[derive(Drop)]
-pub(crate) struct BlocksAhead<'x, 'a, 'b, C: LaneCodec> {
-    pub(crate) blocks: &'x LaneBlocks<'a, 'b, C>,
-    pub(crate) src: &'x [u8],
+struct BlocksAhead<'x, 'a, 'b, C: LaneCodec> {
+    blocks: &'x LaneBlocks<'a, 'b, C>,
+    src: &'x [u8],
 }
 
 impl<C: LaneCodec> FillsBuffer for BlocksAhead<'_, '_, '_, C> {
@@ -452,5 +469,48 @@ impl<C: LaneCodec> FillsBuffer for BlocksAhead<'_, '_, '_, C> {
         let mut dst = Utf8Destination::new(buffer);
         let read = read_blocks(self.blocks, self.src, &mut dst);
         (read, dst.written())
+    }
+}
+
+/// Reads common forms of a codec from the front, but nothing at an uncommon byte, and one form if such a byte follows it.
+///
+/// Over packed tables it reads only ASCII. Returns the number of bytes read, which may be 0. If it reads any, three code
+/// units stay free. `guess` is what the codec keeps from one form of more than two bytes to the next. `without_lanes` is
+/// the number of bytes that are still to be read without lanes. It falls by the number that is read so, and becomes 0 if
+/// none is.
+// Malformed sequences often follow one another, or have a single form between them. Neither costs a call.
+#[inline(always)]
+pub fn read_by_tables<C: LaneCodec, T: Destination>(
+    tables: &Tables<'_>,
+    guess: &Cell<usize>,
+    without_lanes: &mut usize,
+    src: &[u8],
+    dst: &mut T,
+) -> usize
+    requires { HasAscii (C.grammar tables.now.flat) }
+    ensures { ReadsAhead T.Destination (new_state (C.grammar tables.now.flat)) src.now result dst.old dst.new }
+{
+    let Some(tables) = tables.flat() else {
+        return read_ascii(src, dst);
+    };
+    if is_before_uncommon::<C>(src) {
+        return read_in_turn::<C, T>(tables, src, 2, dst);
+    }
+    let blocks = LaneBlocks::<C>::new(tables, guess);
+    if *without_lanes > 0 {
+        let read = read_without_lanes(&blocks, src, dst);
+        *without_lanes = if read == 0 {
+            0
+        } else {
+            without_lanes.saturating_sub(read)
+        };
+        return read;
+    }
+    match dst.lend(&BlocksAhead {
+        blocks: &blocks,
+        src,
+    }) {
+        Some(read) => read,
+        None => read_blocks(&blocks, src, dst),
     }
 }

@@ -63,7 +63,6 @@ pub trait LaneCodec {
     ///
     /// It may also read ASCII between them. `guess` is what the codec keeps from one such form to the next.
     #[inline(always)]
-    #[tactic(auto, using(crate::proofs::WrittenReads::no_bytes))]
     fn read_longer<T: Destination>(
         tables: &FlatTables<'_>,
         guess: &Cell<usize>,
@@ -83,7 +82,6 @@ pub trait LaneCodec {
     ///
     /// It reads nothing if few such forms follow. It is given what the codec keeps from the last one.
     #[inline(always)]
-    #[tactic(auto, using(crate::proofs::WrittenReads::no_bytes))]
     fn read_longer_blocks<T: Destination>(
         tables: &FlatTables<'_>,
         guess: usize,

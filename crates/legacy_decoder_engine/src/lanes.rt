@@ -65,7 +65,7 @@ pub fn chosen(kept: u16x8, entries: u16x8) -> u16x8
 
 /// Returns whether none of eight units is 0.
 #[inline(always)]
-pub(crate) fn are_known(units: u16x8) -> bool
+pub fn are_known(units: u16x8) -> bool
     ensures { result ≡ true → (k : ℕ) → k < 8 → get_or units k 0 ≢ 0 }
 {
     units.simd_eq(u16x8::splat(0)).to_bitmask() == 0

@@ -1,7 +1,9 @@
 //! The common steps of codecs whose sequences are a lead and a trail.
-ghost use Rattle.std.specs.{Prelude.{◌≡◌, ℕ, ◌+◌, ◌<◌, [], ◌∷◌, Bool, true, false, if◌then◌else◌, option_to_list}, Char.is_ascii};
-ghost use Rattle.legacy_decoder_engine.specs.{Steps.trail_step, LeadMachines.lead_first, Feeding.Took, LeadCodecs.{IsLeadOf, held_bytes}};
+ghost use Rattle.std.specs.{Prelude.{◌≡◌, ℕ, ◌+◌, ◌<◌, [], ◌∷◌, true, false, if◌then◌else◌, option_to_list}, Char.is_ascii};
+ghost use Rattle.legacy_decoder_engine.specs.{Steps.trail_step, LeadMachines.lead_first, Feeding.Took, LeadCodecs.held_bytes};
+ghost use Rattle.legacy_base.specs.States.{is_lead};
 
+use crate::held_lead::Lead;
 use crate::moves::Fed;
 
 /// Returns a malformed sequence that ends with the byte, with nothing held back after it.
@@ -34,18 +36,17 @@ pub fn unmapped(before: u8, byte: u8) -> Fed
     malformed_through(before + 1)
 }
 
-/// Reads the first byte of a sequence, given the byte as a lead or `None`.
+/// Reads the first byte of a sequence.
 ///
 /// ASCII is its own scalar, a lead is held back, and any other byte is malformed.
 #[inline]
-pub fn read_first<L: Copy>(byte: u8, lead: Option<L>) -> (Fed, Option<L>)
-    ensures { (is_lead : ℕ → Bool) (byte_of : L → ℕ) → IsLeadOf is_lead byte_of byte lead
-        → Took (lead_first is_lead byte) [] byte result.0 (held_bytes byte_of result.1) }
+pub fn read_first(byte: u8) -> (Fed, Option<Lead>)
+    ensures { Took (lead_first is_lead) [] byte result.0 (held_bytes (λ lead. lead.byte) result.1) }
 {
     if byte < 0x80 {
         return (Fed::One(char::from(byte)), None);
     }
-    match lead {
+    match Lead::new(byte) {
         Some(lead) => (Fed::Nothing, Some(lead)),
         None => (malformed_through(1), None),
     }

@@ -8,9 +8,10 @@ ghost use Rattle.legacy_decoder_engine.specs.{Steps.{Step, finish, trail_step}, 
 ghost use Rattle.legacy_decoder_engine.specs.LeadCodecs.{IsLeadCodec, held_bytes, lead_state};
 
 use crate::drive::{count_malformed_bytes, drive_decoder};
+use crate::lane_blocks::read_by_tables;
 use crate::lane_codec::LaneCodec;
 use crate::moves::{DecoderMoves, Fed, Room};
-use crate::near_malformed::{AFTER_MALFORMED, read_by_tables};
+use crate::near_malformed::AFTER_MALFORMED;
 use legacy_base::{DecoderStep, Destination, RawDecoder, Tables};
 use std::cell::Cell;
 

@@ -4,28 +4,10 @@ ghost use Rattle.legacy_base.specs.States.{new_state};
 ghost use Rattle.legacy_decoder_engine.specs.ReadAhead.{HasAscii, ReadsAhead};
 
 use crate::common_forms::{FOUR_BYTES, FOUR_ROOM, read_four};
-use crate::lane_blocks::{
-    BlocksAhead, LaneBlocks, LaneForms, begins_uncommon, read_in_turn, read_last,
-};
+use crate::lane_blocks::{LaneBlocks, LaneForms, begins_uncommon, read_last};
 use crate::lane_codec::LaneCodec;
-use crate::read_ahead::{read_ascii, read_ascii_nearby, read_blocks, read_short_block};
-use legacy_base::{Destination, Tables};
-use legacy_tables::DecoderTables;
-use std::cell::Cell;
-
-/// Returns whether an uncommon byte follows the form at the front, which is taken to be one ASCII byte or two bytes.
-///
-/// Returns false if there are fewer than three bytes.
-#[inline(always)]
-fn stands_alone<C: LaneCodec>(src: &[u8]) -> bool {
-    if src.len() < 3 {
-        return false;
-    }
-    if src[0] < 0x80 {
-        return C::is_uncommon(src[1]);
-    }
-    C::is_uncommon(src[2])
-}
+use crate::read_ahead::{read_ascii_nearby, read_short_block};
+use legacy_base::Destination;
 
 /// The number of bytes that are read without lanes after a malformed sequence.
 // Malformed sequences are often near one another. Lanes would pick out and look up forms after the next one for nothing.
@@ -36,7 +18,7 @@ pub const AFTER_MALFORMED: usize = 64;
 /// Returns the number of bytes read, which may be 0.
 #[inline(always)]
 #[tactic(auto, using(crate::proofs::WrittenReads::no_bytes))]
-fn read_without_lanes<C: LaneCodec, T: Destination>(
+pub(crate) fn read_without_lanes<C: LaneCodec, T: Destination>(
     blocks: &LaneBlocks<'_, '_, C>,
     src: &[u8],
     dst: &mut T,
@@ -71,47 +53,4 @@ fn read_without_lanes<C: LaneCodec, T: Destination>(
         }
     }
     at
-}
-
-/// Reads common forms of a codec from the front, but nothing at an uncommon byte, and one form if such a byte follows it.
-///
-/// Over packed tables it reads only ASCII. Returns the number of bytes read, which may be 0. If it reads any, three code
-/// units stay free. `guess` is what the codec keeps from one form of more than two bytes to the next. `without_lanes` is
-/// the number of bytes that are still to be read without lanes. It falls by the number that is read so, and becomes 0 if
-/// none is.
-// Malformed sequences often follow one another, or have a single form between them. Neither costs a call.
-#[inline(always)]
-pub fn read_by_tables<C: LaneCodec, T: Destination>(
-    tables: &Tables<'_>,
-    guess: &Cell<usize>,
-    without_lanes: &mut usize,
-    src: &[u8],
-    dst: &mut T,
-) -> usize
-    requires { HasAscii (C.grammar tables.now.flat) }
-    ensures { ReadsAhead T.Destination (new_state (C.grammar tables.now.flat)) src.now result dst.old dst.new }
-{
-    let Some(tables) = tables.flat() else {
-        return read_ascii(src, dst);
-    };
-    if stands_alone::<C>(src) {
-        return read_in_turn::<C, T>(tables, src, 2, dst);
-    }
-    let blocks = LaneBlocks::<C>::new(tables, guess);
-    if *without_lanes > 0 {
-        let read = read_without_lanes(&blocks, src, dst);
-        *without_lanes = if read == 0 {
-            0
-        } else {
-            without_lanes.saturating_sub(read)
-        };
-        return read;
-    }
-    match dst.lend(&BlocksAhead {
-        blocks: &blocks,
-        src,
-    }) {
-        Some(read) => read,
-        None => read_blocks(&blocks, src, dst),
-    }
 }

@@ -1,11 +1,10 @@
 //! The forms of a block of bytes, picked out by shuffles: their starts, and the code of each.
 // The functions that run for each vector are always inlined: a call would pass the vectors through memory.
-ghost use Rattle.std.specs.Prelude.{◌≡◌, ℕ, ◌+◌, ◌*◌, ◌<◌, ◌≤◌, ◌++◌, List, IfSome, length, map, take};
-ghost use Rattle.std.specs.List.{range_with_len};
+ghost use Rattle.std.specs.Prelude.{◌≡◌, ℕ, ◌+◌, ◌*◌, ◌<◌, ◌≤◌, ◌++◌, IfSome, length, map, take};
 ghost use Rattle.legacy_decoder_engine.specs.PickedForms.{places, code_at, forms_of, AreStarts, IsEnd};
 ghost use Rattle.legacy_text.specs.PastAscii.{ArePast};
 
-use legacy_text::row_table;
+use legacy_text::{row_of, row_table};
 use std::simd::prelude::*;
 
 /// The bit of every second byte.
@@ -14,8 +13,8 @@ const ODD: u64 = 0xAAAA_AAAA_AAAA_AAAA;
 /// The bits of all bytes but the last.
 const ALL_BUT_LAST: u64 = 0x7FFF_FFFF_FFFF_FFFF;
 
-/// Returns the bits of the bytes at which forms start, if each byte past ASCII that starts one is the first of two.
-// In a run of bytes past ASCII every second one starts a form: one subtraction carries through all runs at once, and
+/// Returns the bits of the bytes at which forms start, if each byte past ASCII that starts one is the first of two, or `None`.
+// In a row of bytes past ASCII every second one starts a form: one subtraction carries through all rows at once, and
 // gives the parity of each. The bits are checked after it, so the proof needs no facts about carries.
 #[inline(always)]
 #[tactic(auto, using(crate::proofs::FormStarts::asked, crate::proofs::FormStarts::lowest_set))]
@@ -35,14 +34,6 @@ pub fn form_starts(past: u64) -> Option<u64>
 pub static PICKED: [[u8; 16]; 256] = row_table!([0 1];
     [[] [0 1] [1 2] [0 1 1 2]] [[] [2 3] [3 4] [2 3 3 4]] [[] [4 5] [5 6] [4 5 5 6]] [[] [6 7] [7 8] [6 7 7 8]]);
 
-/// Returns a row of a table.
-#[inline(always)]
-fn row_of(rows: &[[u8; 16]; 256], starts: u8) -> u8x16
-    ensures { (rule : ℕ → List ℕ) → rows.now ≡ map rule (range_with_len 0 256) → result ≡ rule starts }
-{
-    u8x16::from_array(rows[usize::from(starts)])
-}
-
 /// Returns the codes of two bytes, the first one low, at those of the first eight places that are starts.
 ///
 /// Codes without meaning fill the rest of the eight.
@@ -51,7 +42,7 @@ fn codes_at(bytes: u8x16, starts: u8) -> u16x8
     ensures long { length result ≡ 8 }
     ensures codes { take (length (places 0 8 starts)) result ≡ map (code_at bytes) (places 0 8 starts) }
 {
-    let row = row_of(&PICKED, starts);
+    let row = row_of(&PICKED, usize::from(starts));
     u16x8::from_le_bytes(bytes.swizzle_dyn(row))
 }
 

@@ -15,7 +15,7 @@ pub const SLACK: usize = 3;
 /// The number of bytes of a short block of ASCII.
 pub(crate) const SHORT_BLOCK: usize = 16;
 
-/// Blocks that follow one another, with nothing held back between two of them.
+/// What reads text by blocks, with nothing held back between two of them.
 ///
 /// A block is a number of bytes or forms for which room is tested once.
 pub trait BlockReader {
@@ -55,7 +55,7 @@ fn read_wide_blocks<T: Destination>(src: &[u8], dst: &mut T) -> (usize, bool)
 {
     let mut at = 0;
     while src.len() - at >= 128 && dst.free() >= 64 + SLACK {
-        let count = dst.put_front(&src[at..], 64);
+        let count = dst.put_front(&src[at..]);
         at += count;
         if count < 64 {
             return (at, false);

@@ -4,7 +4,7 @@ use Rattle.std.proofs.{Math.Seq.{take-suc, take-append-add}, lemmas.Bool.cases_l
 use Rattle.std.proofs.lemmas.Grind.{common_steps}
 use Rattle.legacy_base.specs.Encoders.{EncoderState, encoder_profile, scalar_room}
 use Rattle.legacy_encoder_engine.specs.{ProfileSuffices.Serves, UnitTurns.{PutsUnits, ReadsUnit, two_bytes}}
-use Rattle.legacy_encoder_engine.proofs.ReadingAhead.{keeps_none, keeps_then, keeps_move}
+use Rattle.legacy_encoder_engine.proofs.ReadingAhead.{keeps_then, keeps_move}
 
 -- two bytes were written after the old bytes, and the first `count` of them are kept
 pub kept : (at count : ℕ) (old new bytes : List ℕ) → length old ≡ at → count ≤ 2
@@ -17,12 +17,6 @@ pub stays : (start at : ℕ) (old new bytes : List ℕ) (end : ℕ) → start �
 stays start at old new bytes end within fits le e = grind (arith, common_steps, take-take start end new, take-take start at old)
 
 module _ (state : EncoderState) (free : ℕ) where
-  pub units_none : (units old new : List ℕ) → new ≡ old → PutsUnits state free (take 0 units) old new
-  units_none units old new e = record {
-    bmp = λ k h. absurd (omega arith);
-    keeps = λ rest. rw e (keeps_none state free rest old);
-  }
-
   -- one more code unit
   pub units_more : (serves : Serves (encoder_profile state.codec)) (units old bytes new : List ℕ) (k c both count : ℕ)
       → PutsUnits state free (take k units) old bytes

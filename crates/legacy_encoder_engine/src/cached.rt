@@ -3,7 +3,6 @@
 ghost use Rattle.std.specs.Prelude.{◌≡◌, ◌<◌, ◌≤◌, [], ◌∷◌, length, Some, IfSome, MatchOption};
 ghost use Rattle.legacy_base.specs.Encoders.{encoder_profile, new_encoder};
 ghost use Rattle.legacy_encoder_engine.specs.CachedPairs.{AreAllPairsOf, IsNoPair};
-ghost use Rattle.legacy_encoder_engine.specs.Moves.{IsCode};
 ghost use Rattle.legacy_encoder_engine.specs.Guesses.{IsGuess};
 ghost use Rattle.legacy_encoder_engine.specs.UnfinishedCall.{EncodesFrom};
 
@@ -22,19 +21,9 @@ pub const PAIR_ROOM: usize = 0x1_0000;
 
 /// The codes of scalars past ASCII that have no lead and trail.
 pub trait PastPairs: PlainCodes {
-    /// Returns the bytes of such a scalar, or the scalar itself as unmappable.
-    #[inline(always)]
-    fn code_past_pairs(&self, c: char) -> EncoderMove
-        requires past { 0x80 ≤ c }
-        requires none { IsNoPair (Self.codec self.now) c }
-        ensures { IsCode ((encoder_profile (Self.codec self.now)).code c) c result }
-    {
-        self.code_of(c)
-    }
-
     /// Returns the four bytes of such a scalar.
     ///
-    /// The result may be `None` for any scalar: `code_past_pairs` has all codes. `guess` may change.
+    /// The result may be `None` for any scalar: `code_of` has all codes. `guess` may change.
     #[inline(always)]
     fn four_past_pairs(&self, guess: &mut RangePart, c: char) -> Option<(u8, u8, u8, u8)>
         requires past { 0x80 ≤ c }
@@ -81,13 +70,8 @@ impl<'a, C: PastPairs> PlainCodes for WithPairs<'a, C> {
         self.codes.past_room()
     }
 
-    // A scalar without a pair in the list has none in the index, which is not searched again.
     #[inline(always)]
     fn code_of(&self, c: char) -> EncoderMove {
-        let code = c as usize;
-        if code >= 0x80 && code < PAIR_ROOM && self.pairs[code] == 0 {
-            return self.codes.code_past_pairs(c);
-        }
         self.codes.code_of(c)
     }
 
@@ -126,7 +110,7 @@ impl<'a, C: PastPairs> PlainCodes for WithPairs<'a, C> {
 
 /// An encoder whose codes past ASCII are mostly pairs, so that a list of them is worth its memory.
 pub trait EncodesPairs: PlainEncoder + PastPairs + RawEncoder + Sized {
-    /// Reads ahead as `read_codes` does, by the pairs of a list.
+    /// Reads ahead as `read_codes` does, by the pairs of a list. Returns the place after the bytes in `dst`.
     #[inline]
     fn read_with<S: Source>(
         &self,
@@ -143,7 +127,8 @@ pub trait EncodesPairs: PlainEncoder + PastPairs + RawEncoder + Sized {
         read_common(&WithPairs::new(self, pairs), src, dst, start)
     }
 
-    /// Fills a list with the codes of all scalars below U+10000.
+    /// Fills a list of `PAIR_ROOM` entries, one for each scalar below U+10000: its pair with the lead low, and 0 past ASCII
+    /// if it has none.
     fn fill_pairs(&self, pairs: &mut [u16])
         requires { length pairs.old ≡ 65536 }
         ensures { AreAllPairsOf (Self.codec self.now) pairs.new };

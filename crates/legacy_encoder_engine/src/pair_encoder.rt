@@ -46,7 +46,7 @@ pub trait PairCodec {
 // `ask_pairs` is generic over the codec, and a method of `PairCodec` cannot call it: hence this
 // trait.
 pub trait FillsPairs: PairCodec {
-    /// Fills a list with the codes of all scalars below U+10000.
+    /// Fills a list of 65,536 entries, as `EncodesPairs::fill_pairs` does.
     fn fill<V: EncoderTables>(tables: &V, entries: &mut [u16])
         requires { length entries.old ≡ 65536 }
         ensures { AreAllPairsOf (Self.codec (V.indexes tables.now).flat) entries.new };

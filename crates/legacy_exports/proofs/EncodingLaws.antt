@@ -107,9 +107,6 @@ module _ {before : EncoderState} {text : List ℕ} {last : Bool} {free : ℕ} {a
 no_end : {A : Type 0} → IsTrue false → A
 no_end f = cc
 
-pub encodes_start : (kind : Replacement) (before : EncoderState) (text : List ℕ) → EncodesTo kind false before text before text [] []
-encodes_start kind before text = record { taken = []; cut = refl; codec = refl; out = []; gives = λ more ended h. refl; bytes = refl }
-
 module _ {kind : Replacement} {ended : Bool} {before : EncoderState} {text : List ℕ} {now : EncoderState} {piece later written : List ℕ}
     (r : EncodesTo kind false before text now (piece ++ later) written []) {after : EncoderState} {left bytes lost : List ℕ}
     (c : EncodesTo kind ended now piece after left bytes lost) (none : IsTrue ended → later ≡ []) where

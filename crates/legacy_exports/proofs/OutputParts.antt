@@ -1,6 +1,6 @@
 -- What an output contains after a write to its part from a place on.
 use Rattle.std.proofs.Common.{◌≡◌, ◌∙◌, ℕ, set, ◌+◌, ◌-◌, ◌≤◌, List, [], ◌∷◌, ◌++◌, length, take, drop, sym, ap, arith, subst}
-use Rattle.std.proofs.Common.{length-append, length-set, length-take, length-drop, append_assoc}
+use Rattle.std.proofs.Common.{length-set, length-take, length-drop, append_assoc}
 use Rattle.std.proofs.{Math.Seq.take-append-add, lemmas.Slice.take-put_mid, lemmas.List.{take-take, take_more_set, length-take-le}}
 use borrow.Rule.Slice.PartMut.{put_mid}
 
@@ -16,10 +16,6 @@ front_of_part a k n xs ys within le =
 pub front_of_units : {A : Type 0} (units : List A → List ℕ) → ((xs ys : List A) → units (xs ++ ys) ≡ units xs ++ units ys) →
     (a k n : ℕ) (xs ys : List A) → a ≤ length xs → n ≤ length ys → units (take (a + n) (put_mid a k xs ys)) ≡ units (take a xs) ++ units (take n ys)
 front_of_units units law a k n xs ys within le = ap units (front_of_part a k n xs ys within le) ∙ law (take a xs) (take n ys)
-
--- an output is as long as before
-pub length_of_part : {A : Type 0} (a k : ℕ) (xs ys : List A) → a ≤ length xs → length ys ≡ k → a + k ≤ length xs → length (put_mid a k xs ys) ≡ length xs
-length_of_part a k xs ys within e fits = grind (arith, length-append, length-take, length-drop)
 
 -- the code units that are free after those written
 pub free_after : {A : Type 0} (units : List A → List ℕ) → ((xs : List A) → length (units xs) ≡ length xs) → (a total : ℕ) (xs : List A) → a ≤ length xs →

@@ -8,7 +8,7 @@ use lib.Utf8.{encodes}
 use Rattle.std.proofs.str.Utf16.{IsPair}
 use Rattle.std.specs.Char.Utf16.{lone_unit_char, surrogate_pair_char, is_high_surrogate, is_low_surrogate}
 use Rattle.std.specs.Option.{unwrap_or}
-use Rattle.legacy_text.specs.Texts.{unit_scalars}
+use Rattle.legacy_text.{specs.Texts.unit_scalars, proofs.Texts.pair_or_not}
 
 abbrev replaced : Option ℕ → ℕ
 replaced o = unwrap_or o 0xFFFD
@@ -16,9 +16,6 @@ replaced o = unwrap_or o 0xFFFD
 -- no pair of surrogates is split between two lists of code units
 abbrev pub IsSeam : List ℕ → List ℕ → Type 0
 IsSeam xs ys = (k : ℕ) → length xs ≡ k + 1 → (is_high_surrogate (get_or xs k 0) && is_low_surrogate (get_or ys 0 0)) ≡ false
-
-pair_or_not : (u v : ℕ) → IsPair u v ⊎ (IsPair u v → ⊥)
-pair_or_not u v = grind arith
 
 no_pair : (u v : ℕ) → (is_high_surrogate u && is_low_surrogate v) ≡ false → IsPair u v → ⊥
 no_pair u v e p = grind arith

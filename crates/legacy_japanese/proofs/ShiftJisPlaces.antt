@@ -5,7 +5,7 @@ use Rattle.std.{proofs.lemmas.Nat.xor_mod, specs.{Int.{is_in_range, Bits.bit_xor
 use Rattle.legacy_tables.{specs.{AcceptedTables.AcceptedIndexes, Indexes.idx, Unicode.katakana_of}, proofs.Accepted.entry-used}
 use Rattle.legacy_tables.proofs.Accepted.{length-jis0208, jis0208-below, jis0208-scalars}
 use Rattle.legacy_base.specs.{ShiftJis.{is_shift_jis_lead, shift_jis_scalars, shift_jis_pointer}, Grammar.shift_jis}
-use Rattle.legacy_decoder_engine.specs.{Places.IsTableOf, ReadAhead.{Yields, HasAscii}, StepUnits.IsNarrowIndex, LaneCodes.ArePairs, LanePlaces.lead_place_of}
+use Rattle.legacy_decoder_engine.specs.{Places.IsTableOf, ReadAhead.Yields, StepUnits.IsNarrowIndex, LaneCodes.ArePairs, LanePlaces.lead_place_of}
 use Rattle.legacy_decoder_engine.proofs.{PairPlaces.{none_past, pair_entry, found}, LeadHeld.pair, YieldedForms.single_yields}
 use Rattle.legacy_decoder_engine.proofs.{Widths.idx_below, LanePlaces.entry_is}
 use Rattle.legacy_japanese.specs.{ShiftJisPlaces.{shift_jis_lead_place, shift_jis_place, shift_jis_trail_place}, ShiftJisMachine.shift_jis_pair_scalars}
@@ -13,7 +13,6 @@ use Rattle.legacy_japanese.specs.{declared.shift_jis.places.TheConstants.{LEADS,
 use lib.Lanes.{Each1, zip2}
 use Rattle.legacy_text.proofs.UnitLanes.{of_eight}
 use Rattle.legacy_tables.specs.declared.tables.IndexName.TheVariants as names
-use Rattle.legacy_decoder_engine.proofs.LeadHeld as held
 
 pub shift_jis_leads_are : IsTableOf shift_jis_lead_place LEADS
 unfolding shift_jis_lead_place
@@ -97,9 +96,6 @@ changed_leads = of_eight (λ v. map (λ code. min (lead_place_of 0x21 0x2E 188 c
 module _ (tables : AcceptedIndexes) where
   abbrev index : List ℕ
   index = tables.flat.jis0208
-
-  pub ascii : HasAscii (shift_jis tables.flat.jis0208)
-  ascii = held.ascii shift_jis_codec tables
 
   pub lane_pair : ArePairs (shift_jis tables.flat.jis0208) tables.flat.jis0208 shift_jis_place
   lane_pair code small past within high some =

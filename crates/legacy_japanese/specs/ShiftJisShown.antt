@@ -1,6 +1,6 @@
 -- The steps of Shift_JIS agree with its grammar.
 use Rattle.std.proofs.Common.{◌≡◌, ℕ, ◌<◌, ◌≤◌, List, [], ◌∷◌, Option, Bool, true, false, cond, refl, ◌||◌, ◌==◌, arith}
-use Rattle.std.proofs.lemmas.{Bool.or_parts, Bool.Decides.nat_tests}
+use Rattle.std.proofs.lemmas.{Bool.{or_parts, eqb-true}, Bool.Decides.nat_tests}
 use Rattle.std.specs.{Option.option_map_or, Char.is_ascii}
 use Rattle.legacy_base.specs.ShiftJis.{shift_jis_front, shift_jis_pair, is_shift_jis_lead, shift_jis_scalars, shift_jis_pointer}
 use Rattle.legacy_base.specs.{Fronts.Front, Fronts.reads, Fronts.malformed, Grammar.shift_jis, Lengths.to_utf16}
@@ -17,9 +17,6 @@ use Rattle.legacy_tables.proofs.Accepted.{jis0208-below}
 no_lead : (b : ℕ) → is_ascii b ≡ true → is_shift_jis_lead b ≡ false
 no_lead b h = grind (arith, nat_tests)
 
-eighty : (b : ℕ) → (b == 0x80) ≡ true → b ≡ 0x80
-eighty b h = grind (arith, nat_tests)
-
 katakana : (b : ℕ) → is_katakana_byte b ≡ true → (is_shift_jis_lead b ≡ false) × (katakana_of b < 0x1_0000)
 katakana b h = (grind (arith, nat_tests), let below = katakana_below b h in omega arith)
 
@@ -34,7 +31,7 @@ first_is b =
   where
     one_byte : (t : Bool) → is_ascii b ≡ t → (t || b == 0x80) ≡ true → IsFirst is_shift_jis_lead 6 b (finish (reads 1 (b ∷ [])))
     one_byte true a e = ascii refl a (no_lead b a) (omega arith)
-    one_byte false a e = let at = eighty b e in other b refl a (rw at refl) (omega arith) (omega arith)
+    one_byte false a e = let at = eqb-true b 0x80 e in other b refl a (rw at refl) (omega arith) (omega arith)
 
 front_is : (jis0208 : List ℕ) (b : ℕ) (rest : List ℕ) (pair : Front) → pair ≡ step_front (shift_jis_pair_scalars jis0208 b) rest hold →
     cond (is_ascii b || b == 0x80) (reads 1 (b ∷ [])) (cond (is_katakana_byte b) (reads 1 (katakana_of b ∷ [])) (cond (is_shift_jis_lead b) pair (malformed 1)))

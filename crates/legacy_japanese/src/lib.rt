@@ -9,8 +9,8 @@ mod folded_scalars;
 mod iso_2022_jp;
 mod shift_jis;
 
-pub use euc_jp::decoder::EucJpDecoder;
-pub use euc_jp::encoder::{EucJp, EucJpEncoder};
+pub use euc_jp::decoder::{EucJp, EucJpDecoder};
+pub use euc_jp::encoder::EucJpEncoder;
 pub use iso_2022_jp::cached::CachedIso2022JpEncoder;
 pub use iso_2022_jp::decoder::Iso2022JpDecoder;
 pub use iso_2022_jp::encoder::Iso2022JpEncoder;

@@ -1,11 +1,11 @@
 -- The facts that the check of an encoder's run proves, and the codes that follow from a table's places.
 use Rattle.std.proofs.Common.{◌≡◌, ◌↔◌, IfSome, ℕ, ◌+◌, ◌-◌, ◌≤◌, ◌<◌, ◌==◌, List, ◌∷◌, [], length, get_or, refl, arith, Some, None}
-use Rattle.std.proofs.{Common.{Option, not, position}, lemmas.Bool.lt-ltb, lemmas.Bool.Decides.nat_tests, lemmas.List.get_or_past}
+use Rattle.std.proofs.{Common.{Option, not, position}, lemmas.Bool.lt-ltb, lemmas.Bool.Decides.nat_tests}
 use Rattle.std.specs.List.{position_or_len}
 use Rattle.legacy_text.specs.UnitCodes.{IsNoSurrogate}
 use Rattle.legacy_tables.specs.{Indexes.{idx}, TableChecks.IsAcceptedTable}
 use Rattle.legacy_base.specs.SingleByte.{single_byte_code}
-use Rattle.legacy_tables.proofs.{Accepted.entry_scalar-is, AcceptedTable.{position-idx, within, table-scalars, table-below}}
+use Rattle.legacy_tables.proofs.{Accepted.entry_scalar-is, PackedAccepted.entry-narrow, AcceptedTable.{position-idx, within, table-scalars, table-below}}
 use Rattle.{std.proofs.lemmas.Grind.common_steps, legacy_tables.proofs.FirstPlaces.{find-first, find-none-at}}
 use Rattle.legacy_single_byte.specs.SingleByteRun.{IsRun, first_mismatch}
 
@@ -13,13 +13,9 @@ pub run_holds : (table : List ℕ) (scalar start count : ℕ) → first_mismatch
 run_holds table scalar start count e k h =
     let same = find-none-at (λ k. not (get_or table (start + k) 0 == scalar + k)) 0 count e k (omega arith) (omega arith) in grind (arith, nat_tests)
 
--- each entry of an accepted table is below U+10000
-entry_below : (table : List ℕ) → IsAcceptedTable table → (p : ℕ) → get_or table p 0 < 0x1_0000
-entry_below table accepted p = grind (arith, get_or_past, table-below table accepted)
-
 pub run_below : (table : List ℕ) → IsAcceptedTable table → (scalar start count : ℕ)
     → scalar < 0x1_0000 → IsRun table scalar start count → scalar + count ≤ 0x1_0000
-run_below table accepted scalar start count low is = grind (arith, entry_below table accepted (start + (count - 1)), is (count - 1))
+run_below table accepted scalar start count low is = grind (arith, entry-narrow table (table-below table accepted) (start + (count - 1)), is (count - 1))
 
 -- ---- places
 

@@ -1,9 +1,10 @@
 -- The steps of the single-byte decoders agree with their grammar, and their moves hold nothing back.
 use Rattle.std.proofs.{Common.{◌≡◌, ℕ, ◌-◌, [], true, refl, arith}, lemmas.List.Elements.All-nil}
 use Rattle.legacy_base.specs.{SingleByte.single_byte_front, Grammar.{single_byte, events_of}, States.new_state}
-use Rattle.{legacy_tables.specs.{Indexes.idx, Unicode.IsByte, AcceptedTables.AcceptedTable}, legacy_tables.proofs.AcceptedTable.table-below}
+use Rattle.legacy_tables.specs.{Indexes.idx, Unicode.IsByte, AcceptedTables.AcceptedTable}
+use Rattle.legacy_tables.proofs.{AcceptedTable.table-below, PackedAccepted.entry-narrow}
 use Rattle.legacy_decoder_engine.specs.{declared.moves.Fed.Fed, Moves.{IsCovered, Feeds}, Feeding.{HasScalars, fed_of}, Shown.IsShown}
-use Rattle.legacy_decoder_engine.proofs.{OneByteShown.one_byte_shown, Widths.narrow_entry}
+use Rattle.legacy_decoder_engine.proofs.OneByteShown.{one_byte_shown}
 use Rattle.legacy_single_byte.specs.SingleByteMachine.{single_byte_first, single_byte_machine}
 use Rattle.legacy_decoder_engine.proofs.Feeding as moves
 
@@ -13,7 +14,7 @@ module _ (table : AcceptedTable) where
   shown = one_byte_shown (single_byte table.entries) (single_byte_front table.entries) (λ b. idx table.entries (b - 0x80)) true (record {
     profile_is = refl;
     front_is = λ b rest. refl;
-    below = λ b byte. grind (arith, narrow_entry table.entries (b - 0x80) (table-below table.entries table.accepted));
+    below = λ b byte. grind (arith, entry-narrow table.entries (table-below table.entries table.accepted) (b - 0x80));
   })
 
   pub covered : IsCovered (new_state (single_byte table.entries))

@@ -1,18 +1,18 @@
 -- The bits of the bytes past ASCII.
 use Rattle.std.proofs.Common.{◌≡◌, ◌≢◌, ◌↔◌, ◌∙◌, not, nat_eq, false, take, ℕ, ◌+◌, ◌-◌, ◌/◌, ◌%◌, ◌^◌, ◌<◌}
-use Rattle.std.proofs.Common.{◌≤◌, List, cond, leb, length, map, get_or, replicate, w8, w64, sym, ap, arith}
+use Rattle.std.proofs.Common.{◌≤◌, List, cond, leb, length, map, get_or, replicate, w8, w64, ap, arith}
 use Rattle.std.proofs.lemmas.{List.{get_or-map, get_or-take, length-map, length-take-le}, Bool.Decides.nat_tests, Nat.shr-shr}
 use Rattle.std.proofs.lemmas.Nat.Bits.{bit_at-zero, bit_at-trailing_zeros}
-use Rattle.std.proofs.lemmas.Simd.{bit_mask_l, tops_compared, mask_l-mod}
+use Rattle.std.proofs.lemmas.Simd.{bit_mask_l, tops_compared, mask_l-mod, zip2_splat_left}
 use Rattle.std.specs.Int.{trailing_zeros, Count.trailing_of_zero}
 use lib.Lanes.{mask_l, zip2, top}
 use Rattle.legacy_text.specs.PastAscii.{ArePast, ArePastFrom}
-use Rattle.legacy_text.proofs.Ascii.{splat_zip2, past_mask, none_past, lowest_past}
+use Rattle.legacy_text.proofs.Ascii.{past_mask, none_past, lowest_past}
 
 pub past_bits : (block : List ℕ) → length block ≡ 64
     → ArePast (mask_l (map (top 7) (zip2 (λ a b. cond (leb a b) (2 ^ 8 - 1) 0) (replicate 64 128) block)) % 2 ^ 64) block
 past_bits block long i h =
-    let mask = tops_compared w8 leb (replicate 64 128) block ∙ ap (λ n. zip2 leb (replicate n 128) block) (sym long) ∙ splat_zip2 leb 128 block in
+    let mask = tops_compared w8 leb (replicate 64 128) block ∙ zip2_splat_left leb 128 64 block long in
     grind (arith, mask, mask_l-mod (map (λ b. leb 128 b) block) 64, length-map block (λ b. leb 128 b), bit_mask_l, get_or-map, nat_tests)
 
 -- the bits from the place after the next byte past ASCII on

@@ -79,7 +79,7 @@ each_sixteenth f x bytes place within k h =
     ∙ ap₂ f (get_or-chunk place 16 bytes k 0 h) (get_or-replicate 16 k x 0 h)
 
 -- the lanes of a vector of bytes
-below_256 : (v : List ℕ) → Each1 (Fits w8) v → (i : ℕ) → get_or v i 0 < 256
+pub below_256 : (v : List ℕ) → Each1 (Fits w8) v → (i : ℕ) → get_or v i 0 < 256
 below_256 v fits i = grind (arith, cases_lt, Each1-get_or, below_from_Fits, w8, get_or_past)
 
 -- the interleaved entries of two lists of sixteen, n of each from `a` on

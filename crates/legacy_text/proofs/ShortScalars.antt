@@ -1,12 +1,12 @@
 -- Scalars that were written as one byte each, and the scalars of one and two bytes of UTF-8.
 use Rattle.std.proofs.{lemmas.Bool.Decides.nat_tests, lemmas.Grind.common_steps, Common.{◌≡◌, ℕ, ◌+◌, ◌-◌, ◌*◌, ◌≤◌, ◌<◌, List, [], ◌∷◌, ◌++◌, length, get_or}}
-use Rattle.std.proofs.{Common.{true, drop, sym, ap, arith, append_assoc, append-nil, length-append, length-drop, add-zero}, lemmas.List.get_or_append_left}
+use Rattle.std.proofs.{Common.{true, drop, sym, ap, arith, append_assoc, append-nil, length-append, length-drop}, lemmas.List.get_or_append_left}
 use Rattle.std.proofs.{lemmas.List.{get_or-append-add, get_or-drop, drop-drop}, lemmas.Str.{encodes-chars, IsUtf8-from_is_utf8}, Math.Seq.take-add}
-use Rattle.std.specs.Str.{chars, is_utf8}
+use Rattle.std.{specs.Str.{chars, is_utf8}, proofs.lemmas.Option.slice_get-get_or}
 use lib.Utf8.{encodes}
 use Rattle.legacy_text.specs.{EncodingForm.{Utf8, code_units, unit_count, total_unit_count}, ShortScalars.{ReadsScalar, WritesScalars}, UnitCodes.WritesCodes}
 use Rattle.legacy_text.specs.NextScalars.{StandsAt}
-use Rattle.legacy_text.proofs.{CodeUnits.total_unit_count-append, Texts.{first_some, utf8_next, utf8_stands, by_first}, UnitCopies.writes_none}
+use Rattle.legacy_text.proofs.{CodeUnits.total_unit_count-append, Texts.{utf8_next, utf8_stands, by_first}}
 
 -- ---- several scalars
 
@@ -15,11 +15,6 @@ codes_append : (gives : ℕ → ℕ → Type 0) (scalars old mid new : List ℕ)
     → WritesCodes gives scalars n old mid → WritesCodes gives (drop n scalars) m mid new → WritesCodes gives scalars (n + m) old new
 codes_append gives scalars old mid new n m few a b =
     grind (arith, common_steps, append_assoc, length-append, get_or_append_left, get_or-append-add, get_or-drop)
-
--- nothing was written yet
-pub scalars_none : (gives : ℕ → ℕ → Type 0) (text : List ℕ) (place : ℕ) (old new : List ℕ) → place ≤ length text → is_utf8 (drop place text) ≡ true → new ≡ old
-    → WritesScalars gives text place 0 place old new
-scalars_none gives text place old new p u e = grind (arith, nat_tests, add-zero, writes_none)
 
 pub one_count : (c : ℕ) → total_unit_count Utf8 (c ∷ []) ≡ unit_count Utf8 c
 one_count c = ap length (append-nil (code_units Utf8 c))
@@ -47,7 +42,7 @@ module _ (text : List ℕ) (place : ℕ) (inside : place < length text) (u : is_
       has (x ∷ l) e = omega arith
 
   pub stands : StandsAt text place (get_or (chars (drop place text)) 0 0)
-  stands = utf8_stands text place _ u (first_some (chars (drop place text)) some)
+  stands = utf8_stands text place _ u (sym (slice_get-get_or (chars (drop place text)) 0 0 some))
 
   pub reads_here : ReadsScalar text place (get_or (chars (drop place text)) 0 0) (place + unit_count Utf8 (get_or (chars (drop place text)) 0 0))
   reads_here = utf8_next text place (omega arith) u some

@@ -3,16 +3,16 @@ use Rattle.std.proofs.{lemmas.Bool.Decides.nat_tests, Common.{◌≡◌, ◌∙�
 use Rattle.std.proofs.Common.{◌%◌, ap, subst, arith, length-append, length-drop, Some, None, Option, true, false, ◌⊎◌, ◌&&◌, map, slice_get, IsAscii, cond, ltb}
 use Rattle.std.proofs.{lemmas.List.{drop-drop, take-append-drop, length-take-le, get_or-take, get_or-drop}, Math.Seq.{drop-append_seam, take-append_seam}}
 use Rattle.std.proofs.lemmas.Str.{IsUtf8-from_is_utf8, is_utf8-from_IsUtf8, encodes-chars, chars_past_char, IsUtf8-past_char, drop_past_char, length-encode}
-use Rattle.std.proofs.lemmas.Str.{utf16_chars-nil, len_utf8_bounds, utf16_chars_lone, utf16_chars_pair, encodes-append, scalars-chars, chars-encodes}
+use Rattle.std.proofs.lemmas.Str.{utf16_chars-nil, encodes-append, scalars-chars, chars-encodes}
 use Rattle.std.proofs.lemmas.Str.{IsCharBoundary-at_seam, chars-append, chars-IsAscii, IsUtf8-from_ascii, IsUtf8-drop, IsCharBoundary-from_take}
-use Rattle.std.proofs.{lemmas.Str.{IsCharBoundary-from_drop, encode_ascii}, str.Utf16.{IsPair, lone_unit_char_low, lone_unit_char_high}}
+use Rattle.std.proofs.{lemmas.Str.{IsCharBoundary-from_drop, encode_ascii}, str.Utf16.{IsPair, one_unit, two_units, lone_unit_char_low, lone_unit_char_high}}
 use Rattle.std.proofs.{str.Utf16.{lone_unit_char_surrogate, utf16_chars-drop_lone, utf16_chars-drop_pair, utf16_chars-drop_all}, lemmas.Grind.common_steps}
 use Rattle.std.specs.{Str.{chars, is_utf8, IsUtf8, IsCharBoundary}, Char.Utf16.{lone_unit_char, surrogate_pair_char, is_high_surrogate, is_low_surrogate}}
-use Rattle.std.specs.Option.{unwrap_or}
+use Rattle.std.{specs.Option.unwrap_or, proofs.lemmas.Option.slice_get-get_or}
 use lib.{ListN.get_or-eq_default, Utf8.{encode, encodes, scalars}}
 use Rattle.legacy_text.specs.{EncodingForm.{EncodingForm, Utf8, Utf16, unit_count, all_code_units}, declared.text_cursor.Next.Next, NextScalars.StandsAt}
 use Rattle.legacy_text.specs.{NextScalars.{IsSized, IsNext}, UnitCodes.IsNoSurrogate, Texts.{unit_scalars, IsUnitBoundary}, ShortScalars.ReadsScalar}
-use Rattle.legacy_text.proofs.{Ascii.all_behind, CodeUnits.{some_units, encode_2, encode_3, encode_4, utf16_1, utf16_2, total_unit_count-append}}
+use Rattle.legacy_text.proofs.{Ascii.all_behind, CodeUnits.{some_units, encode_2, encode_3, encode_4, total_unit_count-append}}
 
 pub first_cons : {A : Type 0} (xs : List A) (x : A) → Some x ≡ slice_get xs 0 → xs ≡ x ∷ drop 1 xs
 first_cons xs x h = grind arith
@@ -62,7 +62,7 @@ pub record Utf16Step (list : List ℕ) (place c n : ℕ) : Type 0 where
   pub behind : unit_scalars (drop (place + n) list) ≡ drop 1 (unit_scalars (drop place list))
   pub first : get_or (unit_scalars (drop place list)) 0 0 ≡ c
 
-pair_or_not : (u v : ℕ) → IsPair u v ⊎ (IsPair u v → ⊥)
+pub pair_or_not : (u v : ℕ) → IsPair u v ⊎ (IsPair u v → ⊥)
 pair_or_not u v = grind arith
 
 unpaired_bound : (u : ℕ) → u < 65536 → replaced (lone_unit_char u) < 65536
@@ -71,7 +71,7 @@ unpaired_bound u h = grind arith
 pub utf16_step : (list : List ℕ) (place c n : ℕ) → ((i : ℕ) → get_or list i 0 < 65536) → place < length list →
     Some c ≡ slice_get (unit_scalars (drop place list)) 0 → (c < 65536 → n ≡ 1) → (65536 ≤ c → n ≡ 2) → Utf16Step list place c n
 utf16_step list place c n bound h e short long =
-    grind (arith, pair_or_not, get_or-eq_default, scalars_pair, utf16_2, scalars_lone, unpaired_bound, utf16_1)
+    grind (arith, pair_or_not, get_or-eq_default, scalars_pair, two_units, scalars_lone, unpaired_bound, one_unit)
 
 -- there is a scalar only before the end
 pub some_within : (units : List ℕ) (place c : ℕ) → Some c ≡ slice_get (unit_scalars (drop place units)) 0 → place < length units
@@ -79,7 +79,7 @@ some_within units place c e = grind (arith, nat_tests, scalars_end)
 
 -- ---- what was taken off the front of a text
 
-encodes-code_units : (cs : List ℕ) → encodes cs ≡ all_code_units Utf8 cs
+pub encodes-code_units : (cs : List ℕ) → encodes cs ≡ all_code_units Utf8 cs
 encodes-code_units [] = refl
 encodes-code_units (c ∷ cs) = ap (λ l. encode c ++ l) (encodes-code_units cs)
 
@@ -117,12 +117,12 @@ pub utf16_cut : (list taken left : List ℕ) → Bounded list → unit_scalars l
 utf16_cut list [] left b e = grind arith
 utf16_cut [] (c ∷ taken) left b e = grind (arith, utf16_chars-nil)
 utf16_cut (u ∷ []) (c ∷ taken) left b e =
-    grind (arith, scalars_lone (u ∷ []) 0, unpaired_bound u (b 0), utf16_1 c, cut_lone u [] left, utf16_cut [] taken left (λ i. b (suc i)))
+    grind (arith, scalars_lone (u ∷ []) 0, unpaired_bound u (b 0), one_unit c, cut_lone u [] left, utf16_cut [] taken left (λ i. b (suc i)))
 utf16_cut (u ∷ v ∷ list) (c ∷ taken) left b e =
     let pair = utf16_cut list taken left (λ i. b (suc (suc i))) in
     let lone = utf16_cut (v ∷ list) taken left (λ i. b (suc i)) in
     let few = unpaired_bound u (b 0) in
-    grind (arith, pair_or_not u v, scalars_lone (u ∷ v ∷ list) 0, scalars_pair (u ∷ v ∷ list) 0, few, utf16_1 c, utf16_2 c, cut_lone, cut_pair)
+    grind (arith, pair_or_not u v, scalars_lone (u ∷ v ∷ list) 0, scalars_pair (u ∷ v ∷ list) 0, few, one_unit c, two_units c, cut_lone, cut_pair)
 
 -- what a call left of a whole text
 pub utf8_read : (text taken left : List ℕ) (read : ℕ) → IsUtf8 text → chars text ≡ taken ++ left →
@@ -198,9 +198,6 @@ pub first_is : (xs : List ℕ) → slice_get xs 0 ≡ cond (ltb 0 (length xs)) (
 first_is [] = refl
 first_is (x ∷ xs) = grind arith
 
-pub first_some : (xs : List ℕ) → 0 < length xs → Some (get_or xs 0 0) ≡ slice_get xs 0
-first_some xs h = grind (arith, nat_tests, first_is xs)
-
 pub is_next : (form : EncodingForm) (left : List ℕ) (c : ℕ) (next : Next) → left ≡ c ∷ drop 1 left → IsSized form c next → IsNext form left next
 is_next form left c next h k = grind arith
 
@@ -215,7 +212,7 @@ utf8_next text place p u some =
     let bs = drop place text in
     let c = get_or (chars bs) 0 0 in
     let is = IsUtf8-from_is_utf8 bs u in
-    let stands = utf8_stands text place c u (first_some _ some) in
+    let stands = utf8_stands text place c u (sym (slice_get-get_or (chars bs) 0 0 some)) in
     let is_text = is_utf8-from_IsUtf8 stands.rest (IsUtf8-past_char bs stands.rest c is stands.is) in
     let past = drop_past_char text stands.rest place c stands.is in
     let all = chars_past_char bs stands.rest c is stands.is in
@@ -226,11 +223,11 @@ pub utf16_next : (list : List ℕ) (place : ℕ) → ((i : ℕ) → get_or list 
     (unit_scalars (drop place list) ≡ c ∷ unit_scalars (drop (place + unit_count Utf16 c) list)) × (place + unit_count Utf16 c ≤ length list)
 utf16_next list place bound some =
     let left = unit_scalars (drop place list) in
-    let f = first_some left some in
+    let f = sym (slice_get-get_or left 0 0 some) in
     let step = utf16_step list place (get_or left 0 0) (unit_count Utf16 (get_or left 0 0)) bound (some_within list place _ f) f in
-    grind (arith, first_cons left (get_or left 0 0) f, step, utf16_1, utf16_2)
+    grind (arith, first_cons left (get_or left 0 0) f, step, one_unit, two_units)
 
-pub ruleset advance_steps = (first_is, nat_tests, utf8_next, length-encode, utf16_next, utf16_1, utf16_2)
+pub ruleset advance_steps = (first_is, nat_tests, utf8_next, length-encode, utf16_next, one_unit, two_units)
 
 pub ruleset ascii_steps = (all_behind, length-drop, utf8_ascii, utf16_ascii)
 

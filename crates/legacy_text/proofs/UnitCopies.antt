@@ -1,6 +1,6 @@
 -- The bytes written for blocks of code units.
-use Rattle.std.proofs.{lemmas.Bool.Decides.nat_tests, Common.{◌≡◌, ◌∙◌, ℕ, suc, ◌+◌, ◌-◌, ◌≤◌, ◌<◌, List, [], ◌∷◌, ◌++◌, length, get_or, take, drop, refl, sym}}
-use Rattle.std.proofs.{Common.{ap, subst, arith, append_assoc, append-nil, length-append, length-drop, IsAscii, add-zero}, lemmas.List.get_or_append_left}
+use Rattle.std.proofs.{lemmas.Bool.Decides.nat_tests, Common.{◌≡◌, ◌∙◌, ℕ, ◌+◌, ◌-◌, ◌≤◌, ◌<◌, List, ◌++◌, length, get_or, take, drop}}
+use Rattle.std.proofs.{Common.{ap, arith, append_assoc, length-append, length-drop, IsAscii}, lemmas.List.get_or_append_left}
 use Rattle.std.proofs.lemmas.List.{get_or-append-add, get_or-drop, length-take-le, get_or-take, take_all, take-append-drop}
 use Rattle.legacy_text.specs.{EncodingForm.{Utf16, total_unit_count}, Texts.unit_scalars, UnitCodes.{IsNoSurrogate, WritesCodes}, UnitTurns.AreNoSurrogates}
 use Rattle.legacy_text.{specs.UnitTurns.TakesUnits, proofs.{CodeUnits.own_units, Texts.bmp_front}}
@@ -24,10 +24,6 @@ block_behind gives units old new front at copied r block marks within few long c
     byte : (k : ℕ) → k < copied + r → copied ≤ k → get_or (writes.bytes ++ take r block) k 0 ≡ get_or block (k - copied) 0
     byte k h l = grind (arith, writes, get_or-append-add, get_or-take)
 
--- nothing was written yet
-pub writes_none : (gives : ℕ → ℕ → Type 0) (units old new : List ℕ) → new ≡ old → WritesCodes gives units 0 old new
-writes_none gives units old new e = record { bytes = []; new_is = e ∙ sym (append-nil old); count = refl; each = λ k h. absurd (omega arith) }
-
 -- ---- code units that are not surrogates
 
 module _ (list : List ℕ) (place n : ℕ) (bound : (k : ℕ) → get_or list k 0 < 65536) (within : n ≤ length (drop place list))
@@ -48,5 +44,3 @@ takes_units list place n fits bound units is =
     let front = λ (own : AreNoSurrogates units). bmp_front list place n long (bmp own) in
     let many = λ (own : AreNoSurrogates units). bmp_count list place n bound long (bmp own) in
     grind (arith, front, many, count, take-append-drop n (unit_scalars (drop place list)))
-
-pub ruleset none_steps = (writes_none, add-zero)

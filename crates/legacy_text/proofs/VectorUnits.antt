@@ -1,5 +1,5 @@
 -- Eight code units that a destination writes at once, none of them a surrogate.
-use Rattle.std.proofs.Common.{◌≡◌, ◌∙◌, ℕ, zero, suc, ◌+◌, ◌-◌, ◌≤◌, ◌<◌, List, [], ◌∷◌, ◌++◌, length, take, get_or, refl, ap, ap₂, arith, append-nil}
+use Rattle.std.proofs.Common.{◌≡◌, ℕ, ◌+◌, ◌-◌, ◌≤◌, ◌<◌, List, ◌++◌, length, take, get_or, ap, arith, append-nil}
 use Rattle.std.proofs.{Common.{append_assoc, length-append, w16, Fits}, lemmas.List.{get_or-take, length-take, length-take-le, flat_map_more, take_all}}
 use Rattle.std.proofs.{lemmas.List.get_or_past, lemmas.Grind.common_steps, lemmas.Bool.cases_lt, lemmas.Simd.{Each1-get_or, below_from_Fits}}
 use lib.Lanes.{Each1}

@@ -73,20 +73,6 @@ pub(crate) fn store_wide(dst: &mut [u8], at: usize, bytes: &[u8])
     u8x64::from_slice(bytes).copy_to_slice(&mut dst[at..]);
 }
 
-/// Stores the first 64 bytes from the place `at` on, and returns the number of ASCII bytes at their front.
-#[inline(always)]
-fn store_wide_block(dst: &mut [u8], at: usize, bytes: &[u8]) -> usize
-    requires block { 64 ≤ length bytes.now }
-    requires room { at + 64 ≤ length dst.old }
-    ensures count { result ≤ 64 }
-    ensures ascii { IsAscii (take result bytes.now) }
-    ensures stored { take (at + result) dst.new ≡ take at dst.old ++ take result bytes.now }
-{
-    let count = wide_ascii_count(bytes);
-    store_wide(dst, at, bytes);
-    count
-}
-
 /// Returns the number of bytes of a block.
 #[inline(always)]
 fn block_width(is_wide: bool) -> usize
@@ -108,7 +94,8 @@ fn store_front(bytes: &[u8], dst: &mut [u8], at: usize, is_wide: bool) -> usize
     ensures stored { take (at + result) dst.new ≡ take at dst.old ++ take result bytes.now }
 {
     if is_wide {
-        store_wide_block(dst, at, bytes)
+        store_wide(dst, at, bytes);
+        wide_ascii_count(bytes)
     } else {
         store_block(dst, at, bytes)
     }

@@ -159,23 +159,20 @@ pub trait Destination {
         }
     }
 
-    /// Writes at most `most` ASCII bytes from the front of the slice, and returns the number.
+    /// Writes the ASCII bytes at the front of a block of 64, and returns their number.
     ///
-    /// The number is at most 64. The slice must have at least 64 bytes, and as many code units must
-    /// be free, as for `put_block`.
+    /// The slice must have at least 64 bytes, and as many code units must be free, as for `put_block`.
     #[inline(always)]
-    #[tactic(auto, using(crate::proofs::Ascii::fewer_ascii))]
-    fn put_front(&mut self, bytes: &[u8], most: usize) -> usize
+    fn put_front(&mut self, bytes: &[u8]) -> usize
         requires block { 64 ≤ length bytes.now }
         requires room { 64 ≤ room self.old }
-        ensures most { result ≤ most }
         ensures read { result ≤ 64 }
         ensures ascii { IsAscii (take result bytes.now) }
         ensures contents { contents self.new ≡ contents self.old ++ take result bytes.now }
         ensures room { room self.new + result ≡ room self.old }
         ensures loan { loan self.new ≡ loan self.old }
     {
-        let count = wide_ascii_count(bytes).min(most);
+        let count = wide_ascii_count(bytes);
         self.put_block(bytes, count);
         count
     }
@@ -414,7 +411,7 @@ impl<'a> Utf16Destination<'a> {
     /// Stores a block after what was written, keeps its ASCII front, and returns its length.
     // It is always inlined, as `ascii_count` is.
     #[inline(always)]
-    fn put_block(&mut self, block: u8x16) -> usize
+    fn put_ascii_front(&mut self, block: u8x16) -> usize
         requires { 16 ≤ utf16_free self.old }
         ensures count { result ≤ 16 }
         ensures ascii { IsAscii (take result block) }
@@ -492,7 +489,7 @@ impl Destination for Utf16Destination<'_> {
     fn copy_ascii(&mut self, bytes: &[u8]) -> usize {
         let mut at = 0;
         while bytes.len() - at >= 16 && self.buffer.len() - self.filled >= 16 {
-            let count = self.put_block(u8x16::from_slice(&bytes[at..]));
+            let count = self.put_ascii_front(u8x16::from_slice(&bytes[at..]));
             at += count;
             if count < 16 {
                 return at;

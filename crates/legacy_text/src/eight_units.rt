@@ -66,7 +66,7 @@ fn patterns(units: u16x8) -> (usize, usize)
 
 /// Returns a row of a table of places.
 #[inline(always)]
-pub(crate) fn row_of(rows: &[[u8; 16]; 256], pattern: usize) -> u8x16
+pub fn row_of(rows: &[[u8; 16]; 256], pattern: usize) -> u8x16
     requires { pattern < 256 }
     ensures { (rule : ℕ → List ℕ) → rows.now ≡ map rule (range_with_len 0 256) → result ≡ rule pattern }
 {

@@ -19,7 +19,7 @@ mod unit_codes;
 mod unit_rows;
 
 pub use destination::{Destination, FillsBuffer, Utf8Destination, Utf16Destination};
-pub use eight_units::first_units;
+pub use eight_units::{first_units, row_of};
 pub use scalar_bytes::utf8_entry;
 pub use short_units::are_all_below;
 pub use source::ByteSource;

@@ -70,25 +70,16 @@ pub trait TextCursor: Copy {
     }
 
     /// Checks whether `take_ten` can read on after this scalar. It is a hint: any result is right.
-    #[inline(always)]
-    fn has_tens(&self, before: char) -> bool {
-        let _ = before;
-        false
-    }
+    fn has_tens(&self, before: char) -> bool;
 
     /// Moves past the next ten code units of UTF-16, or ten scalars of UTF-8, and returns them.
     ///
     /// Each is a scalar if none is a surrogate. In UTF-8 a surrogate replaces each scalar of two or
     /// four bytes. With a surrogate among them, only the cursor's place in UTF-16 is still right. The
     /// result may always be `None`, and the cursor then does not move.
-    #[inline(always)]
     fn take_ten(&mut self) -> Option<[u16; 10]>
         ensures { MatchOption result (self.new ≡ self.old) (λ units. TakesUnits form (left self.old)
-            (passed self.old) units (left self.new) (passed self.new)) }
-    {
-        let _ = self.front();
-        None
-    }
+            (passed self.old) units (left self.new) (passed self.new)) };
 
     /// Checks whether a scalar past ASCII comes next and `copy_codes` can read turns of scalars.
     ///
@@ -101,8 +92,6 @@ pub trait TextCursor: Copy {
     /// Moves past any number of scalars that have one byte each, and returns the number.
     ///
     /// Writes the bytes to `dst` from the place `at` on. The bytes of `dst` after them may change.
-    #[inline(always)]
-    #[tactic(auto, using(crate::proofs::UnitCopies::none_steps))]
     fn copy_codes<C: UnitCodes>(&mut self, codes: &C, dst: &mut [u8], at: usize) -> usize
         requires { at ≤ length dst.old }
         ensures read { result ≤ length (left self.old) }
@@ -111,11 +100,7 @@ pub trait TextCursor: Copy {
             ≡ passed self.old + total_unit_count form (take result (left self.old)) }
         ensures fits { at + result ≤ length dst.old }
         ensures writes { WritesCodes (C.gives codes.now) (left self.old) result (take at dst.old)
-            (take (at + result) dst.new) }
-    {
-        let _ = (self.front(), codes.byte_of(0), dst.len());
-        0
-    }
+            (take (at + result) dst.new) };
 }
 
 /// A loop that reads any number of scalars from the front of a text, and writes bytes for them.

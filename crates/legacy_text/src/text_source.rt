@@ -145,20 +145,6 @@ fn by_bytes(bytes: &[u8], place: usize, c: char) -> Next
     }
 }
 
-/// Returns the scalar at a place of a text, by the number of its bytes.
-#[inline(always)]
-#[tactic(auto, using(crate::proofs::Texts::next_steps))]
-fn next_at(text: &str, place: usize) -> Next
-    requires in_range { place ≤ length text.now }
-    requires is_text { is_utf8 (drop place text.now) ≡ true }
-    ensures { IsNext Utf8 (chars (drop place text.now)) result }
-{
-    match scalar_at(text, place) {
-        None => Next::End,
-        Some(c) => by_bytes(text.as_bytes(), place, c),
-    }
-}
-
 impl<'a> Utf8Source<'a> {
     ghost use Rattle.legacy_text.specs.TextSources.{utf8_text, utf8_place};
 
@@ -218,8 +204,12 @@ impl TextCursor for Utf8Source<'_> {
     ghost passed = { utf8_place };
 
     #[inline(always)]
+    #[tactic(auto, using(crate::proofs::Texts::next_steps))]
     fn front(&self) -> Next {
-        next_at(self.text, self.place)
+        match scalar_at(self.text, self.place) {
+            None => Next::End,
+            Some(c) => by_bytes(self.text.as_bytes(), self.place, c),
+        }
     }
 
     #[inline(always)]

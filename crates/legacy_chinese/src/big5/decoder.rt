@@ -117,7 +117,7 @@ impl LeadCodec for Big5 {
 
     #[inline]
     fn read_first(byte: u8) -> (Fed, Option<Lead>) {
-        read_first(byte, Lead::new(byte))
+        read_first(byte)
     }
 
     #[inline]

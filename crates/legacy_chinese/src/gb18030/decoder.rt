@@ -11,9 +11,10 @@ use super::pair_places::TRAILS;
 use legacy_base::{DecoderStep, Destination, IndexName, RawDecoder, Tables};
 use legacy_decoder_engine::drive::{count_malformed_bytes, drive_decoder};
 use legacy_decoder_engine::held_lead::Lead;
+use legacy_decoder_engine::lane_blocks::read_by_tables;
 use legacy_decoder_engine::lead_and_trail::{malformed_through, read_trail};
 use legacy_decoder_engine::moves::{DecoderMoves, Fed, Room};
-use legacy_decoder_engine::near_malformed::{AFTER_MALFORMED, read_by_tables};
+use legacy_decoder_engine::near_malformed::AFTER_MALFORMED;
 use legacy_decoder_engine::places::{ROWS_OF_190, pair_pointer};
 use legacy_tables::DecoderTables;
 use std::cell::Cell;
@@ -216,7 +217,7 @@ impl<'a> Gb18030Decoder<'a> {
     ghost use Rattle.legacy_base.specs.Lengths.{answer, weighted};
     ghost use Rattle.legacy_chinese.specs.Gb18030Decoder.{gb18030_state};
 
-    /// Returns a new decoder over the tables.
+    /// Returns a decoder before its first byte, which uses index gb18030 and the ranges of the tables.
     pub fn new(tables: &'a Tables<'a>) -> Gb18030Decoder<'a>
         ensures { gb18030_state result ≡ new_state
             (gb18030 tables.now.flat.gb18030 tables.now.flat.ranges) }
@@ -345,9 +346,9 @@ impl DecoderMoves for Gb18030Decoder<'_> {
     }
 
     #[inline(always)]
-    #[tactic(auto, using(crate::proofs::Gb18030Held::idle_reads))]
+    #[tactic(auto, using(legacy_decoder_engine::proofs::WrittenReads::no_bytes))]
     fn read_common<T: Destination>(&mut self, src: &[u8], dst: &mut T) -> usize {
-        if !self.in_neutral_state() {
+        if !matches!(self.held, Held::Nothing) {
             return 0;
         }
         read_by_tables::<Gb18030, T>(self.tables, &self.guess, &mut self.without_lanes, src, dst)

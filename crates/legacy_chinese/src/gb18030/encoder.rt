@@ -108,7 +108,7 @@ fn range_bytes_of<V: EncoderTables>(tables: &V, c: char) -> Option<(u8, u8, u8, 
 }
 
 /// Returns the pointer of a scalar outside the range of `guess`, and sets `guess` to its range.
-#[tactic(auto, using(crate::proofs::Gb18030Pairs::pointer_bound))]
+#[tactic(auto, using(crate::proofs::FourBytePointers::pointer_bound))]
 fn far_pointer<V: EncoderTables>(tables: &V, guess: &mut RangePart, c: char) -> Option<usize>
     requires { c ≢ 0xE7C7 }
     ensures pointer { result ≡ range_pointer_of (V.indexes tables.now).flat.ranges c }
@@ -125,7 +125,7 @@ fn far_pointer<V: EncoderTables>(tables: &V, guess: &mut RangePart, c: char) -> 
 
 /// Returns the four bytes of a scalar's range pointer, if any, and keeps its range in `guess`.
 #[inline(always)]
-#[tactic(auto, using(crate::proofs::Gb18030Pairs::pointer_bound))]
+#[tactic(auto, using(crate::proofs::FourBytePointers::pointer_bound))]
 fn guessed_range_bytes_of<V: EncoderTables>(
     tables: &V,
     guess: &mut RangePart,
@@ -197,26 +197,6 @@ fn gb18030_code_of<V: EncoderTables>(tables: &V, c: char) -> EncoderMove
         return EncoderMove::Unmappable(c);
     }
     match pair_of(tables, c) {
-        Some((lead, trail)) => EncoderMove::Two(lead, trail),
-        None => four_or_unmappable(tables, c),
-    }
-}
-
-/// Returns what GB18030 writes for a scalar past ASCII without a lead and trail in the index.
-#[inline(always)]
-#[tactic(auto, using(crate::proofs::Gb18030Pairs::four_past_pairs), unfolding(legacy_base::specs::Gb18030::gb18030_code))]
-fn past_pairs_of<V: EncoderTables>(tables: &V, c: char) -> EncoderMove
-    requires past { 0x80 ≤ c }
-    requires none { (lead trail : ℕ) → gb18030_code (V.indexes tables.now).flat.gb18030
-        (V.indexes tables.now).flat.ranges (V.indexes tables.now).flat.gb18030_pua c
-        ≡ Some (lead ∷ trail ∷ []) → lead + trail ≡ 0 }
-    ensures { IsCode (gb18030_code (V.indexes tables.now).flat.gb18030
-        (V.indexes tables.now).flat.ranges (V.indexes tables.now).flat.gb18030_pua c) c result }
-{
-    if c as u32 == 0xE5E5 {
-        return EncoderMove::Unmappable(c);
-    }
-    match tables.gb18030_pua_bytes(c) {
         Some((lead, trail)) => EncoderMove::Two(lead, trail),
         None => four_or_unmappable(tables, c),
     }
@@ -345,15 +325,6 @@ impl PastPairs for Gb18030Encoder<'_> {}
 
 impl<V: EncoderTables, const EXTENDED: bool, const LISTED: bool> PastPairs
     for Gb18030Codes<'_, V, EXTENDED, LISTED> {
-    #[inline(always)]
-    fn code_past_pairs(&self, c: char) -> EncoderMove {
-        if EXTENDED {
-            past_pairs_of(self.tables, c)
-        } else {
-            self.code_of(c)
-        }
-    }
-
     #[inline(always)]
     fn four_past_pairs(&self, guess: &mut RangePart, c: char) -> Option<(u8, u8, u8, u8)> {
         if !EXTENDED {

@@ -10,11 +10,12 @@ use crate::shift_jis::decoder::katakana;
 use legacy_base::{DecoderStep, Destination, IndexName, RawDecoder, Tables};
 use legacy_decoder_engine::common_forms::CommonForm;
 use legacy_decoder_engine::drive::{count_malformed_bytes, drive_decoder};
+use legacy_decoder_engine::lane_blocks::read_by_tables;
 use legacy_decoder_engine::lane_codec::LaneCodec;
 use legacy_decoder_engine::lane_places::{late_places, lead_places, place_sums};
 use legacy_decoder_engine::lead_and_trail::{malformed_through, read_trail, unmapped};
 use legacy_decoder_engine::moves::{DecoderMoves, Fed, Room};
-use legacy_decoder_engine::near_malformed::{AFTER_MALFORMED, read_by_tables};
+use legacy_decoder_engine::near_malformed::AFTER_MALFORMED;
 use legacy_tables::{DecoderTables, FlatTables};
 use std::cell::Cell;
 use std::simd::prelude::*;
@@ -178,7 +179,7 @@ fn held_length(held: Held) -> u8
 
 impl<'a> EucJpDecoder<'a> {
     ghost use Rattle.legacy_base.specs.Lengths.{answer, weighted};
-    /// Returns a new decoder over the tables.
+    /// Returns a decoder before its first byte, which uses indexes jis0208 and jis0212 of the tables.
     pub fn new(tables: &'a Tables<'a>) -> EucJpDecoder<'a>
         ensures { euc_jp_state result
             ≡ new_state (euc_jp tables.now.flat.jis0208 tables.now.flat.jis0212) }
@@ -286,8 +287,8 @@ impl DecoderMoves for EucJpDecoder<'_> {
     }
 }
 
-/// What EUC-JP reads ahead: ASCII and the pairs of JIS X 0208.
-struct EucJp;
+/// The codec of EUC-JP.
+pub struct EucJp;
 
 impl LaneCodec for EucJp {
     ghost grammar = { λ flat. euc_jp flat.jis0208 flat.jis0212 };

@@ -4,14 +4,12 @@ ghost use Rattle.legacy_tables.specs.Pointers.{euc_jp_pointer_of, minus_as_hyphe
 ghost use Rattle.legacy_base.specs.{EucJp.euc_jp_bytes, Encoders.euc_jp};
 ghost use Rattle.legacy_japanese.specs.EucJpCodes.{euc_jp_pairs, euc_jp_mark, euc_jp_mark-some};
 
+use super::decoder::EucJp;
 use crate::asked_scalars::ask_others;
 use crate::folded_scalars::{is_by_index, minus_as_hyphen};
 use legacy_encoder_engine::moves::EncoderMove;
 use legacy_encoder_engine::pair_encoder::{FillsPairs, PairCodec, PairEncoder};
 use legacy_tables::{EncoderTables, Marks, PackedPart, Tables};
-
-/// The codec of EUC-JP.
-pub struct EucJp;
 
 /// The encoder of EUC-JP (Encoding Standard, "EUC-JP encoder").
 ///

@@ -141,7 +141,7 @@ impl AheadCodes for AsciiCodes<'_> {
     }
 
     #[inline(always)]
-    fn put_code(&self, _near: &mut RangePart, dst: &mut [u8], at: usize, c: char) -> Option<usize> {
+    fn put_code(&self, _part: &mut RangePart, dst: &mut [u8], at: usize, c: char) -> Option<usize> {
         let scalar = c as u32;
         if scalar >= 0x80 || is_control(scalar) {
             return None;

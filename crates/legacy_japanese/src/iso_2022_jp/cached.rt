@@ -111,7 +111,7 @@ impl AheadCodes for ListedPairs<'_, '_> {
     }
 
     #[inline(always)]
-    fn put_code(&self, _near: &mut RangePart, dst: &mut [u8], at: usize, c: char) -> Option<usize> {
+    fn put_code(&self, _part: &mut RangePart, dst: &mut [u8], at: usize, c: char) -> Option<usize> {
         let entry = self.entry_of(c);
         if entry == 0 {
             return None;

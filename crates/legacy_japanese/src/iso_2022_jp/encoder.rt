@@ -214,7 +214,7 @@ impl AheadCodes for Iso2022JpEncoder<'_> {
     }
 
     #[inline(always)]
-    fn put_code(&self, _near: &mut RangePart, dst: &mut [u8], at: usize, c: char) -> Option<usize> {
+    fn put_code(&self, _part: &mut RangePart, dst: &mut [u8], at: usize, c: char) -> Option<usize> {
         let (mode, own) = asked(self.tables, self.mode, c);
         if self.mode != mode {
             return None;

@@ -126,7 +126,7 @@ fn read_pairs<T: Destination>(tables: &Tables, src: &[u8], dst: &mut T) -> usize
 
 /// Checks whether text of the mode may begin at the front.
 ///
-/// It is a guess from the first two bytes, and may be wrong either way.
+/// It is a hint from the first byte: any result is right.
 #[inline(always)]
 fn may_begin(mode: Mode, src: &[u8]) -> bool {
     if src.is_empty() {

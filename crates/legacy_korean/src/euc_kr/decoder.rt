@@ -105,7 +105,7 @@ impl LeadCodec for EucKr {
 
     #[inline]
     fn read_first(byte: u8) -> (Fed, Option<Lead>) {
-        read_first(byte, Lead::new(byte))
+        read_first(byte)
     }
 
     #[inline]

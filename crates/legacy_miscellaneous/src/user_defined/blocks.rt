@@ -97,7 +97,7 @@ impl BlockReader for Mixed {
         if src.len() <= 64 || dst.free() < 64 + 3 + SLACK {
             return (0, false);
         }
-        let count = dst.put_front(src, 64);
+        let count = dst.put_front(src);
         if count == 64 {
             return (count, true);
         }
@@ -122,7 +122,7 @@ fn read_ascii_block<T: Destination>(src: &[u8], dst: &mut T) -> usize
     if past.to_bitmask() != 0 {
         return 0;
     }
-    dst.put_front(src, 64)
+    dst.put_front(src)
 }
 
 /// Decodes text, and stops if few code units are free. Returns the number of bytes read.

@@ -1,4 +1,4 @@
-//! Blocks of UTF-16 code units without surrogates: by 64, by eight, and one by one.
+//! Blocks of UTF-16 code units without surrogates: to UTF-8 by 64, 32 or eight, to UTF-16 by sixteen, and one by one.
 // Functions that run for each block are always inlined. A call would pass vectors through memory, and
 // keep the destination's place there.
 #![tactic(auto, using(crate::proofs::Utf16Ahead::steps))]
@@ -233,7 +233,7 @@ impl Units {
         at
     }
 
-    /// Decodes up to 64 units by vectors. Returns the number of bytes read.
+    /// Decodes units from the front by vectors, up to a surrogate. Returns the number of bytes read.
     // The numbers of groups are constants, so that the compiler unrolls the loops over them.
     #[inline(always)]
     fn read_vectors<T: Destination>(&self, src: &[u8], dst: &mut T) -> usize

@@ -3,7 +3,7 @@
 // and keep the destination's place there.
 #![tactic(auto, using(crate::proofs::SingleByteAhead::steps))]
 
-ghost use Rattle.std.specs.Prelude.{◌≡◌, ◌≢◌, ◌+◌, ◌*◌, ◌<◌, ◌≤◌, ◌++◌, ℕ, All, true, false, length, take, slice_index};
+ghost use Rattle.std.specs.Prelude.{◌≡◌, ◌+◌, ◌*◌, ◌<◌, ◌≤◌, ◌++◌, All, true, length, take};
 ghost use Rattle.std.specs.Char.{IsScalar};
 ghost use Rattle.legacy_text.specs.EncodingForm.{all_code_units, bmp_room, total_unit_count};
 ghost use Rattle.legacy_base.specs.Grammar.{Grammar, single_byte};
@@ -12,24 +12,11 @@ ghost use Rattle.legacy_decoder_engine.specs.ReadAhead.{ReadsAhead};
 
 use super::scalars::ByteScalars;
 use legacy_base::Destination;
+use legacy_decoder_engine::lanes::are_known;
 use legacy_decoder_engine::read_ahead::SLACK;
 use legacy_text::are_all_below;
 use legacy_text::past_ascii::{ascii_front, has_past_ascii, past_after, past_ascii};
 use std::simd::prelude::*;
-
-/// Returns whether one of the units is 0.
-#[inline(always)]
-fn has_zero(units: &[u16]) -> bool
-    ensures { result ≡ false → (k : ℕ) → k < length units.now → slice_index units.now k ≢ 0 }
-{
-    let mut found = false;
-    let mut at = 0;
-    while at < units.len() {
-        found = found || units[at] == 0;
-        at += 1;
-    }
-    found
-}
 
 /// Writes eight scalars up to U+FFFF.
 // In one script most eights are below U+0800, or most are not.
@@ -173,8 +160,8 @@ fn read_singly<T: Destination>(scalars: &ByteScalars, src: &[u8], most: usize, d
 
 /// Decodes eight bytes at a time, if each scalar is one code unit.
 ///
-/// Returns the number of bytes read, and whether another part may follow: one of the next eight bytes is past ASCII, or
-/// fewer than eight bytes are left or free.
+/// Returns the number of bytes read, and whether another part may follow: it read eights to the end of its count, and one
+/// of the next eight bytes is past ASCII.
 // Eight puts are faster than a vector of entries. A byte takes one code unit, but `read_singly` asks for three for each of
 // its eight, and leaves three.
 #[inline(always)]
@@ -226,10 +213,11 @@ impl Parts for AnyBytes<'_> {
             return read_eights(self.scalars, src, most, dst);
         }
         let units = self.scalars.units(src);
-        if has_zero(&units) {
+        let vector = u16x8::from_array(units);
+        if !are_known(vector) {
             return (read_singly(self.scalars, src, 8, dst), false);
         }
-        put_units(dst, u16x8::from_array(units));
+        put_units(dst, vector);
         (8, has_past_ascii(&src[8..]))
     }
 }

@@ -1,8 +1,8 @@
-use Rattle.std.proofs.Common.{◌∙◌, ◌+◌, ◌*◌, ◌<◌, w8, ℕ, List, map, refl, arith}
-use Rattle.std.proofs.lemmas.{Bool.Decides.nat_tests, Simd.below_from_Fits, List.{map-id, Elements.All-from_get_or}}
+use Rattle.std.proofs.Common.{◌∙◌, ◌+◌, ◌*◌, ◌<◌, ℕ, List, map, refl, arith}
+use Rattle.std.proofs.lemmas.{Bool.Decides.nat_tests, List.{map-id, Elements.All-from_get_or}}
 use Rattle.std.specs.Char.{IsScalar}
 use lib.Lanes.{digits_l, number_l}
-use Rattle.legacy_decoder_engine.proofs.{EightPairs.{code_is, form_at, pair_is, place_within}, Picking.below_256}
+use Rattle.{legacy_text.proofs.ScalarTurns.{lane, below_256}, legacy_decoder_engine.proofs.EightPairs.{form_at, pair_is, place_within}}
 use Rattle.legacy_decoder_engine.proofs.eights.units_in.Goals as goal
 
 pub entries_at-requires-clause-within : goal.entries_at-requires-clause-within
@@ -21,9 +21,9 @@ returns g c =
     e.kept (map-id c.kept_and_places.result.1 ∙ e.places) _ _ c.requires.ascii c.requires.pairs c.requires.within c.entries_at.result c.chosen.result k h
     (c.chosen.ensures.small k h) (c.entries_at.ensures k h) (c.chosen.ensures.lanes k h) in
     let small = below_256 c.args.bytes c.fits-bytes.1 in
-    let code = code_is c.args.bytes (below_from_Fits w8 c.args.bytes c.fits-bytes.1) c.fits-bytes.0 in
     record {
       small = c.chosen.ensures.small;
       scalars = All-from_get_or IsScalar c.chosen.result 0 (λ k h. grind (arith, nat_tests, c.chosen.type_inv, form k));
-      pairs = λ k h some past. pair_is _ _ _ _ _ _ (code k h) (small (2 * k)) (small (2 * k + 1)) past (form k h some);
+      pairs = λ k h some past. pair_is _ _ _ _ _ _
+          (lane 8 c.args.bytes k (λ i l. small i) c.fits-bytes.0 h) (small (2 * k)) (small (2 * k + 1)) past (form k h some);
     }

@@ -2,6 +2,9 @@ use Rattle.std.proofs.Common.{arith}
 use Rattle.legacy_decoder_engine.proofs.{JoinedReads.{reads_first, reads_more}}
 use Rattle.legacy_decoder_engine.proofs.lane_blocks.LaneBlocksBlockReader.read_block.Goals as goal
 
+pub returns-then-longer-gt0-clause-ahead : goal.returns-then-longer-gt0-clause-ahead
+returns-then-longer-gt0-clause-ahead g c = c.read_longer_blocks-longer.ensures
+
 pub returns-then-src-at-lt2-clause-ahead : goal.returns-then-src-at-lt2-clause-ahead
 returns-then-src-at-lt2-clause-ahead g c = reads_first (omega arith) c.read_longer_blocks-longer.ensures c.read_lanes-at.ensures
 

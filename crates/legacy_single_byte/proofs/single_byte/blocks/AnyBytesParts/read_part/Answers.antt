@@ -12,4 +12,4 @@ returns-clause-ahead g c =
     let units = c.units-units.ensures in
     let e = c.put_units.ensures in
     reads_eight c.args.self.now.scalars.now.table.now c.args.src.now _ (λ k. let f = c.type_inv.src k in omega arith) units.same g.T.Destination _ _
-    (c.has_zero.ensures c.if-has_zero.false) (omega arith) units.count e.contents e.room e.loan (omega arith)
+    (λ k h. c.are_known.ensures c.if-not-are_known.false k (omega (arith, h, units.count))) (omega arith) units.count e.contents e.room e.loan (omega arith)

@@ -1,5 +1,5 @@
 use Rattle.std.proofs.Common.{◌≡◌, arith}
-use Rattle.legacy_decoder_engine.proofs.near_malformed.read_by_tables.Goals as goal
+use Rattle.legacy_decoder_engine.proofs.lane_blocks.read_by_tables.Goals as goal
 
 pub returns-in_default : goal.returns-in_default
 returns-in_default g c = c.read_ascii.ensures.ahead (g.C.LaneCodec.grammar c.args.tables.now.flat) c.requires

@@ -1,6 +1,6 @@
 use Rattle.std.proofs.Common.{◌+◌, ◌*◌, ◌%◌, ◌≤◌, length, take}
 use Rattle.legacy_decoder_engine.specs.ReadAhead.{Writes}
-use Rattle.legacy_decoder_engine.proofs.common_forms.read_run.Given as goal
+use Rattle.legacy_decoder_engine.proofs.common_forms.read_forms.Given as goal
 
 -- the scalars of the bytes read are written, and there is room for the turns left
 abbrev pub invariant-loop-left : goal.invariant-loop-left

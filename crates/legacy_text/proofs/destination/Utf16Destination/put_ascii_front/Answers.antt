@@ -1,6 +1,6 @@
 use Rattle.std.proofs.{Common.arith, lemmas.List.map-id}
 use Rattle.legacy_text.proofs.Ascii.{stored}
-use Rattle.legacy_text.proofs.destination.Utf16Destination.put_block.Goals as goal
+use Rattle.legacy_text.proofs.destination.Utf16Destination.put_ascii_front.Goals as goal
 
 pub returns-clause-written : goal.returns-clause-written
 returns-clause-written c =
