@@ -41,7 +41,7 @@ pub fn unmapped(before: u8, byte: u8) -> Fed
 /// ASCII is its own scalar, a lead is held back, and any other byte is malformed.
 #[inline]
 pub fn read_first(byte: u8) -> (Fed, Option<Lead>)
-    ensures { Took (lead_first is_lead) [] byte result.0 (held_bytes (λ lead. lead.byte) result.1) }
+    ensures { Took (lead_first is_lead byte) [] byte result.0 (held_bytes (λ lead. lead.byte) result.1) }
 {
     if byte < 0x80 {
         return (Fed::One(char::from(byte)), None);
