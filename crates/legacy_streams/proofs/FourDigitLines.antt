@@ -2,11 +2,11 @@
 use Rattle.std.proofs.Common.{◌≡◌, ◌∙◌, ℕ, suc, ◌+◌, ◌*◌, ◌/◌, ◌%◌, ◌≤◌, ◌<◌, List, [], ◌∷◌, ◌++◌, length, take, drop, map, get_or, refl, sym, ap, arith}
 use Rattle.std.proofs.{Common.{inl, inr, ◌⊎◌, All, Some, slice_get, append_assoc, append-nil, take-suc, add-one, None, ◌^◌}, lemmas.Bool.cases_lt}
 use Rattle.std.proofs.{lemmas.Bool.Decides.nat_tests, lemmas.List.map-append, lemmas.Nat.le_bytes_8, lemmas.Str.{utf16_chars-nil, utf16_chars_lone}}
-use Rattle.std.proofs.{lemmas.Str.utf16_chars_pair, str.Utf16.{IsPair, one_unit, two_units, lone_unit_char_low, lone_unit_char_high}}
+use Rattle.std.proofs.{lemmas.Str.utf16_chars_pair, str.Utf16.{IsPair, lone_unit_char_low, lone_unit_char_high}}
 use Rattle.std.specs.{Char.IsScalar, Char.Utf16.{lone_unit_char}, Int.{w64, to_le_bytes}, List.range_with_len}
 use Rattle.legacy_base.specs.declared.results.DecodeEvent.TheVariants.{Scalar}
 use Rattle.legacy_text.specs.{EncodingForm.{Utf16, all_code_units}, Texts.unit_scalars}
-use Rattle.legacy_text.proofs.{Texts.{replaced, scalars_lone, scalars_end, first_cons, none_left, utf16_step}}
+use Rattle.legacy_text.proofs.{CodeUnits.{utf16_1, utf16_2}, Texts.{replaced, scalars_lone, scalars_end, first_cons, none_left, utf16_step}}
 use Rattle.legacy_streams.specs.{Lines.{event_line, event_lines}, declared.line_parts.TheConstants.{HEADS, TAILS}}
 use Rattle.legacy_streams.proofs.{EventLines.{line_of_four, event_lines-append, event_lines-one}, Hexadecimal.glyph}
 
@@ -131,4 +131,4 @@ scalars_of_units [] all = ap (map replaced) utf16_chars-nil
 scalars_of_units (c ∷ cs) all =
     let rest = scalars_of_units cs (λ k d l. all (suc k) d (omega arith)) in
     let is : IsScalar c = all 0 0 (omega arith) in
-    grind (arith, nat_tests, one_unit, two_units, utf16_chars_lone, utf16_chars_pair, apart, replaced_unit)
+    grind (arith, nat_tests, utf16_1, utf16_2, utf16_chars_lone, utf16_chars_pair, apart, replaced_unit)

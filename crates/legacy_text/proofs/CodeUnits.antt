@@ -1,7 +1,7 @@
 -- The bytes of a scalar, by its range.
 use Rattle.std.proofs.Common.{◌≡◌, ◌∙◌, ℕ, ◌+◌, ◌-◌, ◌/◌, ◌%◌, ◌≤◌, ◌<◌, List, [], ◌∷◌, ◌++◌, length, refl, ap, arith, append_assoc, length-append}
 use Rattle.std.proofs.{Common.{get_or, suc}, lemmas.List.Concat.flat_map-append, lemmas.Bool.{lt-ltb, le-ltb}, lemmas.Bool.Decides.nat_tests}
-use Rattle.std.proofs.{lemmas.Str.encode_ascii, str.Utf16.{one_unit, two_units}}
+use Rattle.std.{proofs.lemmas.Str.encode_ascii, specs.Char.Escape.encode_utf16}
 use lib.Utf8.{encode}
 use Rattle.legacy_text.specs.EncodingForm.{Utf16, EncodingForm, code_units, all_code_units, unit_count, total_unit_count, Utf8, bmp_room, wide_room}
 
@@ -20,7 +20,13 @@ encode_4 c a = let b : 128 ≤ c = omega arith in let d : 2048 ≤ c = omega ari
 pub some_units : (c : ℕ) → 0 < unit_count Utf8 c
 some_units c = grind (arith, nat_tests, encode_ascii, encode_2, encode_3, encode_4)
 
-pub ruleset encoding_utf16 = (one_unit, two_units)
+pub utf16_1 : (c : ℕ) → c < 65536 → encode_utf16 c ≡ c ∷ []
+utf16_1 c a = rw (lt-ltb c 65536 a) refl
+
+pub utf16_2 : (c : ℕ) → 65536 ≤ c → encode_utf16 c ≡ (55296 + (c - 65536) / 1024) ∷ (56320 + (c - 65536) % 1024) ∷ []
+utf16_2 c a = rw (le-ltb c 65536 a) refl
+
+pub ruleset encoding_utf16 = (utf16_1, utf16_2)
 
 pub ruleset encoding = (encode_ascii, encode_2, encode_3, encode_4, append_assoc)
 
@@ -39,7 +45,7 @@ length-code_units-wide form c = grind (arith, nat_tests)
 
 -- an ASCII scalar is its own code unit
 pub code_units_ascii : (form : EncodingForm) (c : ℕ) → c < 128 → code_units form c ≡ c ∷ []
-code_units_ascii form c h = grind (arith, encode_ascii, one_unit)
+code_units_ascii form c h = grind (arith, encode_ascii, utf16_1)
 
 pub length-code_units-ascii : (form : EncodingForm) (c : ℕ) → c < 128 → length (code_units form c) ≡ 1
 length-code_units-ascii form c h = ap length (code_units_ascii form c h)
@@ -55,4 +61,4 @@ total_unit_count-append form xs ys = ap length (all_code_units-append form xs ys
 -- code units of 16 bits are their own code units in UTF-16
 pub own_units : (us : List ℕ) → ((k : ℕ) → k < length us → get_or us k 0 < 65536) → all_code_units Utf16 us ≡ us
 own_units [] b = refl
-own_units (u ∷ us) b = grind (arith, one_unit, b 0, own_units us (λ k h. b (suc k) (omega arith)))
+own_units (u ∷ us) b = grind (arith, utf16_1, b 0, own_units us (λ k h. b (suc k) (omega arith)))

@@ -5,14 +5,14 @@ use Rattle.std.proofs.{lemmas.List.{drop-drop, take-append-drop, length-take-le,
 use Rattle.std.proofs.lemmas.Str.{IsUtf8-from_is_utf8, is_utf8-from_IsUtf8, encodes-chars, chars_past_char, IsUtf8-past_char, drop_past_char, length-encode}
 use Rattle.std.proofs.lemmas.Str.{utf16_chars-nil, encodes-append, scalars-chars, chars-encodes}
 use Rattle.std.proofs.lemmas.Str.{IsCharBoundary-at_seam, chars-append, chars-IsAscii, IsUtf8-from_ascii, IsUtf8-drop, IsCharBoundary-from_take}
-use Rattle.std.proofs.{lemmas.Str.{IsCharBoundary-from_drop, encode_ascii}, str.Utf16.{IsPair, one_unit, two_units, lone_unit_char_low, lone_unit_char_high}}
+use Rattle.std.proofs.{lemmas.Str.{IsCharBoundary-from_drop, encode_ascii}, str.Utf16.{IsPair, lone_unit_char_low, lone_unit_char_high}}
 use Rattle.std.proofs.{str.Utf16.{lone_unit_char_surrogate, utf16_chars-drop_lone, utf16_chars-drop_pair, utf16_chars-drop_all}, lemmas.Grind.common_steps}
 use Rattle.std.specs.{Str.{chars, is_utf8, IsUtf8, IsCharBoundary}, Char.Utf16.{lone_unit_char, surrogate_pair_char, is_high_surrogate, is_low_surrogate}}
 use Rattle.std.{specs.Option.unwrap_or, proofs.lemmas.Option.slice_get-get_or}
 use lib.{ListN.get_or-eq_default, Utf8.{encode, encodes, scalars}}
 use Rattle.legacy_text.specs.{EncodingForm.{EncodingForm, Utf8, Utf16, unit_count, all_code_units}, declared.text_cursor.Next.Next, NextScalars.StandsAt}
 use Rattle.legacy_text.specs.{NextScalars.{IsSized, IsNext}, UnitCodes.IsNoSurrogate, Texts.{unit_scalars, IsUnitBoundary}, ShortScalars.ReadsScalar}
-use Rattle.legacy_text.proofs.{Ascii.all_behind, CodeUnits.{some_units, encode_2, encode_3, encode_4, total_unit_count-append}}
+use Rattle.legacy_text.proofs.{Ascii.all_behind, CodeUnits.{some_units, encode_2, encode_3, encode_4, utf16_1, utf16_2, total_unit_count-append}}
 
 pub first_cons : {A : Type 0} (xs : List A) (x : A) → Some x ≡ slice_get xs 0 → xs ≡ x ∷ drop 1 xs
 first_cons xs x h = grind arith
@@ -71,7 +71,7 @@ unpaired_bound u h = grind arith
 pub utf16_step : (list : List ℕ) (place c n : ℕ) → ((i : ℕ) → get_or list i 0 < 65536) → place < length list →
     Some c ≡ slice_get (unit_scalars (drop place list)) 0 → (c < 65536 → n ≡ 1) → (65536 ≤ c → n ≡ 2) → Utf16Step list place c n
 utf16_step list place c n bound h e short long =
-    grind (arith, pair_or_not, get_or-eq_default, scalars_pair, two_units, scalars_lone, unpaired_bound, one_unit)
+    grind (arith, pair_or_not, get_or-eq_default, scalars_pair, utf16_2, scalars_lone, unpaired_bound, utf16_1)
 
 -- there is a scalar only before the end
 pub some_within : (units : List ℕ) (place c : ℕ) → Some c ≡ slice_get (unit_scalars (drop place units)) 0 → place < length units
@@ -117,12 +117,12 @@ pub utf16_cut : (list taken left : List ℕ) → Bounded list → unit_scalars l
 utf16_cut list [] left b e = grind arith
 utf16_cut [] (c ∷ taken) left b e = grind (arith, utf16_chars-nil)
 utf16_cut (u ∷ []) (c ∷ taken) left b e =
-    grind (arith, scalars_lone (u ∷ []) 0, unpaired_bound u (b 0), one_unit c, cut_lone u [] left, utf16_cut [] taken left (λ i. b (suc i)))
+    grind (arith, scalars_lone (u ∷ []) 0, unpaired_bound u (b 0), utf16_1 c, cut_lone u [] left, utf16_cut [] taken left (λ i. b (suc i)))
 utf16_cut (u ∷ v ∷ list) (c ∷ taken) left b e =
     let pair = utf16_cut list taken left (λ i. b (suc (suc i))) in
     let lone = utf16_cut (v ∷ list) taken left (λ i. b (suc i)) in
     let few = unpaired_bound u (b 0) in
-    grind (arith, pair_or_not u v, scalars_lone (u ∷ v ∷ list) 0, scalars_pair (u ∷ v ∷ list) 0, few, one_unit c, two_units c, cut_lone, cut_pair)
+    grind (arith, pair_or_not u v, scalars_lone (u ∷ v ∷ list) 0, scalars_pair (u ∷ v ∷ list) 0, few, utf16_1 c, utf16_2 c, cut_lone, cut_pair)
 
 -- what a call left of a whole text
 pub utf8_read : (text taken left : List ℕ) (read : ℕ) → IsUtf8 text → chars text ≡ taken ++ left →
@@ -225,9 +225,9 @@ utf16_next list place bound some =
     let left = unit_scalars (drop place list) in
     let f = sym (slice_get-get_or left 0 0 some) in
     let step = utf16_step list place (get_or left 0 0) (unit_count Utf16 (get_or left 0 0)) bound (some_within list place _ f) f in
-    grind (arith, first_cons left (get_or left 0 0) f, step, one_unit, two_units)
+    grind (arith, first_cons left (get_or left 0 0) f, step, utf16_1, utf16_2)
 
-pub ruleset advance_steps = (first_is, nat_tests, utf8_next, length-encode, utf16_next, one_unit, two_units)
+pub ruleset advance_steps = (first_is, nat_tests, utf8_next, length-encode, utf16_next, utf16_1, utf16_2)
 
 pub ruleset ascii_steps = (all_behind, length-drop, utf8_ascii, utf16_ascii)
 
