@@ -3,8 +3,8 @@ use Rattle.std.proofs.Common.{◌≡◌, ◌≢◌, ◌∙◌, ℕ, zero, suc, �
 use Rattle.std.proofs.{Common.{true, false}, lemmas.Bool.Decides.nat_tests, lemmas.List.{get_or_past, get_or_append_left, get_or_push}}
 use Rattle.std.proofs.lemmas.List.{length_push, length-take, get_or-take}
 use Rattle.std.specs.Option.{option_or}
-use Rattle.legacy_tables.specs.{declared.tables.packed.PackedPart.PackedPart, declared.tables.packed.Run.Run, Indexes.idx, Runs.{run_at, run_end, run_scalar}}
-use Rattle.legacy_tables.specs.{Runs.{runs_scalar, is_run_in_order, run_fault_from}, Packed.{differs_at, run_difference, runs_fault}}
+use Rattle.legacy_tables.specs.{declared.tables.packed.PackedPart.PackedPart, declared.tables.packed.Run.Run, Indexes.idx, PointerRuns.{run_at, run_end}}
+use Rattle.legacy_tables.specs.{PointerRuns.{run_scalar, runs_scalar, is_run_in_order, run_fault_from}, Packed.{differs_at, run_difference, runs_fault}}
 use Rattle.legacy_tables.proofs.{FirstPlaces.find-none, PackedRuns.{no_run, outside-behind, runs_next, runs_over}}
 use Rattle.legacy_index_files.specs.Packing.{AreLongest, GivesIndex}
 

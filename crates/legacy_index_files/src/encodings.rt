@@ -1,5 +1,5 @@
 //! The encodings of the Standard that this crate lists: their names, codecs and index files.
-ghost use Rattle.std.specs.Prelude.{◌≡◌, ◌↔◌, ℕ, List, Some, find, bytes_eq};
+ghost use Rattle.std.specs.Prelude.{◌≡◌, ◌↔◌, Some, find, bytes_eq};
 ghost use Rattle.std.specs.Option.{option_map};
 ghost use Rattle.legacy_index_files.specs.Encodings.{encoding_name, codec_of, indexes_of};
 ghost use Rattle.legacy_index_files.specs.Encodings.{encoder_indexes_of};

@@ -1,5 +1,5 @@
 //! The reader of an index file.
-ghost use Rattle.std.specs.Prelude.{◌≡◌, ◌≢◌, ℕ, ◌↔◌, List, Some, None, Err, IfOk};
+ghost use Rattle.std.specs.Prelude.{◌≡◌, ◌≢◌, ℕ, ◌↔◌, List, Some, Err, IfOk};
 ghost use Rattle.legacy_index_files.specs.IndexLine.{lines, line_kind};
 ghost use Rattle.legacy_index_files.specs.IndexGrammar.{IsOfKind};
 ghost use Rattle.legacy_index_files.specs.IndexTable.{first_malformed, entries_of, IsTableOf};

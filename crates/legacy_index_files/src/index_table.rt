@@ -1,8 +1,8 @@
 //! The table of the lines of an index file.
 ghost use Rattle.std.specs.Prelude.{◌≡◌, ℕ, ◌<◌, ◌≤◌, ◌+◌, Some, None, Ok, Err, IfOk, MatchResult, length, slice_index};
 ghost use Rattle.std.specs.Option.{unwrap_or};
-ghost use Rattle.legacy_index_files.specs.IndexLine.{lines, line_kind};
-ghost use Rattle.legacy_index_files.specs.IndexTable.{greatest_length, greatest_value, is_left_out, kind_within, says, malformed_line, file_entries};
+ghost use Rattle.legacy_index_files.specs.IndexLine.{lines};
+ghost use Rattle.legacy_index_files.specs.IndexTable.{greatest_length, greatest_value, kind_within, says, malformed_line, file_entries};
 ghost use Rattle.legacy_index_files.specs.IndexTable.{entries_of, table_length, last_value, IsIndexOf, IsSingleByteIndexOf, IsInRange};
 
 use crate::index_file::{EncoderIndex, FileIndex};

@@ -6,8 +6,9 @@ use Rattle.std.specs.{Char.IsScalar, Option.{option_eq, option_map_or}}
 use borrow.Author.Tests.{le-ltb}
 use Rattle.legacy_tables.specs.{declared.tables.IndexName.IndexName, declared.tables.packed.Run.Run, declared.tables.packed.Packed.Packed}
 use Rattle.legacy_tables.specs.{declared.tables.packed.PackedPart.PackedPart, Unicode.AreScalars, Indexes.{FlatIndexes, idx, entry_scalar}}
-use Rattle.legacy_tables.specs.{TableChecks.{entry_fault, entries_fault, index_fault, table_fault, AreAccepted}, Runs.{run_at, run_end, runs_scalar, runs_list}}
-use Rattle.legacy_tables.specs.{Runs.run_fault, Tables.index_list, Packed.{part_fault, differs_at, run_difference, runs_fault, all_runs_fault}}
+use Rattle.legacy_tables.specs.{TableChecks.{entry_fault, entries_fault, index_fault, table_fault, AreAccepted}, PointerRuns.{run_at, run_end, runs_scalar}}
+use Rattle.legacy_tables.specs.{PointerRuns.{run_fault, runs_list}, Tables.index_list}
+use Rattle.legacy_tables.specs.Packed.{part_fault, differs_at, run_difference, runs_fault, all_runs_fault}
 use Rattle.legacy_tables.specs.{Packed.{all_orders_fault, packed_lists, ArePackedTables}, PackedTables.{lists_of_runs, AreRunsOf, AnswerPointersOf}}
 use Rattle.legacy_tables.specs.{declared.tables.packed_checks.CheckedRuns.CheckedRuns, declared.tables.order_checks.CheckedOrders.CheckedOrders}
 use Rattle.legacy_tables.proofs.Accepted.{parts, or_none, entry_at, index-scalars, big5-scalars, narrow_index}

@@ -7,7 +7,7 @@ pub mod AcceptedTables
 pub mod StoredTables
 pub mod Tables
 pub mod KeptTables
-pub mod Runs
+pub mod PointerRuns
 pub mod RunPlaces
 pub mod Packed
 pub mod Orders

@@ -18,7 +18,7 @@ use Rattle.legacy_tables.specs.TableChecks.{table_fault}
 use Rattle.legacy_tables.specs.Tables.{index_list}
 use Rattle.legacy_tables.specs.Pointers.{every_pointer, is_big5_pointer, is_shift_jis_pointer}
 use Rattle.legacy_tables.specs.Pointers.{is_jis0208_pointer, first_pointer, last_pointer, takes_last_big5_pointer}
-use Rattle.legacy_tables.specs.Runs.{runs_scalar, runs_list, run_fault}
+use Rattle.legacy_tables.specs.PointerRuns.{runs_scalar, runs_list, run_fault}
 
 -- the fault of a part: it is out of order, or differs from the flat index
 abbrev pub part_fault : PackedPart → Option ℕ → Option ℕ → Option TableError

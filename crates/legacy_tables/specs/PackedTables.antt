@@ -9,7 +9,7 @@ use Rattle.legacy_tables.specs.declared.tables.packed.PackedPart.{PackedPart}
 use Rattle.legacy_tables.specs.Indexes.{FlatIndexes}
 use Rattle.legacy_tables.specs.Packed.{pointer_of, takes_last}
 use Rattle.legacy_tables.specs.Orders.{IsOrder}
-use Rattle.legacy_tables.specs.Runs.{runs_list}
+use Rattle.legacy_tables.specs.PointerRuns.{runs_list}
 use Rattle.legacy_tables.specs.AcceptedTables.{flat_lists}
 
 -- packed tables as flat lists

@@ -2,7 +2,7 @@
 use Rattle.std.specs.Prelude.{ℕ, ◌+◌, ◌≤◌, ◌<◌, List, length, slice_index_or}
 use Rattle.std.proofs.Common.{arith}
 use Rattle.legacy_tables.specs.declared.tables.packed.Run.{Run}
-use Rattle.legacy_tables.specs.Runs.{run_at, run_end}
+use Rattle.legacy_tables.specs.PointerRuns.{run_at, run_end}
 
 -- facts about each of the runs, if they are in order and within a limit
 pub record AreInOrder (limit : ℕ) (runs : List Run) : Type 0 where

@@ -12,7 +12,7 @@ use super::limits::{
 };
 use super::numbers::Numbers;
 use super::packed::{Packed, PackedPart, Run};
-use super::pointer_runs::{Runs, first_out_of_order};
+use super::pointer_runs::{PointerRuns, first_out_of_order};
 use super::{Indexes, TableError};
 
 /// Returns the number that a flat index has for a pointer.
@@ -40,7 +40,7 @@ fn differ(entry: Option<usize>, scalar: Option<u32>) -> bool
 /// Returns the least pointer below the limit for which the runs and the flat index give different scalars.
 fn first_difference<N: Numbers, const POINTERS: usize>(
     limit: usize,
-    runs: &Runs<'_, POINTERS>,
+    runs: &PointerRuns<'_, POINTERS>,
     index: &N,
 ) -> Option<usize>
     ensures { result ≡ run_difference limit runs.now.runs.now (N.numbers index.now) }
@@ -61,7 +61,7 @@ pub(super) fn runs_of<'a, N: Numbers, const POINTERS: usize>(
     part: PackedPart,
     runs: &'a [Run],
     index: &N,
-) -> Result<Runs<'a, POINTERS>, TableError>
+) -> Result<PointerRuns<'a, POINTERS>, TableError>
     requires { POINTERS ≤ 23940 }
     ensures { let found = runs_fault part POINTERS runs.now (N.numbers index.now) in
         MatchResult result
@@ -71,7 +71,7 @@ pub(super) fn runs_of<'a, N: Numbers, const POINTERS: usize>(
     if let Some(at) = first_out_of_order(POINTERS, runs) {
         return Err(TableError::PackedOrder(part, at));
     }
-    let checked = Runs::new(runs);
+    let checked = PointerRuns::new(runs);
     match first_difference(POINTERS, &checked, index) {
         Some(at) => Err(TableError::PackedDiffers(part, at)),
         None => Ok(checked),
@@ -81,11 +81,11 @@ pub(super) fn runs_of<'a, N: Numbers, const POINTERS: usize>(
 /// The runs of the five indexes.
 #[derive(Drop)]
 pub(super) struct CheckedRuns<'a> {
-    pub(super) big5: Runs<'a, BIG5_POINTERS>,
-    pub(super) euc_kr: Runs<'a, EUC_KR_POINTERS>,
-    pub(super) jis0208: Runs<'a, JIS0208_POINTERS>,
-    pub(super) jis0212: Runs<'a, JIS0212_POINTERS>,
-    pub(super) gb18030: Runs<'a, GB18030_POINTERS>,
+    pub(super) big5: PointerRuns<'a, BIG5_POINTERS>,
+    pub(super) euc_kr: PointerRuns<'a, EUC_KR_POINTERS>,
+    pub(super) jis0208: PointerRuns<'a, JIS0208_POINTERS>,
+    pub(super) jis0212: PointerRuns<'a, JIS0212_POINTERS>,
+    pub(super) gb18030: PointerRuns<'a, GB18030_POINTERS>,
 }
 
 /// Returns the runs of the five indexes, or their first fault.

@@ -1,6 +1,6 @@
 //! Runs that are in order, and the look-up of a pointer in them.
 ghost use Rattle.std.specs.Prelude.{◌≡◌, ℕ, ◌+◌, ◌<◌, ◌≤◌, None, length};
-ghost use Rattle.legacy_tables.specs.Runs.{runs_scalar, runs_list, run_fault, is_run_in_order, run_at};
+ghost use Rattle.legacy_tables.specs.PointerRuns.{runs_scalar, runs_list, run_fault, is_run_in_order, run_at};
 ghost use Rattle.legacy_tables.specs.RunPlaces.{AreInOrder, IsFirstBehind, IsBetween, between-first};
 
 use super::numbers::{Numbers, Row};
@@ -8,7 +8,7 @@ use super::packed::Run;
 
 /// Runs in order, with pointers below a limit.
 #[derive(Drop)]
-pub(crate) struct Runs<'a, const POINTERS: usize> {
+pub(crate) struct PointerRuns<'a, const POINTERS: usize> {
     pub(super) runs: &'a [Run],
     ghost ordered: { AreInOrder POINTERS runs.now },
 }
@@ -54,14 +54,14 @@ fn started_count<const POINTERS: usize>(runs: &[Run], pointer: usize) -> usize
     runs.partition_point(|run| usize::from(run.pointer) <= pointer)
 }
 
-impl<'a, const POINTERS: usize> Runs<'a, POINTERS> {
+impl<'a, const POINTERS: usize> PointerRuns<'a, POINTERS> {
     /// Makes the runs of a list that is in order.
     #[tactic(auto, using(crate::proofs::PackedRuns::are_in_order))]
-    pub(super) fn new(runs: &'a [Run]) -> Runs<'a, POINTERS>
+    pub(super) fn new(runs: &'a [Run]) -> PointerRuns<'a, POINTERS>
         requires { run_fault POINTERS runs.now ≡ None }
         ensures { result.runs.now ≡ runs.now }
     {
-        Runs { runs }
+        PointerRuns { runs }
     }
 
     /// Returns the pointer after all runs.
@@ -128,7 +128,7 @@ impl<'a, const POINTERS: usize> Runs<'a, POINTERS> {
     }
 }
 
-impl<'a, const POINTERS: usize> Numbers for Runs<'a, POINTERS> {
+impl<'a, const POINTERS: usize> Numbers for PointerRuns<'a, POINTERS> {
     ghost numbers = { λ r. runs_list r.runs.now };
 
     ghost is_at = { λ r place pointer. IsBetween r.runs.now place pointer };

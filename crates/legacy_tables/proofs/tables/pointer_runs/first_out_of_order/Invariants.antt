@@ -1,5 +1,5 @@
 use Rattle.std.proofs.Common.{◌≡◌, ◌≤◌, drop}
-use Rattle.legacy_tables.specs.Runs.{run_fault, run_fault_from}
+use Rattle.legacy_tables.specs.PointerRuns.{run_fault, run_fault_from}
 use Rattle.legacy_tables.proofs.tables.pointer_runs.first_out_of_order.Given as goal
 
 -- no fault up to here

@@ -1,6 +1,6 @@
 use Rattle.std.proofs.{lemmas.Bool.Decides.nat_tests, Common.{◌-◌, arith}}
 use Rattle.legacy_tables.proofs.PackedRuns.{scalar-had, none-has}
-use Rattle.legacy_tables.proofs.tables.pointer_runs.Runs.scalar.Goals as goal
+use Rattle.legacy_tables.proofs.tables.pointer_runs.PointerRuns.scalar.Goals as goal
 
 pub returns-then-count-eq0 : goal.returns-then-count-eq0
 returns-then-count-eq0 g c = grind (arith, none-has c.args.self.now.runs.now c.args.self.now.ordered c.args.pointer 0)

@@ -1,6 +1,6 @@
 use Rattle.std.proofs.Common.{arith}
 use Rattle.legacy_tables.proofs.PackedRuns.{scalar-before, scalar-had}
-use Rattle.legacy_tables.proofs.tables.pointer_runs.Runs.scalar_at.Goals as goal
+use Rattle.legacy_tables.proofs.tables.pointer_runs.PointerRuns.scalar_at.Goals as goal
 
 pub returns-then-place-self : goal.returns-then-place-self
 returns-then-place-self g c =
