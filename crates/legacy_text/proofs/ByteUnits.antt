@@ -1,14 +1,10 @@
 -- Single bytes that are stored as UTF-16 code units, by their entries.
-use Rattle.std.proofs.Common.{◌≡◌, ◌≢◌, ◌∙◌, ℕ, ◌+◌, ◌-◌, ◌<◌, ◌≤◌, ◌^◌, List, ◌++◌, All, length}
-use Rattle.std.proofs.Common.{take, drop, map, get_or, slice_set, w64, bit_and, arith, sym, ap, ap₂, ◌⊎◌}
-use Rattle.std.proofs.{lemmas.Bool.{cases_lt, Decides.nat_tests}, lemmas.Grind.{common_steps, same_number_lists}, Math.Seq.take-add}
-use Rattle.std.proofs.lemmas.List.{get_or-map, get_or-append_right, get_or-set_same, get_or-set_other}
-use Rattle.std.proofs.lemmas.List.{Elements.All-from_get_or, get_or_past, get_or-take, get_or-drop, length-take-le, length-drop, length-map}
-use Rattle.std.proofs.lemmas.Nat.Bits.{bit_at_and, bit_at-trailing_zeros}
-use Rattle.std.specs.Int.{bit_at, trailing_zeros}
-use Rattle.legacy_text.specs.ByteUnits.{AreByteScalars, HaveScalars, scalars_of}
-use Rattle.legacy_text.specs.EncodingForm.{EncodingForm, Utf8, Utf16, all_code_units, total_unit_count, bmp_room}
-use Rattle.legacy_text.proofs.{ScalarTurns.cleared, CodeUnits.own_units}
+use Rattle.std.proofs.Common.{◌≡◌, ◌≢◌, ◌∙◌, ℕ, ◌+◌, ◌-◌, ◌<◌, ◌≤◌, ◌^◌, List, ◌++◌, length, take, drop, get_or, slice_set, w64, bit_and, arith, ap, ◌⊎◌}
+use Rattle.std.proofs.{lemmas.{Bool.{cases_lt, Decides.nat_tests}, Grind.{common_steps, same_number_lists}, List.get_or-map}, Math.Seq.take-add}
+use Rattle.std.proofs.lemmas.List.{get_or-append-add, get_or-set_same, get_or-set_other, get_or_past, get_or-take, get_or-drop, length-take-le, length-drop}
+use Rattle.std.{proofs.lemmas.{List.{length-map, Elements.All-from_get_or}, Nat.Bits.{bit_at_and, bit_at-zero, bit_at-trailing_zeros}}, specs.Int.bit_at}
+use Rattle.{std.specs.Int.trailing_zeros, legacy_text.specs.{ByteUnits.{AreByteScalars, HaveScalars, scalars_of}, EncodingForm.{EncodingForm, Utf8, Utf16}}}
+use Rattle.legacy_text.{specs.EncodingForm.{all_code_units, total_unit_count, bmp_room}, proofs.{ScalarTurns.cleared, CodeUnits.own_units}}
 
 -- the scalar of a byte is stored at its place, and the byte has one
 abbrev pub IsStored : List ℕ → List ℕ → List ℕ → ℕ → ℕ → Type 0
@@ -20,19 +16,17 @@ module _ (entries bytes old new : List ℕ) (at n : ℕ) (front : take at new �
   -- the scalars of the bytes are stored after the earlier contents
   pub stored_scalars : take (at + n) new ≡ take at old ++ scalars_of entries (take n bytes)
   stored_scalars =
-      let few : length (take n bytes) ≡ n = length-take-le n bytes block in
-      let size : length (take n (drop at new)) ≡ n = length-take-le n (drop at new) (omega (arith, room, length-drop at new)) in
-      let same : take n (drop at new) ≡ scalars_of entries (take n bytes) = same_number_lists (take n (drop at new)) (scalars_of entries (take n bytes))
-      (size ∙ sym (length-map (take n bytes) (λ b. get_or entries b 0) ∙ few))
-      (λ k h. let below : k < n = omega (arith, h, size) in
-      get_or-take n (drop at new) k 0 below ∙ get_or-drop at new k 0 ∙ (stored k below).0 ∙ sym (ap (λ b. get_or entries b 0) (get_or-take n bytes k 0 below))
-      ∙ sym (get_or-map (λ b. get_or entries b 0) (take n bytes) k 0 0 (omega (arith, below, few)))) in
-      take-add at n new ∙ ap₂ (λ x y. x ++ y) front same
+      let same = same_number_lists (take n (drop at new)) (scalars_of entries (take n bytes)) in
+      grind (arith, nat_tests, same, front, take-add at n new, stored, length-take-le, length-drop, length-map, get_or-take, get_or-drop, get_or-map)
 
   -- each of the bytes has a scalar
   pub stored_have : HaveScalars entries (take n bytes)
   stored_have = All-from_get_or (λ b. 0x80 ≤ b → get_or entries b 0 ≢ 0) (take n bytes) 0
       (λ k h. let below : k < n = omega (arith, h, length-take-le n bytes block) in rw (get_or-take n bytes k 0 below) (stored k below).1)
+
+-- below its lowest bit a number has none
+pub before_lowest : (n i : ℕ) → i < trailing_zeros w64 n → n < 2 ^ 64 → bit_at n i ≡ 0
+before_lowest n i below few = grind (arith, nat_tests, bit_at-zero i, bit_at-trailing_zeros w64 n)
 
 -- without its lowest bit a number has the bits that it had
 pub without_lowest : (n i : ℕ) → 0 < n → n < 2 ^ 64 → bit_at (bit_and n (n - 1)) i ≡ 0 → (bit_at n i ≡ 0) ⊎ (i ≡ trailing_zeros w64 n)
@@ -45,11 +39,9 @@ module _ (entries bytes : List ℕ) (at : ℕ) (table : AreByteScalars entries) 
   pub stored_ascii : (old new : List ℕ) → at ≤ length old → take (at + 64) new ≡ take at old ++ take 64 bytes
       → (i : ℕ) → i < 64 → get_or bytes i 0 < 128 → IsStored entries bytes new at i
   stored_ascii old new within same i h ascii =
-      let place : get_or new (at + i) 0 ≡ get_or bytes i 0 =
-      sym (get_or-take (at + 64) new (at + i) 0 (omega (arith, h))) ∙ ap (λ l. get_or l (at + i) 0) same
-      ∙ (get_or-append_right (take at old) (take 64 bytes) at (at + i) 0 (length-take-le at old within) (omega arith)
-      ∙ ap (λ k. get_or (take 64 bytes) k 0) (omega arith) ∙ get_or-take 64 bytes i 0 h) in
-      (place ∙ sym (table.ascii (get_or bytes i 0) ascii), λ past none. omega (arith, ascii, past))
+      let after = get_or-append-add (take at old) (take 64 bytes) i in
+      let place = ap (λ l. get_or l (at + i) 0) same in
+      grind (arith, nat_tests, after, place, length-take-le at old, get_or-take (at + 64) new, get_or-take 64 bytes, table.ascii (get_or bytes i 0) ascii)
 
   -- the same with the scalar of the next byte past ASCII at its place
   pub stored_next : (dst : List ℕ) (past entry : ℕ) → 0 < past → past < 2 ^ 64 → at + 64 ≤ length dst
@@ -72,3 +64,5 @@ one_each Utf8 entries bytes one table = absurd (omega (arith, one))
 one_each Utf16 entries bytes one table = ap length (scalars_are_units entries bytes table) ∙ length-map bytes (λ b. get_or entries b 0)
 
 pub ruleset scalar_steps = (common_steps, scalars_are_units, length-take-le, length-map)
+
+pub ruleset store_steps = (nat_tests, stored_scalars, stored_have, bit_at-zero, before_lowest)

@@ -1,7 +1,6 @@
 -- The bytes of a scalar, by its range.
-use Rattle.std.proofs.Common.{◌≡◌, ◌∙◌, ℕ, ◌+◌, ◌-◌, ◌/◌, ◌%◌, ◌≤◌, ◌<◌, List, [], ◌∷◌, ◌++◌, length, refl, ap, arith, append_assoc, length-append}
-use Rattle.std.proofs.{Common.{get_or, suc}, lemmas.List.Concat.flat_map-append, lemmas.Bool.{lt-ltb, le-ltb}, lemmas.Bool.Decides.nat_tests}
-use Rattle.std.{proofs.lemmas.Str.encode_ascii, specs.Char.Escape.encode_utf16}
+use Rattle.std.proofs.Common.{◌≡◌, ◌∙◌, ℕ, ◌+◌, ◌-◌, ◌/◌, ◌%◌, ◌≤◌, ◌<◌, List, [], ◌∷◌, ◌++◌, length, refl, ap, arith, append_assoc, length-append, get_or, suc}
+use Rattle.std.{proofs.lemmas.{List.Concat.flat_map-append, Bool.{lt-ltb, le-ltb, Decides.nat_tests}, Str.encode_ascii}, specs.Char.Escape.encode_utf16}
 use lib.Utf8.{encode}
 use Rattle.legacy_text.specs.EncodingForm.{Utf16, EncodingForm, code_units, all_code_units, unit_count, total_unit_count, Utf8, bmp_room, wide_room}
 
@@ -34,9 +33,6 @@ pub ruleset encoding = (encode_ascii, encode_2, encode_3, encode_4, append_assoc
 pub length-code_units-bmp : (form : EncodingForm) (c : ℕ) → c < 65536 → length (code_units form c) ≤ bmp_room form
 unfolding encode
 length-code_units-bmp form c h = grind (arith, nat_tests)
-
--- the lemma for room that is tested for any scalar
-pub ruleset bmp_fits = (length-code_units-bmp)
 
 -- any scalar fits into the room for any scalar
 pub length-code_units-wide : (form : EncodingForm) (c : ℕ) → length (code_units form c) ≤ wide_room form

@@ -4,9 +4,7 @@ pub mod ShortScalars
 pub mod Ascii
 pub mod PastAscii
 pub mod Texts
-pub mod UnitCopies
 pub mod ScalarTurns
 pub mod UnitLanes
 pub mod VectorUnits
-pub mod ShortUnits
 pub mod ByteUnits

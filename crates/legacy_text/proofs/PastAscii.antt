@@ -1,19 +1,11 @@
 -- The bits of the bytes past ASCII.
-use Rattle.std.proofs.Common.{◌≡◌, ◌≢◌, ◌↔◌, ◌∙◌, not, nat_eq, false, take, ℕ, ◌+◌, ◌-◌, ◌/◌, ◌%◌, ◌^◌, ◌<◌}
-use Rattle.std.proofs.Common.{◌≤◌, List, cond, leb, length, map, get_or, replicate, w8, w64, ap, arith}
-use Rattle.std.proofs.lemmas.{List.{get_or-map, get_or-take, length-map, length-take-le}, Bool.Decides.nat_tests, Nat.shr-shr}
-use Rattle.std.proofs.lemmas.Nat.Bits.{bit_at-zero, bit_at-trailing_zeros}
-use Rattle.std.proofs.lemmas.Simd.{bit_mask_l, tops_compared, mask_l-mod, zip2_splat_left}
+use Rattle.std.proofs.Common.{◌≡◌, ◌≢◌, ◌↔◌, ◌∙◌, not, nat_eq, false, take, ℕ, ◌+◌, ◌/◌, ◌^◌, ◌<◌, ◌≤◌, List, length, get_or, w64, ap, refl, arith}
+use Rattle.std.proofs.lemmas.{List.{get_or-take, length-take-le}, Bool.Decides.nat_tests, Nat.{shr-shr, Bits.{bit_at-lt, bit_at-zero, bit_at-trailing_zeros}}}
 use Rattle.std.specs.Int.{trailing_zeros, Count.trailing_of_zero}
-use lib.Lanes.{mask_l, zip2, top}
-use Rattle.legacy_text.specs.PastAscii.{ArePast, ArePastFrom}
-use Rattle.legacy_text.proofs.Ascii.{past_mask, none_past, lowest_past}
+use Rattle.legacy_text.{specs.PastAscii.{ArePast, ArePastFrom}, proofs.Ascii.{mask_from, mask_bit, none_past, lowest_past}}
 
-pub past_bits : (block : List ℕ) → length block ≡ 64
-    → ArePast (mask_l (map (top 7) (zip2 (λ a b. cond (leb a b) (2 ^ 8 - 1) 0) (replicate 64 128) block)) % 2 ^ 64) block
-past_bits block long i h =
-    let mask = tops_compared w8 leb (replicate 64 128) block ∙ zip2_splat_left leb 128 64 block long in
-    grind (arith, mask, mask_l-mod (map (λ b. leb 128 b) block) 64, length-map block (λ b. leb 128 b), bit_mask_l, get_or-map, nat_tests)
+pub past_bits : (block : List ℕ) → length block ≡ 64 → ArePast (mask_from 128 64 block) block
+past_bits block long i h = grind (arith, nat_tests, mask_bit 128 refl 64 block (omega arith) long i, bit_at-lt)
 
 -- the bits from the place after the next byte past ASCII on
 pub past_behind : (past n at : ℕ) (bytes : List ℕ) → ArePastFrom past bytes at → ArePastFrom (past / 2 ^ n / 2 ^ 1) bytes (at + n + 1)
@@ -34,13 +26,13 @@ module _ (past at : ℕ) (bytes : List ℕ) (small : past < 2 ^ 64) (are : ArePa
 
 -- whether one of eight bytes is past ASCII
 module _ (src : List ℕ) (long : 8 ≤ length src) where
-  none_eight : past_mask 8 (take 8 src) ≡ 0 → (k : ℕ) → k < 8 → get_or src k 0 < 128
+  none_eight : mask_from 128 8 (take 8 src) ≡ 0 → (k : ℕ) → k < 8 → get_or src k 0 < 128
   none_eight none k h = rw (get_or-take 8 src k 0 h) at (none_past 8 (take 8 src) (omega arith) (length-take-le 8 src long) none k)
 
-  some_eight : past_mask 8 (take 8 src) ≢ 0 → ((k : ℕ) → k < 8 → get_or src k 0 < 128) → ⊥
+  some_eight : mask_from 128 8 (take 8 src) ≢ 0 → ((k : ℕ) → k < 8 → get_or src k 0 < 128) → ⊥
   some_eight some all =
       let lowest = lowest_past 8 (take 8 src) (omega arith) (length-take-le 8 src long) some in
       omega (arith, lowest.1, rw (get_or-take 8 src _ 0 lowest.0) at lowest.1, all _ lowest.0)
 
-  pub no_eight : not (nat_eq (past_mask 8 (take 8 src)) 0) ≡ false ↔ ((k : ℕ) → k < 8 → get_or src k 0 < 128)
+  pub no_eight : not (nat_eq (mask_from 128 8 (take 8 src)) 0) ≡ false ↔ ((k : ℕ) → k < 8 → get_or src k 0 < 128)
   no_eight = (λ e. none_eight (grind (arith, nat_tests, e)), λ all. grind (arith, nat_tests, some_eight, all))

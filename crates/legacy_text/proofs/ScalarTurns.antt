@@ -1,17 +1,17 @@
 -- Bits that say where scalars begin, and the scalars of one and three bytes of UTF-8 between them.
-use Rattle.std.proofs.{lemmas.Bool.Decides.nat_tests, Common.{◌≡◌, ◌↔◌, ◌∙◌, ℕ, zero, suc, ◌+◌, ◌-◌, ◌*◌, ◌/◌, ◌%◌, ◌^◌, ◌≤◌, ◌<◌, List, [], ◌∷◌, ◌++◌, length}}
-use Rattle.std.proofs.Common.{get_or, true, max, min, map, take, drop, replicate, refl, ap, ap₂, sym, arith, append_assoc, length-append, add-zero, slice_set}
-use Rattle.std.proofs.{Common.{w8, w32, Fits, bit_and, bit_or, cond, leb}, lemmas.Bool.cases_lt, lemmas.List.{get_or-set_same, get_or-set_other, get_or_past}}
-use Rattle.std.proofs.{lemmas.List.{length-drop, get_or_append_left, get_or-append-add, get_or-drop, length-map}, lemmas.Nat.Bits.bit_at-trailing_zeros}
-use Rattle.std.proofs.{lemmas.Nat.Bits.{bit_at_lowest, bit_at-suc, bit_at_and, bit_at_or, bit_at_not, bit_at-lt}, lemmas.List.FromFn.get_or-map-range_with_len}
-use Rattle.std.proofs.{lemmas.Grind.common_steps, lemmas.Simd.{mask_l-lt, get_or_wider, Each1-from_get_or, Each1-get_or, get_or-chunk, length-chunk}}
-use Rattle.std.proofs.lemmas.Simd.{below_from_Fits, get_or-put_chunk_below, get_or-put_chunk_at, length-put_chunk, get_or-zip2, get_or-replicate}
-use Rattle.std.{proofs.lemmas.Str.encode_ascii, specs.Str.is_utf8}
-use Rattle.std.specs.{List.range_with_len, Int.{bit_at, bit_not, trailing_zeros}, Simd.Lanes.{zip2, number_l, digits_l, put_chunk, chunk, Each1}, Str.chars}
+use Rattle.std.proofs.Common.{◌≡◌, ◌↔◌, ◌∙◌, ℕ, zero, suc, ◌+◌, ◌-◌, ◌*◌, ◌/◌, ◌%◌, ◌^◌, ◌≤◌, ◌<◌, List, [], ◌∷◌, ◌++◌, length, get_or, true, max, min, map}
+use Rattle.std.proofs.Common.{take, drop, replicate, refl, ap, ap₂, sym, arith, append_assoc, append-nil, length-append, add-zero, w8, w32, Fits, bit_and}
+use Rattle.std.proofs.{Common.{bit_or, cond, leb}, lemmas.{Bool.{Decides.nat_tests, cases_lt}, List.{get_or_past, length-drop, get_or_append_left}}}
+use Rattle.std.proofs.lemmas.{List.{get_or-append-add, get_or-drop, length-map}, Nat.{and_le_l, Bits.{bit_at-trailing_zeros, bit_at_lowest, bit_at-suc}}}
+use Rattle.std.proofs.lemmas.{Nat.Bits.{bit_at_and, bit_at_or, bit_at_not, bit_at-lt}, List.FromFn.get_or-map-range_with_len, Grind.common_steps}
+use Rattle.std.proofs.lemmas.Simd.{mask_l-lt, get_or_wider, Each1-from_get_or, Each1-get_or, get_or-chunk, length-chunk, below_from_Fits}
+use Rattle.std.proofs.lemmas.{Simd.{get_or-put_chunk_below, get_or-put_chunk_at, length-put_chunk, get_or-zip2, get_or-replicate}, Str.encode_ascii}
+use Rattle.std.specs.{Str.{is_utf8, chars}, List.range_with_len, Int.{bit_at, bit_not, trailing_zeros}, Simd.Lanes.{zip2, number_l, digits_l, put_chunk, chunk}}
+use Rattle.std.specs.Simd.Lanes.{Each1}
 use lib.Utf8.{encode}
 use Rattle.legacy_text.specs.{EncodingForm.{Utf8, unit_count}, ShortScalars.ReadsScalar, ScalarTurns.{IsStart, IsUnitAt, ReadsUnits}, UnitCodes.IsNoSurrogate}
-use Rattle.legacy_text.{specs.UnitTurns.AreNoSurrogates, proofs.{Texts.by_first, ShortScalars.{stands, reads_here, reads_ascii, one_count}}}
-use Rattle.legacy_text.proofs.{Ascii.{mask_from, mask_from-is, mask_bit}, CodeUnits.{some_units, encode_2, encode_3, encode_4, total_unit_count-append}}
+use Rattle.legacy_text.{specs.UnitTurns.AreNoSurrogates, proofs.{Texts.by_first, ShortScalars.{stands, reads_here, reads_ascii}, Ascii.mask_from}}
+use Rattle.legacy_text.proofs.{Ascii.{mask_from-is, mask_bit}, CodeUnits.{some_units, encode_2, encode_3, encode_4, total_unit_count-append}}
 
 -- ---- the lowest bit
 
@@ -65,12 +65,6 @@ lane n bytes k are long h =
     let each = Each1-from_get_or (λ x. x < 256) bytes 0 (λ i l. are i (omega arith)) in
     grind (arith, nat_tests, length-drop, get_or-drop, get_or_wider 256 2 65536 n bytes k refl each, pair)
 
--- one more lane of two lists of bytes
-pub filled : (P : ℕ → ℕ → Type 0) (lows highs : List ℕ) (k low high : ℕ) → k < length lows → k < length highs →
-    ((j : ℕ) → j < k → P j (get_or lows j 0 + 256 * get_or highs j 0))
-    → P k (low + 256 * high) → (j : ℕ) → j < k + 1 → P j (get_or (slice_set lows k low) j 0 + 256 * get_or (slice_set highs k high) j 0)
-filled P lows highs k low high a b before here j h = grind (arith, nat_tests, get_or-set_other, get_or-set_same)
-
 -- sixteen bytes, each joined with the same number
 pub each_sixteenth : (f : ℕ → ℕ → ℕ) (x : ℕ) (bytes : List ℕ) (place : ℕ) → place + 16 ≤ length bytes → (k : ℕ) → k < 16
     → get_or (zip2 f (take 16 (drop place bytes)) (replicate 16 x)) k 0 ≡ f (get_or bytes (place + k) 0) x
@@ -104,11 +98,7 @@ module _ (lows highs : List ℕ) (count : length lows ≡ 16) (low : Each1 (Fits
       ∙ get_or-map-range_with_len (λ i. get_or (lows ++ highs) i 0 + 256 * get_or (lows ++ highs) (i + 16) 0) a 8 k i 0 h is
       ∙ grind (arith, get_or_append_left, get_or-append-add lows highs i)
 
--- two vectors that are stored from a place on change nothing before it
-pub stored_before : (all front back : List ℕ) (at k : ℕ) → k < at → get_or (put_chunk (at + 8) (put_chunk at all front) back) k 0 ≡ get_or all k 0
-stored_before all front back at k h = grind (arith, get_or-put_chunk_below)
-
--- they are at that place
+-- two vectors that are stored from a place on are there
 pub stored_at : (P : ℕ → ℕ → Type 0) (all front back : List ℕ) (at : ℕ) → length front ≡ 8 → length back ≡ 8 → at + 16 ≤ length all
     → ((k : ℕ) → k < 8 → P k (get_or front k 0)) → ((k : ℕ) → k < 8 → P (8 + k) (get_or back k 0))
     → (k : ℕ) → k < 16 → P k (get_or (put_chunk (at + 8) (put_chunk at all front) back) (at + k) 0)
@@ -151,7 +141,7 @@ units_more text start units place c behind unit before r is = record {
   is_text = r.is_text;
   within = r.within;
   front = λ bmp. let own = both bmp in grind (arith, is own.1, before.front own.0, r.left, append_assoc);
-  passed = λ bmp. let own = both bmp in grind (arith, is own.1, before.passed own.0, r.passed, total_unit_count-append, one_count);
+  passed = λ bmp. let own = both bmp in grind (arith, is own.1, before.passed own.0, r.passed, total_unit_count-append, append-nil);
 }
   where
     both : AreNoSurrogates (units ++ unit ∷ []) → AreNoSurrogates units × IsNoSurrogate unit
@@ -167,11 +157,15 @@ pub stands_first : (text : List ℕ) (start bits : ℕ) → start + 34 ≤ lengt
 stands_first text start bits long u starts fits some =
     grind (arith, nat_tests, bit_at-trailing_zeros w32 bits some fits, starts 0, start_here text start (omega arith) u, add-zero)
 
-pub stands_more : (text : List ℕ) (start : ℕ) (units : List ℕ) (bits rest unit : ℕ) → start + 34 ≤ length text → 0 < bits → bits < 2 ^ 32 → 0 < rest →
-    rest < 2 ^ 32 → ((k : ℕ) → k ≤ trailing_zeros w32 bits → bit_at rest k ≡ 0) → ((k : ℕ) → trailing_zeros w32 bits < k → bit_at rest k ≡ bit_at bits k)
-    → ((k : ℕ) → k < 32 → k ≡ trailing_zeros w32 bits → IsUnitAt text (start + k) unit) → StandsBehind text start units bits →
-    StandsBehind text start (units ++ unit ∷ []) rest
-stands_more text start units bits rest unit long some fits some_rest fits_rest gone others made s =
+pub stands_more : (text : List ℕ) (start : ℕ) (units : List ℕ) (bits unit : ℕ) → start + 34 ≤ length text → 0 < bits → bits < 2 ^ 32
+    → let rest = bit_and bits ((bits + 4294967295) % 4294967296) in 0 < rest
+    → ((k : ℕ) → k < 32 → k ≡ trailing_zeros w32 bits → IsUnitAt text (start + k) unit) → StandsBehind text start units bits
+    → StandsBehind text start (units ++ unit ∷ []) rest
+stands_more text start units bits unit long some fits some_rest made s =
+    let rest = bit_and bits ((bits + 4294967295) % 4294967296) in
+    let fits_rest : rest < 2 ^ 32 = omega (arith, fits, and_le_l bits ((bits + 4294967295) % 4294967296)) in
+    let gone : (k : ℕ) → k ≤ trailing_zeros w32 bits → bit_at rest k ≡ 0 = λ k l. grind (arith, nat_tests, lowest bits some fits k) in
+    let others : (k : ℕ) → trailing_zeros w32 bits < k → bit_at rest k ≡ bit_at bits k = λ k l. grind (arith, nat_tests, lowest bits some fits k) in
     let p = trailing_zeros w32 bits in
     let q = trailing_zeros w32 rest in
     let at = bit_at-trailing_zeros w32 bits some fits in
@@ -189,4 +183,4 @@ stands_more text start units bits rest unit long some fits some_rest fits_rest g
       starts = λ k l h. grind (arith, others k, s.starts k);
     }
 
-pub ruleset lowest_steps = (lowest, nat_tests)
+pub ruleset store_steps = (get_or-put_chunk_below)

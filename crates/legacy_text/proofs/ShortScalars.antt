@@ -1,12 +1,11 @@
--- Scalars that were written as one byte each, and the scalars of one and two bytes of UTF-8.
-use Rattle.std.proofs.{lemmas.Bool.Decides.nat_tests, lemmas.Grind.common_steps, Common.{◌≡◌, ℕ, ◌+◌, ◌-◌, ◌*◌, ◌≤◌, ◌<◌, List, [], ◌∷◌, ◌++◌, length, get_or}}
-use Rattle.std.proofs.{Common.{true, drop, sym, ap, arith, append_assoc, append-nil, length-append, length-drop}, lemmas.List.get_or_append_left}
-use Rattle.std.proofs.{lemmas.List.{get_or-append-add, get_or-drop, drop-drop}, lemmas.Str.{encodes-chars, IsUtf8-from_is_utf8}, Math.Seq.take-add}
-use Rattle.std.{specs.Str.{chars, is_utf8}, proofs.lemmas.Option.slice_get-get_or}
+-- Scalars that were written as one byte each, also by blocks, and the scalars of one and two bytes of UTF-8.
+use Rattle.std.proofs.Common.{◌≡◌, ℕ, ◌+◌, ◌-◌, ◌*◌, ◌≤◌, ◌<◌, List, [], ◌∷◌, ◌++◌, length, get_or, true, drop, sym, ap, arith, append_assoc, append-nil}
+use Rattle.std.proofs.{Common.{length-append, length-drop, take, IsAscii}, lemmas.{Bool.Decides.nat_tests, Grind.common_steps, List.get_or_append_left}}
+use Rattle.std.proofs.lemmas.{List.{get_or-append-add, get_or-drop, drop-drop, length-take-le, get_or-take, take_all}, Str.{encodes-chars, IsUtf8-from_is_utf8}}
 use lib.Utf8.{encodes}
-use Rattle.legacy_text.specs.{EncodingForm.{Utf8, code_units, unit_count, total_unit_count}, ShortScalars.{ReadsScalar, WritesScalars}, UnitCodes.WritesCodes}
-use Rattle.legacy_text.specs.NextScalars.{StandsAt}
-use Rattle.legacy_text.proofs.{CodeUnits.total_unit_count-append, Texts.{utf8_next, utf8_stands, by_first}}
+use Rattle.{std.{proofs.{lemmas.Option.slice_get-get_or, Math.Seq.take-add}, specs.Str.{chars, is_utf8}}, legacy_text.specs.EncodingForm.{Utf8, unit_count}}
+use Rattle.legacy_text.specs.{ShortScalars.{ReadsScalar, WritesScalars}, UnitCodes.{WritesCodes, IsNoSurrogate}}
+use Rattle.legacy_text.{specs.NextScalars.StandsAt, proofs.{CodeUnits.total_unit_count-append, Texts.{utf8_next, utf8_stands, by_first}}}
 
 -- ---- several scalars
 
@@ -16,13 +15,24 @@ codes_append : (gives : ℕ → ℕ → Type 0) (scalars old mid new : List ℕ)
 codes_append gives scalars old mid new n m few a b =
     grind (arith, common_steps, append_assoc, length-append, get_or_append_left, get_or-append-add, get_or-drop)
 
-pub one_count : (c : ℕ) → total_unit_count Utf8 (c ∷ []) ≡ unit_count Utf8 c
-one_count c = ap length (append-nil (code_units Utf8 c))
+-- the code units of a block after others
+pub block_behind : (gives : ℕ → ℕ → Type 0) (units old new front : List ℕ) (at copied r : ℕ) (block marks : List ℕ)
+    → copied + 16 ≤ length units → r ≤ 16 → length block ≡ 16
+    → ((k : ℕ) → k < 16 → get_or marks k 0 < 128 → IsNoSurrogate (get_or (take (length units - copied) (drop copied units)) k 0)
+    × gives (get_or (take (length units - copied) (drop copied units)) k 0) (get_or block k 0))
+    → IsAscii (take r marks) → take (at + copied + r) new ≡ take (at + copied) old ++ take r block
+    → ((k : ℕ) → k < copied → IsNoSurrogate (get_or units k 0)) → WritesCodes gives units copied front (take (at + copied) old)
+    → ((k : ℕ) → k < copied + r → IsNoSurrogate (get_or units k 0)) × WritesCodes gives units (copied + r) front (take (at + (copied + r)) new)
+block_behind gives units old new front at copied r block marks within few long codes ascii stored bmp writes =
+    grind (arith, nat_tests, append_assoc, length-append, length-take-le, get_or_append_left, get_or-append-add, get_or-take, writes, behind)
+  where
+    behind : (k : ℕ) → k < copied + r → copied ≤ k → IsNoSurrogate (get_or units k 0) × gives (get_or units k 0) (get_or block (k - copied) 0)
+    behind k h l = grind (arith, nat_tests, codes (k - copied), ascii (k - copied), get_or-take, take_all, length-drop, get_or-drop)
 
 -- one scalar
 pub scalars_one : (gives : ℕ → ℕ → Type 0) (text : List ℕ) (place scalar behind byte : ℕ) (old new : List ℕ) → ReadsScalar text place scalar behind
     → gives scalar byte → new ≡ old ++ byte ∷ [] → WritesScalars gives text place 1 behind old new
-scalars_one gives text place scalar behind byte old new r g e = grind (arith, common_steps, one_count)
+scalars_one gives text place scalar behind byte old new r g e = grind (arith, common_steps, append-nil)
 
 -- scalars, and then the next ones
 pub scalars_append : (gives : ℕ → ℕ → Type 0) (text : List ℕ) (start n place m behind : ℕ) (old mid new : List ℕ) →

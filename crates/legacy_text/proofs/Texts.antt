@@ -1,18 +1,17 @@
 -- The scalars of texts, one by one from the front, and the places between them.
-use Rattle.std.proofs.{lemmas.Bool.Decides.nat_tests, Common.{◌≡◌, ◌∙◌, ℕ, suc, ◌+◌, ◌≤◌, ◌<◌, List, [], ◌∷◌, ◌++◌, length, take, drop, get_or, refl, sym, ◌*◌}}
-use Rattle.std.proofs.Common.{◌%◌, ap, subst, arith, length-append, length-drop, Some, None, Option, true, false, ◌⊎◌, ◌&&◌, map, slice_get, IsAscii, cond, ltb}
-use Rattle.std.proofs.{lemmas.List.{drop-drop, take-append-drop, length-take-le, get_or-take, get_or-drop}, Math.Seq.{drop-append_seam, take-append_seam}}
-use Rattle.std.proofs.lemmas.Str.{IsUtf8-from_is_utf8, is_utf8-from_IsUtf8, encodes-chars, chars_past_char, IsUtf8-past_char, drop_past_char, length-encode}
-use Rattle.std.proofs.lemmas.Str.{utf16_chars-nil, encodes-append, scalars-chars, chars-encodes}
-use Rattle.std.proofs.lemmas.Str.{IsCharBoundary-at_seam, chars-append, chars-IsAscii, IsUtf8-from_ascii, IsUtf8-drop, IsCharBoundary-from_take}
-use Rattle.std.proofs.{lemmas.Str.{IsCharBoundary-from_drop, encode_ascii}, str.Utf16.{IsPair, lone_unit_char_low, lone_unit_char_high}}
-use Rattle.std.proofs.{str.Utf16.{lone_unit_char_surrogate, utf16_chars-drop_lone, utf16_chars-drop_pair, utf16_chars-drop_all}, lemmas.Grind.common_steps}
-use Rattle.std.specs.{Str.{chars, is_utf8, IsUtf8, IsCharBoundary}, Char.Utf16.{lone_unit_char, surrogate_pair_char, is_high_surrogate, is_low_surrogate}}
-use Rattle.std.{specs.Option.unwrap_or, proofs.lemmas.Option.slice_get-get_or}
+use Rattle.std.proofs.Common.{◌≡◌, ◌∙◌, ℕ, suc, ◌+◌, ◌≤◌, ◌<◌, List, [], ◌∷◌, ◌++◌, length, take, drop, get_or, refl, sym, ◌*◌, ◌%◌, ap, subst, arith}
+use Rattle.std.proofs.{Common.{length-append, length-drop, Some, None, Option, true, false, ◌⊎◌, ◌&&◌, map, slice_get, IsAscii}, lemmas.Bool.Decides.nat_tests}
+use Rattle.std.proofs.{lemmas.List.{drop-drop, take-append-drop, length-take-le, get_or-take, get_or-drop, take_rest}, Math.Seq.drop-append_seam}
+use Rattle.std.proofs.{Math.Seq.take-append_seam, lemmas.Str.{IsUtf8-from_is_utf8, is_utf8-from_IsUtf8, encodes-chars, chars_past_char, IsUtf8-past_char}}
+use Rattle.std.proofs.lemmas.Str.{drop_past_char, length-encode, utf16_chars-nil, encodes-append, scalars-chars, chars-encodes, IsCharBoundary-at_seam}
+use Rattle.std.proofs.lemmas.Str.{chars-append, chars-IsAscii, IsUtf8-from_ascii, IsUtf8-drop, IsCharBoundary-from_take, IsCharBoundary-from_drop, encode_ascii}
+use Rattle.std.proofs.str.Utf16.{IsPair, lone_unit_char_low, lone_unit_char_high, lone_unit_char_surrogate, utf16_chars-drop_lone, utf16_chars-drop_pair}
+use Rattle.std.{proofs.{str.Utf16.utf16_chars-drop_all, lemmas.{Grind.common_steps, Option.{slice_get-get_or, slice_get_cases}}}, specs.Str.{chars, is_utf8}}
+use Rattle.std.specs.{Str.{IsUtf8, IsCharBoundary}, Char.Utf16.{lone_unit_char, surrogate_pair_char, is_high_surrogate, is_low_surrogate}, Option.unwrap_or}
 use lib.{ListN.get_or-eq_default, Utf8.{encode, encodes, scalars}}
-use Rattle.legacy_text.specs.{EncodingForm.{EncodingForm, Utf8, Utf16, unit_count, all_code_units}, declared.text_cursor.Next.Next, NextScalars.StandsAt}
-use Rattle.legacy_text.specs.{NextScalars.{IsSized, IsNext}, UnitCodes.IsNoSurrogate, Texts.{unit_scalars, IsUnitBoundary}, ShortScalars.ReadsScalar}
-use Rattle.legacy_text.proofs.{Ascii.all_behind, CodeUnits.{some_units, encode_2, encode_3, encode_4, utf16_1, utf16_2, total_unit_count-append}}
+use Rattle.legacy_text.specs.{EncodingForm.{EncodingForm, Utf8, Utf16, unit_count, all_code_units, total_unit_count}, NextScalars.StandsAt}
+use Rattle.legacy_text.specs.{UnitCodes.{IsNoSurrogate, WritesCodes}, Texts.{unit_scalars, IsUnitBoundary}, ShortScalars.ReadsScalar, UnitTurns.TakesUnits}
+use Rattle.legacy_text.proofs.CodeUnits.{some_units, encode_2, encode_3, encode_4, utf16_1, utf16_2, total_unit_count-append, own_units}
 
 pub first_cons : {A : Type 0} (xs : List A) (x : A) → Some x ≡ slice_get xs 0 → xs ≡ x ∷ drop 1 xs
 first_cons xs x h = grind arith
@@ -106,23 +105,16 @@ pub record CutUnits (list left : List ℕ) (place : ℕ) : Type 0 where
 abbrev Bounded : List ℕ → Type 0
 Bounded list = (i : ℕ) → get_or list i 0 < 65536
 
--- one more unit at the front, or two
-cut_lone : (u : ℕ) (list left : List ℕ) (place n : ℕ) → (IsPair u (get_or list 0 0) → ⊥) → n ≡ suc place → CutUnits list left place → CutUnits (u ∷ list) left n
-cut_lone u list left place n p e h = grind arith
-
-cut_pair : (u v : ℕ) (list left : List ℕ) (place n : ℕ) → IsPair u v → n ≡ suc (suc place) → CutUnits list left place → CutUnits (u ∷ v ∷ list) left n
-cut_pair u v list left place n p e h = grind arith
-
 pub utf16_cut : (list taken left : List ℕ) → Bounded list → unit_scalars list ≡ taken ++ left → CutUnits list left (length (all_code_units Utf16 taken))
 utf16_cut list [] left b e = grind arith
 utf16_cut [] (c ∷ taken) left b e = grind (arith, utf16_chars-nil)
 utf16_cut (u ∷ []) (c ∷ taken) left b e =
-    grind (arith, scalars_lone (u ∷ []) 0, unpaired_bound u (b 0), utf16_1 c, cut_lone u [] left, utf16_cut [] taken left (λ i. b (suc i)))
+    grind (arith, scalars_lone (u ∷ []) 0, unpaired_bound u (b 0), utf16_1 c, utf16_cut [] taken left (λ i. b (suc i)))
 utf16_cut (u ∷ v ∷ list) (c ∷ taken) left b e =
     let pair = utf16_cut list taken left (λ i. b (suc (suc i))) in
     let lone = utf16_cut (v ∷ list) taken left (λ i. b (suc i)) in
     let few = unpaired_bound u (b 0) in
-    grind (arith, pair_or_not u v, scalars_lone (u ∷ v ∷ list) 0, scalars_pair (u ∷ v ∷ list) 0, few, utf16_1 c, utf16_2 c, cut_lone, cut_pair)
+    grind (arith, pair_or_not u v, scalars_lone (u ∷ v ∷ list) 0, scalars_pair (u ∷ v ∷ list) 0, few, utf16_1 c, utf16_2 c)
 
 -- what a call left of a whole text
 pub utf8_read : (text taken left : List ℕ) (read : ℕ) → IsUtf8 text → chars text ≡ taken ++ left →
@@ -131,13 +123,8 @@ utf8_read text taken left read u e p =
     let all : text ≡ encodes taken ++ encodes left = sym (encodes-chars text u) ∙ ap encodes e ∙ encodes-append taken left in
     let good : scalars left ≡ true = scalars-right taken left (ap scalars (sym e) ∙ scalars-chars text u) in
     let boundary = IsCharBoundary-at_seam text (encodes taken) (encodes left) all (left, (good, refl)) in
-    grind (
-      arith,
-      passed_is Utf8 (chars text) taken left read e p,
-      encodes-code_units taken,
-      drop-append_seam (encodes taken) (encodes left),
-      chars-encodes left good,
-    )
+    let place = passed_is Utf8 (chars text) taken left read e p in
+    grind (arith, place, encodes-code_units taken, drop-append_seam (encodes taken) (encodes left), chars-encodes left good)
 
 pub utf16_read : (list taken left : List ℕ) (read : ℕ) → Bounded list → unit_scalars list ≡ taken ++ left
     → read + length (all_code_units Utf16 left) ≡ 0 + length (all_code_units Utf16 (unit_scalars list)) → CutUnits list left read
@@ -188,18 +175,25 @@ bmp_front list place n within bmp =
     let front = front_of (unit_scalars rest) (take n rest) (unit_scalars (drop n rest)) n in
     grind (arith, take-append-drop n rest, own, drop-drop n place list, front)
 
-pub utf16_ascii : (list : List ℕ) (place n : ℕ) → n ≤ length (drop place list) → IsAscii (take n (drop place list))
-    → IsFront (unit_scalars (drop place list)) (take n (drop place list)) (unit_scalars (drop (place + n) list)) n
-utf16_ascii list place n within ascii = bmp_front list place n within (λ k h. let low = ascii k in grind (arith, get_or-take))
+-- with no surrogate among them, they are the scalars
+module _ (list : List ℕ) (place n : ℕ) (bound : (k : ℕ) → get_or list k 0 < 65536) (within : n ≤ length (drop place list))
+    (bmp : (k : ℕ) → k < n → IsNoSurrogate (get_or (drop place list) k 0)) where
+  pub bmp_count : total_unit_count Utf16 (take n (unit_scalars (drop place list))) ≡ n
+  bmp_count = grind (arith, nat_tests, bmp_front list place n within bmp, own_units, length-take-le, get_or-take, get_or-drop)
+
+  pub bmp_writes : (gives : ℕ → ℕ → Type 0) (old new : List ℕ) → WritesCodes gives (drop place list) n old new
+      → WritesCodes gives (unit_scalars (drop place list)) n old new
+  bmp_writes gives old new w = grind (arith, nat_tests, get_or-take, bmp_front list place n within bmp)
+
+pub takes_units : (list : List ℕ) (place n : ℕ) → place + n ≤ length list → ((k : ℕ) → get_or list k 0 < 65536) → (units : List ℕ)
+    → units ≡ take n (drop place list) → TakesUnits Utf16 (unit_scalars (drop place list)) place units (unit_scalars (drop (place + n) list)) (place + n)
+takes_units list place n fits bound units is =
+    let long : n ≤ length (drop place list) = omega (arith, length-drop place list) in
+    let front = bmp_front list place n long in
+    let many = bmp_count list place n bound long in
+    grind (arith, front, many, length-take-le, get_or-take, take-append-drop n (unit_scalars (drop place list)))
 
 -- ---- the next scalar
-
-pub first_is : (xs : List ℕ) → slice_get xs 0 ≡ cond (ltb 0 (length xs)) (Some (get_or xs 0 0)) None
-first_is [] = refl
-first_is (x ∷ xs) = grind arith
-
-pub is_next : (form : EncodingForm) (left : List ℕ) (c : ℕ) (next : Next) → left ≡ c ∷ drop 1 left → IsSized form c next → IsNext form left next
-is_next form left c next h k = grind arith
 
 pub none_left : (xs : List ℕ) → None ≡ slice_get xs 0 → xs ≡ []
 none_left [] e = refl
@@ -227,13 +221,13 @@ utf16_next list place bound some =
     let step = utf16_step list place (get_or left 0 0) (unit_count Utf16 (get_or left 0 0)) bound (some_within list place _ f) f in
     grind (arith, first_cons left (get_or left 0 0) f, step, utf16_1, utf16_2)
 
-pub ruleset advance_steps = (first_is, nat_tests, utf8_next, length-encode, utf16_next, utf16_1, utf16_2)
+pub ruleset advance_steps = (slice_get_cases, nat_tests, utf8_next, length-encode, utf16_next, utf16_1, utf16_2)
 
-pub ruleset ascii_steps = (all_behind, length-drop, utf8_ascii, utf16_ascii)
+pub ruleset ascii_steps = (take_rest, length-drop, utf8_ascii, bmp_front, get_or-take)
 
 pub ruleset unit_steps = (common_steps, scalars_lone, scalars_pair, scalars_end, lone_unit_char_low, lone_unit_char_high, lone_unit_char_surrogate)
 
-pub ruleset next_steps = (is_next, first_cons, none_left, first_is, nat_tests, utf8_next, some_units, utf8_stands)
+pub ruleset next_steps = (first_cons, none_left, slice_get_cases, nat_tests, utf8_next, some_units, utf8_stands)
 
 pub ruleset text_steps = (IsCharBoundary-from_drop, IsUtf8-from_is_utf8, is_utf8-from_IsUtf8)
 

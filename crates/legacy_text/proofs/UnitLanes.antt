@@ -1,15 +1,15 @@
 -- Vectors lane by lane: a vector is written out as the list of its lanes.
-use Rattle.std.proofs.Common.{◌≡◌, ℕ, zero, suc, ◌+◌, ◌-◌, ◌*◌, ◌/◌, ◌%◌, ◌^◌, ◌<◌, ◌≤◌, Bool, true, cond, ltb, leb, List, [], ◌∷◌, ◌++◌, length, get_or}
+use Rattle.std.proofs.Common.{◌≡◌, ℕ, zero, suc, ◌+◌, ◌-◌, ◌*◌, ◌/◌, ◌%◌, ◌^◌, ◌<◌, ◌≤◌, Bool, true, cond, ltb, leb, eqb, List, [], ◌∷◌, ◌++◌, length, get_or}
 use Rattle.std.proofs.Common.{map, take, drop, replicate, bit_and, refl, sym, ap, ap₂, ◌∙◌, arith, subst, zero-add, w8, w16, Fits, ◌&&◌, mod-lt, zero-lt-suc}
-use Rattle.std.proofs.{Common.{mul_assoc, length-append}, lemmas.Bool.{leb-true, and_parts, agree_below_at}, lemmas.List.{map-append, append_assoc}}
-use Rattle.std.proofs.lemmas.List.{length-replicate, length-take-le, take-take, take-map}
-use Rattle.std.proofs.{lemmas.List.FromFn.{get_or-range_with_len, get_or-map-range_with_len}, Math.Seq.take-append_seam}
-use Rattle.std.proofs.{lemmas.Nat.and_mask, lemmas.Nat.Bits.and_high, lemmas.Simd.{mask_l-lt, mask_l-mod, swz_l, SwzOk, SwzOk-from_below, Each1-get_or}}
-use Rattle.std.proofs.{lemmas.Simd.pick_l_whole, lemmas.Grind.{flat_map-append, common_steps}, lemmas.Bool.Decides.nat_tests}
-use Rattle.std.specs.{Char.encode_utf8, List.range_with_len}
+use Rattle.std.proofs.{Common.{mul_assoc, length-append, All}, lemmas.{Bool.{leb-true, eqb-true, and_parts, agree_below_at}, List.{map-append, append_assoc}}}
+use Rattle.std.proofs.{lemmas.List.{length-replicate, length-take-le, take-take, take-map, length-map, FromFn.get_or-range_with_len}, Math.Seq.take-append_seam}
+use Rattle.std.proofs.lemmas.{Nat.{and_mask, Bits.{and_high, bit_at_ones}}, Simd.{mask_l-lt, swz_l, SwzOk, SwzOk-from_below, Each1-get_or, pick_l_whole}}
+use Rattle.std.proofs.{lemmas.{Simd.{bitmask_splat, bit_mask_l}, Grind.{flat_map-append, common_steps}, Bool.Decides.nat_tests}, Math.ListN.get_or-map}
+use Rattle.std.specs.{Char.encode_utf8, List.range_with_len, Int.RustNames.count_ones}
 use lib.Lanes.{Each1, zip2, sel_l, mask_l, top, number_l, digits_l, pick_l, all_below}
-use Rattle.legacy_text.specs.{declared.unit_rows.TheConstants.{WRITTEN, COUNTS}, UnitBytes.{last_byte, front_bytes, lanes, flags, pattern, places, row}}
-use Rattle.legacy_text.specs.UnitBytes.{utf8_bytes}
+use Rattle.legacy_text.specs.{declared.unit_rows.TheConstants.{WRITTEN, COUNTS, SHORT_WRITTEN}, UnitBytes.{last_byte, front_bytes, lanes, flags, pattern}}
+use Rattle.legacy_text.specs.UnitBytes.{places, row, utf8_bytes, short_bytes, short_lanes, short_pattern, short_places, short_row, AreShort}
+use Rattle.legacy_text.proofs.{Ascii.{mask_from, mask_from-is}, VectorUnits.free-after}
 
 -- ---- eight lanes
 
@@ -31,11 +31,8 @@ pub front_is : (u : ℕ) → u < 65536
     ≡ front_bytes u
 front_is u small = grind (arith, and_high (u * 2 ^ 2 % 2 ^ 16) 6 8)
 
--- the bytes that are written, in order
-abbrev pub chosen : Bool → Bool → ℕ → ℕ → ℕ → List ℕ
-chosen one two last first middle = cond one (last ∷ []) (cond two (middle ∷ last ∷ []) (first ∷ middle ∷ last ∷ []))
-
-pub unit_is : (u : ℕ) → u < 65536 → chosen (ltb u 128) (ltb u 2048) (last_byte u % 256) (front_bytes u % 256) (front_bytes u / 256) ≡ encode_utf8 u
+pub unit_is : (u : ℕ) → u < 65536 → let last = last_byte u % 256 in let middle = front_bytes u / 256 in
+    cond (ltb u 128) (last ∷ []) (cond (ltb u 2048) (middle ∷ last ∷ []) (front_bytes u % 256 ∷ middle ∷ last ∷ [])) ≡ encode_utf8 u
 unfolding encode_utf8
 unit_is u small = grind arith
 
@@ -94,21 +91,18 @@ vector_lanes = of_eight _ (λ a b c d e f g h sa sb sc sd se sf sg sh. (
 abbrev pub marks : ℕ → ℕ
 marks u = (cond (top 15 (cond (ltb u 128) (2 ^ 16 - 1) 0)) 255 0 + cond (top 15 (cond (ltb u 2048) (2 ^ 16 - 1) 0)) 65280 0) % 2 ^ 16
 
-abbrev marked : ℕ → Bool
-marked b = top 7 (cond (leb 128 b) (2 ^ 8 - 1) 0)
-
-mark : (u : ℕ) → (marked (marks u % 256) ≡ ltb u 128) × (marked (marks u / 256) ≡ ltb u 2048)
+mark : (u : ℕ) → (leb 128 (marks u % 256) ≡ ltb u 128) × (leb 128 (marks u / 256) ≡ ltb u 2048)
 mark u = (grind arith, grind arith)
+
+marks_are : (us : List ℕ) → map (leb 128) (halves (map marks us)) ≡ flags us
+marks_are [] = refl
+marks_are (u ∷ us) = λ t. (mark u).0 t ∷ (mark u).1 t ∷ marks_are us t
 
 abbrev pub vector_bits : List ℕ → ℕ
 vector_bits v =
-    mask_l (map (top 7) (zip2 (λ a b. cond (leb a b) (2 ^ 8 - 1) 0) (replicate 16 128)
-    (digits_l 256 16 (number_l 65536 (zip2 (λ a b. (a + b) % 2 ^ 16)
+    mask_from 128 16 (digits_l 256 16 (number_l 65536 (zip2 (λ a b. (a + b) % 2 ^ 16)
     (sel_l (map (top 15) (zip2 (λ a b. cond (ltb a b) (2 ^ 16 - 1) 0) v (replicate 8 128))) (replicate 8 255) (replicate 8 0))
-    (sel_l (map (top 15) (zip2 (λ a b. cond (ltb a b) (2 ^ 16 - 1) 0) v (replicate 8 2048))) (replicate 8 65280) (replicate 8 0))))))) % 2 ^ 64
-
-abbrev all_marked : List ℕ → ℕ
-all_marked bytes = mask_l (map (top 7) (zip2 (λ a b. cond (leb a b) (2 ^ 8 - 1) 0) (replicate 16 128) bytes)) % 2 ^ 64
+    (sel_l (map (top 15) (zip2 (λ a b. cond (ltb a b) (2 ^ 16 - 1) 0) v (replicate 8 2048))) (replicate 8 65280) (replicate 8 0)))))
 
 mask_append : (xs ys : List Bool) → mask_l (xs ++ ys) ≡ mask_l xs + 2 ^ length xs * mask_l ys
 mask_append [] ys = omega arith
@@ -119,12 +113,9 @@ pub patterns_are : (v : List ℕ) → length v ≡ 8 → Each1 (Fits w16) v
 unfolding pattern
 patterns_are = of_eight _ (λ a b c d e f g h sa sb sc sd se sf sg sh.
     let all = a ∷ b ∷ c ∷ d ∷ e ∷ f ∷ g ∷ h ∷ [] in
-    let marked_are : vector_bits all ≡ mask_l (flags all) % 2 ^ 64 =
-    ap all_marked (le_bytes_map marks (λ u _. mod-lt _ (zero-lt-suc 65535)) all (sa, (sb, (sc, (sd, (se, (sf, (sg, (sh, tt)))))))))
-    ∙ (λ t. mask_l ((mark a).0 t ∷ (mark a).1 t ∷ (mark b).0 t ∷ (mark b).1 t ∷ (mark c).0 t ∷ (mark c).1 t ∷ (mark d).0 t ∷ (mark d).1 t
-    ∷ (mark e).0 t ∷ (mark e).1 t ∷ (mark f).0 t ∷ (mark f).1 t ∷ (mark g).0 t ∷ (mark g).1 t ∷ (mark h).0 t ∷ (mark h).1 t ∷ []) % 2 ^ 64) in
     let whole : vector_bits all ≡ mask_l (flags (take 4 all)) + 256 * mask_l (flags (drop 4 all)) =
-    marked_are ∙ mask_l-mod (flags all) 64 (omega arith) ∙ mask_append (flags (take 4 all)) (flags (drop 4 all)) in
+    ap (mask_from 128 16) (le_bytes_map marks (λ u _. mod-lt _ (zero-lt-suc 65535)) all (sa, (sb, (sc, (sd, (se, (sf, (sg, (sh, tt)))))))))
+    ∙ mask_from-is 128 16 (halves (map marks all)) (omega arith) refl ∙ ap mask_l (marks_are all) ∙ mask_append (flags (take 4 all)) (flags (drop 4 all)) in
     let front : mask_l (flags (take 4 all)) < 256 = mask_l-lt (flags (take 4 all)) in
     let back : mask_l (flags (drop 4 all)) < 256 = mask_l-lt (flags (drop 4 all)) in
     (omega (arith, whole, front), omega (arith, whole, front), omega (arith, whole, front, back)))
@@ -135,22 +126,17 @@ pub rows_are : WRITTEN ≡ map row (range_with_len 0 256)
 unfolding row places
 rows_are = refl
 
-counts_are : COUNTS ≡ map (λ r. length (places 0 4 r)) (range_with_len 0 256)
-unfolding places
-counts_are = refl
-
-pub count_read : (r : ℕ) → r < 256 → get_or COUNTS r 0 ≡ length (places 0 4 r)
-count_read r h = ap (λ l. get_or l r 0) counts_are ∙ get_or-map-range_with_len (λ r. length (places 0 4 r)) 0 256 r r 0 h (zero-add r)
-
 pub each_below : (n : ℕ) (js : List ℕ) → all_below n js ≡ true → Each1 (λ j. j < n) js
 each_below n [] e = tt
 each_below n (j ∷ js) e = grind (arith, nat_tests, each_below n js)
 
-pub rows_fit : (r : ℕ) → r < 256 → Each1 (λ j. j < 16) (row r) × (length (places 0 4 r) ≤ 12)
+pub rows_fit : (r : ℕ) → r < 256 → Each1 (λ j. j < 16) (row r) × (length (places 0 4 r) ≤ 12) × (get_or COUNTS r 0 ≡ length (places 0 4 r))
 unfolding row places
 rows_fit r h =
-    let p = and_parts _ _ (agree_below_at (λ n. all_below 16 (row n) && leb (length (places 0 4 n)) 12) (λ _. true) 256 r refl h) in
-    (each_below 16 (row r) p.0, leb-true _ _ p.1)
+    let fits = λ (n : ℕ). all_below 16 (row n) && (leb (length (places 0 4 n)) 12 && eqb (get_or COUNTS n 0) (length (places 0 4 n))) in
+    let p = and_parts _ _ (agree_below_at fits (λ _. true) 256 r refl h) in
+    let q = and_parts _ _ p.1 in
+    (each_below 16 (row r) p.0, leb-true _ _ q.0, eqb-true _ _ q.1)
 
 -- a shuffle of sixteen bytes by places within them
 pub shuffled : (xs : List ℕ) (i : ℕ) (js : List ℕ) → i + length js ≤ 16 → Each1 (λ j. j < 16) js → swz_l w8 16 xs i js ≡ map (λ j. get_or xs j 0) js
@@ -223,4 +209,81 @@ first_stored at end n old new us within room e =
     let seam = take-append_seam (take at old ++ utf8_bytes us) (replicate n 0) in
     grind (arith, nat_tests, ap length text, length-take-le, length-append, length-replicate, take-take (end - n) end new)
 
+-- ---- the two bytes of code units below 0x800
+
+short_is : (u : ℕ) → u < 65536
+    → cond (top 15 (cond (ltb u 128) (2 ^ 16 - 1) 0)) u (((bit_and (u / 2 ^ 6) 31 + 192) % 2 ^ 16 + (bit_and u 63 + 128) % 2 ^ 16 * 2 ^ 8 % 2 ^ 16) % 2 ^ 16)
+    ≡ short_bytes u
+short_is u small = grind (arith, common_steps, and_mask)
+
+pub vector_short_lanes : (v : List ℕ) → length v ≡ 8 → Each1 (Fits w16) v → digits_l 256 16 (number_l 65536
+    (sel_l (map (top 15) (zip2 (λ a b. cond (ltb a b) (2 ^ 16 - 1) 0) v (replicate 8 128))) v
+    (zip2 (λ a b. (a + b) % 2 ^ 16) (zip2 (λ a b. (a + b) % 2 ^ 16) (zip2 bit_and (zip2 (λ a b. a / 2 ^ b) v (replicate 8 6)) (replicate 8 31))
+    (replicate 8 192))
+    (zip2 (λ a b. a * 2 ^ b % 2 ^ 16) (zip2 (λ a b. (a + b) % 2 ^ 16) (zip2 bit_and v (replicate 8 63)) (replicate 8 128)) (replicate 8 8)))))
+    ≡ short_lanes v
+vector_short_lanes = of_eight _ (λ a b c d e f g h sa sb sc sd se sf sg sh.
+    (λ t. digits_l 256 16 (number_l 65536 (short_is a sa t ∷ short_is b sb t ∷ short_is c sc t ∷ short_is d sd t
+    ∷ short_is e se t ∷ short_is f sf t ∷ short_is g sg t ∷ short_is h sh t ∷ [])))
+    ∙ le_bytes_map short_bytes (λ u small. grind arith) (a ∷ b ∷ c ∷ d ∷ e ∷ f ∷ g ∷ h ∷ []) (sa, (sb, (sc, (sd, (se, (sf, (sg, (sh, tt)))))))))
+
+-- ---- which of them have one byte
+
+pub short_bits_are : (v : List ℕ) → length v ≡ 8
+    → (short_pattern v ≡ mask_l (map (top 15) (zip2 (λ a b. cond (ltb a b) (2 ^ 16 - 1) 0) v (replicate 8 128))) % 2 ^ 64) × (short_pattern v < 256)
+unfolding short_pattern
+short_bits_are v long = (sym (bitmask_splat w16 ltb v 8 128 long (omega arith)), grind (arith, nat_tests, length-map, mask_l-lt))
+
+-- ---- their table
+
+pub short_rows_are : SHORT_WRITTEN ≡ map short_row (range_with_len 0 256)
+unfolding short_row short_places
+short_rows_are = refl
+
+pub short_rows_fit : (r : ℕ) → r < 256 → Each1 (λ j. j < 16) (short_row r) × (length (short_places 0 8 r) + count_ones r ≡ 16)
+unfolding short_row short_places count_ones
+short_rows_fit r h =
+    let fit = agree_below_at (λ n. all_below 16 (short_row n) && eqb (length (short_places 0 8 n) + count_ones n) 16) (λ _. true) 256 r refl h in
+    let p = and_parts _ _ fit in
+    (each_below 16 (short_row r) p.0, eqb-true _ _ p.1)
+
+-- ---- their bytes that are written are the text
+
+short_unit : (u a b : ℕ) → u < 2048 → a ≡ short_bytes u % 256 → b ≡ short_bytes u / 256 → cond (ltb u 128) (a ∷ []) (a ∷ b ∷ []) ≡ encode_utf8 u
+unfolding encode_utf8
+short_unit u a b small p q = grind arith
+
+short_text : (f : ℕ → ℕ) (base : ℕ) (us : List ℕ) → All (λ u. u < 2048) us → ((k : ℕ) → f (base + k) ≡ get_or (short_lanes us) k 0) →
+    map f (short_places base (length us) (short_pattern us)) ≡ utf8_bytes us
+unfolding short_places short_pattern
+short_text f base [] small reads = refl
+short_text f base (u ∷ us) small reads =
+    let rest = short_text f (base + 2) us (λ k d' h. small (suc k) d' (omega arith)) (λ k.
+    let at : base + 2 + k ≡ base + suc (suc k) = omega arith in
+    rw at (reads (suc (suc k)))) in
+    grind (arith, map-append, short_unit u (f base) (f (base + 1)), small 0 0, reads 0, reads 1)
+
+pub short_text_of_eight : (v : List ℕ) → length v ≡ 8 → Each1 (Fits w16) v → AreShort v →
+    map (λ k. get_or (short_lanes v) k 0) (short_places 0 8 (short_pattern v)) ≡ utf8_bytes v
+short_text_of_eight = of_eight _ (λ a b c d e f g h sa sb sc sd se sf sg sh short.
+    short_text (λ k. get_or (short_lanes (a ∷ b ∷ c ∷ d ∷ e ∷ f ∷ g ∷ h ∷ [])) k 0) 0 (a ∷ b ∷ c ∷ d ∷ e ∷ f ∷ g ∷ h ∷ []) short (λ k. rw (zero-add k) refl))
+
+-- ---- a mask with all bits set
+
+pub units_below : (n : ℕ) (xs : List ℕ) → length xs ≡ 8
+    → eqb (mask_l (map (top 15) (zip2 (λ a b. cond (ltb a b) (2 ^ 16 - 1) 0) xs (replicate 8 n))) % 2 ^ 64) 255 ≡ true → All (λ x. x < n) xs
+units_below n xs long whole =
+    grind (arith, common_steps, nat_tests, bitmask_splat w16 ltb xs 8 n, bit_mask_l (map (λ x. ltb x n) xs), bit_at_ones 8, get_or-map)
+
+pub units_all_below : (n : ℕ) (xs : List ℕ) → length xs ≡ 8 → All (λ x. x < n) xs
+    → eqb (mask_l (map (top 15) (zip2 (λ a b. cond (ltb a b) (2 ^ 16 - 1) 0) xs (replicate 8 n))) % 2 ^ 64) 255 ≡ true
+units_all_below n xs long all =
+    grind (arith, bitmask_splat w16 ltb xs 8 n long, set xs all, ap (λ k. mask_l (replicate k true)) long)
+  where
+    set : (ys : List ℕ) → All (λ y. y < n) ys → map (λ x. ltb x n) ys ≡ replicate (length ys) true
+    set [] h = refl
+    set (y ∷ ys) h = grind (arith, nat_tests, h 0 0, set ys (λ k d l. h (suc k) d (omega (arith, l))))
+
 pub ruleset lane_steps = (ap₂, digits_l, number_l, pick_l, vector_lanes)
+
+pub ruleset first_steps = (nat_tests, common_steps, first_stored, free-after)

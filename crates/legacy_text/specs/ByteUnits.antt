@@ -1,6 +1,5 @@
 -- The scalars of single bytes, by a list with an entry for each byte.
-use Rattle.std.specs.Prelude.{◌≡◌, ◌≢◌, ◌<◌, ◌≤◌, ℕ, List, All, length, map, get_or}
-use Rattle.std.specs.Char.{IsScalar}
+use Rattle.std.specs.{Prelude.{◌≡◌, ◌≢◌, ◌<◌, ◌≤◌, ℕ, List, All, length, map, get_or}, Char.IsScalar}
 
 -- An ASCII byte has itself as its entry. Any other has a scalar up to U+FFFF, or 0 if it has none.
 pub record AreByteScalars (entries : List ℕ) : Type 0 where

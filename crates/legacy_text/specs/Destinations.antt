@@ -1,7 +1,6 @@
 -- The model of the destinations over slices.
 use Rattle.std.specs.{Prelude.{ℕ, ◌-◌, List, length, take}, Borrow.GName}
-use Rattle.legacy_text.specs.declared.destination.Utf8Destination.{Utf8Destination}
-use Rattle.legacy_text.specs.declared.destination.Utf16Destination.{Utf16Destination}
+use Rattle.legacy_text.specs.declared.destination.{Utf8Destination.Utf8Destination, Utf16Destination.Utf16Destination}
 
 -- the bytes that were written
 abbrev pub utf8_written : Utf8Destination → List ℕ

@@ -4,7 +4,6 @@ pub mod Texts
 pub mod Cursor
 pub mod Destinations
 pub mod NextScalars
-pub mod Blocks
 pub mod UnitCodes
 pub mod UnitTurns
 pub mod ScalarTurns

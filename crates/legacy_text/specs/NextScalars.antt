@@ -3,14 +3,6 @@ use Rattle.std.specs.Prelude.{◌≡◌, ℕ, List, [], ◌∷◌, ◌++◌, dro
 use Rattle.legacy_text.specs.declared.text_cursor.Next.{Next, TheVariants.{End, One, Two, Three, Four}}
 use Rattle.legacy_text.specs.EncodingForm.{EncodingForm, Utf8, code_units, unit_count}
 
--- it is the scalar c, with the number of its code units
-abbrev pub IsSized : EncodingForm → ℕ → Next → Type 0
-IsSized form c End = ⊥
-IsSized form c (One d) = (d ≡ c) × (unit_count form c ≡ 1)
-IsSized form c (Two d) = (d ≡ c) × (unit_count form c ≡ 2)
-IsSized form c (Three d) = (d ≡ c) × (unit_count form c ≡ 3)
-IsSized form c (Four d) = (d ≡ c) × (unit_count form c ≡ 4)
-
 -- the scalar c is the first one left, and has n code units
 abbrev pub IsFirst : EncodingForm → List ℕ → ℕ → ℕ → Type 0
 IsFirst form left c n = (left ≡ c ∷ drop 1 left) × (unit_count form c ≡ n)

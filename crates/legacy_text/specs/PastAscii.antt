@@ -1,6 +1,5 @@
 -- Which bytes of a block are past ASCII, as bits.
-use Rattle.std.specs.Prelude.{◌≡◌, ℕ, ◌+◌, ◌<◌, List, cond, ltb, get_or}
-use Rattle.std.specs.Int.{bit_at}
+use Rattle.std.specs.{Prelude.{◌≡◌, ℕ, ◌+◌, ◌<◌, List, cond, ltb, get_or}, Int.bit_at}
 
 -- the bits of the first 64 bytes that are past ASCII
 abbrev pub ArePast : ℕ → List ℕ → Type 0

@@ -1,8 +1,6 @@
 -- The text that is left in a source.
 use Rattle.std.specs.{Prelude.{ℕ, List, drop}, Str.chars}
-use Rattle.legacy_text.specs.declared.text_source.Utf8Source.{Utf8Source}
-use Rattle.legacy_text.specs.declared.text_source.Utf16Source.{Utf16Source}
-use Rattle.legacy_text.specs.Texts.{unit_scalars}
+use Rattle.legacy_text.specs.{declared.text_source.{Utf8Source.Utf8Source, Utf16Source.Utf16Source}, Texts.unit_scalars}
 
 -- the text
 abbrev pub utf8_text : Utf8Source → List ℕ

@@ -1,8 +1,8 @@
 //! Blocks of ASCII: the length of a block's ASCII front, and copies that stop after it.
 // Functions that run for each block are always inlined, because a call would pass the vector through memory.
-ghost use Rattle.std.specs.Prelude.{◌≡◌, ℕ, true, ◌+◌, ◌-◌, ◌<◌, ◌≤◌, ◌++◌, length, take, slice_index, IsAscii};
-ghost use Rattle.legacy_text.specs.Blocks.{block_bytes};
+ghost use Rattle.std.specs.Prelude.{◌≡◌, ℕ, ◌+◌, ◌-◌, ◌<◌, ◌≤◌, ◌++◌, length, take, slice_index, IsAscii};
 
+use crate::eight_units::store;
 use crate::past_ascii::past_ascii;
 use std::simd::prelude::*;
 
@@ -23,32 +23,8 @@ pub(crate) fn ascii_count(block: u8x16) -> usize
     (past.trailing_zeros() as usize).min(15)
 }
 
-/// Stores the first 16 bytes from the place `at` on, and returns the number of ASCII bytes at their front.
-#[inline(always)]
-fn store_block(dst: &mut [u8], at: usize, bytes: &[u8]) -> usize
-    requires block { 16 ≤ length bytes.now }
-    requires room { at + 16 ≤ length dst.old }
-    ensures count { result ≤ 16 }
-    ensures ascii { IsAscii (take result bytes.now) }
-    ensures stored { take (at + result) dst.new ≡ take at dst.old ++ take result bytes.now }
-{
-    let block = u8x16::from_slice(bytes);
-    block.copy_to_slice(&mut dst[at..]);
-    ascii_count(block)
-}
-
-/// Returns whether the first 64 bytes are ASCII.
-// Two halves are joined first: their bitmask takes a quarter of the work of that of 64 bytes.
-#[inline(always)]
-fn is_ascii_block(bytes: &[u8]) -> bool
-    requires { 64 ≤ length bytes.now }
-    ensures { result ≡ true → IsAscii (take 64 bytes.now) }
-{
-    let joined = u8x32::from_slice(bytes) | u8x32::from_slice(&bytes[32..]);
-    joined.simd_ge(u8x32::splat(0x80)).to_bitmask() == 0
-}
-
 /// Returns the number of ASCII bytes at the front of the first 64 bytes.
+// Two halves are joined first: their bitmask takes a quarter of the work of that of 64 bytes.
 #[inline(always)]
 #[tactic(auto, using(crate::proofs::Ascii::wide_front))]
 pub(crate) fn wide_ascii_count(bytes: &[u8]) -> usize
@@ -56,7 +32,9 @@ pub(crate) fn wide_ascii_count(bytes: &[u8]) -> usize
     ensures most { result ≤ 64 }
     ensures ascii { IsAscii (take result bytes.now) }
 {
-    if is_ascii_block(bytes) {
+    let joined = u8x32::from_slice(bytes) | u8x32::from_slice(&bytes[32..]);
+    let any = joined.simd_ge(u8x32::splat(0x80)).to_bitmask();
+    if any == 0 {
         return 64;
     }
     let past = past_ascii(u8x64::from_slice(bytes));
@@ -73,51 +51,44 @@ pub(crate) fn store_wide(dst: &mut [u8], at: usize, bytes: &[u8])
     u8x64::from_slice(bytes).copy_to_slice(&mut dst[at..]);
 }
 
-/// Returns the number of bytes of a block.
-#[inline(always)]
-fn block_width(is_wide: bool) -> usize
-    ensures width { result ≡ block_bytes is_wide }
-    ensures some { 0 < result }
-{
-    if is_wide { 64 } else { 16 }
-}
-
-/// Stores a block of the front of these bytes from the place `at` on.
+/// Stores a block of the front of these bytes from the place `at` on: 64 or 16 of them, by the width.
 ///
 /// Returns the number of ASCII bytes at the block's front.
 #[inline(always)]
-fn store_front(bytes: &[u8], dst: &mut [u8], at: usize, is_wide: bool) -> usize
-    requires block { block_bytes is_wide ≤ length bytes.now }
-    requires room { at + block_bytes is_wide ≤ length dst.old }
-    ensures count { result ≤ block_bytes is_wide }
+fn store_front(bytes: &[u8], dst: &mut [u8], at: usize, width: usize) -> usize
+    requires least { 16 ≤ width }
+    requires block { width ≤ length bytes.now }
+    requires room { at + width ≤ length dst.old }
+    ensures count { result ≤ width }
     ensures ascii { IsAscii (take result bytes.now) }
     ensures stored { take (at + result) dst.new ≡ take at dst.old ++ take result bytes.now }
 {
-    if is_wide {
+    if width >= 64 {
         store_wide(dst, at, bytes);
-        wide_ascii_count(bytes)
-    } else {
-        store_block(dst, at, bytes)
+        return wide_ascii_count(bytes);
     }
+    let block = u8x16::from_slice(bytes);
+    store(dst, at, block);
+    ascii_count(block)
 }
 
-/// Copies ASCII bytes from the front to the place `at` on, by blocks of one width.
+/// Copies ASCII bytes from the front to the place `at` on, by blocks of one width: 64 or 16.
 ///
 /// Returns their number, and whether all blocks were ASCII.
 #[inline(always)]
 #[tactic(auto, using(crate::proofs::Ascii::copy_steps))]
-pub(crate) fn copy_blocks(bytes: &[u8], dst: &mut [u8], at: usize, is_wide: bool) -> (usize, bool)
-    requires { at ≤ length dst.old }
+pub(crate) fn copy_blocks(bytes: &[u8], dst: &mut [u8], at: usize, width: usize) -> (usize, bool)
+    requires within { at ≤ length dst.old }
+    requires least { 16 ≤ width }
     ensures read { result.0 ≤ length bytes.now }
     ensures ascii { IsAscii (take result.0 bytes.now) }
     ensures fits { at + result.0 ≤ length dst.old }
     ensures stored { take (at + result.0) dst.new ≡ take at dst.old ++ take result.0 bytes.now }
 {
     let most = dst.len() - at;
-    let width = block_width(is_wide);
     let mut copied = 0;
     while bytes.len() - copied >= width && most - copied >= width {
-        let count = store_front(&bytes[copied..], dst, at + copied, is_wide);
+        let count = store_front(&bytes[copied..], dst, at + copied, width);
         copied += count;
         if count < width {
             return (copied, false);
@@ -138,29 +109,34 @@ pub(crate) fn copy_ascii_bytes(bytes: &[u8], dst: &mut [u8], at: usize) -> usize
     ensures fits { at + result ≤ length dst.old }
     ensures stored { take (at + result) dst.new ≡ take at dst.old ++ take result bytes.now }
 {
-    let (front, are_ascii) = copy_blocks(bytes, dst, at, true);
+    let (front, are_ascii) = copy_blocks(bytes, dst, at, 64);
     if !are_ascii {
         return front;
     }
-    let (rest, _) = copy_blocks(&bytes[front..], dst, at + front, false);
+    let (rest, _) = copy_blocks(&bytes[front..], dst, at + front, 16);
     front + rest
 }
 
-/// Returns sixteen code units as bytes: ASCII unchanged, and a byte past ASCII for any other.
+/// Stores sixteen code units as bytes from the place `at` on, and returns the number of ASCII ones at their front.
+// A byte past ASCII stands for any code unit that is not ASCII.
 #[inline(always)]
-fn narrow_block(units: &[u16]) -> [u8; 16]
-    requires { 16 ≤ length units.now }
-    ensures count { length result ≡ 16 }
-    ensures narrow { (k : ℕ) → k < 16 → slice_index result k < 0x80 →
-        slice_index result k ≡ slice_index units.now k }
+#[tactic(auto, using(crate::proofs::Ascii::units_front))]
+fn store_narrow(units: &[u16], dst: &mut [u8], at: usize) -> usize
+    requires block { 16 ≤ length units.now }
+    requires room { at + 16 ≤ length dst.old }
+    ensures count { result ≤ 16 }
+    ensures ascii { IsAscii (take result units.now) }
+    ensures stored { take (at + result) dst.new ≡ take at dst.old ++ take result units.now }
 {
-    let mut block = [0u8; 16];
+    let mut narrow = [0u8; 16];
     let mut k = 0;
     while k < 16 {
-        block[k] = units[k].min(0xFF) as u8;
+        narrow[k] = units[k].min(0xFF) as u8;
         k += 1;
     }
-    block
+    let block = u8x16::from_array(narrow);
+    store(dst, at, block);
+    ascii_count(block)
 }
 
 /// Copies ASCII code units from the front as bytes to the place `at` on, by blocks.
@@ -178,8 +154,7 @@ pub(crate) fn copy_ascii_units(units: &[u16], dst: &mut [u8], at: usize) -> usiz
     let most = dst.len() - at;
     let mut copied = 0;
     while units.len() - copied >= 16 && most - copied >= 16 {
-        let block = narrow_block(&units[copied..]);
-        let count = store_block(dst, at + copied, &block);
+        let count = store_narrow(&units[copied..], dst, at + copied);
         copied += count;
         if count < 16 {
             return copied;

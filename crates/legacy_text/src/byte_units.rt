@@ -23,6 +23,7 @@ pub(crate) fn store_bytes(dst: &mut [u16], at: usize, bytes: &[u8])
 /// Returns the number of bytes before that one, and at most `most`.
 // The whole block is stored as if it were ASCII, and then each byte past ASCII at its place.
 #[inline(always)]
+#[tactic(auto, using(crate::proofs::ByteUnits::store_steps))]
 pub(crate) fn store_scalars(
     dst: &mut [u16],
     at: usize,

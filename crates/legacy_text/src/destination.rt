@@ -1,5 +1,5 @@
 //! The outputs of a decoder.
-ghost use Rattle.std.specs.Prelude.{◌≡◌, ℕ, ◌+◌, ◌-◌, ◌<◌, ◌≤◌, List, [], ◌∷◌, ◌++◌, length, take, slice_index, IsAscii, encode_utf8, All, MatchOption};
+ghost use Rattle.std.specs.Prelude.{◌≡◌, ℕ, ◌+◌, ◌-◌, ◌<◌, ◌≤◌, List, [], ◌∷◌, ◌++◌, length, take, IsAscii, All, MatchOption};
 ghost use Rattle.std.specs.{Borrow.GName, Char.IsScalar};
 ghost use Rattle.legacy_text.specs.EncodingForm.{EncodingForm, Utf8, Utf16, code_units, unit_count, all_code_units, total_unit_count, bmp_room, wide_room};
 ghost use Rattle.legacy_text.specs.ByteUnits.{AreByteScalars, HaveScalars, scalars_of};
@@ -7,9 +7,8 @@ ghost use Rattle.legacy_text.specs.UnitBytes.{AreShort, IsUtf8Entry};
 
 use crate::blocks::{ascii_count, copy_blocks, store_wide, wide_ascii_count};
 use crate::byte_units::{store_bytes, store_scalars};
-use crate::eight_units::{put_eight_units, put_first_units};
+use crate::eight_units::{first_units, put_eight_units, put_short_units};
 use crate::scalar_bytes::{put_byte, put_scalar, store_four};
-use crate::short_units::put_short_units;
 use std::simd::prelude::*;
 
 /// Text in UTF-8 that a function of its own writes to a buffer.
@@ -77,7 +76,7 @@ pub trait Destination {
     /// Four code units must be free: a destination may store four bytes, and later output overwrites
     /// those that do not count.
     #[inline(always)]
-    #[tactic(auto, using(crate::proofs::CodeUnits::bmp_fits))]
+    #[tactic(auto, using(crate::proofs::VectorUnits::first_steps))]
     fn put_entry(&mut self, c: char, entry: u32)
         requires below { c < 0x1_0000 }
         requires entry { IsUtf8Entry c entry }
@@ -159,7 +158,7 @@ pub trait Destination {
         }
     }
 
-    /// Writes the ASCII bytes at the front of a block of 64, and returns their number.
+    /// Writes any number of ASCII bytes from the front of a block of 64, and returns the number.
     ///
     /// The slice must have at least 64 bytes, and as many code units must be free, as for `put_block`.
     #[inline(always)]
@@ -220,7 +219,7 @@ pub trait Destination {
 
     /// Writes the code units of eight scalar values up to U+FFFF. At least 32 code units must be free.
     #[inline(always)]
-    #[tactic(auto, using(crate::proofs::VectorUnits::eight_steps))]
+    #[tactic(auto, using(crate::proofs::VectorUnits::whole_steps))]
     fn put_eight(&mut self, units: u16x8)
         requires scalars { All IsScalar units }
         requires room { 32 ≤ room self.old }
@@ -326,7 +325,7 @@ impl Destination for Utf8Destination<'_> {
 
     #[inline]
     fn copy_ascii(&mut self, bytes: &[u8]) -> usize {
-        let (count, _) = copy_blocks(bytes, self.buffer, self.filled, false);
+        let (count, _) = copy_blocks(bytes, self.buffer, self.filled, 16);
         self.filled += count;
         count
     }
@@ -345,10 +344,12 @@ impl Destination for Utf8Destination<'_> {
         self.filled += count;
     }
 
+    // 0 stands for each of the other code units, and its text is one byte.
     #[inline(always)]
-    #[tactic(auto, using(crate::proofs::VectorUnits::room_steps))]
+    #[tactic(auto, using(crate::proofs::UnitLanes::first_steps))]
     fn put_first(&mut self, units: u16x8, count: usize) {
-        self.filled = put_first_units(self.buffer, self.filled, units, count);
+        let end = put_eight_units(self.buffer, self.filled, first_units(units, count));
+        self.filled = end - (8 - count);
     }
 
     #[inline(always)]
@@ -485,7 +486,7 @@ impl Destination for Utf16Destination<'_> {
     }
 
     #[inline]
-    #[tactic(auto, using(crate::proofs::Ascii::block_steps))]
+    #[tactic(auto, using(crate::proofs::Ascii::ascii_next, crate::proofs::Ascii::written_next))]
     fn copy_ascii(&mut self, bytes: &[u8]) -> usize {
         let mut at = 0;
         while bytes.len() - at >= 16 && self.buffer.len() - self.filled >= 16 {
@@ -522,7 +523,7 @@ impl Destination for Utf16Destination<'_> {
     }
 
     #[inline(always)]
-    #[tactic(auto, using(crate::proofs::VectorUnits::own_steps))]
+    #[tactic(auto, using(crate::proofs::VectorUnits::whole_steps))]
     fn put_first(&mut self, units: u16x8, count: usize) {
         store_units(self.buffer, self.filled, units);
         self.filled += count;

@@ -1,11 +1,12 @@
 //! Writes eight UTF-16 code units, none of them a surrogate, as UTF-8 by vectors.
 //!
-//! Lanes make four bytes of each code unit, and a shuffle keeps those of its text.
+//! Lanes make four bytes of each code unit, or two if all are below U+0800, and a shuffle keeps those of its text.
 // Functions that run for each vector are always inlined, because a call would pass the vectors through memory.
-ghost use Rattle.std.specs.Prelude.{◌≡◌, ℕ, ◌+◌, ◌-◌, ◌<◌, ◌≤◌, ◌++◌, List, length, map, take, drop, get_or, replicate};
+ghost use Rattle.std.specs.Prelude.{◌≡◌, ◌↔◌, ℕ, ◌+◌, ◌-◌, ◌<◌, ◌≤◌, ◌++◌, List, All, length, map, take, drop, get_or, replicate, true};
 ghost use Rattle.{std.specs.List.range_with_len, legacy_text.specs.UnitBytes.{last_byte, front_bytes, lanes, pattern, places, utf8_bytes}};
+ghost use Rattle.legacy_text.specs.UnitBytes.{short_lanes, short_pattern, AreShort};
 
-use crate::unit_rows::{COUNTS, WRITTEN};
+use crate::unit_rows::{COUNTS, SHORT_WRITTEN, WRITTEN};
 use std::simd::prelude::*;
 
 /// Returns the last byte of each code unit's text.
@@ -125,17 +126,49 @@ pub fn first_units(units: u16x8, count: usize) -> u16x8
         .select(units, u16x8::splat(0))
 }
 
-/// Stores the text of the first `count` of eight code units from the place `at` on, with other bytes after it.
-///
-/// Returns the place after the text.
-// The text of each of the others is one byte, of U+0000.
+/// Returns two bytes of each code unit.
 #[inline(always)]
-#[tactic(auto, using(crate::proofs::UnitLanes::first_stored))]
-pub(crate) fn put_first_units(dst: &mut [u8], at: usize, units: u16x8, count: usize) -> usize
-    requires room { at + 32 ≤ length dst.old }
-    requires count { count ≤ 8 }
-    ensures most { result ≤ at + 24 }
-    ensures written { take result dst.new ≡ take at dst.old ++ utf8_bytes (take count units) }
+#[tactic(auto, using(crate::proofs::UnitLanes::vector_short_lanes))]
+fn short_unit_lanes(units: u16x8) -> u8x16
+    ensures { result ≡ short_lanes units }
 {
-    put_eight_units(dst, at, first_units(units, count)) - (8 - count)
+    let first = ((units >> u16x8::splat(6)) & u16x8::splat(0x1F)) + u16x8::splat(0xC0);
+    let second = ((units & u16x8::splat(0x3F)) + u16x8::splat(0x80)) << u16x8::splat(8);
+    units
+        .simd_lt(u16x8::splat(0x80))
+        .select(units, first + second)
+        .to_le_bytes()
+}
+
+/// Returns which code units have one byte, as one bit for each.
+#[inline(always)]
+fn short_bits(units: u16x8) -> usize
+    ensures bits { result ≡ short_pattern units }
+    ensures within { result < 256 }
+{
+    units.simd_lt(u16x8::splat(0x80)).to_bitmask() as usize
+}
+
+/// Stores the text of eight code units below U+0800 from the place `at` on.
+///
+/// Other bytes may follow it. Returns the place after the text.
+#[inline(always)]
+pub(crate) fn put_short_units(dst: &mut [u8], at: usize, units: u16x8) -> usize
+    requires room { at + 16 ≤ length dst.old }
+    requires short { AreShort units }
+    ensures most { result ≤ at + 16 }
+    ensures written { take result dst.new ≡ take at dst.old ++ utf8_bytes units }
+{
+    let ones = short_bits(units);
+    let row = row_of(&SHORT_WRITTEN, ones);
+    store(dst, at, short_unit_lanes(units).swizzle_dyn(row));
+    at + 16 - ones.count_ones() as usize
+}
+
+/// Checks whether each code unit is below the bound.
+#[inline(always)]
+pub fn are_all_below(units: u16x8, bound: u16) -> bool
+    ensures { (result ≡ true) ↔ All (λ u. u < bound) units }
+{
+    units.simd_lt(u16x8::splat(bound)).all()
 }

@@ -11,7 +11,6 @@ pub mod past_ascii;
 mod scalar_bytes;
 mod scalar_turns;
 mod short_scalars;
-mod short_units;
 mod source;
 mod text_cursor;
 mod text_source;
@@ -19,9 +18,8 @@ mod unit_codes;
 mod unit_rows;
 
 pub use destination::{Destination, FillsBuffer, Utf8Destination, Utf16Destination};
-pub use eight_units::{first_units, row_of};
+pub use eight_units::{are_all_below, first_units, row_of};
 pub use scalar_bytes::utf8_entry;
-pub use short_units::are_all_below;
 pub use source::ByteSource;
 pub use text_cursor::{Next, ReadingLoop, TextCursor};
 pub use text_source::{Source, Utf8Source, Utf16Source};

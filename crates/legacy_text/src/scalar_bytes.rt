@@ -1,7 +1,7 @@
 //! Writes one scalar value as UTF-8.
 // The functions take the output as a slice. So its address is loaded once for a scalar, and not again after each byte.
 ghost use Rattle.std.specs.Prelude.{◌≡◌, ℕ, ◌+◌, ◌<◌, ◌≤◌, ◌∷◌, [], ◌++◌, length, take, encode_utf8};
-ghost use Rattle.{std.specs.Char.IsScalar, legacy_text.specs.UnitBytes.IsUtf8Entry};
+ghost use Rattle.legacy_text.specs.UnitBytes.{IsUtf8Entry};
 
 use std::simd::prelude::*;
 
@@ -15,29 +15,9 @@ pub(crate) fn put_byte(dst: &mut [u8], at: usize, byte: u8)
     dst[at] = byte;
 }
 
-/// Stores the one or two bytes of a scalar below U+0800 from the place `at` on, and returns the place after them.
-// The last byte is stored after a lead, or over it if there is none. So there is no branch, which no pattern in text
-// would predict.
-#[inline(always)]
-#[tactic(auto, using(crate::proofs::CodeUnits::encoding))]
-fn put_short(dst: &mut [u8], at: usize, code: u32) -> usize
-    requires below { code < 0x800 }
-    requires room { at + length (encode_utf8 code) ≤ length dst.old }
-    ensures place { result ≡ at + length (encode_utf8 code) }
-    ensures written { take result dst.new ≡ take at dst.old ++ encode_utf8 code }
-{
-    let (leads, last) = if code < 0x80 {
-        (0, code)
-    } else {
-        (1, 0x80 + code % 0x40)
-    };
-    put_byte(dst, at, (0xC0 + code / 0x40) as u8);
-    put_byte(dst, at + leads, last as u8);
-    at + leads + 1
-}
-
 /// Stores the bytes of a scalar from the place `at` on, and returns the place after them.
-// Most scalars past ASCII take three bytes: that case is tested first.
+// Most scalars past ASCII take three bytes: that case is tested first. The last of one or two bytes is stored after a
+// lead, or over it if there is none: so there is no branch, which no pattern in text would predict.
 #[inline(always)]
 #[tactic(auto, using(crate::proofs::CodeUnits::encoding))]
 pub(crate) fn put_scalar(dst: &mut [u8], at: usize, c: char) -> usize
@@ -53,7 +33,14 @@ pub(crate) fn put_scalar(dst: &mut [u8], at: usize, c: char) -> usize
         return at + 3;
     }
     if code < 0x800 {
-        return put_short(dst, at, code);
+        let (leads, last) = if code < 0x80 {
+            (0, code)
+        } else {
+            (1, 0x80 + code % 0x40)
+        };
+        put_byte(dst, at, (0xC0 + code / 0x40) as u8);
+        put_byte(dst, at + leads, last as u8);
+        return at + leads + 1;
     }
     put_byte(dst, at, (0xF0 + code / 0x4_0000) as u8);
     put_byte(dst, at + 1, (0x80 + code / 0x1000 % 0x40) as u8);

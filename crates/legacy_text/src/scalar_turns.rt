@@ -3,8 +3,8 @@
 //! Vectors make the scalar that may begin at each of 32 places. Bits say where scalars begin.
 // In text with spaces, no pattern predicts where a one-byte scalar comes, so the code does not branch on it.
 // Functions that run for each turn are always inlined, because a call would pass vectors through memory.
-ghost use Rattle.std.specs.Prelude.{◌≡◌, ◌↔◌, ℕ, ◌+◌, ◌*◌, ◌%◌, ◌^◌, ◌<◌, ◌≤◌, length, take, drop, true, slice_index, MatchOption, ⊤};
-ghost use Rattle.std.specs.{Int.{bit_at, trailing_zeros, w32}, Str.is_utf8};
+ghost use Rattle.std.specs.Prelude.{◌≡◌, ◌↔◌, ℕ, ◌+◌, ◌*◌, ◌%◌, ◌<◌, ◌≤◌, length, drop, true, slice_index, MatchOption, ⊤};
+ghost use Rattle.std.specs.{Int.bit_at, Str.is_utf8};
 ghost use Rattle.legacy_text.specs.ScalarTurns.{IsStart, IsUnitOf, IsUnitAt, ReadsUnits};
 
 use std::simd::prelude::*;
@@ -86,7 +86,7 @@ fn joined(lows: u8x16, highs: u8x16) -> (u16x8, u16x8)
 
 /// Puts the code units of sixteen places into a list, from the place `at` on.
 #[inline(always)]
-#[tactic(auto, using(crate::proofs::ScalarTurns::stored_before))]
+#[tactic(auto, using(crate::proofs::ScalarTurns::store_steps))]
 fn put_units(bytes: &[u8], place: usize, all: &mut [u16], at: usize)
     requires read { place + 18 ≤ length bytes.now }
     requires room { at + 16 ≤ length all.old }
@@ -97,18 +97,6 @@ fn put_units(bytes: &[u8], place: usize, all: &mut [u16], at: usize)
     let (front, back) = joined(u8x16::from_array(lows), u8x16::from_array(highs));
     front.copy_to_slice(&mut all[at..]);
     back.copy_to_slice(&mut all[at + 8..]);
-}
-
-/// Returns the code units of 32 places, and one more entry without meaning.
-#[inline(always)]
-fn units_at(bytes: &[u8], place: usize) -> [u16; 33]
-    requires { place + 34 ≤ length bytes.now }
-    ensures { (k : ℕ) → k < 32 → IsUnitAt bytes.now (place + k) (slice_index result k) }
-{
-    let mut all = [0u16; 33];
-    put_units(bytes, place, &mut all, 0);
-    put_units(bytes, place + 16, &mut all, 16);
-    all
 }
 
 /// Returns the places among the next 32 at which scalars begin, as bits.
@@ -124,17 +112,6 @@ fn starts_at(bytes: &[u8], place: usize) -> u32
     !past | leads
 }
 
-/// Returns the bits without the lowest one that is set.
-#[inline(always)]
-#[tactic(auto, using(crate::proofs::ScalarTurns::lowest_steps))]
-fn without_lowest(bits: u32) -> u32
-    ensures none { bits ≡ 0 → result ≡ 0 }
-    ensures lowest { 0 < bits → (k : ℕ) → k ≤ trailing_zeros w32 bits → bit_at result k ≡ 0 }
-    ensures others { 0 < bits → (k : ℕ) → trailing_zeros w32 bits < k → bit_at result k ≡ bit_at bits k }
-{
-    bits & bits.wrapping_sub(1)
-}
-
 /// Returns the next ten scalars of a text as code units, and the place after them.
 ///
 /// A scalar of two or four bytes is replaced with a surrogate. Returns `None` if fewer than 34
@@ -148,13 +125,17 @@ pub(crate) fn ten_scalars(bytes: &[u8], start: usize) -> Option<([u16; 10], usiz
     if bytes.len() - start < 34 {
         return None;
     }
-    let all = units_at(bytes, start);
+    // The code units of 32 places, and one more entry without meaning.
+    let mut all = [0u16; 33];
+    put_units(bytes, start, &mut all, 0);
+    put_units(bytes, start + 16, &mut all, 16);
     let mut bits = starts_at(bytes, start);
     let mut units = [0u16; 10];
     let mut k = 0;
     while k < 10 {
         units[k] = all[bits.trailing_zeros() as usize];
-        bits = without_lowest(bits);
+        // The lowest bit that is set is cleared.
+        bits &= bits.wrapping_sub(1);
         k += 1;
     }
     if bits == 0 {

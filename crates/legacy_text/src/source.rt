@@ -1,5 +1,5 @@
 //! A cursor over bytes.
-ghost use Rattle.std.specs.Prelude.{◌≡◌, ℕ, ◌+◌, ◌<◌, ◌≤◌, length, drop, slice_get};
+ghost use Rattle.std.specs.Prelude.{◌≡◌, ◌+◌, ◌<◌, ◌≤◌, length, drop, slice_get};
 
 use std::marker::Model;
 
@@ -53,7 +53,6 @@ impl<'a> ByteSource<'a> {
     pub fn consumed(&self) -> usize
         ensures { result ≡ self.now.consumed }
     {
-        let ByteSource { place, .. } = self;
-        *place
+        self.place
     }
 }

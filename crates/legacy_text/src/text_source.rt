@@ -1,8 +1,8 @@
 //! The sources of an encoder.
-ghost use Rattle.std.specs.Prelude.{◌≡◌, ℕ, ◌+◌, ◌-◌, ◌^◌, ◌<◌, ◌≤◌, List, [], ◌∷◌, ◌++◌, length, take, drop, true, slice_get, slice_index, IsAscii, MatchOption};
+ghost use Rattle.std.specs.Prelude.{◌≡◌, ℕ, ◌+◌, ◌-◌, ◌^◌, ◌<◌, ◌≤◌, List, ◌∷◌, length, take, drop, true, slice_get, slice_index};
 ghost use Rattle.std.specs.{Char.IsScalar, Str.{chars, is_utf8}};
 ghost use Rattle.legacy_text.specs.EncodingForm.{EncodingForm, Utf8, Utf16, unit_count, total_unit_count};
-ghost use Rattle.legacy_text.specs.{NextScalars.{IsSized, IsNext, StandsAt}, Texts.unit_scalars};
+ghost use Rattle.legacy_text.specs.{NextScalars.{IsNext, StandsAt}, Texts.unit_scalars};
 
 use crate::blocks::{copy_ascii_bytes, copy_ascii_units};
 use crate::scalar_turns::ten_scalars;
@@ -81,34 +81,6 @@ fn scalar_at(text: &str, place: usize) -> Option<char>
     text[place..].chars().next()
 }
 
-/// Returns the place `count` bytes after another one.
-#[inline(always)]
-fn place_behind(text: &str, place: usize, count: usize) -> usize
-    requires { place + count ≤ length text.now }
-    ensures { result ≡ place + count }
-{
-    text.len() - (text.len() - place - count)
-}
-
-/// Checks whether the next four bytes are ASCII.
-// Two would be enough for French text. But Russian has two ASCII bytes after many words, and a block
-// gains nothing there.
-#[inline(always)]
-fn is_before_ascii(bytes: &[u8], place: usize) -> bool
-    requires { place ≤ length bytes.now }
-{
-    if bytes.len() - place < 4 {
-        return false;
-    }
-    let next = [
-        bytes[place],
-        bytes[place + 1],
-        bytes[place + 2],
-        bytes[place + 3],
-    ];
-    u32::from_le_bytes(next) & 0x8080_8080 == 0
-}
-
 /// Returns the scalar of a number, which must be one.
 // There is no test of what is already known: it would be one more branch for each scalar.
 #[inline(always)]
@@ -128,7 +100,7 @@ fn scalar_of(number: u32) -> char
 fn by_bytes(bytes: &[u8], place: usize, c: char) -> Next
     requires within { place < length bytes.now }
     requires stands { StandsAt bytes.now place c }
-    ensures { IsSized Utf8 c result }
+    ensures { (left : List ℕ) → left ≡ c ∷ drop 1 left → IsNext Utf8 left result }
 {
     let first = u32::from(bytes[place]);
     if first < 0x80 {
@@ -215,12 +187,18 @@ impl TextCursor for Utf8Source<'_> {
     #[inline(always)]
     #[tactic(auto, using(crate::proofs::Texts::utf8_next))]
     fn pass(&mut self, count: usize) {
-        self.place = place_behind(self.text, self.place, count);
+        let len = self.text.len();
+        self.place = len - (len - self.place - count);
     }
 
+    // It tests four bytes. Two would be enough for French text. But Russian has two ASCII bytes after many words, and a
+    // block gains nothing there.
     #[inline(always)]
     fn is_in_ascii(&self) -> bool {
-        is_before_ascii(self.text.as_bytes(), self.place)
+        let [a, b, c, d, ..] = &self.text.as_bytes()[self.place..] else {
+            return false;
+        };
+        u32::from_le_bytes([*a, *b, *c, *d]) & 0x8080_8080 == 0
     }
 
     #[inline(always)]
@@ -310,19 +288,6 @@ fn ten_at(units: &[u16], place: usize) -> [u16; 10]
     ]
 }
 
-/// Returns a scalar by the number of its code units in UTF-16.
-#[inline(always)]
-#[tactic(auto, using(crate::proofs::CodeUnits::encoding_utf16))]
-fn in_utf16(c: char) -> Next
-    ensures { IsSized Utf16 c result }
-{
-    if (c as u32) < 0x1_0000 {
-        Next::One(c)
-    } else {
-        Next::Two(c)
-    }
-}
-
 impl<'a> Utf16Source<'a> {
     ghost use Rattle.legacy_text.specs.TextSources.{utf16_units, utf16_place};
 
@@ -381,11 +346,12 @@ impl TextCursor for Utf16Source<'_> {
     ghost passed = { utf16_place };
 
     #[inline(always)]
-    #[tactic(auto, using(crate::proofs::Texts::next_steps))]
+    #[tactic(auto, using(crate::proofs::Texts::next_steps, crate::proofs::CodeUnits::encoding_utf16))]
     fn front(&self) -> Next {
         match unit_scalar_at(self.units, self.place) {
             None => Next::End,
-            Some(c) => in_utf16(c),
+            Some(c) if (c as u32) < 0x1_0000 => Next::One(c),
+            Some(c) => Next::Two(c),
         }
     }
 
@@ -415,7 +381,7 @@ impl TextCursor for Utf16Source<'_> {
     }
 
     #[inline(always)]
-    #[tactic(auto, using(crate::proofs::UnitCopies::takes_units))]
+    #[tactic(auto, using(crate::proofs::Texts::takes_units))]
     fn take_ten(&mut self) -> Option<[u16; 10]> {
         if self.units.len() - self.place < 10 {
             return None;

@@ -1,9 +1,10 @@
 //! Encodes UTF-16 code units that have one byte each, sixteen at a time.
 // Functions that run for each block are always inlined, because a call would pass the vector through memory.
-ghost use Rattle.std.specs.Prelude.{◌≡◌, ℕ, ◌+◌, ◌-◌, ◌<◌, ◌≤◌, ◌++◌, length, take, slice_index, IsAscii, true};
+ghost use Rattle.std.specs.Prelude.{◌≡◌, ℕ, ◌+◌, ◌-◌, ◌<◌, ◌≤◌, length, take, slice_index, true};
 ghost use Rattle.legacy_text.specs.UnitCodes.{IsNoSurrogate, WritesCodes};
 
 use crate::blocks::ascii_count;
+use crate::eight_units::store;
 use std::simd::prelude::*;
 
 /// The bytes of code units in a codec whose common scalars have one byte.
@@ -16,14 +17,6 @@ pub trait UnitCodes {
     /// Without one, the byte has no meaning. Any code unit may have none.
     fn byte_of(&self, unit: u16) -> (u8, bool)
         ensures { result.1 ≡ true → IsNoSurrogate unit × gives self.now unit result.0 };
-}
-
-/// Returns an ASCII byte if `is_known` is true, and a byte past ASCII otherwise.
-#[inline(always)]
-fn mark(is_known: bool) -> u8
-    ensures { result < 0x80 → is_known ≡ true }
-{
-    if is_known { 0 } else { 0xFF }
 }
 
 /// Returns the bytes of sixteen code units, and marks.
@@ -44,23 +37,10 @@ fn code_block<C: UnitCodes>(codes: &C, units: &[u16]) -> ([u8; 16], [u8; 16])
     while k < 16 {
         let (byte, is_known) = codes.byte_of(units[k]);
         bytes[k] = byte;
-        marks[k] = mark(is_known);
+        marks[k] = if is_known { 0 } else { 0xFF };
         k += 1;
     }
     (bytes, marks)
-}
-
-/// Stores a block from the place `at` on, and returns the number of ASCII marks at the front.
-#[inline(always)]
-#[tactic(auto, using(crate::proofs::Ascii::put_front))]
-fn store_marked(dst: &mut [u8], at: usize, block: u8x16, marks: u8x16) -> usize
-    requires { at + 16 ≤ length dst.old }
-    ensures count { result ≤ 16 }
-    ensures ascii { IsAscii (take result marks) }
-    ensures stored { take (at + result) dst.new ≡ take at dst.old ++ take result block }
-{
-    block.copy_to_slice(&mut dst[at..]);
-    ascii_count(marks)
 }
 
 /// Writes the bytes of code units from the front to the place `at` on, and returns their number.
@@ -84,12 +64,8 @@ pub(crate) fn copy_unit_codes<C: UnitCodes>(
     let mut copied = 0;
     while units.len() - copied >= 16 && most - copied >= 16 {
         let (bytes, marks) = code_block(codes, &units[copied..]);
-        let count = store_marked(
-            dst,
-            at + copied,
-            u8x16::from_array(bytes),
-            u8x16::from_array(marks),
-        );
+        store(dst, at + copied, u8x16::from_array(bytes));
+        let count = ascii_count(u8x16::from_array(marks));
         copied += count;
         if count < 16 {
             return copied;

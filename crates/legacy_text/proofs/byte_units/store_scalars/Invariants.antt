@@ -1,6 +1,4 @@
-use Rattle.std.proofs.Common.{◌≡◌, ℕ, ◌<◌, take}
-use Rattle.std.specs.Int.{bit_at}
-use Rattle.legacy_text.proofs.ByteUnits.{IsStored}
+use Rattle.{std.{proofs.Common.{◌≡◌, ℕ, ◌<◌, take}, specs.Int.bit_at}, legacy_text.proofs.ByteUnits.IsStored}
 use Rattle.legacy_text.proofs.byte_units.store_scalars.Given as goal
 
 -- the earlier contents are kept, and each byte whose bit is not set is stored

@@ -1,5 +1,4 @@
-use Rattle.std.proofs.{Common.{◌≡◌, ◌∙◌, ◌+◌, ◌<◌, length, take, ap, arith, slice_set}, lemmas.Bool.{ltb-true, and_parts}}
-use Rattle.std.proofs.lemmas.List.{take-set-le, take_more_set}
+use Rattle.std.proofs.{Common.{◌≡◌, ◌∙◌, ◌+◌, ◌<◌, length, take, ap, arith, slice_set}, lemmas.{Bool.{ltb-true, and_parts}, List.{take-set-le, take_more_set}}}
 use Rattle.legacy_text.proofs.ShortScalars.{scalars_one, scalars_append}
 use Rattle.legacy_text.proofs.short_scalars.put_turn.Goals as goal
 

@@ -1,9 +1,9 @@
 use Rattle.std.proofs.Common.{◌≡◌, ℕ, ◌-◌, ◌<◌, ◌≤◌, length, get_or}
-use Rattle.legacy_text.proofs.blocks.narrow_block.Given as goal
+use Rattle.legacy_text.proofs.blocks.store_narrow.Given as goal
 
 -- the code units passed are in the block
 abbrev pub invariant-loop-k : goal.invariant-loop-k
-invariant-loop-k l = (l.k ≤ 16) × (length l.block ≡ 16) × ((j : ℕ) → j < l.k → get_or l.block j 0 < 0x80 → get_or l.block j 0 ≡ get_or l.units j 0)
+invariant-loop-k l = (l.k ≤ 16) × (length l.narrow ≡ 16) × ((j : ℕ) → j < l.k → get_or l.narrow j 0 < 0x80 → get_or l.narrow j 0 ≡ get_or l.units j 0)
 
 abbrev pub decreases-loop-k : goal.decreases-loop-k
 decreases-loop-k l = 16 - l.k

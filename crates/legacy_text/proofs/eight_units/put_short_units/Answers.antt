@@ -1,7 +1,6 @@
-use Rattle.std.proofs.Common.{arith}
-use Rattle.legacy_text.specs.UnitBytes.{short_row, short_lanes, short_places}
-use Rattle.legacy_text.proofs.{ShortUnits.{short_rows_are, short_rows_fit, short_text_of_eight}, UnitLanes.{row_ok, row_written}}
-use Rattle.legacy_text.proofs.short_units.put_short_units.Goals as goal
+use Rattle.{std.proofs.Common.arith, legacy_text.specs.UnitBytes.{short_row, short_lanes, short_places}}
+use Rattle.legacy_text.proofs.UnitLanes.{short_rows_are, short_rows_fit, short_text_of_eight, row_ok, row_written}
+use Rattle.legacy_text.proofs.eight_units.put_short_units.Goals as goal
 
 pub swizzle : goal.swizzle
 unfolding short_row
