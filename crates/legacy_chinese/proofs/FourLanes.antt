@@ -6,7 +6,7 @@ use Rattle.std.{proofs.lemmas.{Simd.{pick_l_whole, get_or-zip2}, List.Elements.A
 use lib.Lanes.{Each1, zip2, sel_l, top}
 use Rattle.legacy_tables.specs.{declared.tables.ranges.RangePart.RangePart, RangeParts.IsRangePart}
 use Rattle.legacy_decoder_engine.{specs.LaneCodes.{ArePlaces, unit_at}, proofs.LanePlaces.{lane_by_lane, mask_if, less}}
-use Rattle.legacy_chinese.specs.{FourPlaces.{lead_part, digit_part, four_place}, FourForms.{half_place, part_unit, IsFour}}
+use Rattle.legacy_chinese.specs.FourForms.{lead_part, digit_part, four_place, half_place, part_unit, IsFour}
 
 -- a lane that a computation gives, from what it gives for one
 at_lane : (F : List ℕ → List ℕ) (f : ℕ → ℕ) → ((c : ℕ) → c < 65536 → F (c ∷ []) ≡ f c ∷ [])

@@ -1,21 +1,16 @@
 -- The tables contain the parts of the four bytes; the ranges are read at their pointer.
 use Rattle.std.proofs.{Common.{◌≡◌, ℕ, ◌≤◌, ◌<◌, List, [], ◌∷◌, get_or, Some, None, refl, arith}, lemmas.Bool.Decides.nat_tests}
 use Rattle.{legacy_tables.specs.{AcceptedTables.AcceptedIndexes, Indexes.range}, legacy_base.specs.Grammar.gb18030}
-use Rattle.{legacy_decoder_engine.{proofs.PairPlaces.read, specs.ReadAhead.Yields}, legacy_chinese.specs.FourPlaces.{lead_part, digit_part, four_place}}
+use Rattle.{legacy_decoder_engine.{proofs.PairPlaces.read, specs.ReadAhead.Yields}, legacy_chinese.specs.FourForms.{lead_part, digit_part, four_place}}
 use Rattle.legacy_chinese.{specs.declared.gb18030.four_places.TheConstants.{LEADS, DIGITS}, proofs.Gb18030Held.four}
 
-pub lead_read : (b : ℕ) → b < 256 → get_or LEADS b 0 ≡ lead_part b
+pub lead_read : (b : ℕ) → b < 256 → (get_or LEADS b 0 ≡ lead_part b) × (lead_part b ≤ 1_240_000)
 unfolding lead_part
-lead_read = read LEADS lead_part refl
+lead_read b h = (read LEADS lead_part refl b h, grind (arith, nat_tests))
 
-pub digit_read : (b : ℕ) → b < 256 → get_or DIGITS b 0 ≡ digit_part b
+pub digit_read : (b : ℕ) → b < 256 → (get_or DIGITS b 0 ≡ digit_part b) × (digit_part b ≤ 1_240_000)
 unfolding digit_part
-digit_read = read DIGITS digit_part refl
-
--- the pointer is a number of 32 bits
-pub four_small : (a b c d : ℕ) → a < 256 → b < 256 → c < 256 → d < 256 → four_place a b c d < 0x1_0000_0000
-unfolding lead_part digit_part
-four_small a b c d h i j k = grind (arith, nat_tests)
+digit_read b h = (read DIGITS digit_part refl b h, grind (arith, nat_tests))
 
 -- past all pointers there is no scalar
 pub range_past : (ranges : List (ℕ × ℕ)) (p : ℕ) → 1_237_576 ≤ p → range ranges p ≡ None

@@ -35,8 +35,7 @@ near : (past starts i j : ℕ) → AreFourStarts past starts → i < 63 → bit_
 near past starts i (suc zero) are h s p some few = omega (arith, are.next i h s, p)
 near past starts i (suc (suc zero)) are h s p some few = (are.inner i s p).0
 near past starts i (suc (suc (suc zero))) are h s p some few = (are.inner i s p).1
-near past starts i zero are h s p some few = absurd (omega (arith, some))
-near past starts i (suc (suc (suc (suc j)))) are h s p some few = absurd (omega (arith, few))
+near past starts i j are h s p some few = absurd (omega (arith, some, few))
 
 -- the bytes of the forms that end in a block
 pub whole_end : (past starts n : ℕ) → starts < 2 ^ 64 → AreFourStarts past starts → n ≡ trailing_zeros w64 (bit_or (bit_and starts past / 2 ^ 61) 8)
@@ -53,19 +52,7 @@ whole_end past starts n small are is =
       λ i below close.
           let e : i + (n + 61 - i) ≡ n + 61 = omega arith in
           let none = rw e at (near past starts i (n + 61 - i) are) in
-          grind (
-            arith,
-            nat_tests,
-            bit_at_or,
-            moved x 61 n,
-            moved x 61 (i - 61),
-            bit_at_and,
-            bit_at-lt,
-            bit_at-pow_other 3 n,
-            lowest.1,
-            lowest.2 (i - 61),
-            none,
-          ),
+          grind (arith, nat_tests, bit_at_or, moved x 61, bit_at_and, bit_at-lt, bit_at-pow_other 3 n, lowest.1, lowest.2 (i - 61), none),
     )
 
 -- ---- lists of codes
@@ -73,10 +60,9 @@ whole_end past starts n small are is =
 pub fours_append : (fs gs bs cs : List ℕ) → length fs ≡ length bs → fours_of (fs ++ gs) (bs ++ cs) ≡ fours_of fs bs ++ fours_of gs cs
 unfolding fours_of
 fours_append [] gs [] cs e = refl
-fours_append [] gs (b ∷ bs) cs e = absurd (omega (arith, e))
-fours_append (f ∷ fs) gs [] cs e = absurd (omega (arith, e))
 fours_append (f ∷ fs) gs (b ∷ bs) cs e =
     rw (fours_append fs gs bs cs (omega (arith, e))) (sym (append_assoc (four_form f b) (fours_of fs bs) (fours_of gs cs)))
+fours_append fs gs bs cs e = absurd (omega (arith, e))
 
 pub fours_map : (block ps : List ℕ) → fours_of (map (code_at block) ps) (map (code_at (drop 2 block)) ps) ≡ flat_map (form_at block) ps
 unfolding fours_of

@@ -1,15 +1,15 @@
--- Forms whose codes are read eight at a time are written.
+-- Forms whose codes are read eight at a time are written, and an ASCII byte after a sequence.
 use Rattle.std.proofs.Common.{◌≡◌, ◌≢◌, ℕ, zero, suc, ◌+◌, ◌/◌, ◌%◌, ◌<◌, ◌≤◌, cond, ltb, min, List, [], ◌∷◌, ◌++◌}
-use Rattle.std.proofs.{Common.{ap, arith, drop, get_or, length, length-append, refl, take}, lemmas.List.{take-take, take-append-drop}}
-use Rattle.std.proofs.lemmas.{Bool.{Decides.nat_tests}, List.{take_more, get_or-drop, get_or-take, length-drop, length-take, length-take-le}}
-use Rattle.std.proofs.{Math.Seq.{take-add, take-append_seam}, lemmas.Simd.get_or-chunk}
+use Rattle.std.proofs.Common.{add-zero, ap, append-nil, arith, drop, get_or, length, length-append, refl, subst, sym, take, IsAscii}
+use Rattle.std.proofs.lemmas.List.{take-take, take-append-drop, take_more, get_or-drop, get_or-take, length-drop, length-take, length-take-le}
+use Rattle.std.proofs.{Math.Seq.{take-add, take-append_seam}, lemmas.{Bool.Decides.nat_tests, Simd.get_or-chunk}}
 use lib.Lanes.{chunk}
 use Rattle.legacy_text.specs.{declared.destination.Destination.Ghosts, EncodingForm.{all_code_units, total_unit_count}}
 use Rattle.legacy_tables.specs.{AcceptedTables.AcceptedIndexes}
 use Rattle.legacy_base.specs.{Grammar.{Grammar, gb18030}, States.new_state}
-use Rattle.legacy_decoder_engine.specs.ReadAhead.{Yields, Writes, ReadsAhead}
-use Rattle.legacy_decoder_engine.proofs.{JoinedReads.reads_front, WrittenReads.{yields_none, yields_more, yields_byte, writes_then}}
-use Rattle.legacy_chinese.{specs.FourForms.{four_form, fours_of, IsFour}, proofs.{FourPlaces.four_at, FourStarts.fours_append, Gb18030Held.ascii}}
+use Rattle.legacy_decoder_engine.specs.ReadAhead.{HasAscii, Yields, Writes, ReadsAhead}
+use Rattle.legacy_decoder_engine.proofs.{JoinedReads.reads_front, WrittenReads.{yields_none, yields_more, yields_byte, writes_ascii, writes_then}}
+use Rattle.legacy_chinese.{specs.{FourForms.{four_form, fours_of, IsFour}, Gb18030Shown.ascii}, proofs.{FourPlaces.four_at, FourStarts.fours_append}}
 
 -- the number of bytes of one form more
 pub next_length : (at : ℕ) (fs bs : List ℕ) → at < length fs → at < length bs
@@ -37,9 +37,7 @@ module _ (tables : AcceptedIndexes) where
   first_yields (suc n) (f ∷ fs) (b ∷ bs) (u ∷ us) p q r each =
       yields_more g (four_form f b) (fours_of (take n fs) (take n bs)) (u ∷ []) (take n us) (each 0 (omega arith))
       (first_yields n fs bs us (omega arith) (omega arith) (omega arith) (λ k h. each (suc k) (omega arith)))
-  first_yields (suc n) [] bs us p q r each = absurd (omega arith)
-  first_yields (suc n) (f ∷ fs) [] us p q r each = absurd (omega arith)
-  first_yields (suc n) (f ∷ fs) (b ∷ bs) [] p q r each = absurd (omega arith)
+  first_yields (suc n) fs bs us p q r each = absurd (omega arith)
 
   -- the first of eight units are written, of the codes from a place on, after those before them
   pub next_written : {D : Type 0} (T : Ghosts D) (at few : ℕ) (front back us : List ℕ) {x y z : D} → few ≤ 8 → at + 8 ≤ length front → at + 8 ≤ length back
@@ -57,6 +55,15 @@ module _ (tables : AcceptedIndexes) where
       let same : length (take at front) ≡ length (take at back) = grind (arith, length-take-le) in
       rw (take-add at few front, take-add at few back, fours_append (take at front) (take few (drop at front)) (take at back) (take few (drop at back)) same)
       (writes_then T before (record { scalars = take few us; yields = yields; written = contents; room = room-is; loan = loan }))
+
+-- an ASCII byte after a sequence is written if it is there
+module _ {D : Type 0} (T : Ghosts D) {g : Grammar} {x y z : D} (law : HasAscii g) (src : List ℕ) (at : ℕ) (within : at < length src) where
+  pub writes_behind : (n : ℕ) → n ≤ 1 → Writes T g (take at src) x y → IsAscii (take n (get_or src at 0 ∷ [])) →
+      T.contents z ≡ T.contents y ++ take n (get_or src at 0 ∷ []) → T.room z + n ≡ T.room y → T.loan z ≡ T.loan y → Writes T g (take (at + n) src) x z
+  writes_behind (suc zero) few a ascii contents room loan =
+      let one = writes_ascii T g y z (get_or src at 0 ∷ []) law ascii contents room loan in
+      subst (λ l. Writes T g l x z) (sym (take_more src at 0 within)) (writes_then T a one)
+  writes_behind n few a ascii contents room loan = grind (arith, add-zero, append-nil)
 
 -- where bytes were read, forms were
 some_forms : (n : ℕ) (fs bs : List ℕ) → 0 < length (fours_of (take n fs) (take n bs)) → 0 < n

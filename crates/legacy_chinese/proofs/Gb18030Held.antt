@@ -1,5 +1,5 @@
 -- The gb18030 decoder holds back only what its machine may hold back, and its moves are the machine's.
-use Rattle.std.proofs.Common.{◌≡◌, ◌≢◌, ◌∙◌, ℕ, ◌+◌, ◌/◌, ◌%◌, ◌<◌, ◌≤◌, List, [], ◌∷◌, length, get_or, true, false, refl, sym, ap, arith, Some}
+use Rattle.std.proofs.Common.{◌≡◌, ◌≢◌, ◌∙◌, ℕ, ◌+◌, ◌/◌, ◌%◌, ◌≤◌, List, [], ◌∷◌, length, get_or, true, false, refl, sym, ap, arith, Some}
 use Rattle.std.{proofs.lemmas.{Bool.Decides.nat_tests, List.Elements.{All-nil, All-cons}}, specs.{Prelude.option_to_list, Char.{IsScalar, is_ascii_digit}}}
 use Rattle.{legacy_text.specs.EncodingForm.{EncodingForm, wide_room}, legacy_tables.specs.{Unicode.{IsByte, AreBytes}, Indexes.{idx, range}}}
 use Rattle.legacy_tables.{specs.AcceptedTables.AcceptedIndexes, proofs.Accepted.{gb18030-below, gb18030-scalars, range-scalar}}
@@ -8,10 +8,11 @@ use Rattle.legacy_base.specs.{States.{DecoderState, state_of}, Grammar.{Grammar,
 use Rattle.legacy_chinese.specs.declared.gb18030.{decoder.Held.{Held, TheVariants.Nothing}, digit.Digit.Digit as HeldDigit}
 use Rattle.legacy_chinese.specs.{Gb18030Machine.{gb18030_step, gb18030_machine}, Gb18030Held.{held_bytes, is_resting}}
 use Rattle.legacy_chinese.{specs.Gb18030Places.{gb18030_place, gb18030_trail_place}, proofs.{Gb18030Places.{gb18030_entry, short}, EntryScalars.scalar_at}}
-use Rattle.{legacy_chinese.proofs.Gb18030Shown.{lead_other, gb18030_shown}, legacy_decoder_engine.specs.declared.{held_lead.Lead.Lead, moves.Fed.Fed}}
-use Rattle.legacy_decoder_engine.specs.{declared.moves.Fed.TheVariants.One, ReadAhead.{Yields, HasAscii, IsPair}, Moves.{IsCovered, Feeds, Releases}}
-use Rattle.legacy_decoder_engine.specs.{Moves.{FeedsMalformedByte, Reports, read_room}, Feeding.Took, Places.lead_place, Shown.IsShown}
-use Rattle.legacy_decoder_engine.proofs.{YieldedForms.{pair_yields, four_yields, has_ascii, ascii_is}, Widths.idx_below, LanePlaces.entry_is, PairPlaces.found}
+use Rattle.{legacy_chinese.specs.Gb18030Shown.{lead_other, gb18030_shown}, legacy_decoder_engine.specs.declared.{held_lead.Lead.Lead, moves.Fed.Fed}}
+use Rattle.legacy_decoder_engine.specs.{declared.moves.Fed.TheVariants.One, ReadAhead.{Yields, IsPair}, LaneCodes.ArePairs}
+use Rattle.legacy_decoder_engine.specs.Moves.{IsCovered, Feeds, FeedsMalformedByte, Releases, Reports, read_room}
+use Rattle.legacy_decoder_engine.specs.{Feeding.Took, Places.lead_place, Shown.IsShown}
+use Rattle.legacy_decoder_engine.proofs.{YieldedForms.{pair_yields, four_yields}, Widths.idx_below, LanePlaces.entry_is, PairPlaces.found}
 use Rattle.legacy_tables.specs.declared.tables.IndexName.TheVariants as names
 use Rattle.legacy_decoder_engine.proofs.Feeding as moves
 
@@ -79,9 +80,6 @@ module _ (tables : AcceptedIndexes) where
 
   -- ---- what is read ahead
 
-  pub ascii : HasAscii g
-  ascii = has_ascii shown (λ b. refl) (λ b h. let a = ascii_is b h in rw a refl)
-
   -- a pair whose entry at the sum of the places is a scalar
   pub pair_at : (lead trail c : ℕ) → IsByte lead → IsByte trail →
       option_to_list (idx tables.flat.gb18030 (lead_place lead + gb18030_trail_place trail)) ≡ c ∷ [] → IsPair g lead trail c
@@ -92,9 +90,8 @@ module _ (tables : AcceptedIndexes) where
       (idx_below index _ c (gb18030-below tables.flat tables.accepted) e, grind (arith, trail_not_digit index lead trail c, lead_other, yields))
 
   -- the same of a code of two bytes
-  pub lane_pair : (code : ℕ) → code < 0x1_0000 → gb18030_place code < length tables.flat.gb18030 → get_or tables.flat.gb18030 (gb18030_place code) 0 ≢ 0 →
-      IsScalar (get_or tables.flat.gb18030 (gb18030_place code) 0) × IsPair g (code % 0x100) (code / 0x100) (get_or tables.flat.gb18030 (gb18030_place code) 0)
-  lane_pair code small within some =
+  pub lane_pair : ArePairs g tables.flat.gb18030 gb18030_place
+  lane_pair code small past within narrow some =
       let index = tables.flat.gb18030 in
       let at : gb18030_place code ≡ lead_place (code % 256) + gb18030_trail_place (code / 256) = omega (arith, within, short tables) in
       let given = ap (λ p. option_to_list (idx index p)) (sym at) ∙ entry_is (get_or index (gb18030_place code) 0) some in

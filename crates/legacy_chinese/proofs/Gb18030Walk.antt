@@ -1,7 +1,8 @@
 -- A walk over the pointers of index gb18030 lists the codes of the scalars that have the code of their pointer. The
 -- other scalars of gb18030 and GBK are looked up one by one.
-use Rattle.{std.proofs.{Common.{◌≡◌, ℕ, List, [], ◌∷◌, None, Bool, false, refl, arith}, lemmas.Bool.le-ltb}, legacy_tables.specs.Indexes.FlatIndexes}
-use Rattle.legacy_tables.{specs.{Indexes.gb18030_pua_of, TableChecks.AreAccepted}, proofs.{Accepted.gb18030-scalars, PointerBounds.gb18030-bound}}
+use Rattle.{std.proofs.{Common.{◌≡◌, ℕ, ◌<◌, List, [], ◌∷◌, None, Some, Bool, false, refl, arith}, lemmas.Bool.le-ltb}, legacy_tables.specs.Indexes.FlatIndexes}
+use Rattle.legacy_tables.specs.{Indexes.gb18030_pua_of, Pointers.range_pointer_of, TableChecks.AreAccepted}
+use Rattle.legacy_tables.proofs.{Accepted.gb18030-scalars, PointerBounds.{gb18030-bound, range-bound}}
 use Rattle.{legacy_base.specs.Gb18030.{gb18030_code, gbk_code}, legacy_encoder_engine.proofs.CachedPairs.{outside-one, outside-first}}
 use Rattle.{legacy_encoder_engine.proofs.WalkedPairs.{GoesByPointers, halves}, legacy_chinese.specs.{Gb18030Codec.gb18030_codec, Gb18030List.GoesByPointer}}
 use Rattle.legacy_chinese.specs.Gb18030List.{is_in_rows, gb18030_mark}
@@ -16,3 +17,7 @@ pub goes-by-pointers : (flat : FlatIndexes) → AreAccepted flat → (extended :
 unfolding gb18030_code gbk_code
 goes-by-pointers flat accepted extended =
     grind (arith, gb18030-scalars, outside-first, le-ltb, outside-one, no-row, gb18030-bound flat accepted, halves)
+
+-- a scalar's pointer of four bytes is below their number
+pub pointer_bound : (ranges : List (ℕ × ℕ)) (c p : ℕ) → range_pointer_of ranges c ≡ Some p → p < 1237576
+pointer_bound ranges c p e = rw e at (range-bound c ranges)

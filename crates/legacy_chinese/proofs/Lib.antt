@@ -1,6 +1,4 @@
 -- Each decoder takes the steps of its machine, and each machine keeps to its grammar.
-pub mod AsciiBehind
-pub mod Gb18030Shown
 pub mod Gb18030Held
 pub mod FourStarts
 pub mod FourLanes
@@ -9,6 +7,5 @@ pub mod FourPlaces
 pub mod EntryScalars
 pub mod Big5Places
 pub mod Gb18030Places
-pub mod FourBytePointers
 pub mod Big5Walk
 pub mod Gb18030Walk

@@ -1,13 +1,16 @@
 -- The steps of Big5 agree with its grammar.
 use Rattle.std.{proofs.Common.{ℕ, ◌<◌, ◌≤◌, List, [], ◌∷◌, Option, true, arith}, specs.Option.option_map_or}
-use Rattle.legacy_base.specs.Big5.{big5_front, big5_pair, big5_scalars}
+use Rattle.legacy_base.specs.Big5.{big5_front, big5_pair, big5_pointer, big5_scalars}
 use Rattle.legacy_base.specs.{Grammar.big5, States.is_lead}
 use Rattle.legacy_decoder_engine.specs.LeadMachines.{lead_first}
-use Rattle.legacy_chinese.specs.Big5Machine.{big5_pair_scalars}
 use Rattle.legacy_decoder_engine.specs.{StepUnits.{units, IsWidth}, StatesAfterSteps.IsOneOrMarked, LeadCodecs.IsLeadCodec}
 use Rattle.legacy_decoder_engine.proofs.{Widths.idx_units, SettledSteps.{one_test, one_option}, TwoByteCosts.units_test}
 use Rattle.legacy_decoder_engine.proofs.TwoByteMeets.{IsTwoByte, is_lead-past, lead_byte_below, lead_first_is, lead_front_is}
 use Rattle.legacy_decoder_engine.proofs.TwoByteShown.{HasTwoByteRooms, lead_codec}
+
+-- the scalars of a lead and a trail, if they have a pointer with scalars
+abbrev pub big5_pair_scalars : List ℕ → ℕ → ℕ → List ℕ
+big5_pair_scalars index lead trail = option_map_or (big5_scalars index) (big5_pointer lead trail) []
 
 -- each pointer gives at most one scalar, or a letter and a combining mark
 one : (index : List ℕ) (o : Option ℕ) → IsOneOrMarked true (option_map_or (big5_scalars index) o [])

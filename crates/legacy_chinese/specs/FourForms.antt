@@ -1,9 +1,25 @@
--- ASCII bytes and sequences of four bytes of gb18030, by the codes of their first two and their last two bytes.
-use Rattle.std.specs.Prelude.{◌≡◌, ℕ, ◌+◌, ◌-◌, ◌/◌, ◌%◌, ◌<◌, ◌≤◌, ◌&&◌, List, [], ◌∷◌, ◌++◌, Some, cond, ltb, leb, eqb, not, min, drop}
-use Rattle.std.specs.{Int.bit_at, Char.IsScalar}
+-- Sequences of four bytes of gb18030: their pointers (Encoding Standard, "gb18030 decoder"), and the codes of their first two and last two bytes.
+use Rattle.std.specs.Prelude.{◌≡◌, ℕ, ◌+◌, ◌-◌, ◌*◌, ◌/◌, ◌%◌, ◌<◌, ◌≤◌, ◌&&◌, List, [], ◌∷◌, ◌++◌, Some, cond, ltb, leb, eqb, not, min, drop}
+use Rattle.std.specs.{Prelude.if◌then◌else◌, Int.bit_at, Char.{IsScalar, is_ascii_digit}}
+use Rattle.legacy_base.specs.States.{is_lead}
 use Rattle.legacy_tables.specs.{declared.tables.ranges.RangePart.RangePart, Indexes.range}
 use Rattle.legacy_decoder_engine.specs.PickedForms.{code_at}
-use Rattle.legacy_chinese.specs.FourPlaces.{lead_part, digit_part, four_place}
+
+-- The pointer is a sum of parts of the bytes. A byte that is not allowed there has a part past all pointers.
+
+-- the part of a first or a third byte
+unfoldable pub lead_part : ℕ → ℕ
+lead_part byte = if is_lead byte then 10 * (byte - 0x81) else 1_240_000
+
+-- the part of a second or a fourth byte
+unfoldable pub digit_part : ℕ → ℕ
+digit_part byte = if is_ascii_digit byte then byte - 0x30 else 1_240_000
+
+-- the pointer
+abbrev pub four_place : ℕ → ℕ → ℕ → ℕ → ℕ
+four_place first second third fourth = 1260 * (lead_part first + digit_part second) + (lead_part third + digit_part fourth)
+
+-- ---- ASCII bytes and sequences, by their codes
 
 -- the bytes of the form that two codes begin with: an ASCII byte alone, and any other byte with the three after it
 abbrev pub four_form : ℕ → ℕ → List ℕ

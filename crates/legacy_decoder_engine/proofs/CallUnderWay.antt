@@ -1,5 +1,5 @@
 -- The moves of a decoder make a call.
-use Rattle.std.proofs.Common.{◌≡◌, ◌≢◌, ◌∙◌, ℕ, zero, suc, ◌+◌, ◌-◌, ◌≤◌, ◌<◌, List, [], ◌∷◌, ◌++◌, length, map, get_or, take, drop, refl, ap, subst, arith}
+use Rattle.std.proofs.Common.{◌≡◌, ◌≢◌, ℕ, zero, suc, ◌+◌, ◌-◌, ◌≤◌, ◌<◌, List, [], ◌∷◌, ◌++◌, length, map, get_or, take, drop, refl, ap, subst, arith}
 use Rattle.std.proofs.Common.{add-zero, append-nil, drop_of_length-le, length-append, length-drop, Bool, true, false, IsTrue, Some, None, Option}
 use Rattle.std.proofs.{Common.{◌⊎◌, inl, inr, All}, lemmas.List.{map-append, drop-drop, drop_more, nil_from_length}, lemmas.List.Elements.{All-append, All-nil}}
 use Rattle.std.proofs.{lemmas.List.Elements.All-cons, Math.Nat.sub-zero, lemmas.Bool.true≢false, lemmas.Bool.Decides.nat_tests}

@@ -38,14 +38,10 @@ pub trait FrontForms {
     /// The grammar.
     ghost grammar: { Self → Grammar };
 
-    /// What a form requires of the grammar.
-    ghost ready: { Self → Type 0 } = { λ _. Unit {0} };
-
     /// Returns what is at the front of the input, given a byte and the byte after it.
     ///
     /// It is a scalar up to U+FFFF, or `Other` for an uncommon form, which the machine reads.
     fn form(&self, first: u8, second: u8) -> CommonForm
-        requires { ready self.now }
         ensures { IsCommonForm (grammar self.now) first second result };
 }
 
@@ -75,7 +71,6 @@ fn read_turns<F: FrontForms, T: Destination>(
     dst: &mut T,
     most: usize,
 ) -> (usize, bool)
-    requires ready { F.ready forms.now }
     requires source { 2 * most ≤ length src.now }
     requires room { 3 * most + 3 ≤ T.room dst.old }
     ensures read { result.0 ≤ 2 * most }
@@ -125,7 +120,6 @@ pub(crate) fn read_four<F: FrontForms, T: Destination>(
     src: &[u8],
     dst: &mut T,
 ) -> (usize, bool)
-    requires ready { F.ready forms.now }
     requires source { 8 ≤ length src.now }
     requires room { 15 ≤ T.room dst.old }
     ensures ahead { ReadsAhead T.Destination (new_state (F.grammar forms.now)) src.now result.0 dst.old dst.new }
@@ -148,8 +142,8 @@ pub fn read_forms<F: FrontForms, T: Destination>(
     most: usize,
     dst: &mut T,
 ) -> usize
-    requires { F.ready forms.now }
-    ensures { ReadsAhead T.Destination (new_state (F.grammar forms.now)) src.now result dst.old dst.new }
+    ensures most { result ≤ most }
+    ensures ahead { ReadsAhead T.Destination (new_state (F.grammar forms.now)) src.now result dst.old dst.new }
 {
     let turns = fitting(src.len().min(most), dst.free().saturating_sub(SLACK));
     if turns == 0 {

@@ -2,10 +2,10 @@
 // The functions are always inlined, because a call would pass vectors through memory.
 #![tactic(auto, using(crate::proofs::WrittenReads::no_bytes))]
 
-ghost use Rattle.std.specs.Prelude.{◌≡◌, ℕ, ◌*◌, ◌<◌, ◌≤◌, All, length, get_or};
+ghost use Rattle.std.specs.Prelude.{ℕ, ◌+◌, ◌*◌, ◌<◌, ◌≤◌, All, length, get_or};
 ghost use Rattle.std.specs.Char.{IsScalar};
 ghost use Rattle.legacy_base.specs.States.{new_state};
-ghost use Rattle.legacy_decoder_engine.specs.ReadAhead.{HasAscii, ReadsAhead};
+ghost use Rattle.legacy_decoder_engine.specs.ReadAhead.{ReadsAhead};
 ghost use Rattle.legacy_decoder_engine.specs.LaneCodes.{ArePairs, AreUnits};
 
 use crate::lane_codec::LaneCodec;
@@ -34,7 +34,6 @@ fn pair_count(bytes: u8x16) -> usize
 /// `last` is the last place of the index.
 #[inline(always)]
 fn units_in<C: LaneCodec>(tables: &FlatTables<'_>, bytes: u8x16, last: u16) -> u16x8
-    requires ascii { HasAscii (C.grammar tables.now.flat) }
     requires pairs { ArePairs (C.grammar tables.now.flat) (C.entries tables.now.flat) C.place }
     requires within { last < length (C.entries tables.now.flat) }
     requires pointers { last < C.pointers }
@@ -58,7 +57,6 @@ fn read_eight<C: LaneCodec, T: Destination>(
     last: u16,
     dst: &mut T,
 ) -> usize
-    requires ascii { HasAscii (C.grammar tables.now.flat) }
     requires pairs { ArePairs (C.grammar tables.now.flat) (C.entries tables.now.flat) C.place }
     requires within { last < length (C.entries tables.now.flat) }
     requires pointers { last < C.pointers }
@@ -79,9 +77,10 @@ fn read_eight<C: LaneCodec, T: Destination>(
     16
 }
 
-/// Reads pairs from the front of at most `most` bytes, eight at a time, up to one that is uncommon or has an ASCII byte.
+/// Reads pairs from the front, eight at a time, up to one that is uncommon or has an ASCII byte.
 ///
-/// Returns the number of bytes read, which may be 0. It reads none to UTF-16, where eights are no faster.
+/// Begins no eight after `most` bytes. Returns the number of bytes read, which may be 0. It reads none to UTF-16, where eights
+/// are no faster.
 #[inline(always)]
 pub(crate) fn read_eights<C: LaneCodec, T: Destination>(
     tables: &FlatTables<'_>,
@@ -89,8 +88,8 @@ pub(crate) fn read_eights<C: LaneCodec, T: Destination>(
     most: usize,
     dst: &mut T,
 ) -> usize
-    requires { HasAscii (C.grammar tables.now.flat) }
-    ensures { ReadsAhead T.Destination (new_state (C.grammar tables.now.flat)) src.now result dst.old dst.new }
+    ensures most { result ≤ most + 15 }
+    ensures ahead { ReadsAhead T.Destination (new_state (C.grammar tables.now.flat)) src.now result dst.old dst.new }
 {
     let entries = entry_count::<C>(tables);
     if !C::has_eights() || T::narrow() == 1 || entries == 0 {

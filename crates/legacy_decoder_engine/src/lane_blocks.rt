@@ -4,9 +4,8 @@
 #![tactic(auto, using(crate::proofs::WrittenReads::no_bytes))]
 
 ghost use Rattle.std.specs.Prelude.{◌≡◌, ◌%◌, ◌<◌, ◌≤◌, [], ◌∷◌, IfSome, true, length, take};
-ghost use Rattle.legacy_tables.specs.{AcceptedTables.AcceptedIndexes};
 ghost use Rattle.legacy_base.specs.{States.new_state};
-ghost use Rattle.legacy_decoder_engine.specs.ReadAhead.{HasAscii, ReadsAhead, ReadsInto, Yields};
+ghost use Rattle.legacy_decoder_engine.specs.ReadAhead.{ReadsAhead, ReadsInto, Yields};
 
 use crate::block_picks::pick_blocks;
 use crate::common_forms::{CommonForm, FrontForms, read_forms};
@@ -37,7 +36,6 @@ fn read_front<C: LaneCodec, T: Destination>(
 ) -> (usize, bool)
     requires eights { length codes.old % 8 ≡ 0 }
     requires places { length places.old ≡ length codes.old }
-    requires ascii { HasAscii (C.grammar tables.now.flat) }
     ensures ahead { ReadsAhead T.Destination (new_state (C.grammar tables.now.flat)) src.now result.0 dst.old dst.new }
     ensures goes_on { result.1 ≡ true → 0 < result.0 }
 {
@@ -100,7 +98,6 @@ fn read_long<C: LaneCodec, T: Destination>(
     src: &[u8],
     dst: &mut T,
 ) -> usize
-    requires { HasAscii (C.grammar tables.now.flat) }
     ensures { ReadsAhead T.Destination (new_state (C.grammar tables.now.flat)) src.now result dst.old dst.new }
 {
     let mut codes = [0; 256];
@@ -127,7 +124,6 @@ fn read_short<C: LaneCodec, T: Destination>(
     src: &[u8],
     dst: &mut T,
 ) -> usize
-    requires { HasAscii (C.grammar tables.now.flat) }
     ensures { ReadsAhead T.Destination (new_state (C.grammar tables.now.flat)) src.now result dst.old dst.new }
 {
     let mut codes = [0; 64];
@@ -155,7 +151,6 @@ fn read_lanes<C: LaneCodec, T: Destination>(
     src: &[u8],
     dst: &mut T,
 ) -> usize
-    requires { HasAscii (C.grammar tables.now.flat) }
     ensures { ReadsAhead T.Destination (new_state (C.grammar tables.now.flat)) src.now result dst.old dst.new }
 {
     if !begins_many::<C>(src) {
@@ -166,9 +161,7 @@ fn read_lanes<C: LaneCodec, T: Destination>(
 
 /// Returns whether a quick test shows that the byte at the front begins no common form, if there is one.
 #[inline(always)]
-pub(crate) fn begins_uncommon<C: LaneCodec>(src: &[u8]) -> bool
-    ensures { (tables : AcceptedIndexes) → HasAscii (C.grammar tables.flat) }
-{
+pub(crate) fn begins_uncommon<C: LaneCodec>(src: &[u8]) -> bool {
     C::is_uncommon(if src.is_empty() { 0 } else { src[0] })
 }
 
@@ -220,8 +213,6 @@ impl<'a, C: LaneCodec> LaneForms<'a, C> {
 impl<C: LaneCodec> FrontForms for LaneForms<'_, C> {
     ghost grammar = { λ forms. C.grammar forms.tables.flat };
 
-    ghost ready = { λ forms. HasAscii (C.grammar forms.tables.flat) };
-
     #[inline(always)]
     fn form(&self, first: u8, second: u8) -> CommonForm {
         if first < 0x80 {
@@ -240,7 +231,6 @@ fn read_in_turn<C: LaneCodec, T: Destination>(
     most: usize,
     dst: &mut T,
 ) -> usize
-    requires { HasAscii (C.grammar tables.now.flat) }
     ensures { ReadsAhead T.Destination (new_state (C.grammar tables.now.flat)) src.now result dst.old dst.new }
 {
     let forms = LaneForms::<C>::new(tables);
@@ -258,7 +248,6 @@ fn read_at_most<C: LaneCodec, T: Destination>(
     most: usize,
     dst: &mut T,
 ) -> usize
-    requires { HasAscii (C.grammar tables.now.flat) }
     ensures { ReadsAhead T.Destination (new_state (C.grammar tables.now.flat)) src.now result dst.old dst.new }
 {
     let eights = read_eights::<C, T>(tables, src, most, dst);
@@ -313,8 +302,7 @@ fn form_at<C: LaneCodec>(
     guess: &Cell<usize>,
     src: &[u8],
 ) -> Option<(char, usize)>
-    requires ascii { HasAscii (C.grammar tables.now.flat) }
-    requires some { 0 < length src.now }
+    requires { 0 < length src.now }
     ensures { IfSome result (λ form. (0 < form.1) × (form.1 ≤ length src.now)
         × Yields (C.grammar tables.now.flat) (take form.1 src.now) (form.0 ∷ [])) }
 {
@@ -346,7 +334,6 @@ pub(crate) fn read_last<C: LaneCodec, T: Destination>(
     src: &[u8],
     dst: &mut T,
 ) -> usize
-    requires { HasAscii (C.grammar blocks.now.tables.now.flat) }
     ensures { ReadsAhead T.Destination (new_state (C.grammar blocks.now.tables.now.flat)) src.now result dst.old dst.new }
 {
     let tables = blocks.tables.copied();
@@ -374,8 +361,7 @@ fn read_one_kind<C: LaneCodec, T: Destination>(
     most: usize,
     dst: &mut T,
 ) -> (usize, usize)
-    requires some { 2 ≤ length src.now }
-    requires ascii { HasAscii (C.grammar blocks.now.tables.now.flat) }
+    requires { 2 ≤ length src.now }
     ensures { ReadsAhead T.Destination (new_state (C.grammar blocks.now.tables.now.flat)) src.now result.0 dst.old dst.new }
 {
     if C::begins_longer(src[0], src[1]) {
@@ -398,7 +384,6 @@ fn read_few<C: LaneCodec, T: Destination>(
     src: &[u8],
     dst: &mut T,
 ) -> (usize, bool)
-    requires { HasAscii (C.grammar blocks.now.tables.now.flat) }
     ensures ahead { ReadsAhead T.Destination (new_state (C.grammar blocks.now.tables.now.flat)) src.now result.0 dst.old dst.new }
     ensures goes_on { result.1 ≡ true → 0 < result.0 }
 {
@@ -487,7 +472,6 @@ pub fn read_by_tables<C: LaneCodec, T: Destination>(
     src: &[u8],
     dst: &mut T,
 ) -> usize
-    requires { HasAscii (C.grammar tables.now.flat) }
     ensures { ReadsAhead T.Destination (new_state (C.grammar tables.now.flat)) src.now result dst.old dst.new }
 {
     let Some(tables) = tables.flat() else {

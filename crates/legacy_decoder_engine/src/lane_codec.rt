@@ -28,10 +28,9 @@ pub trait LaneCodec {
     /// The number of pointers of a lead and a trail. They are below it.
     ghost pointers: { ℕ };
 
-    /// Returns whether a quick test shows that the byte begins no common form. An ASCII byte is its own scalar.
+    /// Returns whether a quick test shows that the byte begins no common form.
     // No block is begun at such a byte.
-    fn is_uncommon(byte: u8) -> bool
-        ensures { (tables : AcceptedIndexes) → HasAscii (grammar tables.flat) };
+    fn is_uncommon(byte: u8) -> bool;
 
     /// Returns what is at the front of the input, given a byte past ASCII and the byte after it.
     ///
@@ -149,4 +148,7 @@ pub trait LaneCodec {
         let _ = block;
         false
     }
+
+    /// An ASCII byte is its own scalar.
+    ghost ascii: { (tables : AcceptedIndexes) → HasAscii (grammar tables.flat) };
 }

@@ -4,7 +4,6 @@
 #![tactic(auto, using(crate::proofs::WrittenReads::no_bytes))]
 
 ghost use Rattle.std.specs.Prelude.{◌≡◌, ◌≢◌, ℕ, ◌+◌, ◌*◌, ◌/◌, ◌<◌, ◌≤◌, List, true, length, map, take, get_or, count_by, ltb};
-ghost use Rattle.legacy_decoder_engine.specs.ReadAhead.{HasAscii};
 ghost use Rattle.legacy_decoder_engine.specs.LaneCodes.{kept_of, place_of, unit_at, ArePairs, AreLanes, AreKept, AreForms, AreWritten};
 
 use crate::lane_codec::LaneCodec;
@@ -89,7 +88,6 @@ pub fn known_count(units: u16x8) -> usize
 /// It is given what is kept of the codes, and the places of their entries.
 #[inline(always)]
 fn units_of<C: LaneCodec>(tables: &FlatTables<'_>, kept: &[u16], places: &[u32]) -> u16x8
-    requires ascii { HasAscii (C.grammar tables.now.flat) }
     requires pairs { ArePairs (C.grammar tables.now.flat) (C.entries tables.now.flat) C.place }
     requires kept { 8 ≤ length kept.now }
     requires places { 8 ≤ length places.now }
@@ -112,7 +110,6 @@ fn put_groups<C: LaneCodec, T: Destination>(
     groups: usize,
     dst: &mut T,
 ) -> usize
-    requires ascii { HasAscii (C.grammar tables.now.flat) }
     requires pairs { ArePairs (C.grammar tables.now.flat) (C.entries tables.now.flat) C.place }
     requires kept { 8 * groups ≤ length kept.now }
     requires places { 8 * groups ≤ length places.now }
@@ -148,7 +145,6 @@ pub(crate) fn put_codes<C: LaneCodec, T: Destination>(
     most: usize,
     dst: &mut T,
 ) -> usize
-    requires ascii { HasAscii (C.grammar tables.now.flat) }
     requires codes { 8 * ((most + 7) / 8) ≤ length codes.old }
     requires places { 8 * ((most + 7) / 8) ≤ length places.old }
     ensures most { result ≤ most }

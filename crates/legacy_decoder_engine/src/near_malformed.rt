@@ -1,7 +1,7 @@
 //! Common forms near malformed sequences, where no block is begun for nothing.
 // The functions are always inlined, because they run in each call.
 ghost use Rattle.legacy_base.specs.States.{new_state};
-ghost use Rattle.legacy_decoder_engine.specs.ReadAhead.{HasAscii, ReadsAhead};
+ghost use Rattle.legacy_decoder_engine.specs.ReadAhead.{ReadsAhead};
 
 use crate::common_forms::{FOUR_BYTES, FOUR_ROOM, read_four};
 use crate::lane_blocks::{LaneBlocks, LaneForms, begins_uncommon, read_last};
@@ -23,7 +23,6 @@ pub(crate) fn read_without_lanes<C: LaneCodec, T: Destination>(
     src: &[u8],
     dst: &mut T,
 ) -> usize
-    requires ascii { HasAscii (C.grammar blocks.now.tables.now.flat) }
     ensures { ReadsAhead T.Destination (new_state (C.grammar blocks.now.tables.now.flat)) src.now result dst.old dst.new }
 {
     let mut at = read_ascii_nearby(src, dst);

@@ -1,6 +1,6 @@
 //! The forms of a block of bytes, picked out by shuffles: their starts, and the code of each.
 // The functions that run for each vector are always inlined: a call would pass the vectors through memory.
-ghost use Rattle.std.specs.Prelude.{◌≡◌, ℕ, ◌+◌, ◌*◌, ◌<◌, ◌≤◌, ◌++◌, IfSome, length, map, take};
+ghost use Rattle.std.specs.Prelude.{◌≡◌, ◌+◌, ◌*◌, ◌<◌, ◌≤◌, ◌++◌, IfSome, length, map, take};
 ghost use Rattle.legacy_decoder_engine.specs.PickedForms.{places, code_at, forms_of, AreStarts, IsEnd};
 ghost use Rattle.legacy_text.specs.PastAscii.{ArePast};
 

@@ -16,7 +16,7 @@ use Rattle.legacy_japanese.specs.{Iso2022JpAhead.jis_trail_place, Iso2022JpMachi
 use Rattle.legacy_japanese.proofs.{Iso2022JpRooms.{entry_narrow, one_fits, room-falls, times_one, same_rooms}, Iso2022JpStep.{events_in, escape_alone}}
 use Rattle.legacy_decoder_engine.specs.{ReadAhead.{Yields, IsPair, ReadsAhead, YieldsTo, ReadsTo}, Places.IsTableOf}
 use Rattle.legacy_decoder_engine.proofs.WrittenReads.{yields_none, yields_more}
-use Rattle.legacy_decoder_engine.proofs.{WrittenReads.{all_code_units_ascii, rest_of}, PairPlaces.idx_past, JoinedReads.{reads_front, reads_then}}
+use Rattle.legacy_decoder_engine.proofs.{WrittenReads.{all_code_units_ascii, rest_of}, PairPlaces.idx_past, JoinedReads.{reads_front, reads_more, reads_then}}
 use Rattle.legacy_decoder_engine.proofs.AheadInCalls.{reads_nothing}
 
 -- ---- the places of leads and trails in two-byte mode
@@ -31,7 +31,7 @@ jis_trails_are = refl
 
 -- ---- a byte of ASCII text
 
-ascii_text_yields : (jis0208 : List ℕ) (b : ℕ) → IsAsciiText b → Yields (iso_2022_jp jis0208 ascii) (b ∷ []) (b ∷ [])
+pub ascii_text_yields : (jis0208 : List ℕ) (b : ℕ) → IsAsciiText b → Yields (iso_2022_jp jis0208 ascii) (b ∷ []) (b ∷ [])
 unfolding events_of iso_2022_jp_front
 ascii_text_yields jis0208 b h = grind (arith, nat_tests, step_one, ne_eqb, All-cons, All-nil, room-falls, times_one, one_fits)
 
@@ -57,47 +57,43 @@ placed_scalar tables a b c is =
 
 -- ---- ASCII text
 
--- a front of a block
-pub ascii_text_front : (source : List ℕ) (count : ℕ) → 64 ≤ length source → count ≤ 64 → AreAsciiText (take 64 source) count
-    → (count ≤ length source) × AreAsciiText source count
-ascii_text_front source count block most text = (omega arith, λ k h. rw (get_or-take 64 source k 0 (omega arith)) at (text k h))
+pub ascii_text : (bytes : List ℕ) → All IsAsciiText bytes → IsAscii bytes
+ascii_text bytes text = IsAscii-from_all _ (λ i d l. (text i d l).0)
 
-ascii_text_all : (source : List ℕ) (count : ℕ) → count ≤ length source → AreAsciiText source count → All IsAsciiText (take count source)
-ascii_text_all source count within text =
-    let l = length-take-le count source within in
-    All-from_get_or IsAsciiText (take count source) 0 (λ k h. rw (get_or-take count source k 0 (omega (arith, h, l))) (text k (omega (arith, h, l))))
+-- the front of a block of the rest of a source
+pub block_text : (source : List ℕ) (at count : ℕ) → 64 ≤ length source - at → count ≤ 64
+    → AreAsciiText (take 64 (take (length source - at) (drop at source))) count → All IsAsciiText (take count (take (length source - at) (drop at source)))
+block_text source at count long most text =
+    let rest = take (length source - at) (drop at source) in
+    let l : length (take count rest) ≡ count = grind (arith, rest_of, length-drop, length-take-le) in
+    All-from_get_or IsAsciiText (take count rest) 0 (λ k h.
+    let same = get_or-take 64 rest k 0 (omega (arith, h, l)) in
+    rw (get_or-take count rest k 0 (omega (arith, h, l)), ← same) (text k (omega (arith, h, l))))
 
-pub ascii_text : (source : List ℕ) (count : ℕ) → count ≤ length source → AreAsciiText source count → IsAscii (take count source)
-ascii_text source count within text = IsAscii-from_all _ (λ i d l. (ascii_text_all source count within text i d l).0)
-
-pub reads_ascii_text : {D : Type 0} (T : Ghosts D) (jis0208 source : List ℕ) (old new : D) (count : ℕ) → count ≤ length source → AreAsciiText source count
-    → T.contents new ≡ T.contents old ++ take count source → T.room new + count ≡ T.room old → T.loan new ≡ T.loan old → (0 < count → count + 3 ≤ T.room old)
-    → ReadsAhead T (begun_state jis0208 Ascii) source count old new
+pub reads_ascii_text : {D : Type 0} (T : Ghosts D) (jis0208 source : List ℕ) (old new : D) (count : ℕ) → count ≤ length source
+    → All IsAsciiText (take count source) → T.contents new ≡ T.contents old ++ take count source → T.room new + count ≡ T.room old
+    → T.loan new ≡ T.loan old → (0 < count → count + 3 ≤ T.room old) → ReadsAhead T (begun_state jis0208 Ascii) source count old new
 reads_ascii_text T jis0208 source old new count within text contents room loan enough =
     let l : length (take count source) ≡ count = length-take-le count source within in
-    let same = all_code_units_ascii T.form (take count source) (ascii_text source count within text) in
+    let same = all_code_units_ascii T.form (take count source) (ascii_text _ text) in
     reads_front within (record {
       scalars = take count source;
-      yields = ascii_text_bytes jis0208 (take count source) (ascii_text_all source count within text);
+      yields = ascii_text_bytes jis0208 (take count source) text;
       written = contents ∙ ap (λ units. T.contents old ++ units) (sym same);
       room = omega (arith, ap length same, l, room);
       loan = loan;
     }) (λ h. omega (arith, enough h)) (λ h. omega (arith, enough h))
 
--- a byte of ASCII text
-pub reads_ascii_text_byte : {D : Type 0} (T : Ghosts D) (jis0208 source : List ℕ) {mid new : D} (at : ℕ) → at < length source → IsAsciiText (get_or source at 0)
-    → 4 ≤ T.room mid → T.contents new ≡ T.contents mid ++ code_units T.form (get_or source at 0)
-    → T.room new + unit_count T.form (get_or source at 0) ≡ T.room mid → T.loan new ≡ T.loan mid
-    → ReadsAhead T (begun_state jis0208 Ascii) (take (length source - at) (drop at source)) 1 mid new
-reads_ascii_text_byte T jis0208 source {mid} {new} at within text enough contents room loan =
-    let b : ℕ = get_or source at 0 in
-    let rest : take (length source - at) (drop at source) ≡ b ∷ drop (suc at) source = rest_of source at ∙ drop-cons source at 0 within in
-    let unit : code_units T.form b ≡ b ∷ [] = code_units_ascii T.form b text.0 in
-    let front : AreAsciiText (b ∷ drop (suc at) source) 1 = λ k h. (let first : k ≡ 0 = omega (arith, h) in rw first text) in
-    rw rest (reads_ascii_text T jis0208 (b ∷ drop (suc at) source) mid new 1 (omega arith) front (rw unit at contents)
-    (omega (arith, room, ap length unit)) loan (λ h. enough))
+-- a block of ASCII text, after the text before it
+pub reads_ascii_text_block : {D : Type 0} (T : Ghosts D) (jis0208 source : List ℕ) {old mid new : D} (at count : ℕ) → 64 ≤ length source - at
+    → 67 ≤ T.room mid → count ≤ 64 → AreAsciiText (take 64 (take (length source - at) (drop at source))) count
+    → T.contents new ≡ T.contents mid ++ take count (take (length source - at) (drop at source)) → T.room new + count ≡ T.room mid → T.loan new ≡ T.loan mid
+    → ReadsAhead T (begun_state jis0208 Ascii) source at old mid → ReadsAhead T (begun_state jis0208 Ascii) source (at + count) old new
+reads_ascii_text_block T jis0208 source {old} {mid} {new} at count long enough most text contents room loan front =
+    let within : count ≤ length (take (length source - at) (drop at source)) = grind (arith, rest_of, length-drop) in
+    reads_more front (reads_ascii_text T jis0208 _ mid new count within (block_text source at count long most text) contents room loan (λ h. omega arith))
 
--- ---- a block of ASCII text
+-- ---- the bytes before a control
 
 -- before the lowest bit of a mask no lane passes the test
 none_before : (p : ℕ → Bool) (xs : List ℕ) (k : ℕ) → length xs ≡ 64 → k < 64 → k < trailing_zeros w64 (mask_l (map p xs)) → p (get_or xs k 0) ≡ false
@@ -145,24 +141,11 @@ module _ {D : Type 0} {T : Ghosts D} where
   reads_escape : (jis0208 : List ℕ) (mode : Mode) (e : Escape) (source : List ℕ) (old new : D) (read : ℕ) → HasEscape e source → 0 < read
       → ReadsAhead T (begun_state jis0208 (mode_of e)) (drop 3 source) read old new →
       ReadsTo T (begun_state jis0208 mode) (begun_state jis0208 (mode_of e)) source (3 + read) old new
-  reads_escape jis0208 mode e source old new read has some reads = record {
-    within = let w = reads.within in let l = length-drop 3 source in let k = has.within in omega arith;
-    idle = λ h. refl;
-    empties = λ h. refl;
-    stays = λ z. absurd (omega arith);
-    rooms = same_rooms jis0208 mode (mode_of e);
-    writes = record {
-      scalars = reads.writes.scalars;
-      yields =
-          let yields = rw (bytes_after_escape source read has.within some) at reads.writes.yields in
-          rw (escape_bytes e source read has some) (escape_yields jis0208 mode e _ _ _ has.alone yields);
-      written = reads.writes.written;
-      room = reads.writes.room;
-      loan = reads.writes.loan;
-    };
-    slack = λ h. reads.slack some;
-    had = λ h. reads.had some;
-  }
+  reads_escape jis0208 mode e source old new read has some reads =
+      let behind = rw (bytes_after_escape source read has.within some) at reads.writes.yields in
+      let yields : YieldsTo (iso_2022_jp jis0208 (mode_meaning mode)) (iso_2022_jp jis0208 (mode_meaning (mode_of e))) (take (3 + read) source)
+      reads.writes.scalars = rw (escape_bytes e source read has some) (escape_yields jis0208 mode e _ _ _ has.alone behind) in
+      grind (arith, same_rooms, length-drop, yields)
 
   -- text, then an escape and text of its mode
   pub reads_on : (jis0208 : List ℕ) (first mode next : Mode) (e : Escape) (source : List ℕ) {old mid new : D} (at read : ℕ) → next ≡ mode_of e

@@ -9,7 +9,7 @@ use Rattle.legacy_text.proofs.CodeUnits.{length-code_units-bmp}
 use Rattle.legacy_decoder_engine.specs.Moves.{Releases, Reports}
 use Rattle.legacy_japanese.specs.declared.iso_2022_jp.steps.{Start.{TheVariants.{Nothing, EscapeByte, Dollar, Paren}}, Mode.{Mode, TheVariants.TwoByte}}
 use Rattle.legacy_japanese.specs.{declared.iso_2022_jp.steps.{Escape.Escape, Held.{Held, TheVariants.{Byte, Begun}}}, Iso2022JpMachine.mode_meaning}
-use Rattle.legacy_japanese.specs.Iso2022JpMachine.{bytes_held, finish, is_held, is_resting, mode_of, pending, second_of, single, state_in, third_of, weight_of}
+use Rattle.legacy_japanese.specs.Iso2022JpMachine.{bytes_held, finish, is_held, is_resting, mode_of, second_of, single, state_in, third_of, weight_of}
 use Rattle.legacy_japanese.proofs.Iso2022JpRooms.{same_rooms, room-falls, replacement_fits, times_one, held_allowed, held_rests, single_narrow}
 use Rattle.legacy_japanese.proofs.Iso2022JpStep.{MeetsEnd, ended, escape_alone, escaped, events_in, in_range_plain, second_kept}
 use Rattle.legacy_base.specs.Iso2022Jp as iso
@@ -47,10 +47,10 @@ module _ (jis0208 : List ℕ) where
       grind (arith, write_law)
 
   -- the law of writing the byte's scalar
-  pub released : (mode : Mode) (held : Held) (c : ℕ) → is_held mode held ≡ true → Some c ≡ pending mode held
-      → Releases (state_in jis0208 mode held) (state_in jis0208 mode (Begun None Nothing)) c
+  pub released : (mode : Mode) (b c : ℕ) → is_held mode (Byte b) ≡ true → Some c ≡ single mode b
+      → Releases (state_in jis0208 mode (Byte b)) (state_in jis0208 mode (Begun None Nothing)) c
   unfolding events_of
-  released mode held c h h1 = grind (arith, write_law, same_rooms, single_narrow, length-code_units-bmp, room-falls, times_one)
+  released mode b c h h1 = grind (arith, write_law, same_rooms, single_narrow, length-code_units-bmp, room-falls, times_one)
 
   -- ---- the end of the input
 
@@ -141,11 +141,8 @@ module _ (jis0208 : List ℕ) where
         λ none. (let all = law [] (inl refl) in let e = sym none ∙ ap (events_in jis0208 mode) (sym (append-nil (bytes_held held))) ∙ all in cc),
       )
 
-  -- there is an event, or there is none
-  abbrev HasRest : Mode → Held → Bool → Type 0
-  HasRest mode held t = (t ≡ true → left mode held ≢ []) × (t ≡ false → left mode held ≡ [])
-
-  from_facts : (mode : Mode) (held : Held) (o : Option (Mode × Held)) → EndFacts mode held o → HasRest mode held (is_some o)
+  from_facts : (mode : Mode) (held : Held) (o : Option (Mode × Held)) → EndFacts mode held o
+      → (is_some o ≡ true → left mode held ≢ []) × (is_some o ≡ false → left mode held ≡ [])
   from_facts mode held o h = grind arith
 
   module _ (mode : Mode) (held : Held) (sound : is_held mode held ≡ true) where
@@ -161,6 +158,6 @@ module _ (jis0208 : List ℕ) where
     ends_reports new_mode new_held rest is = (ends (Some (new_mode, new_held)) rest is).0
 
     -- whether an event is left
-    pub rest_known : (t : Bool) → t ≡ is_some (finish mode held) → HasRest mode held t
+    pub rest_known : (t : Bool) → t ≡ is_some (finish mode held) → (t ≡ true → left mode held ≢ []) × (t ≡ false → left mode held ≡ [])
     unfolding events_of
     rest_known t is = rw is (grind (arith, from_facts, ends, held_rests, write_some))

@@ -4,12 +4,12 @@ use Rattle.std.proofs.Common.{length-append, length, sym, arith, cond, ◌==◌,
 use Rattle.std.proofs.lemmas.{List.Elements.{All-cons, All-nil}, Bool.Decides.nat_tests}
 use Rattle.legacy_base.specs.{DecoderActs.HadRoom, States.{DecoderState, rests}, Grammar.{iso_2022_jp, events_of}, Lengths.query_form, Iso2022Jp.esc}
 use Rattle.legacy_text.specs.EncodingForm.{total_unit_count, EncodingForm, bmp_room}
-use Rattle.legacy_tables.specs.{AcceptedTables.AcceptedIndexes, Indexes.idx}
+use Rattle.legacy_tables.specs.AcceptedTables.{AcceptedIndexes}
 use Rattle.legacy_decoder_engine.specs.Moves.{fed_scalars, fed_units, unread_byte, Feeds, FeedsMalformedByte, HoldsBytes}
 use Rattle.legacy_decoder_engine.specs.declared.moves.Fed.{Fed, TheVariants.{Nothing as Kept, One, Two}}
 use Rattle.legacy_japanese.specs.declared.iso_2022_jp.steps.{Mode.Mode, Held.{Held, TheVariants.{Begun, Byte}}, Escape.Escape}
 use Rattle.legacy_japanese.specs.declared.iso_2022_jp.steps.Start.{Start, TheVariants.{Nothing, EscapeByte, Dollar, Paren}}
-use Rattle.legacy_japanese.specs.Iso2022JpMachine.{mode_meaning, bytes_held, is_held, malformed, read, read_pair, second_of, third_of, state_in}
+use Rattle.legacy_japanese.specs.Iso2022JpMachine.{mode_meaning, bytes_held, is_held, malformed, read, second_of, third_of, state_in}
 use Rattle.legacy_japanese.{specs.Iso2022JpAhead.{begun_state, BeginsEscape}, proofs.Iso2022JpStep.{done, step_events, IsStep, read_step}}
 use Rattle.legacy_japanese.proofs.Iso2022JpRooms.{read_room-is, one_fits, room-falls, replacement_fits, times_one, held_allowed, held_rests, same_rooms}
 use Rattle.legacy_japanese.proofs.Iso2022JpRooms.{single_narrow, entry_narrow}
@@ -20,14 +20,8 @@ IsNarrow (One c) = (c < 0x1_0000) × IsScalar c
 IsNarrow (Two c d) = ⊥
 IsNarrow fed = Unit {0}
 
-pair_narrow : (tables : AcceptedIndexes) (p : ℕ) (o : Option ℕ) → idx tables.flat.jis0208 p ≡ o → IsNarrow (read_pair o).0
-pair_narrow tables p None is = tt
-pair_narrow tables p (Some c) is = entry_narrow tables p c is
-
 narrow : (tables : AcceptedIndexes) (mode : Mode) (held : Held) (b : ℕ) → IsNarrow (read tables.flat.jis0208 mode held b).0
-narrow tables mode (Byte l) b =
-    let pair = pair_narrow tables ((l - 0x21) * 94 + (b - 0x21)) (idx tables.flat.jis0208 ((l - 0x21) * 94 + (b - 0x21))) refl in grind (arith, pair)
-narrow tables mode (Begun e s) b = grind (arith, nat_tests, single_narrow)
+narrow tables mode held b = grind (arith, nat_tests, single_narrow, entry_narrow tables)
 
 module _ (tables : AcceptedIndexes) (mode : Mode) (held : Held) (byte : ℕ) (o : Fed × Mode × Held) (may : is_held mode held ≡ true)
     (resting : rests (iso_2022_jp tables.flat.jis0208 (mode_meaning mode)) (bytes_held held) ≡ true) (is : o ≡ read tables.flat.jis0208 mode held byte) where

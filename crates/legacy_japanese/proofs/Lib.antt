@@ -1,5 +1,5 @@
 -- Each decoder takes the steps of its machine, and each machine keeps to its grammar.
-pub mod EucJpShown
+pub mod EucJpHeld
 pub mod Iso2022JpStep
 pub mod Iso2022JpRooms
 pub mod Iso2022JpEnding

@@ -5,10 +5,10 @@ use Rattle.std.{proofs.lemmas.Nat.xor_mod, specs.{Int.{is_in_range, Bits.bit_xor
 use Rattle.legacy_tables.{specs.{AcceptedTables.AcceptedIndexes, Indexes.idx, Unicode.katakana_of}, proofs.Accepted.entry-used}
 use Rattle.legacy_tables.proofs.Accepted.{length-jis0208, jis0208-below, jis0208-scalars}
 use Rattle.legacy_base.specs.{ShiftJis.{is_shift_jis_lead, shift_jis_scalars, shift_jis_pointer}, Grammar.shift_jis}
-use Rattle.legacy_decoder_engine.specs.{Places.IsTableOf, ReadAhead.Yields, StepUnits.IsNarrowIndex, LaneCodes.ArePairs, LanePlaces.lead_place_of}
-use Rattle.legacy_decoder_engine.proofs.{PairPlaces.{none_past, pair_entry, found}, LeadHeld.pair, YieldedForms.single_yields}
-use Rattle.legacy_decoder_engine.proofs.{Widths.idx_below, LanePlaces.entry_is}
-use Rattle.legacy_japanese.specs.{ShiftJisPlaces.{shift_jis_lead_place, shift_jis_place, shift_jis_trail_place}, ShiftJisMachine.shift_jis_pair_scalars}
+use Rattle.legacy_decoder_engine.specs.{Places.IsTableOf, ReadAhead.Yields, StepUnits.IsNarrowIndex, LaneCodes.ArePairs}
+use Rattle.legacy_decoder_engine.{specs.LanePlaces.{lead_place_of, trail_place}, proofs.{LanePlaces.entry_is, PairPlaces.{none_past, pair_entry}}}
+use Rattle.legacy_decoder_engine.proofs.{LeadHeld.pair, Widths.idx_below, YieldedForms.single_yields}
+use Rattle.legacy_japanese.specs.{ShiftJisPlaces.{shift_jis_lead_place, shift_jis_place}, ShiftJisShown.shift_jis_pair_scalars}
 use Rattle.legacy_japanese.specs.{declared.shift_jis.places.TheConstants.{LEADS, TRAILS}, ShiftJisShown.shift_jis_codec}
 use lib.Lanes.{Each1, zip2}
 use Rattle.legacy_text.proofs.UnitLanes.{of_eight}
@@ -18,14 +18,13 @@ pub shift_jis_leads_are : IsTableOf shift_jis_lead_place LEADS
 unfolding shift_jis_lead_place
 shift_jis_leads_are = refl
 
-pub shift_jis_trails_are : IsTableOf shift_jis_trail_place TRAILS
-unfolding shift_jis_trail_place
+pub shift_jis_trails_are : IsTableOf (trail_place 0x80 0xFC) TRAILS
 shift_jis_trails_are = refl
 
 pub shift_jis_entry : (tables : AcceptedIndexes) (lead trail : ℕ) →
-    shift_jis_scalars tables.flat.jis0208 (shift_jis_lead_place lead + shift_jis_trail_place trail)
+    shift_jis_scalars tables.flat.jis0208 (shift_jis_lead_place lead + trail_place 0x80 0xFC trail)
     ≡ cond (is_shift_jis_lead lead) (shift_jis_pair_scalars tables.flat.jis0208 lead trail) []
-unfolding shift_jis_lead_place shift_jis_trail_place
+unfolding shift_jis_lead_place
 shift_jis_entry tables lead trail =
     let short = length-jis0208 tables.flat tables.accepted in grind (arith, pair_entry, nat_tests, none_past)
 
@@ -46,10 +45,8 @@ module _ (tables : AcceptedIndexes) where
       → c ∷ [] ≡ cond (is_shift_jis_lead lead) (shift_jis_pair_scalars tables.flat.jis0208 lead trail) []
       → (c < 0x1_0000) × Yields (shift_jis tables.flat.jis0208) (lead ∷ trail ∷ []) (c ∷ [])
   pair_form lead trail c byte byte' scalar e =
-      let both = found (is_shift_jis_lead lead) (shift_jis_pair_scalars tables.flat.jis0208 lead trail) c e in (
-        scalar_below tables.flat.jis0208 (shift_jis_pointer lead trail) c (jis0208-below tables.flat tables.accepted) both.1,
-        pair shift_jis_codec tables lead trail c byte byte' scalar both.0 both.1,
-      )
+      let below = scalar_below tables.flat.jis0208 (shift_jis_pointer lead trail) c (jis0208-below tables.flat tables.accepted) in
+      grind (arith, pair shift_jis_codec tables lead trail c, below)
 
   -- half-width katakana
   pub katakana_form : (b c : ℕ) → 0xA1 ≤ b → b ≤ 0xDF → c ≡ katakana_of b → (c < 0x1_0000) × Yields (shift_jis tables.flat.jis0208) (b ∷ []) (c ∷ [])
@@ -77,8 +74,8 @@ lead_of code =
 
 -- a place below 65535 is the sum of the places of both bytes, and is within the leads up to EF
 placed : (code : ℕ) → shift_jis_place code < 65535
-    → (shift_jis_place code ≡ shift_jis_lead_place (code % 256) + shift_jis_trail_place (code / 256)) × (shift_jis_place code ≤ 8835)
-unfolding shift_jis_lead_place shift_jis_trail_place
+    → (shift_jis_place code ≡ shift_jis_lead_place (code % 256) + trail_place 0x80 0xFC (code / 256)) × (shift_jis_place code ≤ 8835)
+unfolding shift_jis_lead_place
 placed code below = grind (arith, nat_tests, lead_of)
 
 -- ---- eight codes
@@ -100,12 +97,7 @@ module _ (tables : AcceptedIndexes) where
   pub lane_pair : ArePairs (shift_jis tables.flat.jis0208) tables.flat.jis0208 shift_jis_place
   lane_pair code small past within high some =
       let p = shift_jis_place code in
-      let c = get_or index p 0 in
       let is = placed code (omega (arith, within, length-jis0208 tables.flat tables.accepted)) in
-      let scalar : IsScalar c = jis0208-scalars tables.flat tables.accepted p 0 within in
-      let low : is_in_range 8836 10715 p ≡ false = grind (arith, nat_tests, is.1) in
-      let scalars : shift_jis_scalars index p ≡ c ∷ [] = rw low (entry_is c some) in (
-        scalar,
-        pair_form tables (code % 256) (code / 256) c (omega arith) (omega arith) scalar
-            (sym scalars ∙ ap (shift_jis_scalars index) is.0 ∙ shift_jis_entry tables (code % 256) (code / 256)),
-      )
+      let scalar : IsScalar (get_or index p 0) = jis0208-scalars tables.flat tables.accepted p 0 within in
+      let form = pair_form tables (code % 256) (code / 256) (get_or index p 0) (omega arith) (omega arith) scalar in
+      grind (arith, nat_tests, form, entry_is, shift_jis_entry tables (code % 256) (code / 256))

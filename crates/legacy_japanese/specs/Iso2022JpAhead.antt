@@ -4,7 +4,7 @@ use Rattle.std.specs.Int.{is_in_range}
 use Rattle.legacy_base.specs.{Iso2022Jp.esc, States.DecoderState}
 use Rattle.legacy_text.specs.declared.destination.Destination.{Ghosts}
 use Rattle.legacy_decoder_engine.specs.ReadAhead.{ReadsTo}
-use Rattle.legacy_japanese.specs.declared.iso_2022_jp.steps.{Escape.Escape, Mode.{Mode, TheVariants.Ascii}}
+use Rattle.legacy_japanese.specs.declared.iso_2022_jp.steps.{Escape.Escape, Mode.Mode}
 use Rattle.legacy_japanese.specs.declared.iso_2022_jp.steps.{Start.TheVariants.Nothing, Held.TheVariants.Begun}
 use Rattle.legacy_japanese.specs.Iso2022JpMachine.{second_of, third_of, state_in}
 
@@ -23,10 +23,6 @@ begun_state jis0208 mode = state_in jis0208 mode (Begun None Nothing)
 -- bytes at the front of the source are read from the first mode to the last one, and their scalars are written
 abbrev pub ReadsModes : {D : Type 0} → Ghosts D → List ℕ → Mode → Mode → List ℕ → ℕ → D → D → Type 0
 ReadsModes T jis0208 first last source read old new = ReadsTo T (begun_state jis0208 first) (begun_state jis0208 last) source read old new
-
--- ASCII text at the front of the source are read in ASCII mode, and their scalars are written
-abbrev pub ReadsAsciiText : {D : Type 0} → Ghosts D → List ℕ → ℕ → D → D → Type 0
-ReadsAsciiText T source read old new = (jis0208 : List ℕ) → ReadsModes T jis0208 Ascii Ascii source read old new
 
 -- the bytes begin with the escape
 pub record BeginsEscape (escape : Escape) (bytes : List ℕ) : Type 0 where

@@ -153,13 +153,6 @@ abbrev pub is_resting : Mode → Held → Bool
 is_resting mode (Byte b) = is_two_byte_mode (mode_meaning mode)
 is_resting mode (Begun e s) = true
 
--- ---- moves that read no byte
-
--- the scalar to write first: `24` or `28`, outside two-byte mode
-abbrev pub pending : Mode → Held → Option ℕ
-pending mode (Byte b) = single mode b
-pending mode (Begun e s) = None
-
 -- The end of the input, with no scalar to write: one malformed byte is reported, and this is the mode and what is held
 -- back after it. `None`: nothing is left.
 abbrev pub finish : Mode → Held → Option (Mode × Held)

@@ -3,6 +3,7 @@
 pub mod EucJpCodes
 pub mod EucJpDecoder
 pub mod EucJpMachine
+pub mod EucJpShown
 pub mod Iso2022JpMachine
 pub mod Iso2022JpDecoder
 pub mod Iso2022JpAhead
@@ -10,7 +11,6 @@ pub mod Iso2022JpEncoder
 pub mod Iso2022JpPairs
 pub mod Iso2022JpCached
 pub mod ShiftJisCodes
-pub mod ShiftJisMachine
 pub mod ShiftJisPlaces
 pub mod ShiftJisShown
 pub mod ByPointer

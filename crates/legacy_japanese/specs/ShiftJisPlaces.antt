@@ -2,15 +2,11 @@
 -- lead or not a trail has a place past the end of every index.
 use Rattle.std.specs.{Prelude.{◌+◌, ◌*◌, if◌then◌else◌, ℕ, min}, Int.Bits.bit_xor}
 use Rattle.legacy_base.specs.ShiftJis.{is_shift_jis_lead, shift_jis_lead_part}
-use Rattle.legacy_decoder_engine.specs.LanePlaces.{lead_place_of, trail_place, trail_place_of}
+use Rattle.legacy_decoder_engine.specs.LanePlaces.{lead_place_of, trail_place_of}
 
 -- the place of a lead of Shift_JIS; a row has 188 entries
 unfoldable pub shift_jis_lead_place : ℕ → ℕ
 shift_jis_lead_place lead = if is_shift_jis_lead lead then shift_jis_lead_part lead * 188 else 65535
-
--- the place of a trail of Shift_JIS
-unfoldable pub shift_jis_trail_place : ℕ → ℕ
-shift_jis_trail_place = trail_place 0x80 0xFC
 
 -- the pointer of a code, its lead low, as eight at once are looked up, if the lead is 81 to 9F or E0 to EF; or 65535
 abbrev pub shift_jis_place : ℕ → ℕ

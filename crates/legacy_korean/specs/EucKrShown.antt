@@ -1,39 +1,29 @@
 -- The steps of EUC-KR agree with its grammar.
-use Rattle.std.proofs.Common.{ℕ, ◌≤◌, List, [], ◌∷◌, Option, Some, None, false, refl, arith}
+use Rattle.std.proofs.Common.{ℕ, ◌≤◌, List, Option, false, refl, arith}
 use Rattle.legacy_tables.specs.declared.tables.IndexName.TheVariants.{EucKr}
 use Rattle.legacy_tables.proofs.Accepted.{narrow_index}
 use Rattle.legacy_base.specs.{EucKr.euc_kr, EucKr.euc_kr_pointer, LeadForms.lead_front, LeadForms.lead_pair, LeadForms.pair_scalars, LeadForms.pointer_scalars}
-use Rattle.legacy_base.specs.{Lengths.to_utf16, Profile.is_lead}
+use Rattle.legacy_base.specs.Profile.{is_lead}
 use Rattle.legacy_decoder_engine.specs.{StepUnits.units, StepUnits.IsWidth, StepUnits.IsNarrowIndex, LeadCodecs.IsLeadCodec, LeadMachines.lead_first}
 use Rattle.legacy_decoder_engine.specs.StatesAfterSteps.{IsOneOrMarked}
 use Rattle.legacy_decoder_engine.proofs.{SettledSteps.one_option, Widths.narrow_idx_units, TwoByteShown.HasTwoByteRooms, TwoByteShown.lead_codec}
 use Rattle.legacy_decoder_engine.proofs.TwoByteMeets.{IsTwoByte, is_lead-past, lead_byte_below, lead_first_is, lead_front_is}
 
 one : (index : List ℕ) (pointer : Option ℕ) → IsOneOrMarked false (pointer_scalars index pointer)
-one index None = tt
-one index (Some p) = one_option false _
+one index pointer = grind (arith, one_option)
 
 scalar_units : (len : ℕ → ℕ) (narrow wide : ℕ) → IsWidth len narrow wide → (index : List ℕ) → IsNarrowIndex index
     → (pointer : Option ℕ) → units len (pointer_scalars index pointer) ≤ narrow
-scalar_units len narrow wide w index below None = omega arith
-scalar_units len narrow wide w index below (Some p) = narrow_idx_units len narrow wide w index p below
+scalar_units len narrow wide w index below pointer = grind (arith, narrow_idx_units len narrow wide w index)
 
 is : (index : List ℕ) → IsTwoByte (euc_kr index) (lead_front is_lead euc_kr_pointer index) is_lead (lead_first is_lead) (pair_scalars euc_kr_pointer index)
 unfolding lead_front lead_pair
-is index = record {
-  profile_is = refl;
-  front_is = λ b. let is = lead_front_is is_lead (pair_scalars euc_kr_pointer index b) in elim [ [] ↦ is [] _ b refl | t ∷ rest ↦ is (t ∷ rest) _ b refl ];
-  pair_one = λ lead t. one index (euc_kr_pointer lead t);
-}
+is index = grind (arith, lead_front_is, one)
 
 rooms : (index : List ℕ) → IsNarrowIndex index → HasTwoByteRooms (euc_kr index) (pair_scalars euc_kr_pointer index) 3
-rooms index below = record {
-  pair_units = λ len narrow wide w lead b. scalar_units len narrow wide w index below (euc_kr_pointer lead b);
-  is_paid = λ len narrow wide w. w.most;
-  falls = elim [ to_utf16 ↦ λ held held' n n' u h. omega arith | _ ↦ λ held held' n n' u h. omega arith ];
-  reads = elim [ to_utf16 ↦ λ held. omega arith | _ ↦ λ held. omega arith ];
-  holds = elim [ to_utf16 ↦ λ b held. omega arith | _ ↦ λ b held. omega arith ];
-}
+rooms index below =
+    let pairs = λ (len : ℕ → ℕ) (narrow wide : ℕ) (w : IsWidth len narrow wide) (a b : ℕ). scalar_units len narrow wide w index below (euc_kr_pointer a b) in
+    grind (arith, pairs)
 
 pub euc_kr_codec : IsLeadCodec (λ flat. euc_kr flat.euc_kr) is_lead (lead_first is_lead) (λ flat. pair_scalars euc_kr_pointer flat.euc_kr)
 euc_kr_codec = lead_codec (λ flat. euc_kr flat.euc_kr) (λ flat. lead_front is_lead euc_kr_pointer flat.euc_kr) is_lead (lead_first is_lead)

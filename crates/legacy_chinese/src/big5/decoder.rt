@@ -1,9 +1,9 @@
 //! The decoder of Big5.
-ghost use Rattle.std.specs.Prelude.{◌*◌, ◌≡◌, ◌≢◌, ℕ, ◌<◌, ◌≤◌, [], ◌∷◌, length, get_or};
+ghost use Rattle.std.specs.Prelude.{◌*◌, ℕ, [], ◌∷◌};
 ghost use Rattle.legacy_base.specs.{Big5.big5_scalars, Grammar.big5, States.is_lead};
 ghost use Rattle.legacy_decoder_engine.specs.{Feeding.Took, LeadMachines.lead_first, Steps.trail_step};
-ghost use Rattle.legacy_decoder_engine.proofs.TwoByteMeets.{is_lead-in};
-ghost use Rattle.legacy_chinese.specs.{Big5Machine.big5_pair_scalars, Big5Places.big5_place, Big5Shown.big5_codec};
+ghost use Rattle.legacy_decoder_engine.proofs.{LeadHeld.ascii, TwoByteMeets.is_lead-in};
+ghost use Rattle.legacy_chinese.specs.{Big5Places.big5_place, Big5Shown.{big5_codec, big5_pair_scalars}};
 
 use super::places::{ROWS_OF_157, TRAILS};
 use legacy_base::{IndexName, Tables};
@@ -39,6 +39,7 @@ pub type Big5Decoder<'a> = LeadDecoder<'a, Big5>;
 ///
 /// Four pointers give a letter and a combining mark, and the others give their entry.
 #[inline]
+#[tactic(auto, using(std::proofs::lemmas::Grind::common_steps))]
 fn read_pointer(tables: &Tables<'_>, pointer: usize, trail: u8) -> Fed
     ensures { (lead : ℕ) → Took (trail_step 1 (big5_scalars tables.now.flat.big5 pointer) trail)
         (lead ∷ []) trail result [] }
@@ -60,6 +61,8 @@ impl LaneCodec for Big5 {
     ghost place = { big5_place };
 
     ghost pointers = { 126 * 157 };
+
+    ghost ascii = { ascii big5_codec };
 
     #[inline(always)]
     fn is_uncommon(byte: u8) -> bool {

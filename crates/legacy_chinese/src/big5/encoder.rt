@@ -28,10 +28,8 @@ fn pair<V: EncoderTables>(tables: &V, c: char) -> Option<(u8, u8)>
     Some(((p / 157 + 0x81) as u8, (p % 157 + offset) as u8))
 }
 
-/// The lead and the trail of a pointer, as one number.
-struct Big5Marks;
-
-impl Marks for Big5Marks {
+// The lead and the trail of a pointer, as one number.
+impl Marks for Big5 {
     ghost mark = { big5_mark };
 
     #[inline(always)]
@@ -67,7 +65,7 @@ impl PairCodec for Big5 {
 
 impl FillsPairs for Big5 {
     fn fill<V: EncoderTables>(tables: &V, entries: &mut [u16]) {
-        tables.fill(PackedPart::Big5Order, &Big5Marks, entries);
+        tables.fill(PackedPart::Big5Order, &Big5, entries);
         ask_pairs(&PairEncoder::<Big5, V>::new(tables), entries, 0, 0x80);
     }
 }

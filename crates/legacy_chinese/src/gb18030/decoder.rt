@@ -1,12 +1,12 @@
 //! The decoder of GB18030 and GBK.
 ghost use Rattle.std.specs.{Prelude.{◌≡◌, ℕ, List, ◌∷◌, [], true, length, option_to_list, IfSome}, Char.IsScalar};
-ghost use Rattle.legacy_text.specs.EncodingForm.{EncodingForm};
-ghost use Rattle.legacy_base.specs.{Gb18030.gb18030_scalars, Grammar.gb18030, States.{is_neutral, new_state, state_of}};
-ghost use Rattle.legacy_decoder_engine.specs.{Feeding.Took, Moves.{read_room, room_units}};
-ghost use Rattle.legacy_chinese.specs.{Gb18030Held.{held_bytes, is_resting}, Gb18030Machine.gb18030_step};
+ghost use Rattle.legacy_base.specs.{Gb18030.gb18030_scalars, Grammar.gb18030, States.{is_neutral, new_state}};
+ghost use Rattle.legacy_decoder_engine.specs.Feeding.{Took};
+ghost use Rattle.legacy_chinese.specs.{Gb18030Decoder.gb18030_state, Gb18030Held.{held_bytes, is_resting}, Gb18030Machine.gb18030_step};
 
 use super::digit::Digit;
 use super::four_byte_blocks::{Gb18030, guessed_scalar};
+use super::four_places::four_pointer;
 use super::pair_places::TRAILS;
 use legacy_base::{DecoderStep, Destination, IndexName, RawDecoder, Tables};
 use legacy_decoder_engine::drive::{count_malformed_bytes, drive_decoder};
@@ -21,7 +21,7 @@ use std::cell::Cell;
 
 /// The held-back bytes: the first bytes of a sequence, or the bytes after a malformed lead.
 #[derive(Clone, Copy)]
-pub(crate) enum Held {
+enum Held {
     Nothing,
     First(Lead),
     Second(Lead, Digit),
@@ -49,7 +49,7 @@ pub(crate) enum Held {
 /// - an incomplete sequence at the end of the input (1 to 3 bytes).
 #[derive(Drop)]
 pub struct Gb18030Decoder<'a> {
-    pub(crate) tables: &'a Tables<'a>,
+    tables: &'a Tables<'a>,
     held: Held,
     /// The place of the last range that was used. The next sequence of four bytes tries it first.
     guess: Cell<usize>,
@@ -73,52 +73,29 @@ fn pair_scalar(tables: &Tables, lead: Lead, trail: u8) -> Option<char>
 fn read_first(byte: u8) -> (Fed, Held)
     ensures { Took (gb18030_step [] [] [] byte) [] byte result.0 (held_bytes result.1) }
 {
-    if byte < 0x80 {
-        return (Fed::One(char::from(byte)), Held::Nothing);
+    match byte {
+        0..=0x7F => (Fed::One(char::from(byte)), Held::Nothing),
+        0x80 => (Fed::One('\u{20AC}'), Held::Nothing),
+        0x81..=0xFE => (Fed::Nothing, Held::First(Lead { byte })),
+        _ => (malformed_through(1), Held::Nothing),
     }
-    if byte == 0x80 {
-        return (Fed::One('\u{20AC}'), Held::Nothing);
-    }
-    if byte <= 0xFE {
-        return (Fed::Nothing, Held::First(Lead { byte }));
-    }
-    (malformed_through(1), Held::Nothing)
 }
 
-/// Returns what a byte leads to after a lead.
-#[inline(never)]
-fn read_second(tables: &Tables, first: Lead, byte: u8) -> (Fed, Held)
-    ensures { Took (gb18030_step tables.now.flat.gb18030 [] (first.byte ∷ []) byte)
-        (first.byte ∷ []) byte result.0 (held_bytes result.1) }
+/// Returns a malformed lead, after which `back` bytes stay held back and the byte is left unread.
+#[inline]
+fn lead_alone(back: u8) -> Fed
+    ensures { result ≡ Fed.MalformedSequence 1 back true }
 {
-    if byte >= 0x30 && byte <= 0x39 {
-        return (Fed::Nothing, Held::Second(first, Digit { byte }));
+    Fed::MalformedSequence {
+        length: 1,
+        back,
+        unread: true,
     }
-    let scalar = pair_scalar(tables, first, byte);
-    (read_trail(scalar, byte), Held::Nothing)
-}
-
-/// Returns what a byte leads to after a lead and a digit.
-#[inline(never)]
-fn read_third(first: Lead, second: Digit, byte: u8) -> (Fed, Held)
-    ensures { Took (gb18030_step [] [] (first.byte ∷ second.byte ∷ []) byte)
-        (first.byte ∷ second.byte ∷ []) byte result.0 (held_bytes result.1) }
-{
-    if byte >= 0x81 && byte <= 0xFE {
-        return (Fed::Nothing, Held::Third(first, second, Lead { byte }));
-    }
-    (
-        Fed::MalformedSequence {
-            length: 1,
-            back: 1,
-            unread: true,
-        },
-        Held::Digit(second),
-    )
 }
 
 /// Returns what a byte leads to after a lead, a digit and a lead.
-#[inline(never)]
+#[inline(always)]
+#[tactic(auto, using(std::proofs::lemmas::Grind::common_steps), unfolding(crate::specs::FourForms::lead_part, crate::specs::FourForms::digit_part))]
 fn read_fourth(
     tables: &Tables,
     guess: &Cell<usize>,
@@ -131,20 +108,10 @@ fn read_fourth(
         (first.byte ∷ second.byte ∷ third.byte ∷ []) byte)
         (first.byte ∷ second.byte ∷ third.byte ∷ []) byte result.0 (held_bytes result.1) }
 {
-    if byte < 0x30 || byte > 0x39 {
-        return (
-            Fed::MalformedSequence {
-                length: 1,
-                back: 2,
-                unread: true,
-            },
-            Held::DigitLead(second, third),
-        );
+    if Digit::new(byte).is_none() {
+        return (lead_alone(2), Held::DigitLead(second, third));
     }
-    let pointer = 12600 * usize::from(first.byte - 0x81)
-        + 1260 * usize::from(second.byte - 0x30)
-        + 10 * usize::from(third.byte - 0x81)
-        + usize::from(byte - 0x30);
+    let pointer = four_pointer(first.byte, second.byte, third.byte, byte);
     let fed = match guessed_scalar(tables.ranges(), guess, pointer) {
         Some(scalar) => Fed::One(scalar),
         None => malformed_through(4),
@@ -152,8 +119,36 @@ fn read_fourth(
     (fed, Held::Nothing)
 }
 
-/// Returns what a byte leads to, and what is held back after it.
+/// Returns what a byte leads to after held-back bytes, and what is held back after it.
 // Only the first byte is read without a call: few bytes come here, but for malformed ones.
+#[inline(never)]
+fn read_next(tables: &Tables, guess: &Cell<usize>, held: Held, byte: u8) -> (Fed, Held)
+    requires { is_resting held ≡ true }
+    ensures { Took (gb18030_step tables.now.flat.gb18030 tables.now.flat.ranges
+        (held_bytes held) byte)
+        (held_bytes held) byte result.0 (held_bytes result.1) }
+{
+    match held {
+        Held::Nothing => read_first(byte),
+        Held::First(first) => match Digit::new(byte) {
+            Some(second) => (Fed::Nothing, Held::Second(first, second)),
+            None => (
+                read_trail(pair_scalar(tables, first, byte), byte),
+                Held::Nothing,
+            ),
+        },
+        Held::Second(first, second) => match Lead::new(byte) {
+            Some(third) => (Fed::Nothing, Held::Third(first, second, third)),
+            None => (lead_alone(1), Held::Digit(second)),
+        },
+        Held::Third(first, second, third) => {
+            read_fourth(tables, guess, first, second, third, byte)
+        }
+        Held::Digit(_) | Held::DigitLead(_, _) => unreachable!(),
+    }
+}
+
+/// Returns what a byte leads to, and what is held back after it.
 #[inline(always)]
 fn read(tables: &Tables, guess: &Cell<usize>, held: Held, byte: u8) -> (Fed, Held)
     requires { is_resting held ≡ true }
@@ -163,12 +158,7 @@ fn read(tables: &Tables, guess: &Cell<usize>, held: Held, byte: u8) -> (Fed, Hel
 {
     match held {
         Held::Nothing => read_first(byte),
-        Held::First(first) => read_second(tables, first, byte),
-        Held::Second(first, second) => read_third(first, second, byte),
-        Held::Third(first, second, third) => {
-            read_fourth(tables, guess, first, second, third, byte)
-        }
-        Held::Digit(_) | Held::DigitLead(_, _) => unreachable!(),
+        _ => read_next(tables, guess, held, byte),
     }
 }
 
@@ -183,20 +173,6 @@ fn held_after(held: Held, byte: u8) -> Option<Held>
         Held::First(first) => Some(Held::Second(first, Digit::new(byte)?)),
         Held::Second(first, second) => Some(Held::Third(first, second, Lead::new(byte)?)),
         Held::Third(..) | Held::Digit(_) | Held::DigitLead(..) => None,
-    }
-}
-
-/// Returns the room that an act needs.
-#[inline]
-fn room_of(held: Held, byte: u8) -> Room
-    ensures { (index : List ℕ) (ranges : List (ℕ × ℕ)) (form : EncodingForm) →
-        room_units form result
-        ≡ read_room form (state_of (gb18030 index ranges) (held_bytes held)) byte }
-{
-    if byte < 0x80 && matches!(held, Held::Nothing) {
-        Room::Unit
-    } else {
-        Room::Wide
     }
 }
 
@@ -215,8 +191,6 @@ fn held_length(held: Held) -> u8
 
 impl<'a> Gb18030Decoder<'a> {
     ghost use Rattle.legacy_base.specs.Lengths.{answer, weighted};
-    ghost use Rattle.legacy_chinese.specs.Gb18030Decoder.{gb18030_state};
-
     /// Returns a decoder before its first byte, which uses index gb18030 and the ranges of the tables.
     pub fn new(tables: &'a Tables<'a>) -> Gb18030Decoder<'a>
         ensures { gb18030_state result ≡ new_state
@@ -247,11 +221,10 @@ impl<'a> Gb18030Decoder<'a> {
 }
 
 impl DecoderMoves for Gb18030Decoder<'_> {
-    ghost use Rattle.legacy_chinese.specs.Gb18030Decoder.{gb18030_state};
-
     ghost state = { gb18030_state };
 
     #[inline]
+    #[tactic(auto, using(std::proofs::lemmas::Grind::common_steps))]
     fn rests(&self) -> bool {
         !matches!(self.held, Held::Digit(_) | Held::DigitLead(_, _))
     }
@@ -259,7 +232,11 @@ impl DecoderMoves for Gb18030Decoder<'_> {
     #[inline]
     #[tactic(auto, using(crate::proofs::Gb18030Held::covered))]
     fn reading_room(&self, byte: u8) -> Room {
-        room_of(self.held, byte)
+        if byte < 0x80 && matches!(self.held, Held::Nothing) {
+            Room::Unit
+        } else {
+            Room::Wide
+        }
     }
 
     #[inline]
@@ -320,11 +297,9 @@ impl DecoderMoves for Gb18030Decoder<'_> {
     }
 
     #[inline(always)]
+    #[tactic(auto, using(crate::proofs::Gb18030Held::malformed_byte))]
     fn is_malformed_byte(&self, byte: u8) -> bool {
-        match self.held {
-            Held::Nothing => byte == 0xFF,
-            _ => false,
-        }
+        matches!(self.held, Held::Nothing) && byte == 0xFF
     }
 
     /// Holds back the first bytes of a sequence: those before the end of the input, and those that go on with held-back ones.
@@ -356,8 +331,6 @@ impl DecoderMoves for Gb18030Decoder<'_> {
 }
 
 impl RawDecoder for Gb18030Decoder<'_> {
-    ghost use Rattle.legacy_chinese.specs.Gb18030Decoder.{gb18030_state};
-
     ghost state = { gb18030_state };
 
     #[inline(always)]

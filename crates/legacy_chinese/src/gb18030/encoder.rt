@@ -4,9 +4,10 @@ ghost use Rattle.legacy_tables.specs.{Pointers.range_pointer_of, RangeParts.IsRa
 ghost use Rattle.legacy_base.specs.Gb18030.{gb18030_pair_code, gb18030_range_bytes, gb18030_code, gbk_code};
 ghost use Rattle.legacy_base.specs.{Encoders.{encoder_profile, new_encoder}, Lengths.{answer, number, ◌⊕◌, ◌⊗◌}};
 ghost use Rattle.legacy_encoder_engine.specs.{CachedPairs.AreAllPairsOf, Moves.IsCode, UnfinishedCall.EncodesFrom};
-ghost use Rattle.legacy_chinese.specs.{Gb18030Codec.gb18030_codec, Gb18030Codes.gb18030_plain};
+ghost use Rattle.legacy_chinese.specs.{Gb18030Codec.{gb18030_codec, gb18030_encoder_state}, Gb18030Codes.gb18030_plain};
 
-use super::list::{Gb18030Marks, ask_rows};
+use super::four_byte_blocks::Gb18030;
+use super::list::ask_rows;
 use legacy_base::{EncoderStep, PackedPart, RawEncoder, Source, Tables};
 use legacy_encoder_engine::asked_pairs::ask_pairs;
 use legacy_encoder_engine::cached::{EncodesPairs, PastPairs, WithPairs};
@@ -30,8 +31,6 @@ pub struct Gb18030Encoder<'a> {
 }
 
 impl<'a> Gb18030Encoder<'a> {
-    ghost use Rattle.legacy_chinese.specs.Gb18030Encoder.{gb18030_encoder_state};
-
     /// Returns an encoder before its first scalar, of GB18030 if `extended_range` is set or of GBK.
     ///
     /// It writes by index gb18030, the ranges and the private-use rows of the tables.
@@ -97,18 +96,8 @@ fn range_bytes(pointer: usize) -> (u8, u8, u8, u8)
     )
 }
 
-/// Returns the four bytes of a scalar's range pointer, if it has one.
-#[inline(always)]
-fn range_bytes_of<V: EncoderTables>(tables: &V, c: char) -> Option<(u8, u8, u8, u8)>
-    ensures { option_map (λ four. four.0 ∷ four.1 ∷ four.2 ∷ four.3 ∷ []) result
-        ≡ option_map gb18030_range_bytes (range_pointer_of (V.indexes tables.now).flat.ranges c) }
-{
-    let pointer = tables.ranges().pointer(c)?;
-    Some(range_bytes(pointer))
-}
-
 /// Returns the pointer of a scalar outside the range of `guess`, and sets `guess` to its range.
-#[tactic(auto, using(crate::proofs::FourBytePointers::pointer_bound))]
+#[tactic(auto, using(crate::proofs::Gb18030Walk::pointer_bound))]
 fn far_pointer<V: EncoderTables>(tables: &V, guess: &mut RangePart, c: char) -> Option<usize>
     requires { c ≢ 0xE7C7 }
     ensures pointer { result ≡ range_pointer_of (V.indexes tables.now).flat.ranges c }
@@ -123,32 +112,11 @@ fn far_pointer<V: EncoderTables>(tables: &V, guess: &mut RangePart, c: char) -> 
     }
 }
 
-/// Returns the four bytes of a scalar's range pointer, if any, and keeps its range in `guess`.
-#[inline(always)]
-#[tactic(auto, using(crate::proofs::FourBytePointers::pointer_bound))]
-fn guessed_range_bytes_of<V: EncoderTables>(
-    tables: &V,
-    guess: &mut RangePart,
-    c: char,
-) -> Option<(u8, u8, u8, u8)>
-    requires free { c ≢ 0xE7C7 }
-    requires guess { IsRangePart (V.indexes tables.now).flat.ranges guess.old }
-    ensures bytes { option_map (λ four. four.0 ∷ four.1 ∷ four.2 ∷ four.3 ∷ []) result
-        ≡ option_map gb18030_range_bytes (range_pointer_of (V.indexes tables.now).flat.ranges c) }
-    ensures guess { IsRangePart (V.indexes tables.now).flat.ranges guess.new }
-{
-    if let Some(pointer) = tables.ranges().pointer_in(*guess, c) {
-        return Some(range_bytes(pointer));
-    }
-    let pointer = far_pointer(tables, guess, c)?;
-    Some(range_bytes(pointer))
-}
-
 /// Returns the four bytes of a scalar that has no lead and trail in index gb18030.
 ///
 /// The index is not searched. The result may be `None` for any scalar. `guess` keeps the range.
 #[inline(always)]
-#[tactic(auto, unfolding(legacy_base::specs::Gb18030::gb18030_code))]
+#[tactic(auto, using(crate::proofs::Gb18030Walk::pointer_bound), unfolding(legacy_base::specs::Gb18030::gb18030_code))]
 fn four_past_pairs_of<V: EncoderTables>(
     tables: &V,
     guess: &mut RangePart,
@@ -167,27 +135,35 @@ fn four_past_pairs_of<V: EncoderTables>(
     if is_private_use(c) || tables.gb18030_pua_bytes(c).is_some() {
         return None;
     }
-    guessed_range_bytes_of(tables, guess, c)
+    if let Some(pointer) = tables.ranges().pointer_in(*guess, c) {
+        return Some(range_bytes(pointer));
+    }
+    let pointer = far_pointer(tables, guess, c)?;
+    Some(range_bytes(pointer))
 }
 
 /// Returns the four bytes of a scalar past ASCII, or the scalar as unmappable.
 #[inline(always)]
+#[tactic(auto, using(std::proofs::lemmas::Grind::common_steps))]
 fn four_or_unmappable<V: EncoderTables>(tables: &V, c: char) -> EncoderMove
     ensures { IsCode (option_map gb18030_range_bytes
         (range_pointer_of (V.indexes tables.now).flat.ranges c)) c result }
 {
-    match range_bytes_of(tables, c) {
-        Some((first, second, third, fourth)) => EncoderMove::Four(first, second, third, fourth),
+    match tables.ranges().pointer(c) {
+        Some(pointer) => {
+            let (first, second, third, fourth) = range_bytes(pointer);
+            EncoderMove::Four(first, second, third, fourth)
+        }
         None => EncoderMove::Unmappable(c),
     }
 }
 
-/// Returns what GB18030 writes for a scalar.
+/// Returns what GB18030 or GBK writes for a scalar.
 #[inline(always)]
-#[tactic(auto, unfolding(legacy_base::specs::Gb18030::gb18030_code))]
-fn gb18030_code_of<V: EncoderTables>(tables: &V, c: char) -> EncoderMove
-    ensures { IsCode (gb18030_code (V.indexes tables.now).flat.gb18030
-        (V.indexes tables.now).flat.ranges (V.indexes tables.now).flat.gb18030_pua c) c result }
+#[tactic(auto, using(std::proofs::lemmas::Grind::common_steps), unfolding(legacy_base::specs::Gb18030::gb18030_code, legacy_base::specs::Gb18030::gbk_code))]
+fn any_code_of<V: EncoderTables>(tables: &V, extended_range: bool, c: char) -> EncoderMove
+    ensures { IsCode ((encoder_profile (gb18030_codec (V.indexes tables.now).flat
+        extended_range)).code c) c result }
 {
     let code = c as u32;
     if code < 0x80 {
@@ -196,43 +172,16 @@ fn gb18030_code_of<V: EncoderTables>(tables: &V, c: char) -> EncoderMove
     if code == 0xE5E5 {
         return EncoderMove::Unmappable(c);
     }
-    match pair_of(tables, c) {
-        Some((lead, trail)) => EncoderMove::Two(lead, trail),
-        None => four_or_unmappable(tables, c),
-    }
-}
-
-/// Returns what GBK writes for a scalar.
-#[inline(always)]
-#[tactic(auto, unfolding(legacy_base::specs::Gb18030::gbk_code))]
-fn gbk_code_of<V: EncoderTables>(tables: &V, c: char) -> EncoderMove
-    ensures { IsCode (gbk_code (V.indexes tables.now).flat.gb18030
-        (V.indexes tables.now).flat.gb18030_pua c) c result }
-{
-    let code = c as u32;
-    if code < 0x80 {
-        return EncoderMove::One(code as u8);
-    }
-    if code == 0xE5E5 {
-        return EncoderMove::Unmappable(c);
+    if extended_range {
+        return match pair_of(tables, c) {
+            Some((lead, trail)) => EncoderMove::Two(lead, trail),
+            None => four_or_unmappable(tables, c),
+        };
     }
     if code == 0x20AC {
         return EncoderMove::One(0x80);
     }
     EncoderMove::of_pair(pair_of(tables, c), c)
-}
-
-/// Returns what GB18030 or GBK writes for a scalar.
-#[inline(always)]
-fn any_code_of<V: EncoderTables>(tables: &V, extended_range: bool, c: char) -> EncoderMove
-    ensures { IsCode ((encoder_profile (gb18030_codec (V.indexes tables.now).flat
-        extended_range)).code c) c result }
-{
-    if extended_range {
-        gb18030_code_of(tables, c)
-    } else {
-        gbk_code_of(tables, c)
-    }
 }
 
 /// Returns two more than twice the length.
@@ -358,8 +307,7 @@ impl EncodesPairs for Gb18030Encoder<'_> {
     ghost same = { λ e. refl };
 
     fn fill_pairs(&self, pairs: &mut [u16]) {
-        self.tables
-            .fill(PackedPart::Gb18030Order, &Gb18030Marks, pairs);
+        self.tables.fill(PackedPart::Gb18030Order, &Gb18030, pairs);
         ask_pairs(self, pairs, 0, 0x80);
         ask_pairs(self, pairs, 0x20AC, 0x20AD);
         ask_pairs(self, pairs, 0xE5E5, 0xE5E6);
@@ -386,8 +334,6 @@ impl EncodesPairs for Gb18030Encoder<'_> {
 }
 
 impl RawEncoder for Gb18030Encoder<'_> {
-    ghost use Rattle.legacy_chinese.specs.Gb18030Encoder.{gb18030_encoder_state};
-
     ghost state = { gb18030_encoder_state };
 
     fn step<S: Source>(&mut self, src: &mut S, dst: &mut [u8], last: bool) -> EncoderStep {

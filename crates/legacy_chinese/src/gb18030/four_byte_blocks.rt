@@ -4,6 +4,7 @@
 ghost use Rattle.std.specs.Prelude.{◌*◌, ◌≡◌, ◌<◌, Some, IfSome};
 ghost use Rattle.legacy_tables.specs.{Indexes.range, RangeParts.IsRangePart};
 ghost use Rattle.{legacy_base.specs.Grammar.gb18030, legacy_chinese.specs.Gb18030Places.gb18030_place};
+ghost use Rattle.legacy_chinese.specs.Gb18030Shown.{ascii};
 
 use super::four_lanes::read_fours;
 use super::four_places::four_pointer;
@@ -80,20 +81,6 @@ fn scalar_and_part(
     Some((scalar, ranges.part_at(guess.get())))
 }
 
-/// Returns whether the first byte past ASCII begins a sequence of four bytes, and blocks may follow. Any result is right.
-#[inline(always)]
-fn begins_fours(src: &[u8]) -> bool {
-    if src.len() < 128 {
-        return false;
-    }
-    let first = if src[0] >= 0x80 {
-        0
-    } else {
-        ascii_front(past_ascii(u8x64::from_slice(src)))
-    };
-    Gb18030::begins_longer(src[first], src[first + 1])
-}
-
 /// The codec of GB18030 and GBK as its blocks are read.
 ///
 /// The place of the last range that was used is the guess for the next sequence of four bytes.
@@ -107,6 +94,8 @@ impl LaneCodec for Gb18030 {
     ghost place = { gb18030_place };
 
     ghost pointers = { 126 * 190 };
+
+    ghost ascii = { ascii };
 
     #[inline(always)]
     fn is_uncommon(byte: u8) -> bool {
@@ -173,6 +162,7 @@ impl LaneCodec for Gb18030 {
         at
     }
 
+    // It reads nothing unless the first byte past ASCII begins a sequence of four bytes, and blocks may follow.
     #[inline(always)]
     #[tactic(auto, using(legacy_decoder_engine::proofs::WrittenReads::no_bytes))]
     fn read_longer_blocks<T: Destination>(
@@ -181,7 +171,15 @@ impl LaneCodec for Gb18030 {
         src: &[u8],
         dst: &mut T,
     ) -> usize {
-        if !begins_fours(src) {
+        if src.len() < 128 {
+            return 0;
+        }
+        let first = if src[0] >= 0x80 {
+            0
+        } else {
+            ascii_front(past_ascii(u8x64::from_slice(src)))
+        };
+        if !Gb18030::begins_longer(src[first], src[first + 1]) {
             return 0;
         }
         read_fours(tables, guess, src, dst)

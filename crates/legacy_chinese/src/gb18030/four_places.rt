@@ -2,7 +2,7 @@
 //!
 //! A byte that is not allowed there has a part past all pointers. So one test of the pointer tests all four bytes.
 ghost use Rattle.std.specs.Prelude.{◌≡◌, ◌<◌};
-ghost use Rattle.legacy_chinese.specs.FourPlaces.{four_place};
+ghost use Rattle.legacy_chinese.specs.FourForms.{four_place};
 
 use legacy_decoder_engine::place_table;
 

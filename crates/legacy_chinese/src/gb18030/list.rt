@@ -4,13 +4,12 @@
 ghost use Rattle.std.specs.Prelude.{◌≡◌, ℕ, length, slice_index, true, false};
 ghost use Rattle.legacy_chinese.specs.Gb18030List.{gb18030_mark, gb18030_mark-some, is_in_rows};
 
+use super::four_byte_blocks::Gb18030;
 use legacy_encoder_engine::asked_pairs::{PairEntries, ask_pairs};
 use legacy_tables::Marks;
 
-/// The lead and the trail of a pointer, as one number.
-pub(super) struct Gb18030Marks;
-
-impl Marks for Gb18030Marks {
+// The lead and the trail of a pointer, as one number.
+impl Marks for Gb18030 {
     ghost mark = { gb18030_mark };
 
     #[inline(always)]

@@ -1,8 +1,9 @@
 //! The decoder of EUC-JP.
-ghost use Rattle.std.specs.{Prelude.{◌*◌, ◌≡◌, ◌∷◌, [], true, length, option_to_list, IfSome}, Char.IsScalar};
-ghost use Rattle.legacy_base.specs.{EucJp.euc_jp_scalars, Grammar.euc_jp, States.{is_neutral, new_state}, Fronts.malformed};
+ghost use Rattle.std.specs.{Prelude.{◌*◌, ◌≡◌, [], length, option_to_list, IfSome}, Char.IsScalar};
+ghost use Rattle.legacy_base.specs.{EucJp.euc_jp_scalars, Grammar.euc_jp, States.{is_neutral, new_state}};
 ghost use Rattle.legacy_tables.specs.Tables.{index_list};
-ghost use Rattle.legacy_decoder_engine.specs.{Steps.finish, Feeding.Took, LanePlaces.row_place};
+ghost use Rattle.legacy_decoder_engine.specs.{Feeding.Took, LanePlaces.row_place};
+ghost use Rattle.legacy_japanese.specs.EucJpShown.{ascii};
 ghost use Rattle.legacy_japanese.specs.{EucJpMachine.euc_jp_step, EucJpDecoder.{euc_jp_state, held_bytes}};
 
 use super::held_lead::EucJpLead;
@@ -22,7 +23,7 @@ use std::simd::prelude::*;
 
 /// The held-back bytes: the first bytes of a sequence.
 #[derive(Clone, Copy)]
-pub(crate) enum Held {
+enum Held {
     Nothing,
     /// 8E, before a byte of half-width katakana.
     Katakana,
@@ -80,76 +81,44 @@ fn pair_scalar<V: DecoderTables>(
 fn read_first(byte: u8) -> (Fed, Held)
     ensures { Took (euc_jp_step [] [] [] byte) [] byte result.0 (held_bytes result.1) }
 {
-    if byte < 0x80 {
-        return (Fed::One(char::from(byte)), Held::Nothing);
+    match byte {
+        0..=0x7F => (Fed::One(char::from(byte)), Held::Nothing),
+        0x8E => (Fed::Nothing, Held::Katakana),
+        0x8F => (Fed::Nothing, Held::Jis0212),
+        0xA1..=0xFE => (Fed::Nothing, Held::Lead(EucJpLead { byte })),
+        _ => (malformed_through(1), Held::Nothing),
     }
-    if byte == 0x8E {
-        return (Fed::Nothing, Held::Katakana);
-    }
-    if byte == 0x8F {
-        return (Fed::Nothing, Held::Jis0212);
-    }
-    if byte >= 0xA1 && byte <= 0xFE {
-        return (Fed::Nothing, Held::Lead(EucJpLead { byte }));
-    }
-    (malformed_through(1), Held::Nothing)
 }
 
-/// Returns whether the byte is malformed by itself at the beginning of a sequence.
-#[inline(always)]
-fn is_malformed(byte: u8) -> bool
-    ensures { result ≡ true → euc_jp_step [] [] [] byte ≡ finish (malformed 1) }
-{
-    byte >= 0x80 && byte != 0x8E && byte != 0x8F && (byte < 0xA1 || byte > 0xFE)
-}
-
-/// Returns what a byte leads to after 8E.
-#[inline(never)]
-fn read_katakana(byte: u8) -> Fed
-    ensures { Took (euc_jp_step [] [] (0x8E ∷ []) byte) (0x8E ∷ []) byte result [] }
-{
-    if byte < 0xA1 || byte > 0xDF {
-        return unmapped(1, byte);
-    }
-    Fed::One(katakana(byte))
-}
-
-/// Returns what a byte leads to after 8F.
-#[inline(never)]
-fn read_jis0212_lead(byte: u8) -> (Fed, Held)
-    ensures { Took (euc_jp_step [] [] (0x8F ∷ []) byte) (0x8F ∷ []) byte
-        result.0 (held_bytes result.1) }
-{
-    if byte >= 0xA1 && byte <= 0xFE {
-        return (Fed::Nothing, Held::Jis0212Lead(EucJpLead { byte }));
-    }
-    (unmapped(1, byte), Held::Nothing)
-}
-
-/// Returns what a byte leads to after a lead.
-#[inline(never)]
-fn read_jis0208_trail(tables: &Tables, lead: EucJpLead, byte: u8) -> Fed
-    ensures { Took (euc_jp_step tables.now.flat.jis0208 [] (lead.byte ∷ []) byte)
-        (lead.byte ∷ []) byte result [] }
-{
-    read_trail(pair_scalar(tables, IndexName::Jis0208, lead, byte), byte)
-}
-
-/// Returns what a byte leads to after 8F and a lead.
+/// Returns what a byte leads to after held-back bytes, and what is held back after it.
+// Only the first byte is read without a call: few bytes come here, but for malformed ones.
 #[inline(never)]
 #[tactic(auto, using(std::proofs::lemmas::Grind::common_steps))]
-fn read_jis0212_trail(tables: &Tables, lead: EucJpLead, byte: u8) -> Fed
-    ensures { Took (euc_jp_step [] tables.now.flat.jis0212 (0x8F ∷ lead.byte ∷ []) byte)
-        (0x8F ∷ lead.byte ∷ []) byte result [] }
+fn read_next(tables: &Tables, held: Held, byte: u8) -> (Fed, Held)
+    ensures { Took
+        (euc_jp_step tables.now.flat.jis0208 tables.now.flat.jis0212 (held_bytes held) byte)
+        (held_bytes held) byte result.0 (held_bytes result.1) }
 {
-    match pair_scalar(tables, IndexName::Jis0212, lead, byte) {
-        Some(scalar) => Fed::One(scalar),
-        None => unmapped(2, byte),
+    match held {
+        Held::Nothing => read_first(byte),
+        Held::Katakana if byte >= 0xA1 && byte <= 0xDF => (Fed::One(katakana(byte)), Held::Nothing),
+        Held::Katakana => (unmapped(1, byte), Held::Nothing),
+        Held::Jis0212 => match EucJpLead::new(byte) {
+            Some(lead) => (Fed::Nothing, Held::Jis0212Lead(lead)),
+            None => (unmapped(1, byte), Held::Nothing),
+        },
+        Held::Lead(lead) => {
+            let scalar = pair_scalar(tables, IndexName::Jis0208, lead, byte);
+            (read_trail(scalar, byte), Held::Nothing)
+        }
+        Held::Jis0212Lead(lead) => match pair_scalar(tables, IndexName::Jis0212, lead, byte) {
+            Some(scalar) => (Fed::One(scalar), Held::Nothing),
+            None => (unmapped(2, byte), Held::Nothing),
+        },
     }
 }
 
 /// Returns what a byte leads to, and what is held back after it.
-// Only the first byte is read without a call: few bytes come here, but for malformed ones.
 #[inline(always)]
 fn read(tables: &Tables, held: Held, byte: u8) -> (Fed, Held)
     ensures { Took
@@ -158,10 +127,7 @@ fn read(tables: &Tables, held: Held, byte: u8) -> (Fed, Held)
 {
     match held {
         Held::Nothing => read_first(byte),
-        Held::Katakana => (read_katakana(byte), Held::Nothing),
-        Held::Jis0212 => read_jis0212_lead(byte),
-        Held::Lead(lead) => (read_jis0208_trail(tables, lead, byte), Held::Nothing),
-        Held::Jis0212Lead(lead) => (read_jis0212_trail(tables, lead, byte), Held::Nothing),
+        _ => read_next(tables, held, byte),
     }
 }
 
@@ -179,6 +145,7 @@ fn held_length(held: Held) -> u8
 
 impl<'a> EucJpDecoder<'a> {
     ghost use Rattle.legacy_base.specs.Lengths.{answer, weighted};
+
     /// Returns a decoder before its first byte, which uses indexes jis0208 and jis0212 of the tables.
     pub fn new(tables: &'a Tables<'a>) -> EucJpDecoder<'a>
         ensures { euc_jp_state result
@@ -203,10 +170,7 @@ impl<'a> EucJpDecoder<'a> {
     fn weighted_length(&self, byte_length: usize) -> Option<usize>
         ensures { result ≡ answer (weighted (euc_jp_state self.now) byte_length) }
     {
-        match self.held {
-            Held::Nothing => Some(byte_length),
-            _ => byte_length.checked_add(1),
-        }
+        byte_length.checked_add(usize::from(!matches!(self.held, Held::Nothing)))
     }
 }
 
@@ -219,7 +183,7 @@ impl DecoderMoves for EucJpDecoder<'_> {
     }
 
     #[inline]
-    #[tactic(auto, using(crate::proofs::EucJpShown::covered))]
+    #[tactic(auto, using(crate::proofs::EucJpHeld::covered))]
     fn reading_room(&self, byte: u8) -> Room {
         if byte < 0x80 && matches!(self.held, Held::Nothing) {
             Room::Unit
@@ -229,7 +193,7 @@ impl DecoderMoves for EucJpDecoder<'_> {
     }
 
     #[inline]
-    #[tactic(auto, using(crate::proofs::EucJpShown::covered))]
+    #[tactic(auto, using(crate::proofs::EucJpHeld::covered))]
     fn release_room(&self) -> Room {
         Room::Narrow
     }
@@ -239,7 +203,7 @@ impl DecoderMoves for EucJpDecoder<'_> {
     }
 
     #[inline(always)]
-    #[tactic(auto, using(crate::proofs::EucJpShown::feeds))]
+    #[tactic(auto, using(crate::proofs::EucJpHeld::feeds))]
     fn feed(&mut self, byte: u8) -> Fed {
         let (fed, held) = read(self.tables, self.held, byte);
         self.held = held;
@@ -252,12 +216,12 @@ impl DecoderMoves for EucJpDecoder<'_> {
     }
 
     #[inline]
-    #[tactic(auto, using(crate::proofs::EucJpShown::ends_none, crate::proofs::EucJpShown::ends_some))]
+    #[tactic(auto, using(crate::proofs::EucJpHeld::ends_none, crate::proofs::EucJpHeld::ends_some))]
     fn has_report(&self) -> bool {
         !matches!(self.held, Held::Nothing)
     }
 
-    #[tactic(auto, using(crate::proofs::EucJpShown::ends_none, crate::proofs::EucJpShown::reports))]
+    #[tactic(auto, using(crate::proofs::EucJpHeld::ends_none, crate::proofs::EucJpHeld::reports))]
     fn report(&mut self) -> Option<(u8, u8)> {
         let length = held_length(self.held);
         if length == 0 {
@@ -268,11 +232,13 @@ impl DecoderMoves for EucJpDecoder<'_> {
     }
 
     #[inline(always)]
+    #[tactic(auto, using(crate::proofs::EucJpHeld::malformed_byte))]
     fn is_malformed_byte(&self, byte: u8) -> bool {
-        match self.held {
-            Held::Nothing => is_malformed(byte),
-            _ => false,
-        }
+        matches!(self.held, Held::Nothing)
+            && byte >= 0x80
+            && byte != 0x8E
+            && byte != 0x8F
+            && (byte < 0xA1 || byte > 0xFE)
     }
 
     #[inline(always)]
@@ -299,13 +265,15 @@ impl LaneCodec for EucJp {
 
     ghost pointers = { 94 * 94 };
 
+    ghost ascii = { ascii };
+
     #[inline(always)]
     fn is_uncommon(byte: u8) -> bool {
         byte >= 0x80 && EucJpLead::new(byte).is_none()
     }
 
     #[inline(always)]
-    #[tactic(auto, using(crate::proofs::EucJpShown::pair, legacy_decoder_engine::proofs::CommonPairs::common_pair))]
+    #[tactic(auto, using(crate::proofs::EucJpHeld::pair, legacy_decoder_engine::proofs::CommonPairs::common_pair))]
     fn front(tables: &FlatTables<'_>, lead: u8, trail: u8) -> CommonForm {
         let Some(lead) = EucJpLead::new(lead) else {
             return CommonForm::Other;

@@ -29,10 +29,8 @@ fn pair<V: EncoderTables>(tables: &V, c: char) -> Option<(u8, u8)>
     Some(((p / 94 + 0xA1) as u8, (p % 94 + 0xA1) as u8))
 }
 
-/// The lead and the trail of a pointer, as one number.
-struct EucJpMarks;
-
-impl Marks for EucJpMarks {
+// The lead and the trail of a pointer, as one number.
+impl Marks for EucJp {
     ghost mark = { euc_jp_mark };
 
     #[inline(always)]
@@ -80,7 +78,7 @@ impl PairCodec for EucJp {
 
 impl FillsPairs for EucJp {
     fn fill<V: EncoderTables>(tables: &V, entries: &mut [u16]) {
-        tables.fill(PackedPart::EucJpOrder, &EucJpMarks, entries);
+        tables.fill(PackedPart::EucJpOrder, &EucJp, entries);
         ask_others(&PairEncoder::<EucJp, V>::new(tables), entries);
     }
 }

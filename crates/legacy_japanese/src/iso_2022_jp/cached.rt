@@ -32,10 +32,8 @@ impl PairEntries for Iso2022JpEncoder<'_> {
     ghost others = { λ _ _ _ n. absurd (n refl) };
 }
 
-/// The lead and the trail of a pointer, as one number.
-struct Iso2022JpMarks;
-
-impl Marks for Iso2022JpMarks {
+// The lead and the trail of a pointer, as one number.
+impl Marks for Iso2022JpEncoder<'_> {
     ghost mark = { iso_2022_jp_mark };
 
     #[inline(always)]
@@ -55,9 +53,7 @@ fn list_pairs(encoder: &Iso2022JpEncoder<'_>, pairs: &mut [u16])
     ensures { ListsPairs encoder.now.tables.now.flat.jis0208 encoder.now.tables.now.flat.katakana
         pairs.new }
 {
-    encoder
-        .tables
-        .fill(PackedPart::EucJpOrder, &Iso2022JpMarks, pairs);
+    encoder.tables.fill(PackedPart::EucJpOrder, encoder, pairs);
     ask_others(encoder, pairs);
 }
 

@@ -4,7 +4,7 @@ ghost use Rattle.legacy_base.specs.{Grammar.iso_2022_jp, Iso2022Jp.ascii, States
 ghost use Rattle.legacy_japanese.specs.Iso2022JpMachine.{is_held};
 
 use super::read_ahead::{front_escape, read_modes};
-use super::steps::{Held, Mode, NOTHING, Start, finish, pending, read};
+use super::steps::{Held, Mode, NOTHING, Start, finish, read, single_scalar};
 use legacy_base::{DecoderStep, Destination, RawDecoder, Tables};
 use legacy_decoder_engine::drive::drive_decoder;
 use legacy_decoder_engine::moves::{DecoderMoves, Fed, Room};
@@ -59,10 +59,7 @@ impl<'a> Iso2022JpDecoder<'a> {
     pub fn in_neutral_state(&self) -> bool
         ensures { result ≡ is_neutral (iso_2022_jp_state self.now) }
     {
-        match (self.mode, self.held) {
-            (Mode::Ascii, Held::Begun(None, Start::Nothing)) => true,
-            _ => false,
-        }
+        matches!(self.mode, Mode::Ascii) && self.held.is_nothing()
     }
 }
 
@@ -73,11 +70,7 @@ impl<'a> DecoderMoves for Iso2022JpDecoder<'a> {
 
     #[inline]
     fn rests(&self) -> bool {
-        match (self.mode, self.held) {
-            (Mode::TwoByte, _) => true,
-            (_, Held::Byte(_)) => false,
-            _ => true,
-        }
+        matches!(self.mode, Mode::TwoByte) || matches!(self.held, Held::Begun(..))
     }
 
     #[inline]
@@ -94,7 +87,11 @@ impl<'a> DecoderMoves for Iso2022JpDecoder<'a> {
 
     #[tactic(auto, using(crate::proofs::Iso2022JpEnding::released))]
     fn release(&mut self) -> Option<char> {
-        let scalar = pending(self.mode, self.held)?;
+        // Outside two-byte mode a byte alone is `24` or `28`.
+        let Held::Byte(byte) = self.held else {
+            return None;
+        };
+        let scalar = single_scalar(self.mode, byte)?;
         self.held = NOTHING;
         Some(scalar)
     }
@@ -128,6 +125,7 @@ impl<'a> DecoderMoves for Iso2022JpDecoder<'a> {
     }
 
     #[inline(always)]
+    #[tactic(auto, using(legacy_decoder_engine::proofs::WrittenReads::no_bytes))]
     fn read_common<T: Destination>(&mut self, src: &[u8], dst: &mut T) -> usize {
         if !self.held.is_nothing() {
             return 0;
@@ -141,15 +139,12 @@ impl<'a> DecoderMoves for Iso2022JpDecoder<'a> {
     #[inline(always)]
     #[tactic(auto, using(legacy_decoder_engine::proofs::CallUnderWay::holds_none, crate::proofs::Iso2022JpFeeding::holds_escape))]
     fn hold_back<T: Destination>(&mut self, src: &[u8], dst: &T) -> usize {
-        if !self.held.is_nothing() {
+        if !self.held.is_nothing() || dst.free() < T::narrow() {
             return 0;
         }
         let Some(escape) = front_escape(src) else {
             return 0;
         };
-        if dst.free() < T::narrow() {
-            return 0;
-        }
         self.held = Held::Begun(Some(escape), Start::Nothing);
         3
     }

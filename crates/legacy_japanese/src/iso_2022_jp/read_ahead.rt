@@ -3,32 +3,72 @@
 // Functions that run for each sequence or block are always inlined, and so are their callers. A call would pass vectors
 // through memory, and keep the destination's place there.
 ghost use Rattle.std.specs.Prelude.{◌≡◌, ◌≤◌, IfSome, length, true};
-ghost use Rattle.legacy_japanese.specs.Iso2022JpAhead.{AreAsciiText, BeginsEscape, HasEscape, IsAsciiText, ReadsModes, ReadsAsciiText};
-ghost use Rattle.legacy_base.specs.{Grammar.iso_2022_jp, Iso2022Jp.two_byte};
+ghost use Rattle.legacy_japanese.specs.Iso2022JpAhead.{AreAsciiText, BeginsEscape, HasEscape, IsAsciiText, ReadsModes};
+ghost use Rattle.legacy_base.specs.{Grammar.iso_2022_jp, Iso2022Jp.two_byte, States.new_state};
+ghost use Rattle.legacy_decoder_engine.specs.ReadAhead.{ReadsAhead, ReadsInto};
 
 use super::places::{LEADS, TRAILS};
 use super::steps::{DOLLAR, ESCAPE, Escape, Mode, PAREN, Start, completed};
-use legacy_base::{Destination, IndexName, Tables};
+use legacy_base::{Destination, IndexName, Tables, Utf8Destination};
 use legacy_decoder_engine::common_forms::{CommonForm, FrontForms, read_forms};
 use legacy_decoder_engine::places::pair_pointer;
 use legacy_decoder_engine::read_ahead::SLACK;
 use legacy_tables::{DecoderTables, FlatTables};
+use legacy_text::FillsBuffer;
 use legacy_text::past_ascii::{ascii_front, past_ascii};
 use std::simd::prelude::*;
 
 /// The pairs of two-byte mode.
+// A loop keeps the parts of a copy of the tables in registers.
 #[derive(Drop)]
-struct Jis0208Pairs<'a, 'b> {
-    tables: &'a FlatTables<'b>,
+struct Jis0208Pairs<'a> {
+    tables: FlatTables<'a>,
 }
 
-impl FrontForms for Jis0208Pairs<'_, '_> {
-    ghost grammar = { λ pairs. iso_2022_jp pairs.tables.now.flat.jis0208 two_byte };
+impl FrontForms for Jis0208Pairs<'_> {
+    ghost grammar = { λ pairs. iso_2022_jp pairs.tables.flat.jis0208 two_byte };
 
     #[inline(always)]
     fn form(&self, first: u8, second: u8) -> CommonForm {
         let pointer = pair_pointer(&LEADS, &TRAILS, first, second);
         CommonForm::of_pair(self.tables.idx(IndexName::Jis0208, pointer))
+    }
+}
+
+/// Text that begins with pairs.
+#[derive(Drop)]
+struct PairsAhead<'a, 'b> {
+    pairs: Jis0208Pairs<'b>,
+    src: &'a [u8],
+}
+
+impl FillsBuffer for PairsAhead<'_, '_> {
+    ghost fills = { λ ahead. ReadsInto (iso_2022_jp ahead.pairs.tables.flat.jis0208 two_byte) ahead.src.now };
+
+    /// Reads pairs from the front of the text, and returns the numbers of bytes read and written.
+    // It is a function of its own, so that its loop has the registers of a call for itself.
+    #[inline(never)]
+    fn fill(&self, buffer: &mut [u8]) -> (usize, usize) {
+        let mut dst = Utf8Destination::new(buffer);
+        let read = read_forms(&self.pairs, self.src, self.src.len(), &mut dst);
+        (read, dst.written())
+    }
+}
+
+/// Reads pairs from the front, and returns the number of bytes read, which may be 0.
+#[inline(always)]
+fn read_pairs<T: Destination>(tables: &FlatTables, src: &[u8], dst: &mut T) -> usize
+    ensures { ReadsAhead T.Destination (new_state (iso_2022_jp tables.now.flat.jis0208 two_byte)) src.now result dst.old dst.new }
+{
+    let ahead = PairsAhead {
+        pairs: Jis0208Pairs {
+            tables: tables.copied(),
+        },
+        src,
+    };
+    match dst.lend(&ahead) {
+        Some(read) => read,
+        None => read_forms(&ahead.pairs, src, src.len(), dst),
     }
 }
 
@@ -52,30 +92,20 @@ fn ascii_text_count(block: u8x64) -> usize
     ascii_front(past_ascii(block)).min(controls.trailing_zeros() as usize)
 }
 
-/// Reads bytes of ASCII text from the front of a block of 64 in ASCII mode, and returns their number.
-#[inline(always)]
-fn read_ascii_text_block<T: Destination>(src: &[u8], dst: &mut T) -> usize
-    requires block { 64 ≤ length src.now }
-    requires room { 67 ≤ T.room dst.old }
-    ensures most { result ≤ 64 }
-    ensures ahead { ReadsAsciiText T.Destination src.now result dst.old dst.new }
-{
-    let count = ascii_text_count(u8x64::from_slice(src));
-    dst.put_block(src, count);
-    count
-}
-
 /// Reads bytes of ASCII text from the front in ASCII mode by blocks of 64, up to a block with other bytes.
 ///
 /// Returns the number of bytes read, which may be 0. If it reads any, three code units stay free.
 #[inline(always)]
-fn read_ascii_text_blocks<T: Destination>(src: &[u8], dst: &mut T) -> usize
-    ensures read { result ≤ length src.now }
-    ensures ahead { ReadsAsciiText T.Destination src.now result dst.old dst.new }
+#[tactic(auto, using(legacy_decoder_engine::proofs::WrittenReads::no_bytes, crate::proofs::Iso2022JpAhead::reads_ascii_text_block))]
+fn read_ascii_text_blocks<T: Destination>(tables: &Tables, src: &[u8], dst: &mut T) -> usize
+    ensures { ReadsModes T.Destination tables.now.flat.jis0208 Mode.Ascii Mode.Ascii src.now result dst.old dst.new }
 {
+    let _ = tables;
     let mut at = 0;
     while src.len() - at >= 64 && dst.free() >= 64 + SLACK {
-        let count = read_ascii_text_block(&src[at..], dst);
+        let rest = &src[at..];
+        let count = ascii_text_count(u8x64::from_slice(rest));
+        dst.put_block(rest, count);
         at += count;
         if count < 64 {
             return at;
@@ -88,10 +118,11 @@ fn read_ascii_text_blocks<T: Destination>(src: &[u8], dst: &mut T) -> usize
 ///
 /// Returns the number of bytes read, which may be 0. If it reads any, three code units stay free.
 #[inline(always)]
-fn read_ascii_text_bytes<T: Destination>(src: &[u8], dst: &mut T) -> usize
-    ensures read { result ≤ length src.now }
-    ensures ahead { ReadsAsciiText T.Destination src.now result dst.old dst.new }
+#[tactic(auto, using(legacy_decoder_engine::proofs::WrittenReads::no_bytes))]
+fn read_ascii_text_bytes<T: Destination>(tables: &Tables, src: &[u8], dst: &mut T) -> usize
+    ensures { ReadsModes T.Destination tables.now.flat.jis0208 Mode.Ascii Mode.Ascii src.now result dst.old dst.new }
 {
+    let _ = tables;
     let mut at = 0;
     while at < src.len() && is_ascii_text(src[at]) && dst.free() >= 1 + SLACK {
         dst.put(char::from(src[at]));
@@ -102,55 +133,36 @@ fn read_ascii_text_bytes<T: Destination>(src: &[u8], dst: &mut T) -> usize
 
 /// Reads bytes of ASCII text from the front in ASCII mode. Returns the number of bytes read, which may be 0.
 #[inline(always)]
-fn read_ascii_text<T: Destination>(src: &[u8], dst: &mut T) -> usize
-    ensures { ReadsAsciiText T.Destination src.now result dst.old dst.new }
+#[tactic(auto, using(std::proofs::lemmas::Grind::common_steps))]
+fn read_ascii_text<T: Destination>(tables: &Tables, src: &[u8], dst: &mut T) -> usize
+    ensures { ReadsModes T.Destination tables.now.flat.jis0208 Mode.Ascii Mode.Ascii src.now result dst.old dst.new }
 {
     // A single byte before a malformed one is read without a block.
     if src.len() > 1 && src[1] >= 0x80 {
-        return read_ascii_text_bytes(&src[..1], dst);
+        return read_ascii_text_bytes(tables, &src[..1], dst);
     }
-    let blocks = read_ascii_text_blocks(src, dst);
-    blocks + read_ascii_text_bytes(&src[blocks..], dst)
+    let blocks = read_ascii_text_blocks(tables, src, dst);
+    blocks + read_ascii_text_bytes(tables, &src[blocks..], dst)
 }
 
-/// Reads pairs from the front, or over packed tables nothing. Returns the number of bytes read, which may be 0.
-#[inline(always)]
-fn read_pairs<T: Destination>(tables: &Tables, src: &[u8], dst: &mut T) -> usize
-    ensures { ReadsModes T.Destination tables.now.flat.jis0208 Mode.TwoByte Mode.TwoByte src.now result dst.old dst.new }
-{
-    match tables.flat() {
-        Some(tables) => read_forms(&Jis0208Pairs { tables }, src, src.len(), dst),
-        None => 0,
-    }
-}
-
-/// Checks whether text of the mode may begin at the front.
+/// Reads text of the mode from the front, if the first byte says that any may begin there.
 ///
-/// It is a hint from the first byte: any result is right.
+/// Returns the number of bytes read, which may be 0. Over packed tables it reads no pairs.
 #[inline(always)]
-fn may_begin(mode: Mode, src: &[u8]) -> bool {
-    if src.is_empty() {
-        return false;
-    }
-    match mode {
-        Mode::Ascii => is_ascii_text(src[0]),
-        Mode::TwoByte => src[0] >= 0x21,
-        Mode::Roman | Mode::Katakana => false,
-    }
-}
-
-/// Reads text of the mode from the front, if any may begin there. Returns the number of bytes read, which may be 0.
-#[inline(always)]
+#[tactic(auto, using(legacy_decoder_engine::proofs::WrittenReads::no_bytes))]
 fn read_begun<T: Destination>(tables: &Tables, mode: Mode, src: &[u8], dst: &mut T) -> usize
     ensures { ReadsModes T.Destination tables.now.flat.jis0208 mode mode src.now result dst.old dst.new }
 {
-    if !may_begin(mode, src) {
+    if src.is_empty() {
         return 0;
     }
     match mode {
-        Mode::Ascii => read_ascii_text(src, dst),
-        Mode::TwoByte => read_pairs(tables, src, dst),
-        Mode::Roman | Mode::Katakana => 0,
+        Mode::Ascii if is_ascii_text(src[0]) => read_ascii_text(tables, src, dst),
+        Mode::TwoByte if src[0] >= 0x21 => match tables.flat() {
+            Some(tables) => read_pairs(tables, src, dst),
+            None => 0,
+        },
+        _ => 0,
     }
 }
 

@@ -98,10 +98,7 @@ impl Held {
     pub fn is_nothing(self) -> bool
         ensures { IsTrue result ↔ (self ≡ Begun None Nothing) }
     {
-        match self {
-            Held::Begun(None, Start::Nothing) => true,
-            _ => false,
-        }
+        matches!(self, Held::Begun(None, Start::Nothing))
     }
 
     /// Returns the number of held-back bytes.
@@ -174,24 +171,15 @@ fn ascii_scalar(byte: u8) -> Option<char>
 
 /// Returns the scalar of a byte outside two-byte mode, or `None`.
 #[inline]
-fn single_scalar(mode: Mode, byte: u8) -> Option<char>
+pub fn single_scalar(mode: Mode, byte: u8) -> Option<char>
     ensures { result ≡ machine.single mode byte }
 {
-    match mode {
-        Mode::Ascii => ascii_scalar(byte),
-        Mode::Roman => match byte {
-            0x5C => Some('\u{A5}'),
-            0x7E => Some('\u{203E}'),
-            _ => ascii_scalar(byte),
-        },
-        Mode::Katakana => {
-            if byte >= 0x21 && byte <= 0x5F {
-                char::from_u32(0xFF61 + u32::from(byte - 0x21))
-            } else {
-                None
-            }
-        }
-        Mode::TwoByte => None,
+    match (mode, byte) {
+        (Mode::Roman, 0x5C) => Some('\u{A5}'),
+        (Mode::Roman, 0x7E) => Some('\u{203E}'),
+        (Mode::Ascii | Mode::Roman, _) => ascii_scalar(byte),
+        (Mode::Katakana, 0x21..=0x5F) => char::from_u32(0xFF61 + u32::from(byte - 0x21)),
+        _ => None,
     }
 }
 
@@ -200,19 +188,13 @@ fn single_scalar(mode: Mode, byte: u8) -> Option<char>
 pub fn completed(start: Start, byte: u8) -> Option<Escape>
     ensures { result ≡ machine.completes start byte }
 {
-    match start {
-        Start::Nothing | Start::EscapeByte => None,
-        Start::Dollar => match byte {
-            0x40 => Some(Escape::ToJis1978),
-            0x42 => Some(Escape::ToJis1983),
-            _ => None,
-        },
-        Start::Paren => match byte {
-            0x42 => Some(Escape::ToAscii),
-            0x4A => Some(Escape::ToRoman),
-            0x49 => Some(Escape::ToKatakana),
-            _ => None,
-        },
+    match (start, byte) {
+        (Start::Dollar, 0x40) => Some(Escape::ToJis1978),
+        (Start::Dollar, 0x42) => Some(Escape::ToJis1983),
+        (Start::Paren, 0x42) => Some(Escape::ToAscii),
+        (Start::Paren, 0x4A) => Some(Escape::ToRoman),
+        (Start::Paren, 0x49) => Some(Escape::ToKatakana),
+        _ => None,
     }
 }
 
@@ -281,21 +263,14 @@ fn read_start(mode: Mode, escape: Option<Escape>, start: Start, byte: u8) -> Out
     ensures { result ≡ machine.read_start mode escape start byte }
 {
     let new_mode = mode_after(mode, escape);
-    match start {
-        Start::Nothing => {
-            if byte == ESCAPE {
-                (Fed::Nothing, mode, Held::Begun(escape, Start::EscapeByte))
-            } else {
-                read_in_mode(new_mode, byte)
-            }
-        }
-        Start::EscapeByte => match byte {
-            DOLLAR => (Fed::Nothing, mode, Held::Begun(escape, Start::Dollar)),
-            PAREN => (Fed::Nothing, mode, Held::Begun(escape, Start::Paren)),
-            _ => malformed(1, true, new_mode, NOTHING),
-        },
-        Start::Dollar => read_third(new_mode, escape, DOLLAR, completed(start, byte)),
-        Start::Paren => read_third(new_mode, escape, PAREN, completed(start, byte)),
+    match (start, byte) {
+        (Start::Nothing, ESCAPE) => (Fed::Nothing, mode, Held::Begun(escape, Start::EscapeByte)),
+        (Start::Nothing, _) => read_in_mode(new_mode, byte),
+        (Start::EscapeByte, DOLLAR) => (Fed::Nothing, mode, Held::Begun(escape, Start::Dollar)),
+        (Start::EscapeByte, PAREN) => (Fed::Nothing, mode, Held::Begun(escape, Start::Paren)),
+        (Start::EscapeByte, _) => malformed(1, true, new_mode, NOTHING),
+        (Start::Dollar, _) => read_third(new_mode, escape, DOLLAR, completed(start, byte)),
+        (Start::Paren, _) => read_third(new_mode, escape, PAREN, completed(start, byte)),
     }
 }
 
@@ -311,18 +286,6 @@ pub fn read(tables: &Tables, mode: Mode, held: Held, byte: u8) -> Outcome
     match held {
         Held::Byte(lead) => read_trail(tables, lead, byte),
         Held::Begun(escape, start) => read_start(mode, escape, start, byte),
-    }
-}
-
-/// Returns the scalar to write before anything is read, or `None`.
-///
-/// It is that of `24` or `28`, held back outside two-byte mode.
-pub fn pending(mode: Mode, held: Held) -> Option<char>
-    ensures { result ≡ machine.pending mode held }
-{
-    match held {
-        Held::Byte(byte) => single_scalar(mode, byte),
-        Held::Begun(_, _) => None,
     }
 }
 

@@ -2,8 +2,8 @@
 ghost use Rattle.std.specs.{Prelude.{◌*◌, ◌≡◌, ◌≤◌, [], option_to_list, IfSome, if◌then◌else◌}, Char.IsScalar};
 ghost use Rattle.legacy_tables.specs.Unicode.{katakana_of};
 ghost use Rattle.legacy_base.specs.{ShiftJis.{is_shift_jis_lead, shift_jis_scalars}, Grammar.shift_jis};
-ghost use Rattle.legacy_japanese.specs.ShiftJisMachine.{shift_jis_first, shift_jis_pair_scalars};
-ghost use Rattle.legacy_japanese.specs.{ShiftJisPlaces.shift_jis_place, ShiftJisShown.shift_jis_codec};
+ghost use Rattle.legacy_japanese.specs.{ShiftJisPlaces.shift_jis_place, ShiftJisShown.{shift_jis_codec, shift_jis_first, shift_jis_pair_scalars}};
+ghost use Rattle.legacy_decoder_engine.proofs.LeadHeld.{ascii};
 ghost use Rattle.legacy_decoder_engine.specs.{Feeding.Took, LeadCodecs.held_bytes};
 
 use super::held_lead::ShiftJisLead;
@@ -106,6 +106,8 @@ impl LaneCodec for ShiftJis {
     ghost place = { shift_jis_place };
 
     ghost pointers = { 47 * 188 };
+
+    ghost ascii = { ascii shift_jis_codec };
 
     #[inline(always)]
     fn is_uncommon(byte: u8) -> bool {

@@ -31,10 +31,8 @@ fn pair<V: EncoderTables>(tables: &V, c: char) -> Option<(u8, u8)>
     Some(((p / 188 + first) as u8, (p % 188 + second) as u8))
 }
 
-/// The lead and the trail of a pointer, as one number.
-struct ShiftJisMarks;
-
-impl Marks for ShiftJisMarks {
+// The lead and the trail of a pointer, as one number.
+impl Marks for ShiftJis {
     ghost mark = { shift_jis_mark };
 
     #[inline(always)]
@@ -86,7 +84,7 @@ impl PairCodec for ShiftJis {
 
 impl FillsPairs for ShiftJis {
     fn fill<V: EncoderTables>(tables: &V, entries: &mut [u16]) {
-        tables.fill(PackedPart::ShiftJisOrder, &ShiftJisMarks, entries);
+        tables.fill(PackedPart::ShiftJisOrder, &ShiftJis, entries);
         ask_others(&PairEncoder::<ShiftJis, V>::new(tables), entries);
     }
 }

@@ -1,12 +1,7 @@
 //! The decoder of EUC-KR.
-ghost use Rattle.std.specs.Prelude.{◌*◌, ◌≡◌, [], option_to_list, IfSome, if◌then◌else◌};
-ghost use Rattle.std.specs.Char.{IsScalar};
-ghost use Rattle.legacy_base.specs.Profile.{is_lead};
-ghost use Rattle.legacy_base.specs.LeadForms.{pair_scalars};
-ghost use Rattle.legacy_base.specs.EucKr.{euc_kr, euc_kr_pointer};
-ghost use Rattle.legacy_decoder_engine.specs.LanePlaces.{row_place};
-ghost use Rattle.legacy_decoder_engine.specs.LeadMachines.{lead_first};
-ghost use Rattle.legacy_decoder_engine.proofs.TwoByteMeets.{is_lead-in};
+ghost use Rattle.std.specs.{Prelude.{◌*◌, ◌≡◌, [], option_to_list, IfSome, if◌then◌else◌}, Char.IsScalar};
+ghost use Rattle.legacy_base.specs.{EucKr.{euc_kr, euc_kr_pointer}, LeadForms.pair_scalars, Profile.is_lead};
+ghost use Rattle.legacy_decoder_engine.{specs.{LanePlaces.row_place, LeadMachines.lead_first}, proofs.{LeadHeld.ascii, TwoByteMeets.is_lead-in}};
 ghost use Rattle.legacy_korean.specs.EucKrShown.{euc_kr_codec};
 
 use super::places::TRAILS;
@@ -60,6 +55,8 @@ impl LaneCodec for EucKr {
     ghost place = { row_place 0x81 0x7D 190 0x41 };
 
     ghost pointers = { 126 * 190 };
+
+    ghost ascii = { ascii euc_kr_codec };
 
     #[inline(always)]
     fn is_uncommon(byte: u8) -> bool {

@@ -19,6 +19,7 @@ pub type EucKrEncoder<'a> = PairEncoder<'a, EucKr, Tables<'a>>;
 
 /// Returns the lead and the trail of a scalar in index EUC-KR, or `None`.
 #[inline(always)]
+#[tactic(auto, using(std::proofs::lemmas::Grind::common_steps))]
 fn pair<V: EncoderTables>(tables: &V, c: char) -> Option<(u8, u8)>
     ensures { option_map (λ pair. pair.0 ∷ pair.1 ∷ []) result ≡ option_map euc_kr_bytes
         (index_pointer_of (V.indexes tables.now).flat.euc_kr c) }
@@ -27,10 +28,8 @@ fn pair<V: EncoderTables>(tables: &V, c: char) -> Option<(u8, u8)>
     Some(((p / 190 + 0x81) as u8, (p % 190 + 0x41) as u8))
 }
 
-/// The lead and the trail of a pointer as one number.
-struct EucKrMarks;
-
-impl Marks for EucKrMarks {
+// The lead and the trail of a pointer as one number.
+impl Marks for EucKr {
     ghost mark = { euc_kr_mark };
 
     #[inline(always)]
@@ -65,7 +64,7 @@ impl PairCodec for EucKr {
 
 impl FillsPairs for EucKr {
     fn fill<V: EncoderTables>(tables: &V, entries: &mut [u16]) {
-        tables.fill(PackedPart::EucKrOrder, &EucKrMarks, entries);
+        tables.fill(PackedPart::EucKrOrder, &EucKr, entries);
         ask_pairs(&PairEncoder::<EucKr, V>::new(tables), entries, 0, 0x80);
     }
 }

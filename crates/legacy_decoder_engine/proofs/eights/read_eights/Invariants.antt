@@ -1,10 +1,11 @@
-use Rattle.std.proofs.Common.{◌-◌, length}
+use Rattle.std.proofs.Common.{◌-◌, ◌+◌, ◌≤◌, length}
 use Rattle.legacy_base.specs.States.{new_state}
 use Rattle.legacy_decoder_engine.specs.ReadAhead.{ReadsAhead}
 use Rattle.legacy_decoder_engine.proofs.eights.read_eights.Given as goal
 
 abbrev pub invariant-loop-at : goal.invariant-loop-at
-invariant-loop-at g l = ReadsAhead g.T.Destination (new_state (g.C.LaneCodec.grammar l.tables.flat)) l.src l.at l.fn.dst l.dst
+invariant-loop-at g l =
+    ReadsAhead g.T.Destination (new_state (g.C.LaneCodec.grammar l.tables.flat)) l.src l.at l.fn.dst l.dst × (l.at ≤ l.most + 15)
 
 abbrev pub decreases-loop-at : goal.decreases-loop-at
 decreases-loop-at g l = length l.src - l.at

@@ -18,8 +18,8 @@ returns g c =
     let codes : List ℕ = digits_l 65536 8 (number_l 256 c.args.bytes) in
     let form = λ (k : ℕ) (h : k < 8).
     form_at g.C.LaneCodec.place c.args.last codes c.kept_and_places.result.0 (map (λ (p : ℕ). p) c.kept_and_places.result.1) refl e.small
-    e.kept (map-id c.kept_and_places.result.1 ∙ e.places) _ _ c.requires.ascii c.requires.pairs c.requires.within c.entries_at.result c.chosen.result k h
-    (c.chosen.ensures.small k h) (c.entries_at.ensures k h) (c.chosen.ensures.lanes k h) in
+    e.kept (map-id c.kept_and_places.result.1 ∙ e.places) _ _ (g.met.C.LaneCodec.ascii c.args.tables.now) c.requires.pairs
+    c.requires.within c.entries_at.result c.chosen.result k h (c.chosen.ensures.small k h) (c.entries_at.ensures k h) (c.chosen.ensures.lanes k h) in
     let small = below_256 c.args.bytes c.fits-bytes.1 in
     record {
       small = c.chosen.ensures.small;

@@ -4,7 +4,7 @@ use Rattle.legacy_decoder_engine.proofs.lane_blocks.form_at.Goals as goal
 
 pub returns-then-byte-lt128 : goal.returns-then-byte-lt128
 returns-then-byte-lt128 g c =
-    let yields = yields_byte c.requires.ascii _ _ c.if-byte-lt128.true c.from.ensures in
+    let yields = yields_byte (g.met.C.LaneCodec.ascii c.args.tables.now) _ _ c.if-byte-lt128.true c.from.ensures in
     grind (arith, yields, take_more c.args.src.now 0 0)
 
 pub returns-then-begins_longer : goal.returns-then-begins_longer

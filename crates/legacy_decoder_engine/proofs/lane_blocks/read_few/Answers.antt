@@ -4,17 +4,23 @@ use Rattle.legacy_decoder_engine.proofs.lane_blocks.read_few.Goals as goal
 
 pub returns-then-src-at-lt-SHORT_BLOCK-clause-ahead : goal.returns-then-src-at-lt-SHORT_BLOCK-clause-ahead
 returns-then-src-at-lt-SHORT_BLOCK-clause-ahead g c =
-    reads_more (reads_more c.loop-at.invariant (c.read_ascii-ascii.ensures.ahead _ c.requires)) c.read_last.ensures
+    let ascii = c.read_ascii-ascii.ensures.ahead _ (g.met.C.LaneCodec.ascii c.args.blocks.now.tables.now) in
+    reads_more (reads_more c.loop-at.invariant ascii) c.read_last.ensures
 
 pub returns-then-few-eq0-clause-ahead : goal.returns-then-few-eq0-clause-ahead
-returns-then-few-eq0-clause-ahead g c = reads_more (reads_more c.loop-at.invariant (c.read_ascii-ascii.ensures.ahead _ c.requires)) c.read_one_kind-few.ensures
+returns-then-few-eq0-clause-ahead g c =
+    let ascii = c.read_ascii-ascii.ensures.ahead _ (g.met.C.LaneCodec.ascii c.args.blocks.now.tables.now) in
+    reads_more (reads_more c.loop-at.invariant ascii) c.read_one_kind-few.ensures
 
 pub returns-then-saturating_add-enough-clause-ahead : goal.returns-then-saturating_add-enough-clause-ahead
 returns-then-saturating_add-enough-clause-ahead g c =
-    reads_more (reads_more c.loop-at.invariant (c.read_ascii-ascii.ensures.ahead _ c.requires)) c.read_one_kind-few.ensures
+    let ascii = c.read_ascii-ascii.ensures.ahead _ (g.met.C.LaneCodec.ascii c.args.blocks.now.tables.now) in
+    reads_more (reads_more c.loop-at.invariant ascii) c.read_one_kind-few.ensures
 
 pub loop-at-preserved : goal.loop-at-preserved
-loop-at-preserved g c = reads_more (reads_more c.loop-at.invariant (c.read_ascii-ascii.ensures.ahead _ c.requires)) c.read_one_kind-few.ensures
+loop-at-preserved g c =
+    let ascii = c.read_ascii-ascii.ensures.ahead _ (g.met.C.LaneCodec.ascii c.args.blocks.now.tables.now) in
+    reads_more (reads_more c.loop-at.invariant ascii) c.read_one_kind-few.ensures
 
 pub loop-at-smaller : goal.loop-at-smaller
 loop-at-smaller g c = omega arith

@@ -14,6 +14,3 @@ returns-then-not-goes_on g c = reads_more c.loop-codes.invariant c.read_front-re
 pub returns-then-begins_many : goal.returns-then-begins_many
 returns-then-begins_many g c =
     reads_more (reads_more c.loop-codes.invariant c.read_front-read.ensures.ahead) (rw c.copied-copied.ensures at c.read_long.ensures)
-
-pub read_long-requires : goal.read_long-requires
-read_long-requires g c = rw c.copied-copied.ensures c.requires

@@ -1,18 +1,16 @@
-use Rattle.std.proofs.Common.{arith}
-use Rattle.legacy_decoder_engine.proofs.{JoinedReads.{reads_more}, WrittenReads.reads_none}
-use Rattle.legacy_japanese.specs.{Iso2022JpAhead.begun_state, declared.iso_2022_jp.steps.Mode.TheVariants.Ascii}
-use Rattle.legacy_japanese.proofs.Iso2022JpAhead.{reads_ascii_text_byte}
+use Rattle.std.proofs.Common.{ap, arith, get_or, length}
+use Rattle.{legacy_text.proofs.CodeUnits.code_units_ascii, legacy_decoder_engine.proofs.{JoinedReads.reads_front, WrittenReads.writes_one}}
+use Rattle.legacy_japanese.proofs.Iso2022JpAhead.{ascii_text_yields}
 use Rattle.legacy_japanese.proofs.iso_2022_jp.read_ahead.read_ascii_text_bytes.Goals as goal
-
-pub loop-at-init : goal.loop-at-init
-loop-at-init g c = (omega arith, λ jis0208. reads_none g.T.Destination (begun_state jis0208 Ascii) c.args.src.now c.args.dst.now)
 
 pub loop-at-preserved : goal.loop-at-preserved
 loop-at-preserved g c =
-    let e = c.put.ensures in (
-      omega (arith, c.loop-at-test.true),
-      λ jis0208. reads_more (c.loop-at.invariant.1 jis0208)
-          (reads_ascii_text_byte g.T.Destination jis0208 c.args.src.now c.loop-at.at c.loop-at-test.true (c.is_ascii_text.ensures c.if-is_ascii_text.true)
-          (omega (arith, c.if-free.true, c.free.ensures)) (rw c.from.ensures at e.contents)
-          (rw c.from.ensures at e.room) e.loan),
-    )
+    let byte = get_or c.args.src.now c.loop-at.at 0 in
+    let i = c.loop-at.invariant in
+    let e = rw c.from.ensures at c.put.ensures in
+    let text = c.is_ascii_text.ensures c.if-is_ascii_text.true in
+    let unit = ap length (code_units_ascii g.T.Destination.form byte text.0) in
+    let yields = ascii_text_yields c.args.tables.now.flat.jis0208 byte text in
+    reads_front (omega (arith, c.loop-at-test.true))
+    (writes_one g.T.Destination c.args.src.now c.loop-at.at byte c.loop-at-test.true i.writes yields e.contents e.room e.loan)
+    (λ h. omega (arith, e.room, unit, c.if-free.true, c.free.ensures)) (λ h. omega (arith, i.writes.room, c.if-free.true, c.free.ensures))

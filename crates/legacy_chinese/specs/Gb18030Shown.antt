@@ -4,12 +4,13 @@ use Rattle.{std.specs.Char.{is_ascii, is_ascii_digit}, legacy_text.proofs.CodeUn
 use Rattle.legacy_base.specs.{Fronts.{Front, cut}, Grammar.{Grammar, gb18030, events_of}, Gb18030.{gb18030_scalars, gb18030_range_pointer, gb18030_fourth}}
 use Rattle.legacy_base.{specs.{Gb18030.{gb18030_third, gb18030_second, gb18030_front}, States.{is_lead, gb18030_may_hold, rests}}, proofs.Cuts.cut-nil}
 use Rattle.{legacy_base.proofs.FrontLaws.gb18030_front-of, legacy_decoder_engine.specs.{Steps.{DecoderMachine, WriteMeets, end_events, Meets}, StepUnits.units}}
-use Rattle.legacy_decoder_engine.specs.{StepUnits.{IsWidth, Cost}, StatesAfterSteps.{IsOneOrMarked, Settles}, Shown.{IsShown, WriteSettles}}
+use Rattle.legacy_decoder_engine.specs.{StepUnits.{IsWidth, Cost}, StatesAfterSteps.Settles, Shown.{IsShown, WriteSettles}}
 use Rattle.legacy_decoder_engine.proofs.{FrontMoves.{Fits, fits_trail, fits_meets, write_meets, end_meets, report_meets}, Widths.{idx_units, option_units}}
 use Rattle.legacy_decoder_engine.proofs.{TwoByteCosts.{cost_test, units_test, trail_cost}, CallUnderWay.same_rooms, RoomMoves.{first_room, held_room_is}}
 use Rattle.legacy_decoder_engine.proofs.{RoomMoves.{HasCosts, IsSloped, sloped_rooms}, SettledSteps.{settles_test, one_test, one_option, trail_settles}}
 use Rattle.{legacy_decoder_engine.proofs.SettledSteps.{or_settles, write_test}, legacy_chinese.specs.Gb18030Machine.{gb18030_pending, gb18030_step}}
-use Rattle.legacy_chinese.specs.Gb18030Machine.{gb18030_machine}
+use Rattle.{legacy_chinese.specs.Gb18030Machine.gb18030_machine, legacy_tables.specs.AcceptedTables.AcceptedIndexes}
+use Rattle.legacy_decoder_engine.{specs.ReadAhead.HasAscii, proofs.YieldedForms.{has_ascii, ascii_is}}
 
 -- a lead is no other first byte
 pub lead_other : (b : ℕ) → is_lead b ≡ true → (is_ascii b ≡ false) × ((b == 0x80) ≡ false) × (is_ascii_digit b ≡ false)
@@ -27,9 +28,6 @@ module _ (len : ℕ → ℕ) (narrow wide : ℕ) (w : IsWidth len narrow wide) w
       let trail = trail_cost len narrow wide w wide 6 a b (gb18030_scalars index a b) pair (omega arith) (omega arith) (omega arith) in
       grind (arith, cost_test, few, false≢true)
 
-scalars_one : (index : List ℕ) (a b : ℕ) → IsOneOrMarked false (gb18030_scalars index a b)
-scalars_one index a b = grind (arith, one_test, one_option)
-
 module _ (index : List ℕ) (ranges : List (ℕ × ℕ)) where
   abbrev g : Grammar
   g = gb18030 index ranges
@@ -44,11 +42,7 @@ module _ (index : List ℕ) (ranges : List (ℕ × ℕ)) where
 
   fits : (held : List ℕ) (b : ℕ) → gb18030_may_hold held ≡ true → rests g held ≡ true → Fits front gb18030_may_hold held b (gb18030_step index ranges held b)
   unfolding gb18030_front gb18030_second gb18030_third gb18030_fourth
-  fits [] b h r = grind arith
-  fits (first ∷ []) b h r = let lead : is_lead first ≡ true = grind arith in grind (arith, fits_trail, lead_other)
-  fits (first ∷ second ∷ []) b h r = grind (arith, lead_other)
-  fits (first ∷ second ∷ third ∷ []) b h r = grind (arith, lead_other)
-  fits (first ∷ second ∷ third ∷ fourth ∷ held) b h r = absurd (false≢true h)
+  fits held b h r = grind (arith, nat_tests, fits_trail, lead_other, false≢true)
 
   ev_is : (bytes : List ℕ) → events_of g bytes ≡ cut front 0 0 bytes
   unfolding events_of
@@ -88,10 +82,13 @@ module _ (index : List ℕ) (ranges : List (ℕ × ℕ)) where
   -- ---- states
 
   settles : (held : List ℕ) (b : ℕ) → gb18030_may_hold held ≡ true → rests g held ≡ true → Settles g held b (gb18030_step index ranges held b)
-  settles held b h r = grind (arith, nat_tests, settles_test, lead_other, trail_settles, scalars_one, or_settles, one_option, false≢true)
+  settles held b h r = grind (arith, nat_tests, settles_test, lead_other, trail_settles, one_test, or_settles, one_option, false≢true)
 
   write_settles : (held : List ℕ) → gb18030_may_hold held ≡ true → WriteSettles g held (gb18030_pending held)
   write_settles held h = grind (arith, write_test, lead_other, digit_other, false≢true)
 
   pub gb18030_shown : IsShown g machine
   gb18030_shown = let rooms = sloped_rooms g machine length 6 meets costs sloped in grind (arith, meets, rooms, settles, write_settles, same_rooms)
+
+pub ascii : (tables : AcceptedIndexes) → HasAscii (gb18030 tables.flat.gb18030 tables.flat.ranges)
+ascii tables = has_ascii (gb18030_shown tables.flat.gb18030 tables.flat.ranges) (λ b. refl) (λ b h. let a = ascii_is b h in rw a refl)

@@ -1,5 +1,0 @@
-use Rattle.std.proofs.{Common.arith, lemmas.Grind.common_steps}
-use Rattle.legacy_chinese.proofs.gb18030.decoder.Gb18030DecoderDecoderMoves.rests.Goals as goal
-
-pub returns-clause-is : goal.returns-clause-is
-returns-clause-is c = grind (arith, common_steps)

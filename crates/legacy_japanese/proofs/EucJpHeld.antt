@@ -1,0 +1,69 @@
+-- The decoder of EUC-JP holds back only what its machine may, and its moves are the machine's.
+use Rattle.std.proofs.Common.{◌≡◌, ℕ, ◌+◌, ◌-◌, ◌*◌, List, [], ◌∷◌, length, true, refl, arith, ◌≢◌, ◌/◌, ◌%◌, get_or}
+use Rattle.std.{proofs.lemmas.{Bool.Decides.nat_tests, List.Elements.{All-nil, All-cons}}, specs.{Char.IsScalar, Int.is_in_range}}
+use Rattle.legacy_base.specs.{EucJp.euc_jp_scalars, Fronts.malformed, Grammar.{Grammar, euc_jp, events_of}}
+use Rattle.legacy_base.specs.States.{euc_jp_may_hold, is_euc_jp_lead, state_of}
+use Rattle.legacy_decoder_engine.specs.{Steps.finish, Shown.IsShown, Moves.{IsCovered, Feeds, FeedsMalformedByte, Reports}, Feeding.Took}
+use Rattle.legacy_decoder_engine.specs.{ReadAhead.IsPair, LaneCodes.ArePairs, LanePlaces.row_place, declared.moves.Fed.Fed}
+use Rattle.legacy_decoder_engine.proofs.{Widths.idx_below, YieldedForms.pair_yields, LanePlaces.entry_is}
+use Rattle.legacy_japanese.specs.{EucJpMachine.{euc_jp_machine, euc_jp_first, euc_jp_step}, declared.euc_jp.decoder.Held.{TheVariants.Nothing, Held}}
+use Rattle.legacy_japanese.specs.{EucJpDecoder.held_bytes, EucJpShown.euc_jp_is_shown}
+use Rattle.legacy_tables.{specs.{AcceptedTables.AcceptedIndexes, Unicode.{IsByte, AreBytes}}, proofs.Accepted.{jis0208-below, jis0208-scalars, length-jis0208}}
+use Rattle.legacy_decoder_engine.proofs.Feeding as moves
+
+may : (held : Held) → euc_jp_may_hold (held_bytes held) ≡ true
+may held = grind (arith, nat_tests)
+
+are_bytes : (held : Held) → AreBytes (held_bytes held)
+are_bytes held = grind (arith, All-nil, All-cons)
+
+module _ (tables : AcceptedIndexes) where
+  abbrev grammar : Grammar
+  grammar = euc_jp tables.flat.jis0208 tables.flat.jis0212
+
+  shown : IsShown grammar (euc_jp_machine tables.flat.jis0208 tables.flat.jis0212)
+  shown = euc_jp_is_shown tables
+
+  pub malformed_byte : (b : ℕ) → IsByte b → euc_jp_first b ≡ finish (malformed 1) → FeedsMalformedByte (state_of grammar []) b
+  malformed_byte b is_byte e = moves.malformed_byte shown b is_byte e refl
+
+  pub covered : (held : Held) → IsCovered (state_of grammar (held_bytes held))
+  covered held = moves.covered shown (held_bytes held) (may held) (are_bytes held)
+
+  pub feeds : (held : Held) (b : ℕ) → IsByte b → (fed : Fed) (kept : List ℕ) →
+      Took (euc_jp_step tables.flat.jis0208 tables.flat.jis0212 (held_bytes held) b) (held_bytes held) b fed kept →
+      Feeds (state_of grammar (held_bytes held)) b (state_of grammar kept) fed
+  feeds held b byte fed kept took = moves.feeds shown (held_bytes held) (may held) (are_bytes held) b byte refl fed kept took
+
+  pub reports : (held : Held) → held_bytes held ≢ [] → Reports (state_of grammar (held_bytes held)) (state_of grammar []) (length (held_bytes held)) 0
+  reports held some = moves.reports_all shown (held_bytes held) (may held) (are_bytes held) refl some
+
+  -- there is something to report exactly if bytes are held back
+  pub ends_none : (held : Held) → length (held_bytes held) ≡ 0 → events_of (euc_jp tables.flat.jis0208 tables.flat.jis0212) (held_bytes held) ≡ []
+  ends_none held none = moves.ends_empty shown (held_bytes held) (may held) (are_bytes held) none
+
+  pub ends_some : (held : Held) → (held ≡ Nothing → ⊥) → events_of (euc_jp tables.flat.jis0208 tables.flat.jis0212) (held_bytes held) ≢ []
+  ends_some held n = moves.ends_some shown (held_bytes held) (may held) (are_bytes held) refl (grind arith)
+
+  -- ---- what is read ahead
+
+  -- a pair of JIS X 0208 that gives one scalar
+  pub pair : (lead trail c : ℕ) → IsByte lead → IsByte trail → IsScalar c → is_euc_jp_lead lead ≡ true →
+      euc_jp_scalars tables.flat.jis0208 lead trail ≡ c ∷ [] → IsPair grammar lead trail c
+  pair lead trail c byte byte' scalar is e =
+      let narrow = jis0208-below tables.flat tables.accepted in
+      let yields = pair_yields shown lead trail c byte byte' scalar in
+      grind (arith, nat_tests, idx_below, yields)
+
+  -- the same of a code of two bytes, by the entry at its place
+  pub lane_pair : ArePairs grammar tables.flat.jis0208 (row_place 0xA1 0x5D 94 0xA1)
+  lane_pair code small past within high some =
+      let index : List ℕ = tables.flat.jis0208 in
+      let short = length-jis0208 tables.flat tables.accepted in
+      let both : (is_in_range 0xA1 0xFE (code % 256) ≡ true) × (is_in_range 0xA1 0xFE (code / 256) ≡ true) = grind (arith, short) in
+      let p : ℕ = (code % 256 - 0xA1) * 94 + (code / 256 - 0xA1) in
+      let exact : row_place 0xA1 0x5D 94 0xA1 code ≡ p = rw (both.0, both.1) (omega arith) in
+      let c = get_or index p 0 in
+      let scalar : IsScalar c = jis0208-scalars tables.flat tables.accepted _ 0 (rw exact at within) in
+      let found = entry_is c (rw exact at some) in
+      rw exact (scalar, pair (code % 256) (code / 256) c (omega arith) (omega arith) scalar both.0 (rw both.1 found))

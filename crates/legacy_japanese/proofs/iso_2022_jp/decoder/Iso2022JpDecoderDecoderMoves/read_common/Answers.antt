@@ -1,6 +1,0 @@
-use Rattle.legacy_japanese.specs.Iso2022JpDecoder.{iso_2022_jp_state}
-use Rattle.legacy_decoder_engine.proofs.WrittenReads.{reads_none}
-use Rattle.legacy_japanese.proofs.iso_2022_jp.decoder.Iso2022JpDecoderDecoderMoves.read_common.Goals as goal
-
-pub returns-then-not-is_nothing : goal.returns-then-not-is_nothing
-returns-then-not-is_nothing g c = record { ahead = reads_none g.T.Destination (iso_2022_jp_state c.args.self.now) c.args.src.now c.args.dst.now }
