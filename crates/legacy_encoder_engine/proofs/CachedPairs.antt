@@ -19,7 +19,4 @@ asked Is old new first end c inside outside before = grind (arith, cases_lt c fi
 -- a list of right entries has all pairs
 pub all-right : (codec : Codec) (pairs : List ℕ) → length pairs ≡ 65536
     → ((c : ℕ) → c < 65536 → IsRightEntry codec c (slice_index pairs c)) → AreAllPairsOf codec pairs
-all-right codec pairs all right = record {
-  right = record { all = all; told = λ c h. (right c h).told };
-  whole = λ c h. (right c h).whole;
-}
+all-right codec pairs all right = grind (arith, right)

@@ -1,10 +1,10 @@
 -- The moves of an encoder make a call.
 use Rattle.std.proofs.Common.{◌≡◌, ◌∙◌, ℕ, ◌+◌, ◌-◌, ◌≤◌, ◌<◌, List, [], ◌∷◌, ◌++◌, length, get_or, take, drop, map, refl, sym, ap, arith, append_assoc}
-use Rattle.std.proofs.{Common.{append-nil, length-append, add-zero, zero-add, inl, inr, Bool, true, false, IsTrue, not, ◌⊎◌}, Math.Nat.sub-zero}
+use Rattle.std.proofs.{Common.{append-nil, length-append, add-zero, inl, inr, Bool, true, false, IsTrue, not, ◌⊎◌}, Math.Nat.sub-zero}
 use Rattle.std.proofs.{lemmas.Bool.cases_lt, lemmas.List.{map-append, take-append-drop}, lemmas.Grind.common_steps}
 use Rattle.legacy_base.specs.{declared.results.EncoderResult.TheVariants.{InputEmpty, OutputFull, Unmappable}, declared.results.EncodeEvent.EncodeEvent}
 use Rattle.legacy_base.specs.{declared.results.EncodeEvent.TheVariants.Byte, Encoders.{EncoderState, encoder_profile, code, encoded, end_bytes, is_pending}}
-use Rattle.legacy_base.specs.{Encoders.{scalar_room, encoder_need, encoder_formula, encoder_room}, Beginnings.BeginsWith}
+use Rattle.legacy_base.specs.{Encoders.{scalar_room, encoder_need, encoder_room}, Beginnings.BeginsWith}
 use Rattle.legacy_base.specs.{EncodeEvents.{byte_count, code_length}, Profile.is_empty, EncoderCalls.EncoderCall}
 use Rattle.legacy_base.specs.EncoderCalls.{EncoderLacksRoom, bytes_before}
 use Rattle.legacy_text.specs.EncodingForm.{EncodingForm, code_units, unit_count, all_code_units, total_unit_count}
@@ -41,16 +41,7 @@ no_more next serves move c e = grind (arith, serves.nothing)
 
 module _ (before : EncoderState) (source : List ℕ) (last : Bool) (free : ℕ) where
   pub underway_start : Underway before source last free before source []
-  underway_start = record {
-    taken = [];
-    cut = refl;
-    events = λ more ended. refl;
-    same = refl;
-    had_room = λ k h. absurd (omega arith);
-    fits = omega arith;
-    once = λ l. (refl, refl, refl);
-    lowers = inl (record { low = λ form t. omega arith });
-  }
+  underway_start = grind arith
 
   module _ (now : EncoderState) (left bytes : List ℕ) (under : Underway before source last free now left bytes)
       (serves : Serves (encoder_profile now.codec)) where
@@ -60,24 +51,7 @@ module _ (before : EncoderState) (source : List ℕ) (last : Bool) (free : ℕ) 
     pub call_full : EncoderLacksRoom now left last (free - length bytes)
         → ((form : EncodingForm) → encoder_room form before (total_unit_count form source) ≤ free → ⊥)
         → EncoderCall before source last free now OutputFull left bytes
-    call_full l never = record {
-      taken = under.taken;
-      cut = under.cut;
-      codec = under.same;
-      fits = under.fits;
-      events = λ more ended h. whole more ended;
-      input_empty = λ e. cc;
-      output_full = λ e. l;
-      full_at_once = λ e. let o = under.once e in (refl, o.0, o.1, o.2);
-      had_room = under.had_room;
-      lowers = λ form more g. absurd g;
-      ends = λ form e. cc;
-      suffices = λ form h x. never form h;
-      enough = λ form n k h e f x.
-          let v = answer-value (encoder_formula form before n) k e in
-          let r = (rw under.same at serves).rises form (total_unit_count form source) n h in
-          never form (omega arith);
-    }
+    call_full l never = grind (arith, whole, under.once, under.had_room, answer-value, serves.rises)
 
     -- an act that lacks room when the call begins still lacks it
     still : EncoderLacksRoom before source last free → EncoderLacksRoom now left last (free - length bytes)
@@ -89,15 +63,8 @@ module _ (before : EncoderState) (source : List ℕ) (last : Bool) (free : ℕ) 
 
       -- the room for the remaining scalars is enough for the next one
       head_enough : (form : EncodingForm) → scalar_room now c + length bytes ≤ encoder_room form before (total_unit_count form source)
-      head_enough form = elim under.lowers [
-        | inl s ↦
-            let e = serves.enough now.mode c form (total_unit_count form rest + 0) in
-            let l = rw (units_at form 0, add-zero (total_unit_count form source)) at (s.low form 0) in
-            omega arith
-        | inr s ↦
-            let same : s.c ≡ c = cc in
-            rw same at (s.enough form)
-      ]
+      head_enough form =
+          grind (arith, serves.enough now.mode c form (total_unit_count form rest + 0), units_at form 0, add-zero (total_unit_count form source))
 
       pub call_full_scalar : free - length bytes < scalar_room now c → EncoderCall before source last free now OutputFull left bytes
       call_full_scalar h = call_full (rw at h) (λ form r. let e = head_enough form in let f = under.fits in omega arith)
@@ -128,34 +95,13 @@ module _ (before : EncoderState) (source : List ℕ) (last : Bool) (free : ℕ) 
         read_room : is_escape move ≡ false → (k : ℕ) → k < length (under.taken ++ c ∷ []) →
             bytes_before before (take k (under.taken ++ c ∷ [])) (get_or (under.taken ++ c ∷ []) k 0) + scalar_room before
             (get_or (under.taken ++ c ∷ []) k 0) ≤ free
-        read_room e k h = elim (cases_lt k (length under.taken)) [
-          | inl a ↦
-              let same : (take k (under.taken ++ c ∷ []) ≡ take k under.taken) × (get_or (under.taken ++ c ∷ []) k 0 ≡ get_or under.taken k 0) =
-              grind (arith, common_steps) in
-              rw (same.0, same.1) (under.had_room k a)
-          | inr a ↦
-              let l : k ≡ length under.taken = omega (arith, length-append under.taken (c ∷ [])) in
-              let last : (take k (under.taken ++ c ∷ []) ≡ under.taken) × (get_or (under.taken ++ c ∷ []) k 0 ≡ c) = grind (arith, common_steps) in
-              rw (last.0, last.1, before_it e, ← under.same) (omega (arith, under.fits))
-        ]
+        read_room e k h = grind (arith, common_steps, cases_lt k (length under.taken), under.had_room k, before_it e)
 
         read_low : is_escape move ≡ false → (form : EncodingForm) (t : ℕ)
             → encoder_room form next (total_unit_count form rest + t) + length (bytes ++ move_bytes move)
             ≤ encoder_room form before (total_unit_count form source + t)
         read_low e form t =
-            let own = f.own e in
-            let n = length-append bytes (move_bytes move) in
-            rw (stays e) (elim under.lowers [
-              | inl s ↦
-                  let l = rw (units_at form t) at (s.low form t) in
-                  let r = serves.low now.mode c form (total_unit_count form rest + t) in
-                  omega arith
-              | inr s ↦
-                  let same : s.c ≡ c = cc in
-                  let others : s.rest ≡ rest = cc in
-                  let l = rw (same, others) at (s.low form t) in
-                  omega arith
-            ])
+            grind (arith, f.own e, stays e, units_at form t, serves.low now.mode c form (total_unit_count form rest + t), length-append bytes (move_bytes move))
 
         -- after an escape the scalar follows, without another escape
         escape_lowers : is_escape move ≡ true → LowersEscaped before source next left (bytes ++ move_bytes move)
@@ -182,32 +128,10 @@ module _ (before : EncoderState) (source : List ℕ) (last : Bool) (free : ℕ) 
         ]
 
         pub underway_read : is_escape move ≡ false → move_report move ≡ [] → Underway before source last free next rest (bytes ++ move_bytes move)
-        underway_read e r = record {
-          taken = under.taken ++ c ∷ [];
-          cut = read_cut;
-          events = λ more ended.
-              let read : unread_scalar move c ≡ [] = grind arith in
-              rw append_assoc (rw (r, read) at (moved (take 1 rest ++ more) ended));
-          same = rw f.goes under.same;
-          had_room = read_room e;
-          fits = let n = f.fits in let g = under.fits in omega (arith, length-append bytes (move_bytes move));
-          once = λ l. absurd (not_once room l);
-          lowers = inl (record { low = read_low e });
-        }
+        underway_read e r = grind (arith, read_cut, moved, read_room e, not_once room, read_low e, length-append, append_assoc)
 
         pub underway_escape : is_escape move ≡ true → Underway before source last free next left (bytes ++ move_bytes move)
-        underway_escape e = record {
-          taken = under.taken;
-          cut = under.cut;
-          events = λ more ended.
-              let follows : move_report move ++ encoded next (unread_scalar move c ++ more) ended ≡ encoded next (c ∷ more) ended = grind arith in
-              rw at (rw follows at (moved more ended));
-          same = rw f.goes under.same;
-          had_room = under.had_room;
-          fits = let n = f.fits in let g = under.fits in omega (arith, length-append bytes (move_bytes move));
-          once = λ l. absurd (not_once room l);
-          lowers = inr (escape_lowers e);
-        }
+        underway_escape e = grind (arith, moved, not_once, escape_lowers e, under.had_room, length-append)
 
       pub call_unmappable : (next : EncoderState) (r : ℕ) → Moves now c next (moves.Unmappable r) → scalar_room now c ≤ free - length bytes
           → EncoderCall before source last free next (Unmappable r) rest bytes
@@ -231,30 +155,13 @@ module _ (before : EncoderState) (source : List ℕ) (last : Bool) (free : ℕ) 
     -- all scalars are read
     module _ (none : left ≡ []) where
       end_low : (form : EncodingForm) (t : ℕ) → encoder_room form now t + length bytes ≤ encoder_room form before (total_unit_count form source + t)
-      end_low form t = elim under.lowers [
-        | inl s ↦ rw (none, zero-add t) at (s.low form t)
-        | inr s ↦ let f : s.c ∷ s.rest ≡ [] = sym s.at ∙ none in cc
-      ]
+      end_low form t = grind (arith, none)
 
       end_room_low : (form : EncodingForm) → length (end_bytes now) + length bytes ≤ encoder_room form before (total_unit_count form source)
       end_room_low form = let l = rw add-zero at (end_low form 0) in let e = serves.end now.mode form in omega arith
 
       pub call_done : (IsTrue last → is_pending now ≡ false) → EncoderCall before source last free now InputEmpty left bytes
-      call_done p = record {
-        taken = under.taken;
-        cut = under.cut;
-        codec = under.same;
-        fits = under.fits;
-        events = λ more ended h. whole more ended;
-        input_empty = λ e. (none, λ l. no_bytes (end_bytes now) (p l));
-        output_full = λ e. cc;
-        full_at_once = λ l. let s = rw (none, no_need now last (λ k. no_bytes (end_bytes now) (p k))) at (still l) in absurd (omega arith);
-        had_room = under.had_room;
-        lowers = λ form more g. let z : total_unit_count form left + more ≡ more = omega (arith, ap (total_unit_count form) none) in rw z (end_low form more);
-        ends = λ form e l. let r = end_room_low form in omega arith;
-        suffices = λ form h x. cc;
-        enough = λ form n k h e g x. cc;
-      }
+      call_done p = grind (arith, whole, still, end_low, end_room_low, no_bytes (end_bytes now), no_need now last)
 
       module _ (is_last : last ≡ true) (pending : is_pending now ≡ true) where
         three : length (end_bytes now) ≡ 3

@@ -8,8 +8,8 @@ use Rattle.legacy_base.specs.{EncoderProfile.{EncoderProfile, plain_encoder}, En
 use Rattle.legacy_base.specs.Lengths.{value}
 use Rattle.legacy_text.proofs.CodeUnits.{encoding}
 use Rattle.legacy_base.proofs.SameUnits.{some_unit}
-use Rattle.legacy_encoder_engine.specs.{declared.moves.EncoderMove.TheVariants.{One, Two, Four, Escape, Unmappable}, declared.moves.EncoderMove.EncoderMove}
-use Rattle.legacy_encoder_engine.specs.Moves.{differs, Moves, IsCode, is_escape, move_bytes, move_report, unread_scalar, wants_escape}
+use Rattle.legacy_encoder_engine.specs.{declared.moves.EncoderMove.TheVariants.{One, Two}, declared.moves.EncoderMove.EncoderMove}
+use Rattle.legacy_encoder_engine.specs.Moves.{differs, Moves, IsCode, is_escape, move_bytes, move_report, wants_escape}
 use Rattle.legacy_encoder_engine.specs.{ProfileSuffices.{mode_room, Serves}, UnfinishedCall.{PutsCode, ReadsByte}, UnitTurns.{HasUnitCode, ReadsUnit}}
 use Rattle.legacy_encoder_engine.specs.PlainCodecs.{HasPlainLengths, IsPlainCodec, HasByte}
 use Rattle.legacy_encoder_engine.proofs.{ReadingAhead.IsSame, CallUnderWay.state_stays}
@@ -77,29 +77,9 @@ pub record WritesHere (state : EncoderState) (r c : ℕ) : Type 0 where
   pub asks : wants_escape state c ≡ false
 
 module _ (state : EncoderState) (r c : ℕ) (here : WritesHere state r c) where
-  written : (move : EncoderMove) → code state c ≡ Some (move_bytes move) → is_escape move ≡ false
-      → move_report move ≡ [] → unread_scalar move c ≡ [] → Moves state c state move
-  written move e reads silent read = record {
-    events = λ more ended. rw (silent, read) (here.law more ended ∙ ap (λ o. code_events r o ++ encoded state more ended) e);
-    own = λ h. ap code_length e;
-    fits = rw e at here.fits;
-    asks = reads ∙ sym here.asks;
-    goes = sym (state_stays state c here.asks);
-  }
-
   -- then a move that writes the code is correct
   pub here_moves : (move : EncoderMove) → IsCode (code state c) r move → Moves state c state move
-  here_moves (One x) e = written (One x) e refl refl refl
-  here_moves (Two x y) e = written (Two x y) e refl refl refl
-  here_moves (Four x y z w) e = written (Four x y z w) e refl refl refl
-  here_moves (Escape x y) e = absurd e
-  here_moves (Unmappable q) e = record {
-    events = λ more ended. rw e.1 (here.law more ended ∙ ap (λ o. code_events r o ++ encoded state more ended) e.0);
-    own = λ h. ap code_length e.0;
-    fits = omega arith;
-    asks = sym here.asks;
-    goes = sym (state_stays state c here.asks);
-  }
+  here_moves move e = grind (arith, here.law, here.fits, here.asks, state_stays state c here.asks)
 
 -- a profile without modes, with `past` bytes of room for a scalar past ASCII
 record ActsPlainly (p : EncoderProfile) (past : ℕ) : Type 0 where
@@ -135,9 +115,7 @@ module _ (codec : Codec) (past : ℕ) (p : IsPlainCodec codec past) where
   widest_room c = let room = acts_plainly.room c in let fits = p.lengths.fits in grind arith
 
   fits : (c : ℕ) → code_length (code S c) ≤ scalar_room S c
-  fits c =
-      let o : c < 128 → code_length (p.code c) ≡ 1 = λ a. ap code_length (p.ascii c a) in
-      rw (code_is c) (grind (arith, o, cases_lt c 128, ascii_room c, room_past_ascii c, p.short c, p.lengths.fits))
+  fits c = grind (arith, code_is c, p.ascii c, cases_lt c 128, ascii_room c, room_past_ascii c, p.short c, p.lengths.fits)
 
   -- a move that writes the code of its scalar is correct
   pub plain_moves : (c : ℕ) (move : EncoderMove) → IsCode (code S c) c move → Moves S c S move
@@ -147,10 +125,7 @@ module _ (codec : Codec) (past : ℕ) (p : IsPlainCodec codec past) where
   plain_code c low = code_is c ∙ p.ascii c low
 
   pub plain_ascii : (c byte : ℕ) → IsSame c byte → ReadsByte S 0 c byte
-  plain_ascii c byte is = record {
-    fits = let e = ascii_room c is.1 in omega arith;
-    moves = plain_moves c (One byte) (rw is.0 (plain_code c is.1));
-  }
+  plain_ascii c byte is = grind (arith, ascii_room c, plain_moves c (One byte), plain_code c)
 
   pub plain_byte : (c byte : ℕ) → HasByte codec past c byte → ReadsByte S 0 c byte
   plain_byte c byte is = record { fits = let room = widest_room c in omega (arith, is.0); moves = plain_moves c (One byte) is.1 }
@@ -191,3 +166,9 @@ short_or a b n p q = grind arith
 -- the code of a scalar past ASCII
 pub short_past : (c : ℕ) (a b : Option (List ℕ)) (n : ℕ) → 128 ≤ c → code_length b ≤ n → code_length (cond (ltb c 128) a b) ≤ n
 short_past c a b n h q = rw (le-ltb c 128 h) q
+
+pub ruleset plain_steps = (plain_serves, ascii_room, room_past_ascii, widest_room)
+
+pub ruleset put_steps = (plain_fits, plain_code)
+
+pub ruleset unit_steps = (plain_one, plain_two)

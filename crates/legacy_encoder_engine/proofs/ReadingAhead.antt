@@ -59,14 +59,7 @@ abbrev pub IsSame : ℕ → ℕ → Type 0
 IsSame c byte = (byte ≡ c) × (c < 0x80)
 
 pub same_bytes : (left old : List ℕ) (n : ℕ) → n ≤ length left → IsAscii (take n left) → WritesCodes IsSame left n old (old ++ take n left)
-same_bytes left old n within ascii =
-    let long = length-take-le n left within in
-    record {
-      bytes = take n left;
-      new_is = refl;
-      count = long;
-      each = λ k h. let below = ascii k in grind (arith, common_steps);
-    }
+same_bytes left old n within ascii = let long = length-take-le n left within in grind (arith, common_steps)
 
 -- ASCII scalars have one code unit each
 ascii_units : (form : EncodingForm) (front : List ℕ) → IsAscii front → total_unit_count form front ≡ length front
@@ -90,12 +83,7 @@ pub encodes_then : {state : EncoderState} {form : EncodingForm} {free free' pass
     → free' ≡ free → EncodesAhead state form free left passed bytes at left'' passed'' bytes'' at''
 encodes_then first second same =
     let second' = rw same at second in
-    record {
-      keeps = keeps_then first.keeps second'.keeps;
-      start = omega (arith, first.start, second.start);
-      end = second'.end;
-      units = second.units ∙ first.units;
-    }
+    grind (arith, keeps_then first.keeps second'.keeps, first.start, second.start, second'.end, first.units, second.units)
 
 -- scalars with one byte each
 pub encodes_codes : {state : EncoderState} (form : EncodingForm) (free room : ℕ) {gives : ℕ → ℕ → Type 0} (serves : Serves (encoder_profile state.codec))
@@ -127,3 +115,6 @@ encodes_put form serves fits before is put next units long room =
       end = omega (arith, put.ends, fits);
       units = rw next (omega (arith, first_units form _ _ is.0, is.1, before.units));
     }
+
+-- the lemmas for the loops
+pub ruleset turns = (encodes_none, encodes_then)

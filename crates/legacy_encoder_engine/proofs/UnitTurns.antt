@@ -1,6 +1,6 @@
 -- Writing the codes of several UTF-16 code units at a time.
-use Rattle.std.proofs.Common.{◌≡◌, ◌∙◌, ℕ, suc, ◌+◌, ◌<◌, ◌≤◌, List, [], ◌∷◌, ◌++◌, length, take, get_or, refl, sym, ap, subst, arith, append_assoc, inl, inr}
-use Rattle.std.proofs.{Math.Seq.{take-suc, take-append-add}, lemmas.Bool.cases_lt, lemmas.List.{get_or-take, length-take-le, take-take}}
+use Rattle.std.proofs.Common.{◌≡◌, ◌∙◌, ℕ, suc, ◌+◌, ◌<◌, ◌≤◌, List, [], ◌∷◌, ◌++◌, length, take, get_or, refl, sym, ap, subst, arith, append_assoc}
+use Rattle.std.proofs.{Math.Seq.{take-suc, take-append-add}, lemmas.Bool.cases_lt, lemmas.List.{length-take-le, take-take}}
 use Rattle.std.proofs.lemmas.Grind.{common_steps}
 use Rattle.legacy_base.specs.Encoders.{EncoderState, encoder_profile, scalar_room}
 use Rattle.legacy_encoder_engine.specs.{ProfileSuffices.Serves, UnitTurns.{PutsUnits, ReadsUnit, two_bytes}}
@@ -28,10 +28,7 @@ module _ (state : EncoderState) (free : ℕ) where
       let long : length (take k units) ≡ k = length-take-le k units (omega arith) in
       let one : suc k ≡ k + 1 = omega arith in
       subst (λ n. PutsUnits state free (take n units) old new) one (record {
-        bmp = λ j h. rw (get_or-take (suc k) units j 0 (omega (arith, h, length-take-le (suc k) units (omega arith)))) (elim (cases_lt j k) [
-          | inl l ↦ rw (get_or-take k units j 0 l) at (before.bmp j (omega arith))
-          | inr l ↦ let here : j ≡ k = omega (arith, h, length-take-le (suc k) units (omega arith)) in rw (here, is) own.bmp
-        ]);
+        bmp = λ j h. grind (arith, common_steps, before.bmp j, own.bmp, units_are, long, cases_lt j k);
         keeps = λ rest.
             let second = keeps_move state free serves (c ∷ rest) bytes c rest own.move refl own.moves own.reads own.silent (omega arith) in
             rw (new_is ∙ ap (λ l. bytes ++ l) (sym own.bytes), units_are, append_assoc (take k units) (c ∷ []) rest)

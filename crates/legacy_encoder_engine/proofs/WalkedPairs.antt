@@ -1,8 +1,8 @@
 -- The list of codes after a walk over an index.
-use Rattle.std.proofs.Common.{◌≡◌, ◌≢◌, ◌∙◌, ℕ, ◌+◌, ◌*◌, ◌<◌, ◌≤◌, List, [], ◌∷◌, length, slice_index, Option, Some, None, option_map, ap, sym, refl, subst}
+use Rattle.std.proofs.Common.{◌≡◌, ◌≢◌, ◌∙◌, ℕ, ◌+◌, ◌*◌, ◌<◌, ◌≤◌, List, [], ◌∷◌, length, slice_index, Some, None, option_map}
 use Rattle.std.proofs.{Common.arith, lemmas.Bool.Decides.nat_tests}
 use Rattle.std.specs.{Option.IfSome}
-use Rattle.legacy_tables.specs.{declared.tables.packed.PackedPart.PackedPart, Packed.pointer_of, Unicode.AreScalars, Walks.{marked, IsFilled}}
+use Rattle.legacy_tables.specs.{declared.tables.packed.PackedPart.PackedPart, Packed.pointer_of, Unicode.AreScalars, Walks.IsFilled}
 use Rattle.legacy_tables.proofs.{PackedAccepted.entry-scalar, PackedPointers.pointer-taken}
 use Rattle.legacy_text.specs.UnitCodes.{IsNoSurrogate}
 use Rattle.legacy_base.specs.Encoders.{Codec, encoder_profile}
@@ -26,33 +26,16 @@ module _ (codec : Codec) (part : PackedPart) (mark : ℕ → ℕ) (index : List 
   pub by-pairs : (bytes : ℕ → List ℕ) (n : ℕ) → AreScalars index → ((p : ℕ) → mark p ≢ 0) → ((c : ℕ) → Done c → 0x80 ≤ c)
       → ((c : ℕ) → IfSome (pointer_of part index c) (λ p. p < n)) → ((p : ℕ) → p < n → bytes p ≡ two_bytes (mark p))
       → ((c : ℕ) → Done c → (encoder_profile codec).code c ≡ option_map bytes (pointer_of part index c)) → GoesByPointers
-  by-pairs bytes n scalars some past bound same code = record {
-    scalars = scalars;
-    some = some;
-    past = past;
-    coded = λ c p d e. code c d ∙ ap (option_map bytes) e ∙ ap Some (same p (subst (λ o. IfSome o (λ q. q < n)) e (bound c)));
-    uncoded = λ c d e lead trail is. let f = sym is ∙ code c d ∙ ap (option_map bytes) e in cc;
-  }
+  by-pairs bytes n scalars some past bound same code = grind (arith, bound, same, code)
 
   -- then the entries of these scalars are right
   pub walked-right : GoesByPointers → (entries : List ℕ) → length entries ≡ 65536 → IsFilled part mark index entries
       → (c : ℕ) → c < 65536 → Done c → IsRightEntry codec c (slice_index entries c)
-  walked-right by entries all filled c h d = go (slice_index entries c) (pointer_of part index c) (filled.each c (omega arith)) refl
+  walked-right by entries all filled c h d =
+      let filled_here = filled.each c (omega arith) in grind (arith, filled_here, by.past c d, by.some, by.coded c, by.uncoded c, is_lone)
     where
       is_lone : (p : ℕ) → pointer_of part index c ≡ Some p → IsNoSurrogate c
       is_lone p e high = let t = (pointer-taken part index c).chosen p e in let scalar = entry-scalar index by.scalars p in grind (arith, nat_tests)
-
-      go : (entry : ℕ) (o : Option ℕ) → entry ≡ marked mark (pointer_of part index c) → pointer_of part index c ≡ o → IsRightEntry codec c entry
-      go entry None is e =
-          let zero : entry ≡ 0 = is ∙ ap (marked mark) e in
-          record { told = λ n. absurd (n zero); whole = λ s high z. by.uncoded c d e }
-      go entry (Some p) is e =
-          let there : entry ≡ mark p = is ∙ ap (marked mark) e in
-          let past = by.past c d in
-          record {
-            told = λ n. (is_lone p e, record { ascii = λ low. absurd (omega arith); past = λ high. rw there (by.coded c p d e) });
-            whole = λ s high z. absurd (by.some p (sym there ∙ z));
-          }
 
 -- a list that was filled by a walk for all scalars past ASCII has all pairs after ASCII was looked up
 pub all-past-ascii : {codec : Codec} {part : PackedPart} {mark : ℕ → ℕ} {index : List ℕ} → GoesByPointers codec part mark index (λ c. 0x80 ≤ c)

@@ -3,7 +3,6 @@ ghost use Rattle.std.specs.Prelude.{◌≡◌, ◌≤◌, [], ◌∷◌, Some, I
 ghost use Rattle.legacy_encoder_engine.specs.CachedPairs.{AreAllPairsOf};
 ghost use Rattle.legacy_tables.specs.Indexes.{FlatIndexes};
 ghost use Rattle.legacy_base.specs.Encoders.{Codec, encoder_profile, new_encoder};
-ghost use Rattle.legacy_base.specs.Lengths.{answer, number, ◌⊕◌, ◌⊗◌};
 ghost use Rattle.legacy_encoder_engine.specs.Moves.{IsCode};
 ghost use Rattle.legacy_encoder_engine.specs.PairCodecs.{IsPairCodec, pair_encoder_state, pair_plain};
 
@@ -117,20 +116,6 @@ impl<'a, C: PairCodec> PlainEncoder for PairEncoder<'a, C, Tables<'a>> {
     }
 }
 
-/// Returns twice the number of code units: each may need a pair.
-fn length_from_utf16(u16_length: usize) -> Option<usize>
-    ensures { result ≡ answer (number 2 ⊗ number u16_length) }
-{
-    u16_length.checked_mul(2)
-}
-
-/// Returns one more than the number of bytes: a scalar of two bytes or more may need a pair.
-fn length_from_utf8(byte_length: usize) -> Option<usize>
-    ensures { result ≡ answer (number byte_length ⊕ number 1) }
-{
-    byte_length.checked_add(1)
-}
-
 impl<'a, C: PairCodec> RawEncoder for PairEncoder<'a, C, Tables<'a>> {
     ghost state = { λ e. pair_encoder_state C.codec e.tables.now };
 
@@ -138,11 +123,13 @@ impl<'a, C: PairCodec> RawEncoder for PairEncoder<'a, C, Tables<'a>> {
         drive_encoder(self, src, dst, last)
     }
 
+    #[tactic(auto, using(crate::proofs::PairAnswers::from_utf16))]
     fn max_buffer_length_from_utf16_without_replacement(&self, u16_length: usize) -> Option<usize> {
-        length_from_utf16(u16_length)
+        u16_length.checked_mul(2)
     }
 
+    #[tactic(auto, using(crate::proofs::PairAnswers::from_utf8))]
     fn max_buffer_length_from_utf8_without_replacement(&self, byte_length: usize) -> Option<usize> {
-        length_from_utf8(byte_length)
+        byte_length.checked_add(1)
     }
 }

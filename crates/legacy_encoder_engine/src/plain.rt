@@ -28,6 +28,7 @@ impl<C: PlainEncoder> EncoderMoves for C {
     ghost state = { λ encoder. new_encoder (C.codec encoder) };
 
     #[inline]
+    #[tactic(auto, using(crate::proofs::PlainServes::plain_steps))]
     fn room(&self, c: char) -> usize {
         if (c as u32) < 0x80 {
             1
@@ -42,6 +43,7 @@ impl<C: PlainEncoder> EncoderMoves for C {
     }
 
     #[inline]
+    #[tactic(auto, using(crate::proofs::PlainServes::plain_steps))]
     fn is_pending(&self) -> bool {
         false
     }
@@ -60,11 +62,13 @@ impl<C: PlainCodes> AheadCodes for C {
     ghost room = { C.past };
 
     #[inline(always)]
+    #[tactic(auto, using(crate::proofs::PlainServes::plain_steps))]
     fn widest(&self) -> usize {
         self.past_room()
     }
 
     #[inline(always)]
+    #[tactic(auto, using(crate::proofs::PlainServes::put_steps))]
     fn put_code(&self, guess: &mut RangePart, dst: &mut [u8], at: usize, c: char) -> Option<usize> {
         if (c as u32) < 0x80 {
             return Some(put_move(dst, at, EncoderMove::One(c as u8)));
@@ -75,6 +79,7 @@ impl<C: PlainCodes> AheadCodes for C {
     // It writes pairs and four bytes by itself. So it has no call, and its values stay in registers.
     // It makes no move of them, which the compiler would pack into one number and unpack.
     #[inline(always)]
+    #[tactic(auto, using(crate::proofs::PlainServes::put_steps))]
     fn put_past_ascii(
         &self,
         guess: &mut RangePart,
@@ -118,6 +123,7 @@ impl<C: PlainCodes> AheadCodes for C {
     }
 
     #[inline(always)]
+    #[tactic(auto, using(crate::proofs::ReadingAhead::encodes_none))]
     fn read_turns<S: TextCursor>(&self, src: &mut S, dst: &mut [u8], at: usize) -> usize {
         if C::GOES_BY_UNITS && src.has_turns() {
             return Units { encoder: self }.put_bytes(src, dst, at);
@@ -128,6 +134,7 @@ impl<C: PlainCodes> AheadCodes for C {
     const HAS_TENS: bool = C::GOES_BY_TENS;
 
     #[inline(always)]
+    #[tactic(auto, using(crate::proofs::PlainServes::unit_steps))]
     fn unit_bytes(&self, unit: u16) -> (u16, usize, bool) {
         let (both, has_code) = self.unit_code(unit);
         (both, if unit < 0x80 { 1 } else { 2 }, has_code)

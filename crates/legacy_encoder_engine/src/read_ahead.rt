@@ -143,6 +143,7 @@ fn read_past_ascii<C: AheadCodes, S: TextCursor>(
 // Each number of code units has a case of its own. So the place of the next scalar is known before
 // this one is.
 #[inline(always)]
+#[tactic(auto, using(crate::proofs::ReadingAhead::turns))]
 fn read_scalars<C: AheadCodes, S: TextCursor>(
     codes: &C,
     guess: &mut RangePart,
@@ -208,6 +209,7 @@ impl<C: AheadCodes> ReadingLoop for ByCodes<'_, C> {
     // Functions that take the cursor are always inlined: the compiler keeps its place in a
     // register.
     #[inline(always)]
+    #[tactic(auto, using(crate::proofs::ReadingAhead::encodes_then))]
     fn read<S: TextCursor>(&self, src: &mut S, dst: &mut [u8], start: usize) -> usize {
         let codes = self.codes;
         let mut at = read_first_tens(codes, src, dst, start);

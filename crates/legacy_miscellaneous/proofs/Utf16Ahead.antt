@@ -1,11 +1,11 @@
 -- What the UTF-16 decoders read ahead.
 use Rattle.std.proofs.Common.{rules, ◌≡◌, ℕ, zero, suc, ◌+◌, ◌-◌, ◌*◌, ◌<◌, ◌≤◌, List, ◌++◌, Bool, length, take, drop, get_or, sym, arith, refl}
-use Rattle.std.proofs.lemmas.{Bool.Decides.nat_tests, List.{take_more, length-take-le, length-drop, get_or-take, get_or-drop, take_all}}
+use Rattle.std.proofs.lemmas.{Bool.Decides.nat_tests, List.{Elements.All-get_or, take_more, length-take-le, length-drop, get_or-take, get_or-drop, take_all}}
 use Rattle.{std.specs.{Prelude.IsAscii, Char.IsScalar}, legacy_text.specs.{declared.destination.Destination.Ghosts, EncodingForm.{code_units, all_code_units}}}
 use Rattle.{legacy_text.specs.EncodingForm.total_unit_count, legacy_tables.specs.Unicode.IsByte, legacy_base.specs.{Grammar.utf16, Utf16.unit_of}}
 use Rattle.{legacy_base.specs.States.new_state, legacy_decoder_engine.{specs.ReadAhead.{Yields, IsPair, Writes, ReadsAhead}, proofs.YieldedForms.pair_yields}}
 use Rattle.legacy_decoder_engine.proofs.{JoinedReads.reads_written, WrittenReads.{yields_none, yields_more, take_two, writes_two, rest_of, writes_next}}
-use Rattle.legacy_decoder_engine.proofs.WrittenReads.{all_code_units_ascii, all_short, short, three_fit, writes_none, reads_none}
+use Rattle.legacy_decoder_engine.proofs.WrittenReads.{all_code_units_ascii, all_short, one_unit, short, three_fit, writes_none, reads_none}
 use Rattle.legacy_miscellaneous.specs.Utf16Decoder.{HasAsciiUnits, AreUnitsBelow}
 use Rattle.legacy_text.proofs.Ascii.{ascii_front}
 use Rattle.legacy_miscellaneous.{specs.Utf16Decoder.unit_at, proofs.{Utf16Held.{unit_below, utf16_shown}, UserDefinedAhead.rest_bytes}}
@@ -109,4 +109,4 @@ writes_unit T be source at c bytes within before scalar is contents room loan =
     rw place (writes_two T source (2 * at) c within before yields.1 contents room loan)
 
 -- the lemmas for the functions that read blocks
-pub ruleset steps = (reads_none, reads_block, writes_none, writes_unit, three_fit, short, unit_pair)
+pub ruleset steps = (reads_none, reads_block, writes_none, writes_unit, three_fit, short, unit_pair, one_unit, All-get_or)

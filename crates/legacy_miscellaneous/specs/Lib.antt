@@ -4,7 +4,6 @@ pub mod ReplacementDecoder
 pub mod ReplacementMachine
 pub mod UserDefinedCodes
 pub mod UserDefinedDecoder
-pub mod UserDefinedEncoder
 pub mod UserDefinedMachine
 pub mod Utf16Decoder
 pub mod Utf16Fronts

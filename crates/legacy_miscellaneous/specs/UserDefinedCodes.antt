@@ -1,17 +1,13 @@
--- The bytes of the codes of x-user-defined.
-use Rattle.std.proofs.Common.{ℕ, ◌≤◌, refl, arith}
+-- The bytes of the codes of x-user-defined, and the state of its encoder between two calls, which never changes.
+use Rattle.std.proofs.Common.{refl, arith}
 use Rattle.std.proofs.lemmas.Bool.{lt-ltb}
 use Rattle.std.specs.Int.{is_in_range}
-use Rattle.legacy_base.specs.EncodeEvents.{code_length}
 use Rattle.legacy_base.specs.UserDefined.{user_defined_code}
-use Rattle.legacy_base.specs.Encoders.{user_defined}
+use Rattle.legacy_base.specs.Encoders.{EncoderState, new_encoder, user_defined}
+use Rattle.legacy_miscellaneous.specs.declared.user_defined.encoder.UserDefinedEncoder.{UserDefinedEncoder}
 use Rattle.legacy_encoder_engine.specs.PlainCodecs.{IsPlainCodec}
 use Rattle.legacy_encoder_engine.specs.PlainLengths.{byte_lengths}
 use Rattle.legacy_encoder_engine.proofs.PlainServes.{short_past, short_if}
-
-short : (c : ℕ) → 128 ≤ c → code_length (user_defined_code c) ≤ 1
-unfolding user_defined_code
-short c h = short_past c _ _ 1 h (short_if (is_in_range 0xF780 0xF7FF c) _ _ 1 (omega arith) (omega arith))
 
 pub user_defined_plain : IsPlainCodec user_defined 1
 unfolding user_defined_code
@@ -22,6 +18,10 @@ user_defined_plain = record {
   profile_is = refl;
   ascii = λ c h. rw (lt-ltb c 128 h) refl;
   most = 1;
-  short = short;
+  short = λ c h. short_past c _ _ 1 h (short_if (is_in_range 0xF780 0xF7FF c) _ _ 1 (omega arith) (omega arith));
   lengths = byte_lengths;
 }
+
+-- the state that the laws of its calls use
+abbrev pub user_defined_encoder_state : UserDefinedEncoder → EncoderState
+user_defined_encoder_state encoder = new_encoder user_defined

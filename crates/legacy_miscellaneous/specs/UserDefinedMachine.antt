@@ -3,22 +3,16 @@ use Rattle.std.specs.Prelude.{ℕ, ◌+◌, ◌-◌, [], ◌∷◌, if◌then◌
 use Rattle.std.specs.Char.{is_ascii}
 use Rattle.legacy_base.specs.Fronts.{reads}
 use Rattle.legacy_base.specs.Grammar.{user_defined}
-use Rattle.legacy_decoder_engine.specs.Steps.{Step, finish, no_pending, DecoderMachine}
+use Rattle.legacy_decoder_engine.specs.Steps.{finish, no_pending, DecoderMachine}
 
 -- the code unit of a byte: ASCII is itself, 80 to FF are U+F780 to U+F7FF
 abbrev pub unit_of_byte : ℕ → ℕ
 unit_of_byte b = if is_ascii b then b else 0xF780 + (b - 0x80)
 
--- the step at a byte, by the same two cases
-abbrev pub user_defined_first : ℕ → Step
-user_defined_first b =
-    if is_ascii b then finish (reads 1 (b ∷ []))
-    else finish (reads 1 ((0xF780 + (b - 0x80)) ∷ []))
-
--- the machine: each byte is read by itself, and nothing is held back
+-- the machine: each byte is read by itself, by the same two cases, and nothing is held back
 abbrev pub user_defined_machine : DecoderMachine
 user_defined_machine = record {
   pending = no_pending;
-  step = λ held b. user_defined_first b;
+  step = λ held b. if is_ascii b then finish (reads 1 (b ∷ [])) else finish (reads 1 ((0xF780 + (b - 0x80)) ∷ []));
   to = λ held b. user_defined;
 }

@@ -1,12 +1,11 @@
 -- The state of the UTF-16 decoders between two calls.
 use Rattle.std.specs.Prelude.{◌≡◌, ℕ, ◌+◌, ◌*◌, ◌<◌, length, slice_index, ◌/◌, ◌%◌, List, [], ◌∷◌, Bool, if◌then◌else◌}
-use Rattle.legacy_base.specs.Grammar.{Grammar, utf16}
+use Rattle.legacy_base.specs.Grammar.{utf16}
 use Rattle.legacy_base.specs.Utf16.{unit_of}
 use Rattle.legacy_base.specs.States.{DecoderState}
 use Rattle.legacy_miscellaneous.specs.declared.utf16.held_bytes.Held.{Held}
 use Rattle.legacy_miscellaneous.specs.declared.utf16.held_bytes.Held.TheVariants.{Nothing, Odd, High, HighOdd, Pending}
 use Rattle.legacy_miscellaneous.specs.declared.utf16.decoder.Utf16Decoder.{Utf16Decoder}
-use Rattle.legacy_miscellaneous.specs.declared.utf16.unit_blocks.Units.{Units}
 
 -- the first byte of a unit, in the byte order
 abbrev pub first_byte : Bool → ℕ → ℕ
@@ -27,10 +26,6 @@ held_bytes big_endian (Pending pending) = first_byte big_endian pending.scalar �
 -- the state that the laws of its calls use
 abbrev pub utf16_state : Utf16Decoder → DecoderState
 utf16_state decoder = record { grammar = utf16 decoder.big_endian; held = held_bytes decoder.big_endian decoder.held }
-
--- the grammar of the byte order
-abbrev pub units_grammar : Units → Grammar
-units_grammar units = utf16 units.big_endian
 
 -- the unit at an index
 abbrev pub unit_at : Bool → List ℕ → ℕ → ℕ

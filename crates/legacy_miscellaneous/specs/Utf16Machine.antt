@@ -11,17 +11,13 @@ abbrev pub utf16_pending : Bool → List ℕ → Option (ℕ × ℕ)
 utf16_pending big_endian (a ∷ b ∷ []) = if is_high_surrogate (unit_of big_endian a b) then None else Some (2, unit_of big_endian a b)
 utf16_pending big_endian _ = None
 
--- the step at a whole unit with no high surrogate before it
-abbrev pub utf16_unit_step : ℕ → Step
-utf16_unit_step u =
-    if is_high_surrogate u then hold
-    else if is_low_surrogate u then finish (malformed 2)
-    else finish (reads 2 (u ∷ []))
-
 -- the step at a byte after these held-back bytes
 abbrev pub utf16_step : Bool → List ℕ → ℕ → Step
 utf16_step big_endian [] b = hold
-utf16_step big_endian (a ∷ []) b = utf16_unit_step (unit_of big_endian a b)
+utf16_step big_endian (a ∷ []) b =
+    if is_high_surrogate (unit_of big_endian a b) then hold
+    else if is_low_surrogate (unit_of big_endian a b) then finish (malformed 2)
+    else finish (reads 2 (unit_of big_endian a b ∷ []))
 utf16_step big_endian (a ∷ b ∷ []) c = hold
 utf16_step big_endian (a ∷ b ∷ c ∷ held) d =
     if is_low_surrogate (unit_of big_endian c d)

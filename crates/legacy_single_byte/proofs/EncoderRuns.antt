@@ -1,9 +1,9 @@
 -- The facts that the check of an encoder's run proves, and the codes that follow from a table's places.
-use Rattle.std.proofs.Common.{◌≡◌, ◌↔◌, IfSome, ℕ, ◌+◌, ◌-◌, ◌≤◌, ◌<◌, ◌==◌, List, ◌∷◌, [], length, get_or, refl, arith, Some, None}
-use Rattle.std.proofs.{Common.{Option, not, position}, lemmas.Bool.lt-ltb, lemmas.Bool.Decides.nat_tests}
+use Rattle.std.proofs.Common.{◌≡◌, ◌↔◌, IfSome, ℕ, ◌+◌, ◌-◌, ◌≤◌, ◌<◌, ◌==◌, List, ◌∷◌, [], get_or, refl, arith, Some, None}
+use Rattle.std.proofs.{Common.{Option, option_map, not, position}, lemmas.Bool.lt-ltb, lemmas.Bool.Decides.nat_tests}
 use Rattle.std.specs.List.{position_or_len}
 use Rattle.legacy_text.specs.UnitCodes.{IsNoSurrogate}
-use Rattle.legacy_tables.specs.{Indexes.{idx}, TableChecks.IsAcceptedTable}
+use Rattle.legacy_tables.specs.{Indexes.{idx}, AcceptedTables.AcceptedTable}
 use Rattle.legacy_base.specs.SingleByte.{single_byte_code}
 use Rattle.legacy_tables.proofs.{Accepted.entry_scalar-is, PackedAccepted.entry-narrow, AcceptedTable.{position-idx, within, table-scalars, table-below}}
 use Rattle.{std.proofs.lemmas.Grind.common_steps, legacy_tables.proofs.FirstPlaces.{find-first, find-none-at}}
@@ -13,30 +13,35 @@ pub run_holds : (table : List ℕ) (scalar start count : ℕ) → first_mismatch
 run_holds table scalar start count e k h =
     let same = find-none-at (λ k. not (get_or table (start + k) 0 == scalar + k)) 0 count e k (omega arith) (omega arith) in grind (arith, nat_tests)
 
-pub run_below : (table : List ℕ) → IsAcceptedTable table → (scalar start count : ℕ)
-    → scalar < 0x1_0000 → IsRun table scalar start count → scalar + count ≤ 0x1_0000
-run_below table accepted scalar start count low is = grind (arith, entry-narrow table (table-below table accepted) (start + (count - 1)), is (count - 1))
+pub run_below : (table : AcceptedTable) (scalar start count : ℕ) → scalar < 0x1_0000 → first_mismatch table.entries scalar start count ≡ None
+    → scalar + count ≤ 0x1_0000
+run_below table scalar start count low none =
+    let last = entry-narrow table.entries (table-below table.entries table.accepted) (start + (count - 1)) in
+    grind (arith, last, run_holds table.entries scalar start count none (count - 1))
 
 -- ---- places
 
-module _ (table : List ℕ) (accepted : IsAcceptedTable table) (c : ℕ) (past : 128 ≤ c) where
-  pub place_is : (place : Option ℕ) → ((p : ℕ) → (place ≡ Some p) ↔ (idx table p ≡ Some c)) → place ≡ position (λ entry. entry == c) table
-  place_is None says = let q = position_or_len (λ entry. entry == c) table in grind (arith, position-idx table accepted c (λ z. omega arith) q, says q)
-  place_is (Some p) says = grind (arith, position-idx table accepted c (λ z. omega arith) p, says p)
+module _ (table : AcceptedTable) (c : ℕ) (past : 128 ≤ c) where
+  same_place : (place : ℕ) → (position (λ entry. entry == c) table.entries ≡ Some place) ↔ (idx table.entries place ≡ Some c)
+  same_place = position-idx table.entries table.accepted c (λ z. omega arith)
 
-  -- a place that holds a scalar is below 128
-  pub place_bound : length table ≡ 128 → (place : Option ℕ) → ((p : ℕ) → (place ≡ Some p) ↔ (idx table p ≡ Some c)) → IfSome place (λ p. p < 128)
-  place_bound long None says = tt
-  place_bound long (Some p) says = grind (arith, entry_scalar-is (get_or table p 0) c, within table accepted p c, says p)
+  -- the place that the table has for a scalar is below 128, and gives its code
+  pub code_of_place : (place : Option ℕ) → ((p : ℕ) → (place ≡ Some p) ↔ (idx table.entries p ≡ Some c))
+      → IfSome place (λ p. p < 128) × (single_byte_code table.entries c ≡ option_map (λ p. (0x80 + p) ∷ []) place)
+  unfolding single_byte_code
+  code_of_place None says = let q = position_or_len (λ entry. entry == c) table.entries in grind (arith, nat_tests, same_place q, says q)
+  code_of_place (Some p) says =
+      grind (arith, nat_tests, same_place p, says p, entry_scalar-is (get_or table.entries p 0) c, within table.entries table.accepted p c, table.entry_count)
 
   -- the code of the scalar at a place
-  pub code_at : (p : ℕ) → get_or table p 0 ≡ c → single_byte_code table c ≡ Some ((0x80 + p) ∷ [])
+  pub code_at : (p : ℕ) → get_or table.entries p 0 ≡ c → single_byte_code table.entries c ≡ Some ((0x80 + p) ∷ [])
   unfolding single_byte_code
-  code_at p e = grind (arith, nat_tests, position-idx table accepted c)
+  code_at p e = grind (arith, nat_tests, position-idx table.entries table.accepted c)
 
   -- the scalar at a place is not a surrogate
-  pub malformed_at : (p : ℕ) → get_or table p 0 ≡ c → IsNoSurrogate c
-  malformed_at p e high = grind (arith, nat_tests, within table accepted p c, table-scalars table accepted p)
+  pub malformed_at : (p : ℕ) → get_or table.entries p 0 ≡ c → IsNoSurrogate c
+  malformed_at p e high =
+      grind (arith, nat_tests, within table.entries table.accepted p c, table-scalars table.entries table.accepted p)
 
 -- ASCII is itself
 pub code_ascii : (table : List ℕ) (c : ℕ) → c < 128 → single_byte_code table c ≡ Some (c ∷ [])
@@ -44,4 +49,4 @@ unfolding single_byte_code
 code_ascii table c h = rw (lt-ltb c 128 h) refl
 
 -- the lemmas for the check of a run
-pub ruleset run_steps = (common_steps, find-first, run_holds)
+pub ruleset run_steps = (common_steps, find-first, run_holds, run_below)

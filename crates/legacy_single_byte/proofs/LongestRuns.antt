@@ -1,8 +1,8 @@
 -- The longest run of letters: how one more place changes it, and that the encoder accepts it.
-use Rattle.std.proofs.Common.{◌≡◌, ◌≢◌, ℕ, ◌+◌, ◌-◌, ◌<◌, ◌≤◌, ◌==◌, List, get_or, max, refl, arith, None, not}
+use Rattle.std.proofs.Common.{◌≡◌, ◌≢◌, ℕ, ◌+◌, ◌-◌, ◌<◌, ◌≤◌, ◌==◌, List, get_or, refl, arith, None, not}
 use Rattle.std.proofs.{lemmas.Bool.Decides.nat_tests}
 use Rattle.legacy_tables.proofs.FirstPlaces.{find-none}
-use Rattle.legacy_single_byte.specs.{SingleByteRun.{IsRun, single_byte_run_fault}, LongestRun.{IsLetterRun, LongestToThe, LongestUpTo}}
+use Rattle.legacy_single_byte.specs.{SingleByteRun.{IsRun, single_byte_run_fault}, LongestRun.{LongestToThe, LongestUpTo}}
 use Rattle.legacy_single_byte.proofs.EncoderRuns.{run_holds}
 
 -- ---- runs that the encoder accepts
@@ -16,17 +16,13 @@ not_refused table scalar start count from within holds =
 -- ---- one more place
 
 module _ (table : List ℕ) where
-  -- a run without its last place
-  front : (scalar start count : ℕ) → IsLetterRun table scalar start count → IsLetterRun table scalar start (count - 1)
-  front scalar start count run = grind arith
-
   module _ (scalar start count place : ℕ) (before : LongestToThe table scalar start count place) where
     -- the scalar at the place continues the run
     pub grown : get_or table place 0 ≡ scalar + count → scalar + count < 0x2000 → LongestToThe table scalar start (count + 1) (place + 1)
     grown e low = record {
       is = grind (arith, before.is.holds);
       ends = grind arith;
-      longest = λ c s n run ends. grind (arith, before.longest c s (n - 1) (front c s n run));
+      longest = λ c s n run ends. grind (arith, before.longest c s (n - 1) (grind arith));
     }
 
     -- the scalar at the place does not continue the run
@@ -35,26 +31,19 @@ module _ (table : List ℕ) where
       is = grind arith;
       ends = refl;
       longest = λ c s n run ends.
-          grind (arith, before.longest c s (n - 1) (front c s n run), before.is.holds (count - 1), run.holds (n - 2), run.holds (n - 1));
+          grind (arith, before.longest c s (n - 1) (grind arith), before.is.holds (count - 1), run.holds (n - 2), run.holds (n - 1));
     }
 
   -- ---- the longest run up to a place
 
   module _ (scalar start count place : ℕ) (best : LongestUpTo table scalar start count place) (c s n : ℕ) (run : LongestToThe table c s n (place + 1)) where
-    -- a run that ends by then is no longer than the longer of the two
-    most : (d t m : ℕ) → IsLetterRun table d t m → t + m ≤ place + 1 → m ≤ max count n
-    most d t m other ends = grind (arith, best.longest d t m other, run.longest d t m other)
-
     pub kept : n ≤ count → LongestUpTo table scalar start count (place + 1)
-    kept h = record { is = best.is; within = grind arith; longest = λ d t m other ends. omega (arith, most d t m other ends) }
+    kept h = record { is = best.is; within = grind arith; longest = λ d t m other ends. grind (arith, best.longest d t m other, run.longest d t m other) }
 
     pub replaced : count < n → LongestUpTo table c s n (place + 1)
-    replaced h = record { is = run.is; within = grind arith; longest = λ d t m other ends. omega (arith, most d t m other ends) }
+    replaced h = record { is = run.is; within = grind arith; longest = λ d t m other ends. grind (arith, best.longest d t m other, run.longest d t m other) }
 
   -- no run that the encoder accepts is longer than the longest one up to the end
   pub none_longer : (scalar start count place : ℕ) → 128 ≤ place → LongestUpTo table scalar start count place →
       (c s n : ℕ) → single_byte_run_fault table c s n ≡ None → c + n ≤ 0x2000 → n ≤ count
-  none_longer scalar start count place end best c s n e low =
-      let from : 32 ≤ s = grind (arith, nat_tests) in
-      let within : s + n ≤ 128 = grind (arith, nat_tests) in
-      best.longest c s n (record { from = from; low = low; holds = run_holds table c s n (grind arith) }) (omega arith)
+  none_longer scalar start count place end best c s n e low = grind (arith, nat_tests, best.longest c s n, run_holds table c s n)

@@ -1,8 +1,8 @@
 -- What the single-byte decoders read ahead.
 use Rattle.std.proofs.Common.{rules, IsAscii, ◌≡◌, ◌∙◌, ℕ, List, ◌+◌, ◌-◌, ◌≤◌, ◌<◌, ◌^◌, ◌++◌, zero, suc, length, take, drop, get_or}
-use Rattle.std.proofs.{Common.{cond, ltb, Some, refl, sym, ap, arith, All}, lemmas.Bool.Decides.nat_tests, lemmas.List.Elements.All-from_get_or}
+use Rattle.std.proofs.{Common.{Some, refl, ap, arith, All}, lemmas.Bool.Decides.nat_tests, lemmas.List.Elements.All-from_get_or}
 use Rattle.std.proofs.lemmas.List.{get_or_past, take_all, take_more, take-take, get_or-take}
-use Rattle.std.proofs.lemmas.List.{get_or-drop, length-drop, length-take, length-take-le, get_or-map, length-map}
+use Rattle.std.proofs.lemmas.List.{get_or-drop, length-drop, length-take-le, get_or-map, length-map}
 use Rattle.std.proofs.Math.Seq.{take-append_seam}
 use Rattle.std.specs.Char.{IsScalar}
 use Rattle.legacy_text.specs.declared.destination.Destination.{Ghosts}
@@ -16,7 +16,7 @@ use Rattle.legacy_decoder_engine.specs.ReadAhead.{Yields, IsSingle, HasAscii, Wr
 use Rattle.legacy_single_byte.specs.{ByteEntries.{IsByteEntry, AreByteEntries}}
 use Rattle.legacy_decoder_engine.proofs.{YieldedForms.{single_yields, has_ascii, ascii_is}, JoinedReads.{reads_written}}
 use Rattle.legacy_decoder_engine.proofs.WrittenReads.{yields_none, yields_more, writes_none, writes_one, writes_next, writes_ascii, rest_of}
-use Rattle.legacy_decoder_engine.proofs.WrittenReads.{all_short, short, three_fit, one_unit, reads_none}
+use Rattle.legacy_decoder_engine.proofs.WrittenReads.{short, three_fit, one_unit, reads_none}
 use Rattle.legacy_single_byte.proofs.SingleByteShown.{shown}
 
 small : (x : ℕ) → x < 0x80 → IsScalar x
@@ -82,25 +82,9 @@ module _ (table : AcceptedTable) where
         reads_written within (record { scalars = units; yields = rw all at yields; written = contents; room = room; loan = loan })
         (omega (arith, slack, room)) enough
 
-  -- the eight bytes were read and their entries were written
-  pub reads_eight : (source units : List ℕ) → ((k : ℕ) → get_or source k 0 < 2 ^ 8)
-      → ((k : ℕ) → k < 8 → IsByteEntry table.entries (get_or source k 0) (get_or units k 0)) → {D : Type 0} (T : Ghosts D) (old new : D)
-      → ((k : ℕ) → k < length units → get_or units k 0 ≡ 0 → ⊥) → 8 ≤ length source → length units ≡ 8
-      → T.contents new ≡ T.contents old ++ all_code_units T.form units → T.room new + total_unit_count T.form units ≡ T.room old → T.loan new ≡ T.loan old
-      → 35 ≤ T.room old → ReadsAhead T (new_state (single_byte table.entries)) source 8 old new
-  reads_eight source units bytes same T old new some within long contents room loan enough =
-      let few = all_short T.form units (λ k h. (entry_below (get_or source k 0) (get_or units k 0) (same k (omega arith))).0) in
-      reads_entries source units 8 bytes same T old new (λ k h past. some k (omega (arith, h, long)))
-      within long contents room loan (omega (arith, few, long, enough))
-      (omega (arith, enough))
-
   -- the entries of all bytes
   pub byte_scalars : (entries : List ℕ) → length entries ≡ 256 → AreByteEntries table.entries entries 256 → AreByteScalars entries
-  byte_scalars entries long same = record {
-    count = long;
-    ascii = λ b h. (same b (omega arith)).0 h;
-    scalars = All-from_get_or (λ c. (c < 0x1_0000) × IsScalar c) entries 0 (λ b h. entry_below b (get_or entries b 0) (same b (omega (arith, h, long))));
-  }
+  byte_scalars entries long same = grind (arith, same, entry_below, All-from_get_or (λ c. (c < 0x1_0000) × IsScalar c) entries 0)
 
   -- bytes at the front were read and their scalars were written, each as one code unit
   pub reads_units : (source entries : List ℕ) (r : ℕ) → ((k : ℕ) → get_or source k 0 < 2 ^ 8) → AreByteScalars entries
@@ -111,13 +95,13 @@ module _ (table : AcceptedTable) where
       → ReadsAhead T (new_state (single_byte table.entries)) source r old new
   reads_units source entries r bytes all same T old new one few within have contents room loan enough =
       let front : length (take r source) ≡ r = length-take-le r source (omega (arith, few, within)) in
-      let long : length (scalars_of entries (take r source)) ≡ r = length-map (take r source) (λ b. get_or entries b 0) ∙ front in
-      let count = one_each T.form entries (take r source) one all in
-      let unit : (k : ℕ) → k < r → get_or (scalars_of entries (take r source)) k 0 ≡ get_or entries (get_or source k 0) 0 =
+      let units : List ℕ = scalars_of entries (take r source) in
+      let long : length units ≡ r = length-map (take r source) (λ b. get_or entries b 0) ∙ front in
+      let unit : (k : ℕ) → k < r → get_or units k 0 ≡ get_or entries (get_or source k 0) 0 =
       λ k h. get_or-map (λ b. get_or entries b 0) (take r source) k 0 0 (omega (arith, h, front)) ∙ ap (λ b. get_or entries b 0) (get_or-take r source k 0 h) in
-      reads_entries source (scalars_of entries (take r source)) r bytes (λ k h. rw (unit k h) (same (get_or source k 0) (bytes k))) T old new
-      (λ k h past none. have k 0 (omega (arith, h, front)) (rw (get_or-take r source k 0 h) past) (rw (get_or-take r source k 0 h) (sym (unit k h) ∙ none)))
-      (omega (arith, few, within)) long contents room loan (omega (arith, count, front, few, enough)) (omega (arith, enough))
+      reads_entries source units r bytes (λ k h. rw (unit k h) (same (get_or source k 0) (bytes k))) T old new
+      (λ k h past none. grind (arith, have k 0, unit k h, get_or-take r source k 0 h)) (omega (arith, few, within)) long contents room loan
+      (omega (arith, one_each T.form entries (take r source) one all, front, few, enough)) (omega (arith, enough))
 
 -- what was read of bytes with others after them
 pub reads_padded : {D : Type 0} {T : Ghosts D} {state : DecoderState} {source padded : List ℕ} {r : ℕ} {old new : D} → r ≤ length source →
@@ -128,8 +112,7 @@ reads_padded {source = source} {padded} {r} within front reads = grind (arith, t
 pub past_of : (source : List ℕ) (past : ℕ) → ArePast past (take 64 source) → ArePastFrom past source 0
 past_of source past are i h =
     let below : i < 64 = omega (arith, h) in
-    let place : i ≡ 0 + i = omega arith in
-    are i below ∙ ap (λ b. cond (ltb b 128) 0 1) (get_or-take 64 source i 0 below) ∙ ap (λ j. cond (ltb (get_or source j 0) 128) 0 1) place
+    let place : 0 + i ≡ i = omega arith in rw place (rw (get_or-take 64 source i 0 below) at (are i below))
 
 -- the lemmas for the functions that read blocks
 pub ruleset steps = (past_of, writes_none, writes_one, three_fit, short, one_unit, reads_none, reads_padded, take-append_seam, length-take-le)

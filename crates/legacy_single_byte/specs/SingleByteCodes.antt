@@ -1,16 +1,11 @@
 -- The bytes of the codes of the single-byte codecs.
-use Rattle.std.proofs.Common.{ℕ, ◌≤◌, ◌+◌, ◌==◌, List, [], ◌∷◌, refl, arith, position}
+use Rattle.std.proofs.Common.{ℕ, ◌+◌, ◌==◌, List, [], ◌∷◌, refl, arith, position}
 use Rattle.std.proofs.lemmas.Bool.{lt-ltb}
-use Rattle.legacy_base.specs.EncodeEvents.{code_length}
 use Rattle.legacy_base.specs.SingleByte.{single_byte_code}
 use Rattle.legacy_base.specs.Encoders.{single_byte}
 use Rattle.legacy_encoder_engine.specs.PlainCodecs.{IsPlainCodec}
 use Rattle.legacy_encoder_engine.specs.PlainLengths.{byte_lengths}
 use Rattle.legacy_encoder_engine.proofs.PlainServes.{short_past, short_map}
-
-short : (table : List ℕ) (c : ℕ) → 128 ≤ c → code_length (single_byte_code table c) ≤ 1
-unfolding single_byte_code
-short table c h = short_past c _ _ 1 h (short_map (λ place. (0x80 + place) ∷ []) (position (λ entry. entry == c) table) 1 (λ p. omega arith))
 
 -- a single-byte codec has no modes, and its codes have one byte
 pub single_byte_plain : (table : List ℕ) → IsPlainCodec (single_byte table) 1
@@ -22,6 +17,6 @@ single_byte_plain table = record {
   profile_is = refl;
   ascii = λ c h. rw (lt-ltb c 128 h) refl;
   most = 1;
-  short = short table;
+  short = λ c h. short_past c _ _ 1 h (short_map (λ place. (0x80 + place) ∷ []) (position (λ entry. entry == c) table) 1 (λ p. omega arith));
   lengths = byte_lengths;
 }

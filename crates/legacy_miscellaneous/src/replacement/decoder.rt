@@ -2,6 +2,7 @@
 ghost use Rattle.std.specs.Prelude.{◌≡◌, false};
 ghost use Rattle.legacy_base.specs.Grammar.{replacement};
 ghost use Rattle.legacy_base.specs.States.{new_state};
+ghost use Rattle.legacy_miscellaneous.specs.ReplacementDecoder.{replacement_state};
 
 use legacy_base::{DecoderStep, Destination, RawDecoder};
 use legacy_decoder_engine::drive::drive_decoder;
@@ -18,8 +19,6 @@ pub struct ReplacementDecoder {
 }
 
 impl ReplacementDecoder {
-    ghost use Rattle.legacy_miscellaneous.specs.ReplacementDecoder.{replacement_state};
-
     /// Returns a decoder before its first byte.
     pub fn new() -> ReplacementDecoder
         ensures { replacement_state result ≡ new_state (replacement false) }
@@ -31,8 +30,6 @@ impl ReplacementDecoder {
 }
 
 impl DecoderMoves for ReplacementDecoder {
-    ghost use Rattle.legacy_miscellaneous.specs.ReplacementDecoder.{replacement_state};
-
     ghost state = { replacement_state };
 
     #[inline]
@@ -83,8 +80,6 @@ impl DecoderMoves for ReplacementDecoder {
 }
 
 impl RawDecoder for ReplacementDecoder {
-    ghost use Rattle.legacy_miscellaneous.specs.ReplacementDecoder.{replacement_state};
-
     ghost state = { replacement_state };
 
     fn step<T: Destination>(&mut self, src: &[u8], dst: &mut T, last: bool) -> DecoderStep {

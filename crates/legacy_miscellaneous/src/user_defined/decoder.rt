@@ -2,6 +2,7 @@
 ghost use Rattle.std.specs.Prelude.{◌≡◌};
 ghost use Rattle.legacy_base.specs.Grammar.{user_defined};
 ghost use Rattle.legacy_base.specs.States.{new_state};
+ghost use Rattle.legacy_miscellaneous.specs.UserDefinedDecoder.{user_defined_state};
 
 use super::blocks::{read_few, read_text, scalar_of};
 use legacy_base::{DecoderStep, Destination, RawDecoder};
@@ -18,8 +19,6 @@ pub struct UserDefinedDecoder {
 }
 
 impl UserDefinedDecoder {
-    ghost use Rattle.legacy_miscellaneous.specs.UserDefinedDecoder.{user_defined_state};
-
     /// Returns a decoder before its first byte.
     pub fn new() -> UserDefinedDecoder
         ensures { user_defined_state result ≡ new_state user_defined }
@@ -29,8 +28,6 @@ impl UserDefinedDecoder {
 }
 
 impl DecoderMoves for UserDefinedDecoder {
-    ghost use Rattle.legacy_miscellaneous.specs.UserDefinedDecoder.{user_defined_state};
-
     ghost state = { user_defined_state };
 
     #[inline]
@@ -82,8 +79,6 @@ impl DecoderMoves for UserDefinedDecoder {
 }
 
 impl RawDecoder for UserDefinedDecoder {
-    ghost use Rattle.legacy_miscellaneous.specs.UserDefinedDecoder.{user_defined_state};
-
     ghost state = { user_defined_state };
 
     #[inline(always)]

@@ -1,7 +1,7 @@
 //! The encoder of x-user-defined.
-ghost use Rattle.std.specs.Prelude.{◌≡◌, ◌+◌, ◌-◌};
+ghost use Rattle.std.specs.Prelude.{◌≡◌};
 ghost use Rattle.legacy_base.specs.Encoders.{user_defined, new_encoder};
-ghost use Rattle.legacy_miscellaneous.specs.UserDefinedCodes.{user_defined_plain};
+ghost use Rattle.legacy_miscellaneous.specs.UserDefinedCodes.{user_defined_encoder_state, user_defined_plain};
 
 use legacy_base::{EncoderStep, RawEncoder, Source};
 use legacy_encoder_engine::drive::drive_encoder;
@@ -20,8 +20,6 @@ pub struct UserDefinedEncoder {
 }
 
 impl UserDefinedEncoder {
-    ghost use Rattle.legacy_miscellaneous.specs.UserDefinedEncoder.{user_defined_encoder_state};
-
     /// Returns an encoder before its first scalar.
     pub fn new() -> UserDefinedEncoder
         ensures { user_defined_encoder_state result ≡ new_encoder user_defined }
@@ -80,8 +78,6 @@ impl PlainEncoder for UserDefinedEncoder {
 }
 
 impl RawEncoder for UserDefinedEncoder {
-    ghost use Rattle.legacy_miscellaneous.specs.UserDefinedEncoder.{user_defined_encoder_state};
-
     ghost state = { user_defined_encoder_state };
 
     fn step<S: Source>(&mut self, src: &mut S, dst: &mut [u8], last: bool) -> EncoderStep {

@@ -3,6 +3,7 @@ ghost use Rattle.std.specs.Prelude.{◌≡◌};
 ghost use Rattle.legacy_base.specs.Grammar.{utf16};
 ghost use Rattle.legacy_base.specs.States.{additional_from_state, new_state};
 ghost use Rattle.legacy_base.specs.Lengths.{answer, most_code_units};
+ghost use Rattle.legacy_miscellaneous.specs.Utf16Decoder.{utf16_state};
 
 use super::held_bytes::Held;
 use super::unit_blocks::Units;
@@ -30,8 +31,6 @@ pub struct Utf16Decoder {
 }
 
 impl Utf16Decoder {
-    ghost use Rattle.legacy_miscellaneous.specs.Utf16Decoder.{utf16_state};
-
     /// Returns a decoder before its first byte.
     ///
     /// If `big_endian` is set, the first byte of a unit is the high one. Otherwise the second is.
@@ -70,8 +69,6 @@ impl Utf16Decoder {
 }
 
 impl DecoderMoves for Utf16Decoder {
-    ghost use Rattle.legacy_miscellaneous.specs.Utf16Decoder.{utf16_state};
-
     ghost state = { utf16_state };
 
     #[inline]
@@ -114,6 +111,7 @@ impl DecoderMoves for Utf16Decoder {
         !matches!(self.held, Held::Nothing)
     }
 
+    #[tactic(auto, using(crate::proofs::Utf16Held::ends_none))]
     fn report(&mut self) -> Option<(u8, u8)> {
         let length = match self.held {
             Held::Nothing => return None,
@@ -128,6 +126,7 @@ impl DecoderMoves for Utf16Decoder {
 
     // The byte order is decided here, and not at each unit.
     #[inline(always)]
+    #[tactic(auto, using(legacy_decoder_engine::proofs::WrittenReads::no_bytes))]
     fn read_common<T: Destination>(&mut self, src: &[u8], dst: &mut T) -> usize {
         if !matches!(self.held, Held::Nothing) {
             0
@@ -140,8 +139,6 @@ impl DecoderMoves for Utf16Decoder {
 }
 
 impl RawDecoder for Utf16Decoder {
-    ghost use Rattle.legacy_miscellaneous.specs.Utf16Decoder.{utf16_state};
-
     ghost state = { utf16_state };
 
     #[inline(always)]

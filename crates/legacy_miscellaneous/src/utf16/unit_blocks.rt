@@ -25,9 +25,7 @@ pub struct Units {
 }
 
 impl FrontForms for Units {
-    ghost use Rattle.legacy_miscellaneous.specs.Utf16Decoder.{units_grammar};
-
-    ghost grammar = { units_grammar };
+    ghost grammar = { λ units. utf16 units.big_endian };
 
     #[inline(always)]
     fn form(&self, first: u8, second: u8) -> CommonForm {

@@ -77,19 +77,6 @@ fn read_parts<P: Parts, T: Destination>(parts: &P, src: &[u8], most: usize, dst:
 // In French text one byte of twenty is past ASCII.
 const MANY: u32 = 16;
 
-/// Reads up to 64 bytes at once, if each scalar is one code unit.
-#[inline(always)]
-fn read_units<T: Destination>(scalars: &ByteScalars, src: &[u8], most: usize, dst: &mut T) -> usize
-    requires form { bmp_room T.form ≡ 1 }
-    requires source { 64 ≤ length src.now }
-    requires room { 70 ≤ T.room dst.old }
-    ensures most { result ≤ most }
-    ensures ahead { ReadsAhead T.Destination (new_state (single_byte scalars.now.table.now.entries)) src.now result
-        dst.old dst.new }
-{
-    dst.put_bytes(src, scalars.entries(), most)
-}
-
 /// Few bytes past ASCII, among ASCII.
 // If a scalar may be several code units, a whole block is stored after each byte past ASCII, and the output after the
 // next ASCII bytes is overwritten. So no branch depends on the place of the next byte past ASCII, which no processor
@@ -113,7 +100,7 @@ impl Parts for MostlyAscii<'_> {
         }
         let end = most.min(64);
         if T::narrow() == 1 {
-            let read = read_units(self.scalars, src, end, dst);
+            let read = dst.put_bytes(src, self.scalars.entries(), end);
             return (read, read > 0 && read == end);
         }
         let mut at = 0;

@@ -3,6 +3,7 @@ ghost use Rattle.std.specs.Prelude.{◌≡◌, ◌≤◌, length, take, IsAscii}
 ghost use Rattle.legacy_base.specs.Grammar.{single_byte};
 ghost use Rattle.legacy_base.specs.Latin1.{is_latin1_byte, latin1_front};
 ghost use Rattle.legacy_base.specs.States.{new_state};
+ghost use Rattle.legacy_single_byte.specs.SingleByteDecoder.{single_byte_entries, single_byte_state};
 
 use super::blocks::read_text;
 use super::scalars::ByteScalars;
@@ -39,19 +40,15 @@ fn ascii_blocks(bytes: &[u8]) -> usize
     let mut count = 0;
     while bytes.len() - count >= 16 {
         let block = u8x16::from_slice(&bytes[count..]);
-        let past = block.simd_ge(u8x16::splat(0x80)).to_bitmask();
-        if past == 0 {
-            count += 16;
-        } else {
+        if block.simd_ge(u8x16::splat(0x80)).to_bitmask() != 0 {
             return count;
         }
+        count += 16;
     }
     count
 }
 
 impl<'a> SingleByteDecoder<'a> {
-    ghost use Rattle.legacy_single_byte.specs.SingleByteDecoder.{single_byte_entries, single_byte_state};
-
     /// Returns a decoder before its first byte, which reads bytes from 0x80 on by the table.
     pub fn new(table: &'a SingleByteTable) -> SingleByteDecoder<'a>
         ensures state { single_byte_state result ≡ new_state (single_byte table.now.entries) }
@@ -79,8 +76,6 @@ impl<'a> SingleByteDecoder<'a> {
 }
 
 impl DecoderMoves for SingleByteDecoder<'_> {
-    ghost use Rattle.legacy_single_byte.specs.SingleByteDecoder.{single_byte_state};
-
     ghost state = { single_byte_state };
 
     #[inline]
@@ -138,8 +133,6 @@ impl DecoderMoves for SingleByteDecoder<'_> {
 }
 
 impl RawDecoder for SingleByteDecoder<'_> {
-    ghost use Rattle.legacy_single_byte.specs.SingleByteDecoder.{single_byte_state};
-
     ghost state = { single_byte_state };
 
     #[inline(always)]

@@ -1,6 +1,7 @@
 //! The encoder of the single-byte encodings.
-ghost use Rattle.std.specs.Prelude.{◌≡◌, ◌+◌, ◌-◌, ◌<◌, ◌≤◌, ◌==◌, MatchResult, Some, None, IfSome, true, false, position};
+ghost use Rattle.std.specs.Prelude.{◌≡◌, ◌+◌, ◌-◌, ◌<◌, ◌≤◌, [], ◌∷◌, MatchResult, Some, None, IfSome, option_map};
 ghost use Rattle.legacy_base.specs.Encoders.{single_byte, new_encoder};
+ghost use Rattle.legacy_base.specs.SingleByte.{single_byte_code};
 ghost use Rattle.legacy_single_byte.specs.SingleByteRun.{IsRun, IsLongestRun, single_byte_run_fault};
 ghost use Rattle.legacy_single_byte.specs.SingleByteCodes.{single_byte_plain};
 
@@ -17,7 +18,7 @@ use legacy_encoder_engine::read_ahead::read_common;
 /// An ASCII scalar is encoded as itself, and the scalar at place `p` of the table as byte 0x80 +
 /// `p`. All other scalars are unmappable. The encoder knows a run of the table in which the scalars
 /// are consecutive: it does not search for these.
-#[derive(Drop)]
+#[derive(Clone, Copy)]
 pub struct SingleByteEncoder<'a> {
     table: &'a SingleByteTable,
     run_bmp_offset: u16,
@@ -31,19 +32,10 @@ pub struct SingleByteEncoder<'a> {
 /// Returns the place of a scalar past ASCII, if it is in the table.
 fn place_of(table: &SingleByteTable, c: char) -> Option<usize>
     requires { 0x80 ≤ c }
-    ensures value { result ≡ position (λ entry. entry == c) table.now.entries }
     ensures bound { IfSome result (λ place. place < 128) }
+    ensures code { single_byte_code table.now.entries c ≡ option_map (λ place. (0x80 + place) ∷ []) result }
 {
     table.place(c)
-}
-
-/// Returns the code unit if it is ASCII, and the byte otherwise.
-#[inline(always)]
-fn ascii_or(unit: u16, byte: u8) -> u8
-    ensures ascii { unit < 0x80 → result ≡ unit }
-    ensures past { 0x80 ≤ unit → result ≡ byte }
-{
-    if unit < 0x80 { unit as u8 } else { byte }
 }
 
 impl<'a> SingleByteEncoder<'a> {
@@ -98,20 +90,6 @@ impl<'a> SingleByteEncoder<'a> {
         }
     }
 
-    /// Returns the same encoder as a value of its own.
-    // Through a reference the compiler would load the run again after each byte that is stored.
-    #[inline(always)]
-    fn copied(&self) -> SingleByteEncoder<'a>
-        ensures { result.table.now ≡ self.now.table.now }
-    {
-        SingleByteEncoder {
-            table: self.table,
-            run_bmp_offset: self.run_bmp_offset,
-            run_byte_offset: self.run_byte_offset,
-            run_length: self.run_length,
-        }
-    }
-
     /// Returns the place of a scalar in the run, or a number past the run's end if it is not in it.
     #[inline(always)]
     fn run_place(&self, code: u32) -> u32
@@ -140,20 +118,6 @@ impl<'a> SingleByteEncoder<'a> {
         let first = 0x80 + u16::from(self.run_byte_offset);
         (place.wrapping_add(first) % 0x100) as u8
     }
-
-    /// Returns the byte of a scalar that is ASCII, or at this place of the run.
-    #[inline(always)]
-    fn byte_at(&self, code: u32, place: u32) -> u8
-        requires { 128 ≤ code → place < self.now.run_length }
-        ensures ascii { code < 128 → result ≡ code }
-        ensures past { 128 ≤ code → result ≡ 0x80 + (self.now.run_byte_offset + place) }
-    {
-        if code < 0x80 {
-            code as u8
-        } else {
-            (0x80 + (u32::from(self.run_byte_offset) + place)) as u8
-        }
-    }
 }
 
 impl PlainCodes for SingleByteEncoder<'_> {
@@ -175,7 +139,11 @@ impl PlainCodes for SingleByteEncoder<'_> {
         let code = c as u32;
         let place = self.run_place(code);
         if (code < 0x80) | (place < u32::from(self.run_length)) {
-            return EncoderMove::One(self.byte_at(code, place));
+            return EncoderMove::One(if code < 0x80 {
+                code as u8
+            } else {
+                self.run_byte(place as u16)
+            });
         }
         match place_of(self.table, c) {
             Some(place) => EncoderMove::One((0x80 + place) as u8),
@@ -191,23 +159,26 @@ impl PlainCodes for SingleByteEncoder<'_> {
     #[inline(always)]
     fn byte_of(&self, unit: u16) -> (u8, bool) {
         let place = self.unit_place(unit);
-        let byte = ascii_or(unit, self.run_byte(place));
+        let past = self.run_byte(place);
         let is_in_run = place < u16::from(self.run_length);
-        (byte, (unit < 0x80) | is_in_run)
+        (
+            if unit < 0x80 { unit as u8 } else { past },
+            (unit < 0x80) | is_in_run,
+        )
     }
 }
 
 impl PlainEncoder for SingleByteEncoder<'_> {
+    // Through a reference the compiler would load the run again after each byte that is stored.
     #[inline]
     fn read_codes<S: Source>(&self, src: &mut S, dst: &mut [u8], start: usize) -> usize {
-        read_common(&self.copied(), src, dst, start)
+        let encoder = *self;
+        read_common(&encoder, src, dst, start)
     }
 }
 
 impl RawEncoder for SingleByteEncoder<'_> {
-    ghost use Rattle.legacy_single_byte.specs.SingleByteEncoder.{single_byte_encoder_state};
-
-    ghost state = { single_byte_encoder_state };
+    ghost state = { λ encoder. new_encoder (single_byte encoder.table.now.entries) };
 
     fn step<S: Source>(&mut self, src: &mut S, dst: &mut [u8], last: bool) -> EncoderStep {
         drive_encoder(self, src, dst, last)

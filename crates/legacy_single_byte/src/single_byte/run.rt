@@ -1,7 +1,7 @@
 //! The runs of consecutive scalars in single-byte tables: their check, and the longest one.
 ghost use Rattle.std.specs.Prelude.{◌≡◌, ℕ, ◌+◌, ◌<◌, ◌≤◌, MatchResult, Some, None, slice_index};
 ghost use Rattle.legacy_single_byte.specs.SingleByteRun.{IsRun, first_mismatch, single_byte_run_fault};
-ghost use Rattle.legacy_single_byte.specs.LongestRun.{LongestUpTo, LongestToThe};
+ghost use Rattle.legacy_single_byte.specs.LongestRun.{LongestToThe};
 
 use legacy_base::SingleByteTable;
 use thiserror::Error;
@@ -35,10 +35,7 @@ pub enum SingleByteRunError {
 fn entry(table: &SingleByteTable, place: usize) -> usize
     ensures { result ≡ slice_index table.now.entries place }
 {
-    match table.scalar(place) {
-        Some(scalar) => scalar as usize,
-        None => 0,
-    }
+    table.scalar(place).unwrap_or('\0') as usize
 }
 
 /// Returns how far after `start` the table first differs from the scalars from `scalar` upwards.
@@ -111,9 +108,8 @@ fn run_to(table: &SingleByteTable, before: SingleByteRun, place: u8) -> SingleBy
         };
     }
     SingleByteRun {
-        scalar: before.scalar,
-        start: before.start,
         count: before.count + 1,
+        ..before
     }
 }
 
@@ -122,6 +118,7 @@ impl SingleByteRun {
     ///
     /// `SingleByteEncoder::new` never refuses it. All letters of the Standard's single-byte
     /// encodings are below U+2000. The search takes 96 steps.
+    #[tactic(auto, using(crate::proofs::LongestRuns::not_refused))]
     pub fn longest(table: &SingleByteTable) -> SingleByteRun
         ensures accepted { single_byte_run_fault table.now.entries
             result.scalar result.start result.count ≡ None }

@@ -47,10 +47,8 @@ fn byte_entries(table: &SingleByteTable) -> [u16; 256]
     ensures same { AreByteEntries table.now.entries result 256 }
 {
     let mut entries = [0u16; 256];
-    let mut byte = 0;
-    while byte < 256 {
+    for byte in 0..256 {
         entries[byte] = entry_of(table, byte);
-        byte += 1;
     }
     entries
 }
@@ -62,10 +60,8 @@ fn utf8_entries_of(table: &SingleByteTable) -> [u32; 128]
     ensures same { AreUtf8Entries table.now.entries result 128 }
 {
     let mut entries = [0u32; 128];
-    let mut place = 0;
-    while place < 128 {
+    for place in 0..128 {
         entries[place] = utf8_entry(table.scalar(place).unwrap_or('\0'));
-        place += 1;
     }
     entries
 }
@@ -84,6 +80,7 @@ impl<'a> ByteScalars<'a> {
 
     /// Returns the scalar of a byte, or `None` if it has none, and for the byte 00.
     #[inline(always)]
+    #[tactic(auto, using(crate::proofs::SingleByteAhead::entry_below))]
     pub fn scalar(&self, byte: u8) -> Option<char>
         ensures single { IfSome result (λ c. IsSingle (single_byte self.now.table.now.entries) byte c) }
         ensures entry { IfSome result (λ c. IsByteEntry self.now.table.now.entries byte c) }

@@ -4,7 +4,6 @@ use Rattle.legacy_text.proofs.Texts.{first_cons, none_left}
 use Rattle.legacy_encoder_engine.specs.Moves.{is_escape}
 use Rattle.legacy_encoder_engine.proofs.CallUnderWay.{underway_start, underway_read, underway_escape, call_full_scalar, call_full_end, call_unmappable}
 use Rattle.legacy_encoder_engine.proofs.CallUnderWay.{call_done, call_finish, first_units}
-use Rattle.legacy_encoder_engine.proofs.drive.drive_encoder.Goals.{else-is_pending-via-then-is_pending+else-last, else-is_pending-via-else-is_pending}
 use Rattle.legacy_encoder_engine.proofs.drive.drive_encoder.Goals as goal
 
 pub loop-c-init : goal.loop-c-init

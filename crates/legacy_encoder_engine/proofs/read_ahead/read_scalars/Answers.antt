@@ -1,9 +1,6 @@
 use Rattle.std.proofs.{Common.arith, lemmas.List.length-take-le}
-use Rattle.legacy_encoder_engine.proofs.ReadingAhead.{encodes_none, encodes_then, encodes_put}
+use Rattle.legacy_encoder_engine.proofs.ReadingAhead.{encodes_then, encodes_put}
 use Rattle.legacy_encoder_engine.proofs.read_ahead.read_scalars.Goals as goal
-
-pub loop-dst-init : goal.loop-dst-init
-loop-dst-init g c = (encodes_none _ _ _ _ _ _ _ c.requires.start, c.requires.guess)
 
 pub loop-dst-preserved-else-by_tens : goal.loop-dst-preserved-else-by_tens
 loop-dst-preserved-else-by_tens g c =
@@ -22,19 +19,3 @@ loop-dst-preserved-then-has_tens g c =
     c.in-Some.ensures.puts c.pass.ensures.left c.pass.ensures.passed
     (length-take-le _ _ (omega (arith, before.end))) (omega (arith, c.loop-dst-test.true, widest.is)) in
     (encodes_then one c.read_tens-at.ensures (omega arith), c.in-Some.ensures.guess)
-
-pub loop-dst-preserved-else-goes_on : goal.loop-dst-preserved-else-goes_on
-loop-dst-preserved-else-goes_on g c =
-    let read = c.in-Some-read_past_ascii.ensures in
-    (encodes_then c.loop-dst.invariant.0 read.ahead (omega arith), read.guess)
-
-pub loop-dst-preserved-then-goes_on : goal.loop-dst-preserved-then-goes_on
-loop-dst-preserved-then-goes_on g c =
-    let read = c.in-Some-read_past_ascii.ensures in
-    let one = encodes_then c.loop-dst.invariant.0 read.ahead (omega arith) in
-    (encodes_then one c.read_turns-at.ensures (omega arith), read.guess)
-
-pub loop-dst-preserved : goal.loop-dst-preserved
-loop-dst-preserved g c =
-    let read = c.in-Some-read_past_ascii-2.ensures in
-    (encodes_then c.loop-dst.invariant.0 read.ahead (omega arith), read.guess)

@@ -1,12 +1,7 @@
-use Rattle.std.proofs.Common.{arith, refl}
+use Rattle.std.proofs.Common.{refl}
 use Rattle.legacy_encoder_engine.specs.declared.moves.EncoderMove.TheVariants.{One}
-use Rattle.legacy_encoder_engine.proofs.PlainServes.{plain_fits, plain_puts, plain_code}
+use Rattle.legacy_encoder_engine.proofs.PlainServes.{plain_puts, plain_code}
 use Rattle.legacy_encoder_engine.proofs.plain.AnyAheadCodes.put_code.Goals as goal
-
-pub put_move-requires : goal.put_move-requires
-put_move-requires g c =
-    let plain = g.C.PlainCodes.plain c.args.self.now in
-    omega (arith, plain_fits _ _ plain c.args.c (One c.args.c) (plain_code _ _ plain c.args.c c.if-c-lt128.true), c.requires.room)
 
 pub returns-then-c-lt128-clause-puts : goal.returns-then-c-lt128-clause-puts
 returns-then-c-lt128-clause-puts g c =

@@ -1,33 +1,18 @@
-use Rattle.std.proofs.Common.{arith, refl}
+use Rattle.std.proofs.Common.{refl}
 use Rattle.legacy_encoder_engine.specs.declared.moves.EncoderMove.TheVariants.{Two, Four}
-use Rattle.legacy_encoder_engine.proofs.PlainServes.{plain_fits, plain_puts}
+use Rattle.legacy_encoder_engine.proofs.PlainServes.{plain_puts}
 use Rattle.legacy_encoder_engine.proofs.plain.AnyAheadCodes.put_past_ascii.Goals as goal
-
-pub put_two-requires : goal.put_two-requires
-put_two-requires g c =
-    let move = Two c.in-Some.lead c.in-Some.trail in
-    omega (arith, plain_fits _ _ (g.C.PlainCodes.plain c.args.self.now) c.args.c move c.in-Some.ensures, c.requires.room)
 
 pub returns-in-Some-clause-puts : goal.returns-in-Some-clause-puts
 returns-in-Some-clause-puts g c =
     let move = Two c.in-Some.lead c.in-Some.trail in
     plain_puts _ _ (g.C.PlainCodes.plain c.args.self.now) c.args.c move c.in-Some.ensures refl refl _ _ _ _ c.put_two.ensures refl
 
-pub put_four-requires : goal.put_four-requires
-put_four-requires g c =
-    let four = c.in-Some-four_of.four in
-    let move = Four four.0 four.1 four.2 four.3 in
-    omega (arith, plain_fits _ _ (g.C.PlainCodes.plain c.args.self.now) c.args.c move c.in-Some-four_of.ensures.code, c.requires.room)
-
 pub returns-in-Some-four_of-clause-puts : goal.returns-in-Some-four_of-clause-puts
 returns-in-Some-four_of-clause-puts g c =
     let four = c.in-Some-four_of.four in
     let move = Four four.0 four.1 four.2 four.3 in
     plain_puts _ _ (g.C.PlainCodes.plain c.args.self.now) c.args.c move c.in-Some-four_of.ensures.code refl refl _ _ _ _ c.put_four.ensures refl
-
-pub put_move-requires : goal.put_move-requires
-put_move-requires g c =
-    omega (arith, plain_fits _ _ (g.C.PlainCodes.plain c.args.self.now) c.args.c c.code_of-step.result c.code_of-step.ensures, c.requires.room)
 
 pub returns-clause-puts : goal.returns-clause-puts
 returns-clause-puts g c =

@@ -1,4 +1,4 @@
-use Rattle.std.proofs.{Common.{◌-◌, ◌*◌, arith}, lemmas.List.Elements.All-get_or}
+use Rattle.std.proofs.Common.{◌-◌, ◌*◌, arith}
 use Rattle.legacy_miscellaneous.proofs.{Utf16Ahead.unit_after, Utf16Vectors.both_below}
 use Rattle.legacy_miscellaneous.proofs.utf16.unit_blocks.Units.are_below.Goals as goal
 
@@ -11,6 +11,3 @@ loop-group-preserved c = record {
       let is = unit_after c.args.self.now.big_endian c.args.src.now (8 * c.loop-group.group) (16 * c.loop-group.group) j (omega arith) in
       grind (arith, c.loop-group.invariant.below n both.0 k, c.eight_units.ensures j, is, both.1 j);
 }
-
-pub returns : goal.returns
-returns c = grind (arith, All-get_or)

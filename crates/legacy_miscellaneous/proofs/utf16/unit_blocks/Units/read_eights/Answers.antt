@@ -5,13 +5,9 @@ use Rattle.legacy_miscellaneous.proofs.utf16.unit_blocks.Units.read_eights.Goals
 
 pub put_eight_short-requires : goal.put_eight_short-requires
 put_eight_short-requires g c =
-    let units = c.eight_units-units in
-    let short = short_eight _ _ _ c.loop-group.group _ (c.requires.short c.if-is_short.true) c.loop-group-test.true units.ensures in
-    record {
-      scalars = All-from_get_or IsScalar units.result 0 (λ k h. below_scalar _ (short k (omega arith)));
-      short = All-from_get_or (λ u. u < 0x800) units.result 0 (λ k h. short k (omega arith));
-      room = omega (arith, c.loop-group.invariant.room, c.requires.room);
-    }
+    let units = c.eight_units-units.result in
+    let short = short_eight _ _ _ c.loop-group.group _ (c.requires.short c.if-is_short.true) c.loop-group-test.true c.eight_units-units.ensures in
+    grind (arith, below_scalar, All-from_get_or IsScalar units 0, All-from_get_or (λ u. u < 0x800) units 0, short)
 
 pub put_eight-requires-clause-scalars : goal.put_eight-requires-clause-scalars
 put_eight-requires-clause-scalars g c = All-from_get_or IsScalar c.eight_units-units.result 0 (c.has_surrogate.ensures c.if-has_surrogate.false)

@@ -3,10 +3,7 @@ use Rattle.legacy_decoder_engine.proofs.JoinedReads.{reads_more}
 use Rattle.legacy_miscellaneous.proofs.utf16.unit_blocks.Units.read_sixteens.Goals as goal
 
 pub loop-left-preserved : goal.loop-left-preserved
-loop-left-preserved g c =
-    let e = c.read_sixteen-read.ensures in
-    let i = c.loop-left.invariant in
-    (omega (arith, i.0, e.most), (λ h. omega (arith, h, i.1, e.room)), reads_more i.2 e.ahead)
+loop-left-preserved g c = grind (arith, reads_more c.loop-left.invariant.2 c.read_sixteen-read.ensures.ahead)
 
 pub returns-then-read-eq0 : goal.returns-then-read-eq0
 returns-then-read-eq0 g c = reads_more c.loop-left.invariant.2 c.read_sixteen-read.ensures.ahead

@@ -1,7 +1,21 @@
 use Rattle.std.proofs.Common.{arith}
 use Rattle.legacy_decoder_engine.proofs.{JoinedReads.reads_front, WrittenReads.{writes_one, short}}
-use Rattle.legacy_single_byte.proofs.SingleByteAhead.{ascii_next}
+use Rattle.legacy_single_byte.proofs.SingleByteAhead.{ascii_next, reads_units}
 use Rattle.legacy_single_byte.proofs.single_byte.blocks.MostlyAsciiParts.read_part.Goals as goal
+
+pub returns-then-read-gt0-clause-ahead : goal.returns-then-read-gt0-clause-ahead
+returns-then-read-gt0-clause-ahead g c =
+    let e = c.put_bytes-read.ensures in
+    let entries = c.entries.ensures in
+    reads_units c.args.self.now.scalars.now.table.now c.args.src.now c.entries.result.now _ (λ k. (c.type_inv.src k).fits) entries.all
+    entries.same g.T.Destination _ _ (omega arith) e.read (omega arith) e.have e.contents e.room e.loan c.requires.room
+
+pub returns-else-read-gt0-clause-ahead : goal.returns-else-read-gt0-clause-ahead
+returns-else-read-gt0-clause-ahead g c =
+    let e = c.put_bytes-read.ensures in
+    let entries = c.entries.ensures in
+    reads_units c.args.self.now.scalars.now.table.now c.args.src.now c.entries.result.now _ (λ k. (c.type_inv.src k).fits) entries.all
+    entries.same g.T.Destination _ _ (omega arith) e.read (omega arith) e.have e.contents e.room e.loan c.requires.room
 
 pub returns-then-at-gt0-clause-ahead : goal.returns-then-at-gt0-clause-ahead
 returns-then-at-gt0-clause-ahead g c =

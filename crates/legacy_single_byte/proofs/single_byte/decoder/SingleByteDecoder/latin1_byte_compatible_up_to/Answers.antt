@@ -7,5 +7,4 @@ returns-else-is_latin1 c =
     latin1_front-length _ _ _ c.loop-count.invariant.0 c.loop-count.invariant.1 (λ h. sym c.is_latin1.ensures ∙ c.if-is_latin1.false)
 
 pub returns-after-loop-count : goal.returns-after-loop-count
-returns-after-loop-count c =
-    grind (arith, latin1_front-length)
+returns-after-loop-count c = grind (arith, latin1_front-length)

@@ -5,7 +5,5 @@ use Rattle.legacy_single_byte.proofs.single_byte.encoder.SingleByteEncoderPlainC
 pub returns : goal.returns
 returns c = λ known.
     let e = c.args.self.now in
-    let table = e.table.now.entries in
     let unit = c.args.unit in
-    let k = unit - e.run_bmp_offset in
-    grind (arith, nat_tests, code_ascii, e.is_run k, code_at table e.table.now.accepted unit, malformed_at table e.table.now.accepted unit)
+    grind (arith, nat_tests, code_ascii, e.is_run (unit - e.run_bmp_offset), code_at e.table.now unit, malformed_at e.table.now unit)

@@ -1,5 +1,5 @@
 use Rattle.std.proofs.Common.{arith}
-use Rattle.legacy_single_byte.proofs.{LongestRuns.{kept, replaced, not_refused, none_longer}, single_byte.run.SingleByteRun.longest.Goals.then-run-best}
+use Rattle.legacy_single_byte.proofs.{LongestRuns.{kept, replaced, none_longer}, single_byte.run.SingleByteRun.longest.Goals.then-run-best}
 use Rattle.legacy_single_byte.proofs.single_byte.run.SingleByteRun.longest.Goals.{else-run-best}
 use Rattle.legacy_single_byte.proofs.single_byte.run.SingleByteRun.longest.Goals as goal
 
@@ -13,9 +13,6 @@ loop-place-preserved c =
         | else-run-best w ↦ rw w.best-is (kept _ _ _ _ _ until _ _ _ to (let h = w.if-run-best.false in omega arith))
       ],
     )
-
-pub returns-clause-accepted : goal.returns-clause-accepted
-returns-clause-accepted c = grind (arith, not_refused)
 
 pub returns-clause-longest : goal.returns-clause-longest
 returns-clause-longest c = none_longer _ _ _ _ c.loop-place.place (let test = c.loop-place-test.false in omega arith) c.loop-place.invariant.1

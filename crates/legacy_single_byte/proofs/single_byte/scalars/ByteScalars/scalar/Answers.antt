@@ -1,12 +1,6 @@
 use Rattle.std.proofs.Common.{arith}
-use Rattle.legacy_single_byte.proofs.SingleByteAhead.{entry_below, entry_yields}
+use Rattle.legacy_single_byte.proofs.SingleByteAhead.{entry_yields}
 use Rattle.legacy_single_byte.proofs.single_byte.scalars.ByteScalars.scalar.Goals as goal
-
-pub from_u32_unchecked-requires : goal.from_u32_unchecked-requires
-from_u32_unchecked-requires c = grind (arith, entry_below c.args.self.now.table.now c.args.byte, c.args.self.now.same c.args.byte)
-
-pub returns-clause-entry : goal.returns-clause-entry
-returns-clause-entry c = grind (arith, c.args.self.now.same c.args.byte)
 
 pub returns-clause-single : goal.returns-clause-single
 returns-clause-single c =

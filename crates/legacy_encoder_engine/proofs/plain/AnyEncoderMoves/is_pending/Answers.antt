@@ -1,5 +1,0 @@
-use Rattle.legacy_encoder_engine.proofs.PlainServes.{plain_serves}
-use Rattle.legacy_encoder_engine.proofs.plain.AnyEncoderMoves.is_pending.Goals as goal
-
-pub returns-clause-serves : goal.returns-clause-serves
-returns-clause-serves g c = plain_serves (g.C.PlainCodes.codec c.args.self.now) g.C.PlainCodes.past (g.C.PlainCodes.plain c.args.self.now)

@@ -1,5 +1,0 @@
-use Rattle.{legacy_miscellaneous.specs.Utf16Decoder.utf16_state, legacy_decoder_engine.proofs.WrittenReads.reads_none}
-use Rattle.legacy_miscellaneous.proofs.utf16.decoder.Utf16DecoderDecoderMoves.read_common.Goals as goal
-
-pub returns-then-not-matches : goal.returns-then-not-matches
-returns-then-not-matches g c = record { ahead = reads_none g.T.Destination (utf16_state c.args.self.now) c.args.src.now c.args.dst.now }
