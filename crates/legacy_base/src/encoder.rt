@@ -1,5 +1,5 @@
 //! The calls of an encoder.
-ghost use Rattle.std.specs.Prelude.{◌≡◌, ℕ, ◌+◌, ◌≤◌, List, length, take, drop};
+ghost use Rattle.std.specs.Prelude.{◌≡◌, ◌+◌, ◌≤◌, length, take, drop};
 ghost use Rattle.std.specs.Str.{chars, IsCharBoundary};
 ghost use Rattle.legacy_text.specs.EncodingForm.{Utf8, Utf16, total_unit_count};
 ghost use Rattle.legacy_text.specs.Texts.{unit_scalars, IsUnitBoundary};

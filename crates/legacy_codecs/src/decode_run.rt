@@ -1,7 +1,7 @@
 //! Runs of a decoder over an input in pieces, with outputs of given lengths.
 ghost use Rattle.std.specs.Prelude.{◌≡◌, ◌↔◌, ℕ, ◌+◌, ◌-◌, ◌^◌, ◌<◌, ◌≤◌, List, [], ◌++◌, length, drop, sum, sum_by, map, vec_len, vec_capacity, slice_index_or, All, IfOk, OnErr};
 ghost use Rattle.legacy_base.specs.declared.results.DecodeEvent.TheVariants.{Scalar};
-ghost use Rattle.legacy_text.specs.EncodingForm.{EncodingForm, Utf8, Utf16};
+ghost use Rattle.legacy_text.specs.EncodingForm.{Utf8, Utf16};
 ghost use Rattle.legacy_base.specs.Calls.{DecoderCall};
 ghost use Rattle.legacy_codecs.specs.Pieces.{contents_of, place_before, IsTooLong};
 ghost use Rattle.legacy_codecs.specs.RunResults.{RunDecodes};

@@ -1,5 +1,5 @@
 //! Runs of an encoder over a text in pieces, with outputs of given lengths.
-ghost use Rattle.std.specs.Prelude.{◌≡◌, ℕ, ◌↔◌, ◌+◌, ◌^◌, ◌≤◌, List, [], ◌∷◌, ◌++◌, length, sum, map, vec_len, vec_capacity, slice_index_or, All, IfOk, OnErr};
+ghost use Rattle.std.specs.Prelude.{◌≡◌, ℕ, ◌↔◌, ◌+◌, ◌≤◌, List, [], ◌++◌, length, sum, map, vec_len, vec_capacity, slice_index_or, All, IfOk, OnErr};
 ghost use Rattle.legacy_base.specs.declared.results.EncodeEvent.TheVariants.{Byte};
 ghost use Rattle.legacy_base.specs.EncoderCalls.{EncoderCall, reported};
 ghost use Rattle.legacy_codecs.specs.Pieces.{contents_of, place_before, IsTooLong};

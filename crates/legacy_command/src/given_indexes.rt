@@ -1,5 +1,5 @@
 //! The indexes that the program reads from files.
-ghost use Rattle.std.specs.Prelude.{◌≡◌, ◌⊎◌, [], IfErr, IfOk, OnOk, IsTrue, length};
+ghost use Rattle.std.specs.Prelude.{◌≡◌, ◌⊎◌, [], IfErr, IfOk, OnOk, IsTrue};
 ghost use Rattle.legacy_index_files.specs.OwnedIndexes.{HoldsTexts};
 ghost use Rattle.legacy_command.specs.Words.{texts_of, are_indexes};
 ghost use Rattle.legacy_command.specs.IndexTexts.{text_given, contents_of, AreWellFormed, IsFirstFault};

@@ -1,5 +1,5 @@
 //! The words of the command line: optionally `--text`, CODEC, and any number of INDEX and FILE.
-ghost use Rattle.std.specs.Prelude.{◌≡◌, length};
+ghost use Rattle.std.specs.Prelude.{◌≡◌};
 ghost use Rattle.legacy_command.specs.Words.{texts_of, wants_text, output_kind, words_after_option, codec_named};
 ghost use Rattle.legacy_command.specs.Words.{index_named, first_index_named, stands_among, are_indexes, codec_of_words};
 

@@ -1,5 +1,5 @@
 //! A registry that owns index data, and decodes and encodes by the Standard's name of the encoding.
-ghost use Rattle.std.specs.Prelude.{◌≡◌, ◌↔◌, [], string_bytes, Err, Some, None, true, IfOk, OnErr, MatchResult};
+ghost use Rattle.std.specs.Prelude.{◌≡◌, [], string_bytes, Err, Some, None, true, IfOk, OnErr, MatchResult};
 ghost use Rattle.std.specs.Prelude.{find, bytes_eq, vec_capacity};
 ghost use Rattle.std.specs.Option.{option_copied, option_map};
 ghost use Rattle.std.specs.Str.{chars};
@@ -11,7 +11,7 @@ ghost use Rattle.legacy_index_files.specs.IndexTexts.{no_text};
 ghost use Rattle.legacy_index_files.specs.OwnedIndexes.{owned_lists, HoldsTexts, IsUnallocated};
 ghost use Rattle.legacy_encodings.specs.SingleByteFiles.{IsSingleByteFault};
 ghost use Rattle.legacy_encodings.specs.Registries.{first_entries, IsReadTable, HasNoName, IsNameError};
-ghost use Rattle.legacy_encodings.specs.Registries.{IsDecoderOf, IsEncoderOf, LacksTable};
+ghost use Rattle.legacy_encodings.specs.Registries.{IsDecoderOf, IsEncoderOf};
 ghost use Rattle.legacy_encodings.specs.Registries.{IsText, IsDecodeError, AreBytes, IsEncodeError, bytes_by};
 ghost use Rattle.legacy_encodings.specs.Registries.{IsTranscoded, IsTranscodeError};
 

@@ -1,5 +1,5 @@
 -- Where a text in UTF-16 may be cut.
-use Rattle.std.proofs.Common.{◌≡◌, ◌∙◌, ℕ, suc, ◌+◌, ◌-◌, ◌<◌, ◌≤◌, ◌↔◌, ◌⊎◌, inl, inr, List, [], ◌∷◌, ◌++◌, length, get_or, map, take, drop, Option}
+use Rattle.std.proofs.Common.{◌≡◌, ◌∙◌, ℕ, suc, ◌+◌, ◌-◌, ◌<◌, ◌≤◌, ◌↔◌, inl, inr, List, [], ◌∷◌, ◌++◌, length, get_or, map, take, drop, Option}
 use Rattle.std.proofs.Common.{Bool, true, false, ◌&&◌, IsTrue, nat_eq, ltb, refl, sym, ap, arith, length-take, length-drop, get_or-take, get_or-drop}
 use Rattle.std.proofs.lemmas.Str.{utf16_chars-nil, utf16_chars_lone, utf16_chars_pair, encodes-chars, chars-nil}
 use Rattle.std.proofs.{lemmas.Bool.Decides.nat_tests, lemmas.List.{take_all, take-append-drop, get_or_past, nil_from_length}}
