@@ -1,7 +1,9 @@
 -- The length formulas of the ISO-2022-JP encoder are enough for its scalars and escapes. Its moves, by its tables and by a list of pairs.
-use Rattle.std.proofs.Common.{◌≡◌, ◌∙◌, ℕ, ◌+◌, ◌≤◌, List, arith, Bool, true, false, [], ◌∷◌, ◌++◌, refl, sym, ap, IsTrue, ◌||◌, Option, Some, eqb}
+use Rattle.std.proofs.Common.{◌≡◌, ◌∙◌, ℕ, ◌+◌, ◌≤◌, List, arith, Bool, true, false, [], ◌∷◌, ◌++◌, refl, sym, ap, IsTrue, ◌||◌, Option, Some, None, option_map, eqb, ◌==◌, if◌then◌else◌}
 use Rattle.std.proofs.{Common.{inl, inr, map, ◌⊎◌, ◌/◌, ◌%◌}, lemmas.Bool.{Decides.nat_tests, lt-ltb, cases_Bool}}
 use Rattle.legacy_text.specs.EncodingForm.{EncodingForm, Utf8}
+use Rattle.std.specs.Char.{is_ascii}
+use Rattle.legacy_base.specs.Iso2022Jp.{iso_2022_jp_pair, iso_2022_jp_pointer_of, is_mode_control}
 use Rattle.legacy_base.specs.Iso2022Jp.{iso_2022_jp_encoder, iso_2022_jp_code, is_two_byte_scalar, is_roman_scalar, escape_between, iso_2022_jp_reported}
 use Rattle.legacy_base.specs.{Iso2022Jp.mode_behind, EncodeEvents.{code_events}, EncoderProfile.{EncoderProfile, EncoderMode}}
 use Rattle.legacy_base.specs.{EncoderProfile.{in_ascii, in_two_byte}, declared.results.EncodeEvent.EncodeEvent, Beginnings.BeginsWith}
@@ -106,6 +108,13 @@ module _ (jis0208 katakana_index : List ℕ) where
 
   -- ---- the mode and move of a scalar
 
+  -- what is unfolded to tell them
+  pub code_by : (c : ℕ) → iso_2022_jp_code jis0208 katakana_index c ≡ (if is_mode_control c then None else if is_ascii c then Some (c ∷ [])
+      else if c == 0xA5 then Some (0x5C ∷ []) else if c == 0x203E then Some (0x7E ∷ [])
+      else option_map iso_2022_jp_pair (iso_2022_jp_pointer_of jis0208 katakana_index c))
+  unfolding iso_2022_jp_code
+  code_by c = refl
+
   -- a scalar that is written in the mode `new` needs it
   pub asks : {mode new : Mode} {c : ℕ} {own : Option (List ℕ)} {move : EncoderMove} → IsWritten jis0208 katakana_index (mode_of mode) c (mode_of new) own
       → IsCode own (iso_2022_jp_reported c) move → Asks jis0208 katakana_index mode c new move
@@ -115,6 +124,8 @@ module _ (jis0208 katakana_index : List ℕ) where
   pub stays : {mode new : Mode} {c : ℕ} {move : EncoderMove} → Asks jis0208 katakana_index mode c new move → mode ≡ new
       → Moves (state_in jis0208 katakana_index mode) c (state_in jis0208 katakana_index mode) move
   stays {mode} {new} {c} {move} asks same = reads mode c (asks.mode_is ∙ ap mode_of (sym same)) move asks.code_is
+
+  pub ruleset asked_steps = (nat_tests, mode_for-by, code_by)
 
   -- ---- ASCII in ASCII mode
 

@@ -1,12 +1,12 @@
 //! The encoder of ISO-2022-JP that reads pairs from a list, in memory that the caller lends.
 ghost use Rattle.std.specs.Prelude.{◌≡◌, ◌≢◌, ◌<◌, ◌≤◌, length, MatchOption};
 ghost use Rattle.legacy_base.specs.Encoders.{is_pending};
-ghost use Rattle.legacy_japanese.specs.{Iso2022JpEncoder.{Asks, iso_2022_jp_encoder_state, pairs_state}, Iso2022JpPairs.{IsListedEntry, IsPairOf}};
+ghost use Rattle.legacy_japanese.specs.{Iso2022JpEncoder.{iso_2022_jp_encoder_state, pairs_state}, Iso2022JpPairs.{IsListedEntry, IsPairOf}};
 ghost use Rattle.legacy_japanese.specs.Iso2022JpPairs.{ListsPairs, iso_2022_jp_mark, iso_2022_jp_mark-some};
 
 use crate::asked_scalars::ask_others;
 use crate::iso_2022_jp::encoder::{Iso2022JpEncoder, Mode, asked, go_to};
-use legacy_base::{EncoderStep, PackedPart, RawEncoder, Source, Tables};
+use legacy_base::{EncoderStep, PackedPart, RawEncoder, Source};
 use legacy_encoder_engine::ahead_codes::AheadCodes;
 use legacy_encoder_engine::asked_pairs::PairEntries;
 use legacy_encoder_engine::cached::PAIR_ROOM;
@@ -57,20 +57,55 @@ fn list_pairs(encoder: &Iso2022JpEncoder<'_>, pairs: &mut [u16])
     ask_others(encoder, pairs);
 }
 
-/// A list of the pairs by these tables.
+/// The encoder of ISO-2022-JP with a list of pairs: it writes what `Iso2022JpEncoder` writes.
+///
+/// The list has the pairs of all scalars below U+10000, in memory that the caller lends. `new` makes
+/// it in one walk over index jis0208, flat or packed. Each pair is then one load, whatever tables
+/// the other encoder has. The encoder has its own mode, which is ASCII after the last call of a
+/// text: it can encode any number of texts, one after another. Each copy has its own mode.
 #[derive(Clone, Copy)]
-pub struct ListedPairs<'a, 'b> {
-    tables: &'a Tables<'a>,
+pub struct CachedIso2022JpEncoder<'a, 'b> {
+    encoder: Iso2022JpEncoder<'a>,
     pairs: &'b [u16],
-    ghost right: { ListsPairs tables.now.flat.jis0208 tables.now.flat.katakana pairs.now },
+    ghost right: { ListsPairs encoder.tables.now.flat.jis0208 encoder.tables.now.flat.katakana pairs.now },
 }
 
-impl ListedPairs<'_, '_> {
+impl<'a, 'b> CachedIso2022JpEncoder<'a, 'b> {
+    /// Returns an encoder that continues in the mode of `encoder` and writes what it would write.
+    ///
+    /// The result is `None` exactly if `room` is shorter than `PAIR_ROOM` entries. The entries of
+    /// `room` may have any values before, and are overwritten. `encoder` is unchanged.
+    pub fn new(
+        encoder: &Iso2022JpEncoder<'a>,
+        room: &'b mut [u16],
+    ) -> Option<CachedIso2022JpEncoder<'a, 'b>>
+        ensures { MatchOption result (length room.old < 65536)
+            (λ cached. (65536 ≤ length room.old)
+            × (iso_2022_jp_encoder_state cached.encoder ≡ iso_2022_jp_encoder_state encoder.now)) }
+    {
+        if room.len() < PAIR_ROOM {
+            return None;
+        }
+        let encoder = *encoder;
+        let pairs = &mut room[..PAIR_ROOM];
+        list_pairs(&encoder, pairs);
+        Some(CachedIso2022JpEncoder { encoder, pairs })
+    }
+
+    /// Checks whether the end of the text would write an escape, because the mode is not ASCII.
+    ///
+    /// The escape has three bytes. Nothing changes.
+    pub fn has_pending_state(&self) -> bool
+        ensures { result ≡ is_pending (iso_2022_jp_encoder_state self.now.encoder) }
+    {
+        self.encoder.has_pending_state()
+    }
+
     /// Returns the listed pair of a scalar as one number, the lead in the low byte, or 0.
     #[inline(always)]
     fn entry_of(&self, c: char) -> u16
-        ensures { result ≢ 0 → IsPairOf self.now.tables.now.flat.jis0208
-            self.now.tables.now.flat.katakana c result }
+        ensures { result ≢ 0 → IsPairOf self.now.encoder.tables.now.flat.jis0208
+            self.now.encoder.tables.now.flat.katakana c result }
     {
         let code = c as usize;
         if code >= PAIR_ROOM {
@@ -78,25 +113,11 @@ impl ListedPairs<'_, '_> {
         }
         self.pairs[code]
     }
-
-    /// Returns what the function `asked` returns, by the list if the scalar has a pair in it.
-    #[inline]
-    #[tactic(auto, using(crate::proofs::Iso2022JpEncoderMoves::asks_listed))]
-    fn asked(&self, mode: Mode, c: char) -> (Mode, EncoderMove)
-        ensures { Asks self.now.tables.now.flat.jis0208 self.now.tables.now.flat.katakana
-            mode c result.0 result.1 }
-    {
-        let entry = self.entry_of(c);
-        if entry == 0 {
-            return asked(self.tables, mode, c);
-        }
-        let pair = EncoderMove::Two((entry % 256) as u8, (entry / 256) as u8);
-        (Mode::TwoByte, pair)
-    }
 }
 
-impl AheadCodes for ListedPairs<'_, '_> {
-    ghost state = { λ listed. pairs_state listed.tables.now };
+/// The codes of the pairs in the list, in two-byte mode.
+impl AheadCodes for CachedIso2022JpEncoder<'_, '_> {
+    ghost state = { λ cached. pairs_state cached.encoder.tables.now };
 
     ghost room = { 3 };
 
@@ -126,120 +147,63 @@ impl AheadCodes for ListedPairs<'_, '_> {
     }
 }
 
-/// The encoder of ISO-2022-JP with a list of pairs: it writes what `Iso2022JpEncoder` writes.
-///
-/// The list has the pairs of all scalars below U+10000, in memory that the caller lends. `new` makes
-/// it in one walk over index jis0208, flat or packed. Each pair is then one load, whatever tables
-/// the other encoder has. The encoder has its own mode, which is ASCII after the last call of a
-/// text: it can encode any number of texts, one after another. Each copy has its own mode.
-#[derive(Clone, Copy)]
-pub struct CachedIso2022JpEncoder<'a, 'b> {
-    listed: ListedPairs<'a, 'b>,
-    mode: Mode,
-}
-
-impl<'a, 'b> CachedIso2022JpEncoder<'a, 'b> {
-    ghost use Rattle.legacy_japanese.specs.Iso2022JpCached.{cached_state};
-
-    /// Returns an encoder that continues in the mode of `encoder` and writes what it would write.
-    ///
-    /// The result is `None` exactly if `room` is shorter than `PAIR_ROOM` entries. The entries of
-    /// `room` may have any values before, and are overwritten. `encoder` is unchanged.
-    pub fn new(
-        encoder: &Iso2022JpEncoder<'a>,
-        room: &'b mut [u16],
-    ) -> Option<CachedIso2022JpEncoder<'a, 'b>>
-        ensures { MatchOption result (length room.old < 65536)
-            (λ cached. (65536 ≤ length room.old)
-            × (cached_state cached ≡ iso_2022_jp_encoder_state encoder.now)) }
-    {
-        if room.len() < PAIR_ROOM {
-            return None;
-        }
-        let (tables, mode) = (encoder.tables, encoder.mode);
-        let pairs = &mut room[..PAIR_ROOM];
-        list_pairs(encoder, pairs);
-        let listed = ListedPairs { tables, pairs };
-        Some(CachedIso2022JpEncoder { listed, mode })
-    }
-
-    /// Returns the encoder without the list, in the same mode.
-    #[inline(always)]
-    fn without(&self) -> Iso2022JpEncoder<'a>
-        ensures { iso_2022_jp_encoder_state result ≡ cached_state self.now }
-    {
-        let (tables, mode) = (self.listed.tables, self.mode);
-        Iso2022JpEncoder { tables, mode }
-    }
-
-    /// Checks whether the end of the text would write an escape, because the mode is not ASCII.
-    ///
-    /// The escape has three bytes. Nothing changes.
-    pub fn has_pending_state(&self) -> bool
-        ensures { result ≡ is_pending (cached_state self.now) }
-    {
-        self.without().has_pending_state()
-    }
-}
-
 impl EncoderMoves for CachedIso2022JpEncoder<'_, '_> {
-    ghost use Rattle.legacy_japanese.specs.Iso2022JpCached.{cached_state};
-
-    ghost state = { cached_state };
+    ghost state = { λ cached. iso_2022_jp_encoder_state cached.encoder };
 
     #[inline]
-    #[tactic(auto, using(crate::proofs::Iso2022JpEncoderMoves::serves))]
-    fn room(&self, _c: char) -> usize {
-        3
+    fn room(&self, c: char) -> usize {
+        self.encoder.room(c)
     }
 
     #[inline]
-    #[tactic(auto, using(std::proofs::lemmas::Grind::common_steps))]
+    #[tactic(auto, using(std::proofs::lemmas::Grind::common_steps, crate::proofs::Iso2022JpEncoderMoves::asks_listed))]
     fn next(&mut self, c: char) -> EncoderMove {
-        let (mode, own) = self.listed.asked(self.mode, c);
-        go_to(&mut self.mode, mode, own)
+        let entry = self.entry_of(c);
+        if entry == 0 {
+            let (mode, own) = asked(self.encoder.tables, self.encoder.mode, c);
+            return go_to(&mut self.encoder.mode, mode, own);
+        }
+        let pair = EncoderMove::Two((entry % 256) as u8, (entry / 256) as u8);
+        go_to(&mut self.encoder.mode, Mode::TwoByte, pair)
     }
 
     #[inline]
-    #[tactic(auto, using(crate::proofs::Iso2022JpEncoderMoves::serves))]
     fn is_pending(&self) -> bool {
-        self.has_pending_state()
+        self.encoder.is_pending()
     }
 
     #[inline]
     fn finish(&mut self) {
-        self.mode = Mode::Ascii;
+        self.encoder.mode = Mode::Ascii;
     }
 
-    // The list is copied, so that nothing else refers to it.
+    // The encoder is copied, so that nothing else refers to it.
     #[inline]
     fn read_ahead<S: Source>(&self, src: &mut S, dst: &mut [u8], at: usize) -> usize {
-        match self.mode {
+        match self.encoder.mode {
             Mode::TwoByte => {
-                let listed = self.listed;
-                read_common(&listed, src, dst, at)
+                let own = *self;
+                read_common(&own, src, dst, at)
             }
-            Mode::Ascii | Mode::Roman => self.without().read_ahead(src, dst, at),
+            Mode::Ascii | Mode::Roman => self.encoder.read_ahead(src, dst, at),
         }
     }
 }
 
 impl RawEncoder for CachedIso2022JpEncoder<'_, '_> {
-    ghost use Rattle.legacy_japanese.specs.Iso2022JpCached.{cached_state};
-
-    ghost state = { cached_state };
+    ghost state = { λ cached. iso_2022_jp_encoder_state cached.encoder };
 
     fn step<S: Source>(&mut self, src: &mut S, dst: &mut [u8], last: bool) -> EncoderStep {
         drive_encoder(self, src, dst, last)
     }
 
     fn max_buffer_length_from_utf16_without_replacement(&self, u16_length: usize) -> Option<usize> {
-        self.without()
+        self.encoder
             .max_buffer_length_from_utf16_without_replacement(u16_length)
     }
 
     fn max_buffer_length_from_utf8_without_replacement(&self, byte_length: usize) -> Option<usize> {
-        self.without()
+        self.encoder
             .max_buffer_length_from_utf8_without_replacement(byte_length)
     }
 }

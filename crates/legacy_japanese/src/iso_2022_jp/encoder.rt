@@ -47,36 +47,27 @@ impl Mode {
     }
 }
 
-/// Returns the scalar that is looked up in index jis0208 for a scalar past ASCII.
+/// Returns the pointer of a scalar past ASCII, or `None` if it has no pair.
 ///
-/// For half-width katakana it is the entry of index katakana, and for the minus sign U+2212 it is
-/// U+FF0D. Any other scalar is looked up unchanged.
+/// For half-width katakana it is that of the entry of index katakana, and for the minus sign U+2212 that of U+FF0D.
 #[inline]
-fn folded<V: EncoderTables>(tables: &V, c: char) -> Option<char>
-    ensures { result ≡ iso_2022_jp_fold (V.indexes tables.now).flat.katakana c }
+fn pointer(tables: &Tables<'_>, c: char) -> Option<usize>
+    ensures value { result ≡ iso_2022_jp_pointer_of tables.now.flat.jis0208 tables.now.flat.katakana c }
+    ensures within { IfSome result (λ p. p < 8836) }
 {
     let scalar = c as u32;
     if scalar >= 0xFF61 && scalar <= 0xFF9F {
-        return tables.idx(IndexName::Katakana, (scalar - 0xFF61) as usize);
+        let entry = tables.idx(IndexName::Katakana, (scalar - 0xFF61) as usize)?;
+        return tables.euc_jp_pointer(entry);
     }
-    Some(minus_as_hyphen(c))
-}
-
-/// Returns the pointer of a scalar past ASCII, or `None` if it has no pair.
-#[inline]
-fn pointer<V: EncoderTables>(tables: &V, c: char) -> Option<usize>
-    ensures value { result ≡ iso_2022_jp_pointer_of (V.indexes tables.now).flat.jis0208
-        (V.indexes tables.now).flat.katakana c }
-    ensures within { IfSome result (λ p. p < 8836) }
-{
-    tables.euc_jp_pointer(folded(tables, c)?)
+    tables.euc_jp_pointer(minus_as_hyphen(c))
 }
 
 /// Returns the mode that a scalar needs after this one, and the move that reads it there.
 #[inline]
-pub fn asked<V: EncoderTables>(tables: &V, mode: Mode, c: char) -> (Mode, EncoderMove)
-    ensures { Asks (V.indexes tables.now).flat.jis0208 (V.indexes tables.now).flat.katakana
-        mode c result.0 result.1 }
+#[tactic(auto, using(crate::proofs::Iso2022JpEncoderMoves::asked_steps))]
+pub fn asked(tables: &Tables<'_>, mode: Mode, c: char) -> (Mode, EncoderMove)
+    ensures { Asks tables.now.flat.jis0208 tables.now.flat.katakana mode c result.0 result.1 }
 {
     let scalar = c as u32;
     let settled = mode.settled();
@@ -131,7 +122,7 @@ pub fn go_to(mode: &mut Mode, target: Mode, own: EncoderMove) -> EncoderMove
 /// the lead and the trail of its first pointer below 8836. The minus sign U+2212 is encoded as
 /// U+FF0D, and half-width katakana as their entries in index katakana. All other scalars are
 /// unmappable. U+000E, U+000F and U+001B are unmappable too, and are reported as U+FFFD.
-#[derive(Drop)]
+#[derive(Clone, Copy)]
 pub struct Iso2022JpEncoder<'a> {
     pub(crate) tables: &'a Tables<'a>,
     pub(crate) mode: Mode,
@@ -216,10 +207,7 @@ impl AheadCodes for Iso2022JpEncoder<'_> {
     #[inline(always)]
     fn put_code(&self, _part: &mut RangePart, dst: &mut [u8], at: usize, c: char) -> Option<usize> {
         let (mode, own) = asked(self.tables, self.mode, c);
-        if self.mode != mode {
-            return None;
-        }
-        if !own.has_bytes() {
+        if self.mode != mode || !own.has_bytes() {
             return None;
         }
         Some(put_move(dst, at, own))
