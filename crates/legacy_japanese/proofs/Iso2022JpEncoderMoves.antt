@@ -1,15 +1,15 @@
 -- The length formulas of the ISO-2022-JP encoder are enough for its scalars and escapes. Its moves, by its tables and by a list of pairs.
-use Rattle.std.proofs.Common.{◌≡◌, ◌∙◌, ℕ, ◌+◌, ◌≤◌, List, arith, Bool, true, false, [], ◌∷◌, ◌++◌, refl, sym, ap, IsTrue, ◌||◌, Option, Some, None, option_map, eqb, ◌==◌, if◌then◌else◌}
-use Rattle.std.proofs.{Common.{inl, inr, map, ◌⊎◌, ◌/◌, ◌%◌}, lemmas.Bool.{Decides.nat_tests, lt-ltb, cases_Bool}}
+use Rattle.std.proofs.Common.{◌≡◌, ◌∙◌, ℕ, ◌+◌, ◌≤◌, List, arith, Bool, true, false, [], ◌∷◌, ◌++◌, refl, sym, ap, IsTrue, Some, None, option_map, ◌==◌, if◌then◌else◌}
+use Rattle.std.proofs.{Common.{map, ◌⊎◌, ◌/◌, ◌%◌}, lemmas.Bool.Decides.nat_tests}
 use Rattle.legacy_text.specs.EncodingForm.{EncodingForm, Utf8}
 use Rattle.std.specs.Char.{is_ascii}
-use Rattle.legacy_base.specs.Iso2022Jp.{iso_2022_jp_pair, iso_2022_jp_pointer_of, is_mode_control}
 use Rattle.legacy_base.specs.Iso2022Jp.{iso_2022_jp_encoder, iso_2022_jp_code, is_two_byte_scalar, is_roman_scalar, escape_between, iso_2022_jp_reported}
+use Rattle.legacy_base.specs.Iso2022Jp.{iso_2022_jp_pair, iso_2022_jp_pointer_of, is_mode_control}
 use Rattle.legacy_base.specs.{Iso2022Jp.mode_behind, EncodeEvents.{code_events}, EncoderProfile.{EncoderProfile, EncoderMode}}
 use Rattle.legacy_base.specs.{EncoderProfile.{in_ascii, in_two_byte}, declared.results.EncodeEvent.EncodeEvent, Beginnings.BeginsWith}
 use Rattle.legacy_base.{specs.Encoders.{encoder_profile, iso_2022_jp, is_pending}, proofs.{SameUnits.some_unit, Iso2022JpEncoding.{mode_by, mode_for-by}}}
 use Rattle.legacy_base.proofs.Iso2022JpEncoding.{code-short, text_events, text_events-here, text_events-escape, text_events-end, text_events-open, mode_for}
-use Rattle.legacy_base.proofs.Iso2022JpEncoding.{mode_for-twice, at_special, at_neutral, IsWritten}
+use Rattle.legacy_base.proofs.Iso2022JpEncoding.{mode_for-twice}
 use Rattle.legacy_encoder_engine.specs.{Moves.{differs, Moves, Finishes, IsCode}, ProfileSuffices.{Serves, mode_room}}
 use Rattle.legacy_encoder_engine.specs.{UnfinishedCall.ReadsByte, UnitTurns.ReadsUnit}
 use Rattle.legacy_encoder_engine.specs.declared.moves.EncoderMove.{EncoderMove, TheVariants.{One, Two}}
@@ -35,22 +35,28 @@ module _ (jis0208 katakana_index : List ℕ) where
       → (form ≡ Utf8 → pair ≡ true → 2 ≤ u) → (form ≡ Utf8 → romans ≡ true → 2 ≤ u) → 6 ≤ mode_room encoder form mode (u + t)
   enough_by pair keeps romans mode form t u e p q r = grind arith
 
-  -- ---- on scalars
-
-  -- a two-byte scalar is not ASCII, and no scalar of Roman mode is ASCII
-  pair_past : (c : ℕ) → is_two_byte_scalar jis0208 katakana_index c ≡ true → 128 ≤ c
-  unfolding iso_2022_jp_code
-  pair_past c e = grind (arith, nat_tests)
-
-  roman_past : (c : ℕ) → is_roman_scalar c ≡ true → 128 ≤ c
-  roman_past c e = grind (arith, nat_tests)
-
 -- ---- modes
 
 pub other_mode : (mode new : Mode) → (mode ≡ new → ⊥) → mode_of mode ≡ mode_of new → ⊥
 other_mode mode new n e = grind arith
 
 module _ (jis0208 katakana_index : List ℕ) where
+  -- ---- a scalar's code
+
+  -- the definition, unfolded
+  pub code_by : (c : ℕ) → iso_2022_jp_code jis0208 katakana_index c ≡ (if is_mode_control c then None else if is_ascii c then Some (c ∷ [])
+      else if c == 0xA5 then Some (0x5C ∷ []) else if c == 0x203E then Some (0x7E ∷ [])
+      else option_map iso_2022_jp_pair (iso_2022_jp_pointer_of jis0208 katakana_index c))
+  unfolding iso_2022_jp_code
+  code_by c = refl
+
+  -- no scalar of two-byte or Roman mode is ASCII
+  pair_past : (c : ℕ) → is_two_byte_scalar jis0208 katakana_index c ≡ true → 128 ≤ c
+  pair_past c e = grind (arith, nat_tests, code_by)
+
+  roman_past : (c : ℕ) → is_roman_scalar c ≡ true → 128 ≤ c
+  roman_past c e = grind (arith, nat_tests)
+
   -- ---- what the encoder's loop needs to know of the codec
 
   pub serves : Serves (encoder_profile (iso_2022_jp jis0208 katakana_index))
@@ -108,18 +114,6 @@ module _ (jis0208 katakana_index : List ℕ) where
 
   -- ---- the mode and move of a scalar
 
-  -- what is unfolded to tell them
-  pub code_by : (c : ℕ) → iso_2022_jp_code jis0208 katakana_index c ≡ (if is_mode_control c then None else if is_ascii c then Some (c ∷ [])
-      else if c == 0xA5 then Some (0x5C ∷ []) else if c == 0x203E then Some (0x7E ∷ [])
-      else option_map iso_2022_jp_pair (iso_2022_jp_pointer_of jis0208 katakana_index c))
-  unfolding iso_2022_jp_code
-  code_by c = refl
-
-  -- a scalar that is written in the mode `new` needs it
-  pub asks : {mode new : Mode} {c : ℕ} {own : Option (List ℕ)} {move : EncoderMove} → IsWritten jis0208 katakana_index (mode_of mode) c (mode_of new) own
-      → IsCode own (iso_2022_jp_reported c) move → Asks jis0208 katakana_index mode c new move
-  asks w is = record { mode_is = w.mode_is; code_is = rw w.code_is is }
-
   -- a scalar that needs the mode of the encoder is read there
   pub stays : {mode new : Mode} {c : ℕ} {move : EncoderMove} → Asks jis0208 katakana_index mode c new move → mode ≡ new
       → Moves (state_in jis0208 katakana_index mode) c (state_in jis0208 katakana_index mode) move
@@ -131,12 +125,7 @@ module _ (jis0208 katakana_index : List ℕ) where
 
   pub own_byte : (c byte : ℕ) → IsOwnByte c byte → ReadsByte (state_in jis0208 katakana_index modes.Ascii) 2 c byte
   own_byte c byte is =
-      let low = lt-ltb c 128 is.1 in
-      let there : IsWritten jis0208 katakana_index in_ascii c in_ascii (Some (c ∷ [])) = elim (cases_Bool (eqb c 0x5C || eqb c 0x7E)) [
-        | inl e ↦ at_special jis0208 katakana_index in_ascii c is.2 low e
-        | inr e ↦ at_neutral jis0208 katakana_index in_ascii c is.2 low e
-      ] in
-      record { fits = omega arith; moves = rw is.0 (reads modes.Ascii c there.mode_is (One c) there.code_is) }
+      record { fits = omega arith; moves = rw is.0 (reads modes.Ascii c (grind (arith, asked_steps)) (One c) (grind (arith, asked_steps))) }
 
   -- ---- a pair that is in the list
 

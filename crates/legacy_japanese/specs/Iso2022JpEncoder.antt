@@ -20,17 +20,13 @@ mode_of TwoByte = in_two_byte
 abbrev pub state_in : List ℕ → List ℕ → Mode → EncoderState
 state_in jis0208 katakana_index mode = record { codec = iso_2022_jp jis0208 katakana_index; mode = mode_of mode }
 
--- the codec with these tables, in a mode
-abbrev pub state_by : AcceptedIndexes → Mode → EncoderState
-state_by tables mode = state_in tables.flat.jis0208 tables.flat.katakana mode
-
 -- the codec with these tables, in ASCII mode
 abbrev pub ascii_state : AcceptedIndexes → EncoderState
-ascii_state tables = state_by tables Ascii
+ascii_state tables = state_in tables.flat.jis0208 tables.flat.katakana Ascii
 
 -- the codec with these tables, in two-byte mode
 abbrev pub pairs_state : AcceptedIndexes → EncoderState
-pairs_state tables = state_by tables TwoByte
+pairs_state tables = state_in tables.flat.jis0208 tables.flat.katakana TwoByte
 
 -- the state that the laws of its calls use
 abbrev pub iso_2022_jp_encoder_state : Iso2022JpEncoder → EncoderState

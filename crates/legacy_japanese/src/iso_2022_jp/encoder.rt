@@ -1,7 +1,6 @@
 //! The encoder of ISO-2022-JP.
 ghost use Rattle.std.specs.Prelude.{◌≡◌, ◌==◌, ◌||◌, ◌<◌, ℕ, List, IfSome};
-ghost use Rattle.legacy_base.specs.{Encoders.{iso_2022_jp, is_pending, new_encoder}, Iso2022Jp.{iso_2022_jp_fold, iso_2022_jp_pointer_of}};
-ghost use Rattle.legacy_base.specs.Iso2022Jp.{roman_or_ascii};
+ghost use Rattle.legacy_base.specs.{Encoders.{iso_2022_jp, is_pending, new_encoder}, Iso2022Jp.{iso_2022_jp_pointer_of, roman_or_ascii}};
 ghost use Rattle.legacy_encoder_engine.specs.Moves.{Moves};
 ghost use Rattle.legacy_japanese.specs.Iso2022JpEncoder.{Asks, escape_move, iso_2022_jp_encoder_state, mode_of, state_in};
 
