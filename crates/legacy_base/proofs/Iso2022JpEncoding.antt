@@ -1,9 +1,8 @@
 -- The events of a text in ISO-2022-JP, scalar by scalar: the escape to the scalar's mode, its own bytes, and then the
 -- rest of the text from that mode.
-use Rattle.std.proofs.{lemmas.Bool.Decides.nat_tests, Common.{◌≡◌, ◌∙◌, ℕ, ◌/◌, ◌%◌, ◌+◌, ◌≤◌, List, [], ◌∷◌, ◌++◌, map, refl, ap, arith, append_assoc, Bool}}
-use Rattle.std.proofs.{Common.{true, false, ◌||◌, Some, None, Option, cond, eqb, option_map}, lemmas.Bool.ne_eqb}
+use Rattle.std.proofs.{lemmas.Bool.Decides.nat_tests, Common.{◌≡◌, ◌∙◌, ◌==◌, ℕ, ◌+◌, ◌≤◌, List, [], ◌∷◌, ◌++◌, map, refl, ap, arith, append_assoc, Bool}}
+use Rattle.std.proofs.Common.{true, false, Some, None, cond, option_map, if◌then◌else◌}
 use Rattle.std.specs.Char.{is_ascii}
-use borrow.Author.Tests.{ltb-true}
 use Rattle.legacy_base.specs.{declared.results.EncodeEvent.EncodeEvent, declared.results.EncodeEvent.TheVariants.Byte, EncodeEvents.{code_events, code_length}}
 use Rattle.legacy_base.specs.{EncoderProfile.{EncoderMode, in_ascii, in_roman, in_two_byte}, Iso2022Jp.{is_mode_control, iso_2022_jp_pointer_of}}
 use Rattle.legacy_base.specs.Iso2022Jp.{iso_2022_jp_pair, iso_2022_jp_code, iso_2022_jp_reported, is_roman_scalar, is_two_byte_scalar, keeps_mode}
@@ -86,6 +85,13 @@ module _ (jis0208 katakana_index : List ℕ) where
   unfolding mode_behind settled_mode
   mode_for-by mode c = refl
 
+  -- the code of a scalar by its definition
+  pub code_by : (c : ℕ) → iso_2022_jp_code jis0208 katakana_index c ≡ (if is_mode_control c then None else if is_ascii c then Some (c ∷ [])
+      else if c == 0xA5 then Some (0x5C ∷ []) else if c == 0x203E then Some (0x7E ∷ [])
+      else option_map iso_2022_jp_pair (iso_2022_jp_pointer_of jis0208 katakana_index c))
+  unfolding iso_2022_jp_code
+  code_by c = refl
+
   -- writing a scalar twice leaves the same mode as writing it once
   pub mode_for-twice : (mode : EncoderMode) (c : ℕ) → mode_for (mode_for mode c) c ≡ mode_for mode c
   mode_for-twice mode c = grind (arith, nat_tests, mode_for-by, mode_by-twice)
@@ -123,53 +129,6 @@ module _ (jis0208 katakana_index : List ℕ) where
   pub text_events-open : (mode : EncoderMode) → text_events mode [] false ≡ []
   unfolding iso_2022_jp_text_events
   text_events-open mode = refl
-
-  -- ---- the mode and the code of a scalar, by the tests of the rules
-
-  -- the scalar c, after the given mode, is written in `new` and has the code `own`
-  pub record IsWritten (mode : EncoderMode) (c : ℕ) (new : EncoderMode) (own : Option (List ℕ)) : Type 0 where
-    pub mode_is : mode_for mode c ≡ new
-    pub code_is : iso_2022_jp_code jis0208 katakana_index c ≡ own
-
-  ascii_apart : (c : ℕ) → is_ascii c ≡ true → (eqb c 0xA5 ≡ false) × (eqb c 0x203E ≡ false)
-  ascii_apart c t = let l = ltb-true c 128 t in (ne_eqb c 0xA5 (λ e. omega arith), ne_eqb c 0x203E (λ e. omega arith))
-
-  pub at_control : (mode : EncoderMode) (c : ℕ) → is_mode_control c ≡ true → IsWritten mode c (roman_or_ascii mode) None
-  unfolding iso_2022_jp_code
-  at_control mode c t = record { mode_is = mode_for-by mode c ∙ rw t (grind arith); code_is = rw t refl }
-
-  pub at_special : (mode : EncoderMode) (c : ℕ) → is_mode_control c ≡ false → is_ascii c ≡ true → (eqb c 0x5C || eqb c 0x7E) ≡ true
-      → IsWritten mode c in_ascii (Some (c ∷ []))
-  unfolding iso_2022_jp_code
-  at_special mode c f t s = let a = ascii_apart c t in record { mode_is = mode_for-by mode c ∙ rw (f, t, s, a.0, a.1) refl; code_is = rw (f, t) refl }
-
-  pub at_neutral : (mode : EncoderMode) (c : ℕ) → is_mode_control c ≡ false → is_ascii c ≡ true → (eqb c 0x5C || eqb c 0x7E) ≡ false
-      → IsWritten mode c (roman_or_ascii mode) (Some (c ∷ []))
-  unfolding iso_2022_jp_code
-  at_neutral mode c f t s = record { mode_is = mode_for-by mode c ∙ rw (f, t, s) refl; code_is = rw (f, t) refl }
-
-  pub at_yen : (mode : EncoderMode) (c : ℕ) → c ≡ 0xA5 → IsWritten mode c in_roman (Some (0x5C ∷ []))
-  unfolding iso_2022_jp_code
-  at_yen mode c e = record { mode_is = mode_for-by mode c ∙ rw e refl; code_is = rw e refl }
-
-  pub at_overline : (mode : EncoderMode) (c : ℕ) → c ≡ 0x203E → IsWritten mode c in_roman (Some (0x7E ∷ []))
-  unfolding iso_2022_jp_code
-  at_overline mode c e = record { mode_is = mode_for-by mode c ∙ rw e refl; code_is = rw e refl }
-
-  code-looked_up : (c : ℕ) → is_mode_control c ≡ false → is_ascii c ≡ false → (c ≡ 0xA5 → ⊥) → (c ≡ 0x203E → ⊥)
-      → iso_2022_jp_code jis0208 katakana_index c ≡ option_map iso_2022_jp_pair (iso_2022_jp_pointer_of jis0208 katakana_index c)
-  unfolding iso_2022_jp_code
-  code-looked_up c f a y o = rw (f, a, ne_eqb c 0xA5 y, ne_eqb c 0x203E o) refl
-
-  pub at_pair : (mode : EncoderMode) (c p : ℕ) → is_mode_control c ≡ false → is_ascii c ≡ false → (c ≡ 0xA5 → ⊥) → (c ≡ 0x203E → ⊥)
-      → iso_2022_jp_pointer_of jis0208 katakana_index c ≡ Some p → IsWritten mode c in_two_byte (Some ((p / 94 + 0x21) ∷ (p % 94 + 0x21) ∷ []))
-  at_pair mode c p f a y o e =
-      let k = code-looked_up c f a y o ∙ ap (option_map iso_2022_jp_pair) e in record { mode_is = mode_for-by mode c ∙ rw k refl; code_is = k }
-
-  pub at_none : (mode : EncoderMode) (c : ℕ) → is_mode_control c ≡ false → is_ascii c ≡ false → (c ≡ 0xA5 → ⊥) → (c ≡ 0x203E → ⊥)
-      → iso_2022_jp_pointer_of jis0208 katakana_index c ≡ None → IsWritten mode c (roman_or_ascii mode) None
-  at_none mode c f a y o e =
-      let k = code-looked_up c f a y o ∙ ap (option_map iso_2022_jp_pair) e in record { mode_is = mode_for-by mode c ∙ rw (k, a) refl; code_is = k }
 
   -- ---- the lengths of codes
 

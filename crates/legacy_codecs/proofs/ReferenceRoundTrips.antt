@@ -20,7 +20,7 @@ use Rattle.legacy_base.specs.{Encoders.{new_encoder, code, encoded}, Grammar.eve
 use Rattle.legacy_base.specs.RoundTrips.{grammar_of, HasAcceptedLists, IsSound, read_as, read_back, has_lost_row, bytes_of, written, KeepsCodes, HasSameCode}
 use Rattle.legacy_base.proofs.{Trips.bytes_of-bytes, RoundTrips.{encodes_well_formed, escapes_stay_apart}}
 use Rattle.legacy_base.proofs.{AcceptedTrips.are_good_rows, Reencoding.reencodes_any_text}
-use Rattle.legacy_base.proofs.Iso2022JpEncoding.{mode_for, text_events, text_events-scalar, text_events-here, text_events-end, at_neutral}
+use Rattle.legacy_base.proofs.Iso2022JpEncoding.{mode_for, text_events, text_events-scalar, text_events-here, text_events-end, mode_for-by, code_by}
 use Rattle.legacy_base.proofs.Iso2022JpTrip.{none_keeps, ascii_stands, text_read}
 use Rattle.legacy_base.proofs.Gb18030Trip.{AreGoodRows}
 use Rattle.legacy_tables.specs.Indexes.{gb18030_pua_of}
@@ -115,10 +115,10 @@ module _ (jis0208 katakana_index : List ℕ) where
   report = reported_scalar (iso_2022_jp jis0208 katakana_index)
 
   mark_mode : (mode : EncoderMode) (a : ℕ) → IsMark a → mode_of mode a ≡ roman_or_ascii mode
-  mark_mode mode a h = (at_neutral jis0208 katakana_index mode a (grind (arith, nat_tests)) (grind (arith, nat_tests)) (grind (arith, nat_tests))).mode_is
+  mark_mode mode a h = grind (arith, nat_tests, mode_for-by, code_by)
 
   mark_code : WritesMarks jp_code
-  mark_code a h = (at_neutral jis0208 katakana_index in_ascii a (grind (arith, nat_tests)) (grind (arith, nat_tests)) (grind (arith, nat_tests))).code_is
+  mark_code a h = grind (arith, nat_tests, code_by)
 
   -- in ASCII or Roman mode the characters are written without an escape
   marks_here : (mode : EncoderMode) → roman_or_ascii mode ≡ mode → (marks more : List ℕ) → All IsMark marks →

@@ -1,13 +1,11 @@
 -- The length formulas of the ISO-2022-JP encoder are enough for its scalars and escapes. Its moves, by its tables and by a list of pairs.
-use Rattle.std.proofs.Common.{◌≡◌, ◌∙◌, ℕ, ◌+◌, ◌≤◌, List, arith, Bool, true, false, [], ◌∷◌, ◌++◌, refl, sym, ap, IsTrue, Some, None, option_map, ◌==◌, if◌then◌else◌}
+use Rattle.std.proofs.Common.{◌≡◌, ◌∙◌, ℕ, ◌+◌, ◌≤◌, List, arith, Bool, true, false, [], ◌∷◌, ◌++◌, refl, sym, ap, IsTrue}
 use Rattle.std.proofs.{Common.{map, ◌⊎◌, ◌/◌, ◌%◌}, lemmas.Bool.Decides.nat_tests}
 use Rattle.legacy_text.specs.EncodingForm.{EncodingForm, Utf8}
-use Rattle.std.specs.Char.{is_ascii}
 use Rattle.legacy_base.specs.Iso2022Jp.{iso_2022_jp_encoder, iso_2022_jp_code, is_two_byte_scalar, is_roman_scalar, escape_between, iso_2022_jp_reported}
-use Rattle.legacy_base.specs.Iso2022Jp.{iso_2022_jp_pair, iso_2022_jp_pointer_of, is_mode_control}
 use Rattle.legacy_base.specs.{Iso2022Jp.mode_behind, EncodeEvents.{code_events}, EncoderProfile.{EncoderProfile, EncoderMode}}
 use Rattle.legacy_base.specs.{EncoderProfile.{in_ascii, in_two_byte}, declared.results.EncodeEvent.EncodeEvent, Beginnings.BeginsWith}
-use Rattle.legacy_base.{specs.Encoders.{encoder_profile, iso_2022_jp, is_pending}, proofs.{SameUnits.some_unit, Iso2022JpEncoding.{mode_by, mode_for-by}}}
+use Rattle.legacy_base.{specs.Encoders.{encoder_profile, iso_2022_jp, is_pending}, proofs.{SameUnits.some_unit, Iso2022JpEncoding.{mode_by, mode_for-by, code_by}}}
 use Rattle.legacy_base.proofs.Iso2022JpEncoding.{code-short, text_events, text_events-here, text_events-escape, text_events-end, text_events-open, mode_for}
 use Rattle.legacy_base.proofs.Iso2022JpEncoding.{mode_for-twice}
 use Rattle.legacy_encoder_engine.specs.{Moves.{differs, Moves, Finishes, IsCode}, ProfileSuffices.{Serves, mode_room}}
@@ -41,15 +39,6 @@ pub other_mode : (mode new : Mode) → (mode ≡ new → ⊥) → mode_of mode �
 other_mode mode new n e = grind arith
 
 module _ (jis0208 katakana_index : List ℕ) where
-  -- ---- a scalar's code
-
-  -- the definition, unfolded
-  pub code_by : (c : ℕ) → iso_2022_jp_code jis0208 katakana_index c ≡ (if is_mode_control c then None else if is_ascii c then Some (c ∷ [])
-      else if c == 0xA5 then Some (0x5C ∷ []) else if c == 0x203E then Some (0x7E ∷ [])
-      else option_map iso_2022_jp_pair (iso_2022_jp_pointer_of jis0208 katakana_index c))
-  unfolding iso_2022_jp_code
-  code_by c = refl
-
   -- no scalar of two-byte or Roman mode is ASCII
   pair_past : (c : ℕ) → is_two_byte_scalar jis0208 katakana_index c ≡ true → 128 ≤ c
   pair_past c e = grind (arith, nat_tests, code_by)
