@@ -1,5 +1,5 @@
 //! The codes of ISO-2022-JP's encoder in ASCII mode, which it copies by blocks.
-ghost use Rattle.std.specs.Prelude.{◌≡◌, ◌+◌, ◌≤◌, length, true, false};
+ghost use Rattle.std.specs.Prelude.{◌≡◌, ◌+◌, ◌≤◌, length, take, true, false};
 ghost use Rattle.legacy_base.specs.Iso2022Jp.{is_mode_control};
 ghost use Rattle.legacy_encoder_engine.specs.UnfinishedCall.{EncodesBy};
 ghost use Rattle.legacy_japanese.specs.Iso2022JpEncoder.{HasNoControl, IsOwnByte, ascii_state};
@@ -33,25 +33,21 @@ fn has_control(bytes: &[u8]) -> bool
     found
 }
 
-/// Does what `has_control` does.
-// A function of its own: inlined into a long one its loop would not be compiled to vectors.
-#[inline(never)]
-fn has_control_in_many(bytes: &[u8]) -> bool
-    ensures { result ≡ false → HasNoControl bytes.now }
-{
-    has_control(bytes)
-}
-
-/// Does what `has_control` does, without a loop for a block of sixteen bytes.
+/// Checks whether one of the first `count` bytes, or of the fifteen after them, is such a control.
+///
+/// If it returns false, none of the first `count` bytes is one.
 #[inline(always)]
-fn has_any_control(bytes: &[u8]) -> bool
-    ensures { result ≡ false → HasNoControl bytes.now }
+fn has_control_by_blocks(bytes: &[u8], count: usize) -> bool
+    requires { count + 15 ≤ length bytes.now }
+    ensures { result ≡ false → HasNoControl (take count bytes.now) }
 {
-    if bytes.len() == 16 {
-        has_control(bytes)
-    } else {
-        has_control_in_many(bytes)
+    let mut found = false;
+    let mut at = 0;
+    while at < count {
+        found = found | has_control(&bytes[at..at + 16]);
+        at += 16;
     }
+    found
 }
 
 /// The code units that are written unchanged in ASCII mode.
@@ -70,15 +66,8 @@ impl UnitCodes for AsciiUnits {
     }
 }
 
-/// Returns the end of the bytes to test: all of them, or those before `end`.
-#[inline(always)]
-fn tested_end(all: bool, limit: usize, end: usize) -> usize
-    requires { end ≤ limit }
-    ensures from { end ≤ result }
-    ensures to { result ≤ limit }
-{
-    if all { limit } else { end }
-}
+/// The most bytes that are copied before they are tested.
+const PIECE: usize = 256;
 
 /// The codes of ASCII mode, with the tables of the encoder.
 #[derive(Drop)]
@@ -99,29 +88,18 @@ impl AsciiCodes<'_> {
         start + src.copy_codes(&AsciiUnits, &mut dst[..limit], start)
     }
 
-    /// Reads ASCII up to the place `limit` of the output, and returns the place after it.
-    ///
-    /// It is written from the place `start` on. If a control is found in it, nothing is read.
-    // It reads by a copy of the cursor, which is dropped if a control was copied. With `all` the bytes after
-    // the ASCII are tested too: if their number is known, the test has no loop.
+    /// Reads at most `PIECE` bytes of ASCII, and returns the place after them. If a control is found among them, it reads nothing.
+    // It reads by a copy of the cursor, which is dropped if a control was copied.
     #[inline(always)]
-    fn copy_piece<S: TextCursor>(
-        &self,
-        src: &mut S,
-        dst: &mut [u8],
-        start: usize,
-        limit: usize,
-        all: bool,
-    ) -> usize
-        requires from { start ≤ limit }
-        requires to { limit + 2 ≤ length dst.old }
+    fn copy_piece<S: TextCursor>(&self, src: &mut S, dst: &mut [u8], start: usize) -> usize
+        requires { start + 15 ≤ length dst.old }
         ensures { EncodesBy S.TextCursor (ascii_state self.now.tables.now) src.old
             dst.old start src.new dst.new result }
     {
+        let limit = (dst.len() - 15).min(start + PIECE);
         let mut own = *src;
         let count = own.copy_ascii(&mut dst[..limit], start);
-        let tested = tested_end(all, limit, start + count);
-        if has_any_control(&dst[start..tested]) {
+        if has_control_by_blocks(&dst[start..], count) {
             return start;
         }
         *src = own;
@@ -149,24 +127,20 @@ impl AheadCodes for AsciiCodes<'_> {
         Some(put_move(dst, at, EncoderMove::One(scalar as u8)))
     }
 
-    // Most ASCII between pairs is shorter than sixteen bytes. Later pieces have 256 bytes: so little is copied
-    // without use, however many controls there are.
+    // Pieces are short, so little is copied without use, however many controls there are.
     #[inline(always)]
     #[tactic(auto, using(legacy_encoder_engine::proofs::ReadingAhead::encodes_then))]
     fn read_blocks<S: TextCursor>(&self, src: &mut S, dst: &mut [u8], at: usize) -> usize {
-        if dst.len() - at < 18 {
+        if dst.len() - at < 31 {
             return at;
         }
         if src.has_blocks() {
             return self.copy_units(src, dst, at);
         }
-        let mut end = self.copy_piece(src, dst, at, at + 16, true);
-        if end - at < 16 {
-            return end;
-        }
-        while dst.len() - end >= 258 {
-            let behind = self.copy_piece(src, dst, end, end + 256, false);
-            if behind - end < 256 {
+        let mut end = at;
+        while dst.len() - end >= 15 {
+            let behind = self.copy_piece(src, dst, end);
+            if behind - end < PIECE {
                 return behind;
             }
             end = behind;

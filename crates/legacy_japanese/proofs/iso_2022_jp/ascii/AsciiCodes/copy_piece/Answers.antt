@@ -17,7 +17,7 @@ module _ (start n limit : ℕ) (dst new more : List ℕ) (from : start ≤ limit
   front_same = grind (arith, common_steps, piece_behind, take-take start (start + n) (new ++ drop limit dst), take-append_seam (take start dst) more)
 
   -- what comes after it is the piece
-  piece_is : take (start + n - start) (drop start (new ++ drop limit dst)) ≡ more
+  piece_is : take n (take (length (new ++ drop limit dst) - start) (drop start (new ++ drop limit dst))) ≡ more
   piece_is = grind (arith, common_steps, piece_behind, drop-take start n (new ++ drop limit dst), drop-append_seam (take start dst) more)
 
 -- ASCII without controls is written as itself
@@ -25,12 +25,8 @@ own_bytes : (left old : List ℕ) (n : ℕ) → n ≤ length left → ((k : ℕ)
     → HasNoControl (take n left) → WritesCodes IsOwnByte left n old (old ++ take n left)
 own_bytes left old n within ascii none = grind (arith, length-take-le, slice_index, get_or-take)
 
--- a front of bytes without controls has no control
-front_without : (n m : ℕ) (bytes : List ℕ) → n ≤ m → HasNoControl (take m bytes) → HasNoControl (take n bytes)
-front_without n m bytes within none k h = let e = none k in grind (arith, common_steps)
-
-pub returns-then-has_any_control : goal.returns-then-has_any_control
-returns-then-has_any_control g c = grind (arith, front_same, encodes_none)
+pub returns-then-has_control_by_blocks : goal.returns-then-has_control_by_blocks
+returns-then-has_control_by_blocks g c = grind (arith, front_same, encodes_none)
 
 pub returns : goal.returns
 returns g c =
@@ -40,16 +36,17 @@ returns g c =
     let dst = c.args.dst.now in
     let new = c.copy_ascii-count.new.dst in
     let start = c.args.start in
-    let limit = c.args.limit in
+    let limit = c.min-limit.result in
     let left = g.S.TextCursor.left c.args.src.now in
     let n = c.copy_ascii-count.result in
-    let within : limit ≤ length dst = omega (arith, c.requires.to) in
+    let within : limit ≤ length dst = grind (arith, c.min-limit.ensures) in
+    let from : start ≤ limit = grind (arith, c.min-limit.ensures, c.requires) in
     let inside : length (take limit dst) ≡ limit = length-take-le limit dst within in
-    let is = piece_is start n limit dst new (take n left) c.requires.from within c.copy_ascii-count.auto.dst e.fits e.bytes in
-    let less : start + n - start ≤ c.tested_end-tested.result - start = omega (arith, c.tested_end-tested.ensures.from) in
-    let none = rw is at (front_without _ _ (drop start (new ++ drop limit dst)) less (c.has_any_control.ensures c.if-has_any_control.false)) in
-    let long = length-take-le start dst (omega (arith, c.requires.from, within)) in
+    let is = piece_is start n limit dst new (take n left) from within c.copy_ascii-count.auto.dst e.fits e.bytes in
+    let none = rw is at (c.has_control_by_blocks.ensures c.if-has_control_by_blocks.false) in
+    let long = length-take-le start dst (omega (arith, from, within)) in
     let units = e.passed ∙ ap (λ k. g.S.TextCursor.passed c.args.src.now + k) (sym (ascii_count form left n e.read e.ascii)) in
-    rw (piece_behind start n limit dst new (take n left) c.requires.from within c.copy_ascii-count.auto.dst e.fits e.bytes)
+    let free : start + n + 2 ≤ length dst = grind (arith, inside, e.fits, c.min-limit.ensures) in
+    rw (piece_behind start n limit dst new (take n left) from within c.copy_ascii-count.auto.dst e.fits e.bytes)
     (encodes_codes form (length dst) 2 (serves flat.jis0208 flat.katakana) (own_byte flat.jis0208 flat.katakana) _ e.read e.left units
-    (own_bytes left (take start dst) n e.read e.ascii none) long (omega (arith, inside, e.fits, c.requires.to)))
+    (own_bytes left (take start dst) n e.read e.ascii none) long (omega (arith, free)))
