@@ -1,5 +1,5 @@
 //! The codes of ISO-2022-JP's encoder in ASCII mode, which it copies by blocks.
-ghost use Rattle.std.specs.Prelude.{◌≡◌, ◌+◌, ◌≤◌, length, take, true, false};
+ghost use Rattle.std.specs.Prelude.{◌≡◌, ◌+◌, ◌≤◌, length, take, false};
 ghost use Rattle.legacy_base.specs.Iso2022Jp.{is_mode_control};
 ghost use Rattle.legacy_encoder_engine.specs.UnfinishedCall.{EncodesBy};
 ghost use Rattle.legacy_japanese.specs.Iso2022JpEncoder.{HasNoControl, IsOwnByte, ascii_state};

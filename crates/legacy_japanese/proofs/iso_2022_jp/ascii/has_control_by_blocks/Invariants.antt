@@ -1,4 +1,4 @@
-use Rattle.std.proofs.Common.{◌≡◌, ◌-◌, ◌<◌, ℕ, length, slice_index, false}
+use Rattle.std.proofs.Common.{◌≡◌, ◌-◌, ◌<◌, ℕ, slice_index, false}
 use Rattle.legacy_base.specs.Iso2022Jp.{is_mode_control}
 use Rattle.legacy_japanese.proofs.iso_2022_jp.ascii.has_control_by_blocks.Given as goal
 
