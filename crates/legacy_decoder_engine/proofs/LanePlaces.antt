@@ -1,7 +1,7 @@
 -- The places of eight codes lane by lane, and the entries at them.
-use Rattle.std.proofs.Common.{◌≡◌, ◌≢◌, ◌∙◌, ℕ, zero, suc, ◌+◌, ◌-◌, ◌*◌, ◌/◌, ◌%◌, ◌^◌, ◌<◌, ◌≤◌, ◌++◌, min, Bool, cond, leb, ltb, List, [], ◌∷◌}
+use Rattle.std.proofs.Common.{◌≡◌, ◌≢◌, ℕ, zero, suc, ◌+◌, ◌-◌, ◌*◌, ◌/◌, ◌%◌, ◌^◌, ◌<◌, ◌≤◌, ◌++◌, min, Bool, cond, leb, ltb, List, [], ◌∷◌}
 use Rattle.std.proofs.Common.{ap, arith, bit_and, drop, get_or, length, map, option_to_list, refl, replicate, w16, Fits}
-use Rattle.std.proofs.{Math.Nat.{mul_comm, mul-le-mul_left, mul-le-mul_right, mul-sub}, lemmas.{Bool.Decides.nat_tests, Nat.and_mask, Simd.map-map}}
+use Rattle.std.proofs.{Math.Nat.{mul_comm, mul-le-mul_left, mul-le-mul_right, mul-sub}, lemmas.{Bool.Decides.nat_tests, Nat.and_mask}}
 use Rattle.std.specs.Int.{is_in_range}
 use lib.Lanes.{Each1, zip2, sel_l, top}
 use Rattle.legacy_tables.specs.Indexes.{entry_scalar}
@@ -24,20 +24,14 @@ mask_if t = cond t (2 ^ 16 - 1) 0
 abbrev pub less : ℕ → ℕ → ℕ
 less a b = (a + (2 ^ 16 - b)) % 2 ^ 16
 
-abbrev firsts : List ℕ → List ℕ
-firsts v = zip2 bit_and v (replicate 8 255)
-
 abbrev seconds : List ℕ → List ℕ
 seconds v = zip2 (λ a b. a / 2 ^ b) v (replicate 8 8)
 
 abbrev columns : List ℕ → ℕ → List ℕ
 columns v first = zip2 less v (replicate 8 first)
 
-abbrev times : List ℕ → ℕ → List ℕ
-times v width = zip2 (λ a b. a * b % 2 ^ 16) v (replicate 8 width)
-
 abbrev lead_places : List ℕ → ℕ → ℕ → List ℕ
-lead_places v lead width = times (columns (firsts v) lead) width
+lead_places v lead width = zip2 (λ a b. a * b % 2 ^ 16) (columns (zip2 bit_and v (replicate 8 255)) lead) (replicate 8 width)
 
 -- a difference that wraps, times a width
 wrapped : (d width : ℕ) → 0 < width * d → width * d < 65536 → (65536 - d) * width % 65536 ≡ 65536 - width * d
@@ -57,24 +51,19 @@ module _ (lead leads width : ℕ) (room : lead + leads < 256) (narrow : width < 
       let all : (lead + leads + 1) * width ≡ width * lead + (leads + 1) * width = omega arith in
       grind (arith, nat_tests, wrapped (lead - b) width)
 
-  lead_is : (c : ℕ) → c < 65536
-      → map (λ p. min p ((leads + 1) * width)) (lead_places (c ∷ []) lead width) ≡ min (lead_place_of lead leads width c) ((leads + 1) * width) ∷ []
-  lead_is c small = rw (and_mask c 8) (ap (λ p. p ∷ []) (lead_limited (c % 256) (omega arith)))
-
   pub leads_are : (v : List ℕ) → length v ≡ 8 → Each1 (Fits w16) v
       → ArePlaces ((leads + 1) * width) (lead_place_of lead leads width) v (lead_places v lead width)
   leads_are = lane_by_lane (λ v. map (λ p. min p ((leads + 1) * width)) (lead_places v lead width))
-      (λ c. min (lead_place_of lead leads width c) ((leads + 1) * width)) lead_is (λ a b c d e g h i. refl)
+      (λ c. min (lead_place_of lead leads width c) ((leads + 1) * width))
+      (λ c small. rw (and_mask c 8) (ap (λ p. p ∷ []) (lead_limited (c % 256) (omega arith)))) (λ a b c d e g h i. refl)
 
 module _ (first limit : ℕ) (byte : first < 256) (most : limit ≤ 65280) where
   abbrev late_places : List ℕ → List ℕ
   late_places v = sel_l (map (top 15) (zip2 (λ a b. mask_if (leb a b)) (replicate 8 65280) v)) (replicate 8 65535) (columns (seconds v) first)
 
-  late_is : (c : ℕ) → c < 65536 → map (λ p. min p limit) (late_places (c ∷ [])) ≡ min (late_place_of first c) limit ∷ []
-  late_is c small = grind (arith, nat_tests)
-
   pub lates_are : (v : List ℕ) → length v ≡ 8 → Each1 (Fits w16) v → ArePlaces limit (late_place_of first) v (late_places v)
-  lates_are = lane_by_lane (λ v. map (λ p. min p limit) (late_places v)) (λ c. min (late_place_of first c) limit) late_is (λ a b c d e g h i. refl)
+  lates_are = lane_by_lane (λ v. map (λ p. min p limit) (late_places v)) (λ c. min (late_place_of first c) limit) (λ c small. grind (arith, nat_tests))
+      (λ a b c d e g h i. refl)
 
 module _ (second last : ℕ) (gap : 128 ≤ second) (some : second ≤ last) (byte : last < 256) where
   abbrev trail_places : List ℕ → List ℕ
@@ -84,13 +73,9 @@ module _ (second last : ℕ) (gap : 128 ≤ second) (some : second ≤ last) (by
       let column = zip2 (λ a b. (a + b) % 2 ^ 16) (columns (seconds v) (second - 63)) (picked (second - 63 - 64) 0) in
       sel_l (map (top 15) (zip2 (λ a b. mask_if (leb a b)) (picked 63 (last - (second - 63) + 1)) column)) (replicate 8 65535) column
 
-  trail_is : (c : ℕ) → c < 65536 → trail_places (c ∷ []) ≡ trail_place_of second last c ∷ []
-  trail_is c small = grind (arith, nat_tests)
-
   pub trails_are : (limit : ℕ) (v : List ℕ) → length v ≡ 8 → Each1 (Fits w16) v → ArePlaces limit (trail_place_of second last) v (trail_places v)
-  trails_are limit v eight fits =
-      ap (map (λ p. min p limit)) (lane_by_lane trail_places (trail_place_of second last) trail_is (λ a b c d e g h i. refl) v eight fits)
-      ∙ map-map (λ p. min p limit) (trail_place_of second last) v
+  trails_are limit = lane_by_lane (λ v. map (λ p. min p limit) (trail_places v)) (λ c. min (trail_place_of second last c) limit)
+      (λ c small. grind (arith, nat_tests)) (λ a b c d e g h i. refl)
 
 abbrev place_sums : List ℕ → List ℕ → List ℕ
 place_sums leads trails =
@@ -105,9 +90,7 @@ module _ (limit : ℕ) (small : limit < 65536) (lead trail : ℕ → ℕ) where
   sums_are [] [] ts s t e f = refl
   sums_are (c ∷ cs) (l ∷ ls) (t ∷ ts) s u e f =
       grind (arith, nat_tests, ap (λ l. get_or l 0 0) e, ap (λ l. get_or l 0 0) f, sums_are cs ls ts s.1 u.1 (ap (drop 1) e) (ap (drop 1) f))
-  sums_are [] (l ∷ ls) ts s t e f = absurd (omega (arith, ap length e))
-  sums_are (c ∷ cs) [] ts s t e f = absurd (omega (arith, ap length e))
-  sums_are (c ∷ cs) (l ∷ ls) [] s t e f = absurd (omega (arith, ap length f))
+  sums_are codes leads trails s u e f = absurd (omega (arith, ap length e, ap length f))
 
 pub entry_is : (e : ℕ) → e ≢ 0 → option_to_list (entry_scalar e) ≡ e ∷ []
 entry_is e some = grind (arith, nat_tests)

@@ -1,6 +1,5 @@
 -- How the moves of each machine follow from its grammar, and calls from the moves.
 pub mod CallUnderWay
-pub mod EightPairs
 pub mod AheadInCalls
 pub mod Feeding
 pub mod FrontMoves
@@ -21,4 +20,3 @@ pub mod TwoByteShown
 pub mod Picking
 pub mod LaneUnits
 pub mod LanePlaces
-pub mod FormStarts

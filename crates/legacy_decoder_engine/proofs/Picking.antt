@@ -1,13 +1,14 @@
--- Codes of two bytes at places, by a shuffle from a table.
-use Rattle.std.proofs.Common.{◌≡◌, ℕ, zero, suc, ◌+◌, ◌*◌, ◌/◌, ◌%◌, ◌<◌, ◌≤◌, true, eqb, List, [], ◌∷◌, ◌++◌, length, get_or, map, take, replicate, refl, sym}
-use Rattle.std.proofs.{Common.{ap, ◌∙◌, arith, w8, Fits, ◌-◌, ◌^◌}, lemmas.Bool.{leb-true, eqb-true, agree_below_at}, lemmas.List.take-take}
-use Rattle.std.proofs.{lemmas.List.{take-map, length-take-le, take-append-le, map-append, append_assoc, append-nil}, lemmas.Simd.swz_l}
-use Rattle.std.proofs.{lemmas.Simd.{get_or-chunk, put_chunk_is}, lemmas.Bool.Decides.nat_tests, Math.Seq.take-append_seam}
-use Rattle.std.proofs.{Math.Seq.take-append-add, lemmas.Nat.{and_mask, pow_pos}, lemmas.Nat.Bits.ones_shr, Math.Nat.{div-eq_of_lt, mod-lt}}
-use Rattle.std.specs.{List.range_with_len, Int.RustNames.count_ones, Int.Bits.bit_and}
-use Rattle.legacy_text.proofs.{UnitLanes.{shuffled, each_below}, ScalarTurns.below_256}
-use Rattle.legacy_decoder_engine.specs.{PickedForms.{places, pairs, row, code_at}, declared.picks.TheConstants.PICKED}
-use lib.{Lanes.{Each1, number_l, digits_l, all_below, chunk, put_chunk}, Pow.{field, mod-mod-pow, shr-shr}}
+-- Codes of two bytes at places, by a shuffle from a table, and the forms that are picked at their starts.
+use Rattle.std.proofs.Common.{◌≡◌, ◌∙◌, ℕ, zero, suc, ◌+◌, ◌-◌, ◌*◌, ◌/◌, ◌%◌, ◌^◌, ◌<◌, ◌≤◌, min, true, eqb, List, [], ◌∷◌, ◌++◌, length, get_or, map, take}
+use Rattle.std.proofs.Common.{drop, replicate, refl, sym, ap, ap₂, arith, Bool, false, cond, ltb, bit_and, bit_or, bit_xor, append_assoc, append-nil, w8, Fits}
+use Rattle.std.proofs.lemmas.{Bool.{leb-true, eqb-true, agree_below_at, cases_lt, Decides.nat_tests}, Nat.{and_mask, pow_pos, shr-shr}}
+use Rattle.std.proofs.lemmas.Nat.Bits.{ones_shr, bit_at-suc, bit_at-lt, bit_at_and, bit_at_xor, bit_at_or, bit_at_ones, shr_and_one}
+use Rattle.std.proofs.{lemmas.List.{take-take, take-map, length-take-le, take-append-le, map-append}, Math.Nat.{div-eq_of_lt, mod-lt}}
+use Rattle.std.proofs.{lemmas.Simd.{swz_l, get_or-chunk, put_chunk_is}, Math.Seq.{take-append_seam, take-append-add, drop-cons}}
+use Rattle.std.specs.{List.range_with_len, Int.{bit_at, RustNames.count_ones}}
+use Rattle.legacy_text.{proofs.{UnitLanes.{shuffled, each_below}, ScalarTurns.below_256}, specs.PastAscii.ArePast}
+use Rattle.legacy_decoder_engine.specs.{PickedForms.{places, pairs, row, code_at, form_of, forms_of, AreStarts, IsEnd}, declared.picks.TheConstants.PICKED}
+use lib.{Lanes.{Each1, number_l, digits_l, all_below, chunk, put_chunk}, Pow.{field, mod-mod-pow}}
 
 abbrev pub eight_places : ℕ → List ℕ
 eight_places x = take 8 (places 0 8 x ++ replicate 8 0)
@@ -109,3 +110,88 @@ pub below_end : (end x : ℕ) → end ≤ 64 → places 0 64 (bit_and x ((2 ^ 64
 below_end end x h =
     let m : (2 ^ 64 - 1) / 2 ^ (64 - end) ≡ 2 ^ (64 - (64 - end)) - 1 = ones_shr 64 (64 - end) (omega arith) in
     grind (arith, and_mask, places_below 0 end (64 - end) x)
+
+-- ---- the starts of forms
+
+-- bits that pass the check are the starts of forms
+pub asked : (past starts : ℕ) → bit_at starts 0 ≡ 1 → bit_and (bit_xor (starts / 2) (bit_and starts past)) (2 ^ 63 - 1) ≡ 2 ^ 63 - 1 → AreStarts past starts
+asked past starts first all = grind (arith, bit_at_and, bit_at_xor, bit_at-suc, bit_at_ones 63, bit_at-lt, λ (i : ℕ). ap (λ n. bit_at n i) all)
+
+pub lowest_set : (n : ℕ) → bit_at (bit_or n 1) 0 ≡ 1
+lowest_set n = rw bit_at_or (omega arith)
+
+-- the form at a place and the bytes after it are the bytes from there on
+form_there : (xs : List ℕ) (i m : ℕ) (t : Bool) → i + 1 < length xs → cond t 0 1 ≤ m
+    → cond t (get_or xs i 0 ∷ []) (get_or xs i 0 ∷ get_or xs (i + 1) 0 ∷ []) ++ take (m - cond t 0 1) (drop (i + 1 + cond t 0 1) xs) ≡ take (suc m) (drop i xs)
+form_there xs i m true h room =
+    let rest : m - 0 ≡ m = omega arith in
+    let next : i + 1 + 0 ≡ suc i = omega arith in
+    rw (rest, next, drop-cons xs i 0 (omega arith)) refl
+form_there xs i zero false h room = absurd (omega arith)
+form_there xs i (suc m) false h room =
+    let rest : suc m - 1 ≡ m = omega arith in
+    let one : i + 1 ≡ suc i = omega arith in
+    let two : i + 1 + 1 ≡ suc (suc i) = omega arith in
+    rw (two, one, drop-cons xs i 0 (omega arith), drop-cons xs (suc i) 0 (omega arith)) (cc)
+
+module _ (block : List ℕ) (past starts end : ℕ) (long : 72 ≤ length block) (small : (j : ℕ) → get_or block j 0 < 256)
+    (are_past : ArePast past block) (are : AreStarts past starts) (most : end ≤ 64) (is_end : IsEnd past starts end) where
+  abbrev forms : ℕ → ℕ → List ℕ
+  forms n i = forms_of (map (code_at block) (places i n (starts / 2 ^ i)))
+
+  -- no form starts at byte i, so it is the second of two
+  skipped : (m i : ℕ) → bit_at starts i ≡ 0 → forms (suc m) i ≡ forms m (i + 1)
+  unfolding places
+  skipped m i none = let half = shr-shr starts i 1 in grind (arith, nat_tests)
+
+  started : (m i : ℕ) → bit_at starts i ≡ 1 → forms (suc m) i ≡ form_of (code_at block i) ++ forms m (i + 1)
+  unfolding places
+  started m i some = let half = shr-shr starts i 1 in grind (arith, nat_tests)
+
+  -- the form that starts at byte i has two bytes if that byte is past ASCII
+  taken : (m i : ℕ) → i < 64 → bit_at past i ≤ m
+      → form_of (code_at block i) ++ take (m - bit_at past i) (drop (i + 1 + bit_at past i) block) ≡ take (suc m) (drop i block)
+  taken m i h room =
+      let first : code_at block i % 256 ≡ get_or block i 0 = omega arith in
+      let second : code_at block i / 256 ≡ get_or block (i + 1) 0 = omega arith in
+      rw (first, second, are_past i h) (form_there block i m (ltb (get_or block i 0) 128) (omega arith) (rw (are_past i h) at room))
+
+  -- a second byte is before the end
+  room_left : (m i : ℕ) → i + suc m ≡ end → bit_at starts i ≡ 1 → bit_at past i ≤ m
+  room_left m i e is = grind (arith, is_end, bit_at-lt)
+
+  next_starts : (i : ℕ) → i < 63 → bit_at starts (i + 1) ≡ 1 - min (bit_at starts i) (bit_at past i)
+  next_starts i h = grind (arith, bit_at-lt, are.next)
+
+  -- the forms from byte i on; k is 1 if that byte belongs to the form before it
+  fronts : (n i k : ℕ) → i + n ≡ end → k ≤ n → k ≤ 1 → (0 < n → bit_at starts i ≡ 1 - k) → forms n i ≡ take (n - k) (drop (i + k) block)
+  unfolding places
+  fronts zero i k e few one here = grind arith
+  fronts (suc m) i zero e few one here =
+      let is = here (omega arith) in
+      let place : i + 0 ≡ i = omega arith in
+      let all : suc m - 0 ≡ suc m = omega arith in
+      let rest = fronts m (i + 1) (bit_at past i) (omega arith) (room_left m i e is) (omega (arith, bit_at-lt past i))
+      (λ h. omega (arith, next_starts i (omega arith), is, bit_at-lt past i)) in
+      rw (started m i is, rest, place, all) (taken m i (omega arith) (room_left m i e is))
+  fronts (suc m) i (suc k) e few one here =
+      let none : bit_at starts i ≡ 0 = omega (arith, here (omega arith)) in
+      let count : m - 0 ≡ suc m - suc k = omega arith in
+      let place : i + 1 + 0 ≡ i + suc k = omega arith in
+      let rest = fronts m (i + 1) 0 (omega arith) (omega arith) (omega arith) (λ h. omega (arith, next_starts i (omega arith), none)) in
+      skipped m i none ∙ rest ∙ ap₂ (λ (n p : ℕ). take n (drop p block)) count place
+
+  pub picked : forms_of (map (code_at block) (places 0 end starts)) ≡ take end block
+  picked = grind (arith, fronts end 0 0, are.first)
+
+-- no form of two bytes starts at the byte before one that starts such a form
+apart : (past starts n : ℕ) → AreStarts past starts → n < 63 → bit_at (bit_and starts past) (suc n) ≡ 1 → bit_at (bit_and starts past) n ≡ 0
+apart past starts n are h e = grind (arith, bit_at_and, bit_at-lt, are.next)
+
+pub whole_end : (past starts limit : ℕ) → AreStarts past starts → 0 < limit → limit ≤ 64
+    → IsEnd past starts (limit - bit_and (bit_and starts past / 2 ^ (limit - 1)) 1)
+whole_end past starts limit are some most h = grind (arith, nat_tests, shr_and_one, bit_at-lt, bit_at_and, cases_lt, apart)
+
+-- a byte of the block that is loaded
+pub front_chunk : (xs : List ℕ) (i : ℕ) → i < 64 → get_or (chunk 0 64 xs) i 0 ≡ get_or xs i 0
+front_chunk xs i h = let z : 0 + i ≡ i = omega arith in get_or-chunk 0 64 xs i 0 h ∙ ap (λ k. get_or xs k 0) z

@@ -1,21 +1,12 @@
 -- Eight codes looked up at once: what is kept of each, the place where its entry is looked up, and its unit.
-use Rattle.std.specs.Prelude.{◌≡◌, ◌≢◌, ℕ, List, [], ◌∷◌, ◌+◌, ◌*◌, ◌<◌, ◌≤◌, ◌/◌, ◌%◌, ◌||◌, cond, ltb, leb, map, min, length, get_or, take, count_by}
+use Rattle.std.specs.Prelude.{◌≡◌, ◌≢◌, ℕ, List, [], ◌∷◌, ◌+◌, ◌*◌, ◌<◌, ◌≤◌, ◌/◌, ◌%◌, cond, ltb, map, min, length, get_or, take, count_by}
 use Rattle.std.specs.Char.{IsScalar}
-use Rattle.legacy_base.specs.Grammar.{Grammar}
-use Rattle.legacy_text.specs.{declared.destination.Destination.Ghosts}
+use Rattle.{legacy_base.specs.Grammar.Grammar, legacy_text.specs.declared.destination.Destination.Ghosts}
 use Rattle.legacy_decoder_engine.specs.{ReadAhead.IsPair, ReadAhead.Yields, ReadAhead.Writes, PickedForms.{form_of, forms_of}}
 
 -- the places of the codes, up to a limit: no two places from it on are told apart
 abbrev pub ArePlaces : ℕ → (ℕ → ℕ) → List ℕ → List ℕ → Type 0
 ArePlaces limit place codes found = map (λ p. min p limit) found ≡ map (λ code. min (place code) limit) codes
-
--- the first byte of a code if it is ASCII or the pointer is at most `last`, and otherwise 0
-abbrev pub kept_of : (ℕ → ℕ) → ℕ → ℕ → ℕ
-kept_of pointer last code = cond (ltb (code % 256) 128 || leb (pointer code) last) (code % 256) 0
-
--- the pointer of a code, or `last` if that is less
-abbrev pub place_of : (ℕ → ℕ) → ℕ → ℕ → ℕ
-place_of pointer last code = min (pointer code) last
 
 -- what is kept if it is ASCII, and otherwise the entry
 abbrev pub unit_at : ℕ → ℕ → ℕ
@@ -33,14 +24,10 @@ pub record IsLane (pointer : ℕ → ℕ) (code kept place : ℕ) : Type 0 where
   pub first : kept ≢ 0 → kept ≡ code % 256
   pub place_is : 128 ≤ kept → place ≡ pointer code
 
--- what is kept of the first n codes, and the places of their entries
-abbrev pub AreLanes : (ℕ → ℕ) → ℕ → List ℕ → List ℕ → List ℕ → Type 0
-AreLanes pointer n codes kept places = (k : ℕ) → k < n → IsLane pointer (get_or codes k 0) (get_or kept k 0) (get_or places k 0)
-
--- they are kept of some codes
-pub record AreKept (pointer : ℕ → ℕ) (n : ℕ) (kept places : List ℕ) : Type 0 where
-  pub codes : List ℕ
-  pub lanes : AreLanes pointer n codes kept places
+-- what is kept of the first n codes, and the places of their entries, which are at most `last`
+abbrev pub AreLanes : (ℕ → ℕ) → ℕ → ℕ → List ℕ → List ℕ → List ℕ → Type 0
+AreLanes pointer last n codes kept places = (k : ℕ) → k < n →
+    IsLane pointer (get_or codes k 0) (get_or kept k 0) (get_or places k 0) × (get_or places k 0 ≤ last)
 
 -- A unit is the scalar of the form that a code begins with. What is kept of the code gives the form's length.
 pub record IsForm (grammar : Grammar) (code kept unit : ℕ) : Type 0 where
@@ -48,17 +35,16 @@ pub record IsForm (grammar : Grammar) (code kept unit : ℕ) : Type 0 where
   pub yields : Yields grammar (form_of code) (unit ∷ [])
   pub counted : length (form_of code) + cond (ltb kept 128) 1 0 ≡ 2
 
--- A unit that is not 0 is the scalar of the form that its code begins with, whatever codes the lanes are kept of.
+-- A unit that is not 0 is the scalar of the form that a code begins with, whatever code the lane is kept of.
 abbrev pub AreForms : Grammar → (ℕ → ℕ) → List ℕ → List ℕ → List ℕ → Type 0
-AreForms grammar pointer kept places units = (codes : List ℕ) → AreLanes pointer 8 codes kept places → (k : ℕ) → k < 8 → get_or units k 0 ≢ 0 →
-    IsForm grammar (get_or codes k 0) (get_or kept k 0) (get_or units k 0)
+AreForms grammar pointer kept places units = (code k : ℕ) → k < 8 → IsLane pointer code (get_or kept k 0) (get_or places k 0) → get_or units k 0 ≢ 0 →
+    IsForm grammar code (get_or kept k 0) (get_or units k 0)
 
--- A unit that is not 0 is the scalar of the pair of bytes at its place, if the first one is past ASCII.
-abbrev pub AreUnits : Grammar → List ℕ → List ℕ → Type 0
-AreUnits grammar bytes units = (k : ℕ) → k < 8 → get_or units k 0 ≢ 0 → 128 ≤ get_or bytes (2 * k) 0 →
-    IsScalar (get_or units k 0) × Yields grammar (get_or bytes (2 * k) 0 ∷ get_or bytes (2 * k + 1) 0 ∷ []) (get_or units k 0 ∷ [])
+-- how many of what is kept are ASCII bytes
+abbrev pub ascii_count : List ℕ → ℕ
+ascii_count kept = count_by (λ k. ltb k 128) kept
 
 -- The forms of the first n codes are written. What is kept of the codes gives the forms' length.
 pub record AreWritten {D : Type 0} (T : Ghosts D) (grammar : Grammar) (codes kept : List ℕ) (n : ℕ) (x y : D) : Type 0 where
   pub writes : Writes T grammar (forms_of (take n codes)) x y
-  pub counted : length (forms_of (take n codes)) + count_by (λ k. ltb k 128) (take n kept) ≡ 2 * n
+  pub counted : length (forms_of (take n codes)) + ascii_count (take n kept) ≡ 2 * n

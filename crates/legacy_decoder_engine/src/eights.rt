@@ -2,15 +2,13 @@
 // The functions are always inlined, because a call would pass vectors through memory.
 #![tactic(auto, using(crate::proofs::WrittenReads::no_bytes))]
 
-ghost use Rattle.std.specs.Prelude.{ℕ, ◌+◌, ◌*◌, ◌<◌, ◌≤◌, All, length, get_or};
+ghost use Rattle.std.specs.Prelude.{◌≢◌, ℕ, ◌+◌, ◌*◌, ◌<◌, ◌≤◌, All, length, take, get_or, min};
 ghost use Rattle.std.specs.Char.{IsScalar};
 ghost use Rattle.legacy_base.specs.States.{new_state};
-ghost use Rattle.legacy_decoder_engine.specs.ReadAhead.{ReadsAhead};
-ghost use Rattle.legacy_decoder_engine.specs.LaneCodes.{ArePairs, AreUnits};
+ghost use Rattle.legacy_decoder_engine.specs.ReadAhead.{ReadsAhead, Yields};
 
 use crate::lane_codec::LaneCodec;
-use crate::lane_entries::{entries_at, entry_count};
-use crate::lanes::{are_known, chosen, kept_and_places, known_count};
+use crate::lanes::{are_known, chosen, entries_at, entry_count, kept_and_places, known_count};
 use crate::read_ahead::SLACK;
 use legacy_base::Destination;
 use legacy_tables::FlatTables;
@@ -34,12 +32,11 @@ fn pair_count(bytes: u8x16) -> usize
 /// `last` is the last place of the index.
 #[inline(always)]
 fn units_in<C: LaneCodec>(tables: &FlatTables<'_>, bytes: u8x16, last: u16) -> u16x8
-    requires pairs { ArePairs (C.grammar tables.now.flat) (C.entries tables.now.flat) C.place }
-    requires within { last < length (C.entries tables.now.flat) }
-    requires pointers { last < C.pointers }
+    requires { last < min (length (C.entries tables.now.flat)) C.pointers }
     ensures small { (k : ℕ) → k < 8 → get_or result k 0 < 0x1_0000 }
     ensures scalars { All IsScalar result }
-    ensures pairs { AreUnits (C.grammar tables.now.flat) bytes result }
+    ensures pairs { (n : ℕ) → n ≤ 8 → ((k : ℕ) → k < 2 * n → 0x80 ≤ get_or bytes k 0) → ((k : ℕ) → k < n → get_or result k 0 ≢ 0) →
+        Yields (C.grammar tables.now.flat) (take (2 * n) bytes) (take n result) }
 {
     let (kept, found) = kept_and_places::<C>(u16x8::from_le_bytes(bytes), last);
     let places = found.cast::<u32>().to_array();
@@ -57,9 +54,7 @@ fn read_eight<C: LaneCodec, T: Destination>(
     last: u16,
     dst: &mut T,
 ) -> usize
-    requires pairs { ArePairs (C.grammar tables.now.flat) (C.entries tables.now.flat) C.place }
-    requires within { last < length (C.entries tables.now.flat) }
-    requires pointers { last < C.pointers }
+    requires last { last < min (length (C.entries tables.now.flat)) C.pointers }
     requires block { 16 ≤ length src.now }
     requires room { 35 ≤ T.room dst.old }
     ensures most { result ≤ 16 }

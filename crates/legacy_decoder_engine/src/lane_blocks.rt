@@ -7,12 +7,12 @@ ghost use Rattle.std.specs.Prelude.{◌≡◌, ◌%◌, ◌<◌, ◌≤◌, [], 
 ghost use Rattle.legacy_base.specs.{States.new_state};
 ghost use Rattle.legacy_decoder_engine.specs.ReadAhead.{ReadsAhead, ReadsInto, Yields};
 
-use crate::block_picks::pick_blocks;
 use crate::common_forms::{CommonForm, FrontForms, read_forms};
 use crate::eights::read_eights;
 use crate::lane_codec::LaneCodec;
 use crate::lanes::{byte_total, put_codes};
 use crate::near_malformed::read_without_lanes;
+use crate::picks::pick_blocks;
 use crate::read_ahead::{BlockReader, SHORT_BLOCK, SLACK, read_ascii, read_blocks};
 use legacy_base::{Destination, Tables, Utf8Destination};
 use legacy_tables::{DecoderTables, FlatTables};
@@ -118,6 +118,7 @@ fn read_long<C: LaneCodec, T: Destination>(
 // Most rows of such blocks between tags are short: the larger arrays are made after a few blocks, and a copy of the tables,
 // whose parts a loop keeps in registers.
 #[inline(always)]
+#[tactic(auto, using(crate::proofs::JoinedReads::reads_more, crate::proofs::WrittenReads::no_bytes))]
 fn read_short<C: LaneCodec, T: Destination>(
     tables: &FlatTables<'_>,
     guess: &Cell<usize>,
@@ -379,6 +380,7 @@ fn read_one_kind<C: LaneCodec, T: Destination>(
 /// Returns the number of bytes read, and whether a block with many bytes past ASCII may follow.
 // Most rows of pairs between tags are short, and lanes are no faster in them. Forms are counted since the last long ASCII.
 #[inline(always)]
+#[tactic(auto, using(crate::proofs::JoinedReads::reads_more, crate::proofs::WrittenReads::no_bytes))]
 fn read_few<C: LaneCodec, T: Destination>(
     blocks: &LaneBlocks<'_, '_, C>,
     src: &[u8],

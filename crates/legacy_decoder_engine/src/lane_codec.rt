@@ -42,7 +42,6 @@ pub trait LaneCodec {
     /// Returns whether a form of more than two bytes may be at the front, given its first two bytes.
     #[inline(always)]
     fn begins_longer(first: u8, second: u8) -> bool {
-        let _ = (first, second);
         false
     }
 
@@ -54,7 +53,6 @@ pub trait LaneCodec {
     fn end_of_pairs(block: u8x64, past: u64, leads: u64, end: usize) -> usize
         ensures { result ≤ end }
     {
-        let _ = (block, past, leads);
         end
     }
 
@@ -70,10 +68,6 @@ pub trait LaneCodec {
     ) -> usize
         ensures { ReadsAhead T.Destination (new_state (grammar tables.now.flat)) src.now result dst.old dst.new }
     {
-        let _ = tables;
-        let _ = guess;
-        let _ = src;
-        let _ = dst;
         0
     }
 
@@ -89,10 +83,6 @@ pub trait LaneCodec {
     ) -> usize
         ensures { ReadsAhead T.Destination (new_state (grammar tables.now.flat)) src.now result dst.old dst.new }
     {
-        let _ = tables;
-        let _ = guess;
-        let _ = src;
-        let _ = dst;
         0
     }
 
@@ -104,9 +94,6 @@ pub trait LaneCodec {
         ensures { IfSome result (λ form. (0 < form.1) × (form.1 ≤ length src.now)
             × Yields (grammar tables.now.flat) (take form.1 src.now) (form.0 ∷ [])) }
     {
-        let _ = tables;
-        let _ = guess;
-        let _ = src;
         None
     }
 
@@ -145,7 +132,6 @@ pub trait LaneCodec {
     /// Returns whether a quick test shows forms of one byte past ASCII in a block. Such a block is read form by form.
     #[inline(always)]
     fn has_singles(block: u8x64) -> bool {
-        let _ = block;
         false
     }
 

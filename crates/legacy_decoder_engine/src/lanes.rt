@@ -3,13 +3,12 @@
 // the destination's place there for each block.
 #![tactic(auto, using(crate::proofs::WrittenReads::no_bytes))]
 
-ghost use Rattle.std.specs.Prelude.{◌≡◌, ◌≢◌, ℕ, ◌+◌, ◌*◌, ◌/◌, ◌<◌, ◌≤◌, List, true, length, map, take, get_or, count_by, ltb};
-ghost use Rattle.legacy_decoder_engine.specs.LaneCodes.{kept_of, place_of, unit_at, ArePairs, AreLanes, AreKept, AreForms, AreWritten};
+ghost use Rattle.std.specs.Prelude.{◌≡◌, ◌≢◌, ℕ, ◌+◌, ◌*◌, ◌/◌, ◌<◌, ◌≤◌, true, length, take, get_or, min};
+ghost use Rattle.legacy_decoder_engine.specs.LaneCodes.{ascii_count, unit_at, ArePairs, AreLanes, AreForms, AreWritten};
 
 use crate::lane_codec::LaneCodec;
-use crate::lane_entries::{entries_at, entry_count};
 use legacy_base::Destination;
-use legacy_tables::FlatTables;
+use legacy_tables::{FlatTables, IndexName};
 use legacy_text::first_units;
 use std::simd::prelude::*;
 
@@ -19,9 +18,7 @@ use std::simd::prelude::*;
 #[inline(always)]
 pub(crate) fn kept_and_places<C: LaneCodec>(codes: u16x8, last: u16) -> (u16x8, u16x8)
     requires { last < C.pointers }
-    ensures small { (k : ℕ) → k < 8 → get_or codes k 0 < 0x1_0000 }
-    ensures kept { result.0 ≡ map (kept_of C.place last) codes }
-    ensures places { result.1 ≡ map (place_of C.place last) codes }
+    ensures { AreLanes C.place last 8 codes result.0 result.1 }
 {
     let first = codes & u16x8::splat(0xFF);
     let found = C::places(codes);
@@ -40,17 +37,91 @@ fn split_codes<C: LaneCodec>(codes: &mut [u16], places: &mut [u32], groups: usiz
     requires codes { 8 * groups ≤ length codes.old }
     requires places { 8 * groups ≤ length places.old }
     requires pointers { last < C.pointers }
-    ensures lanes { AreLanes C.place (8 * groups) codes.old codes.new places.new }
-    ensures within { (k : ℕ) → k < 8 * groups → get_or places.new k 0 ≤ last }
+    ensures { AreLanes C.place last (8 * groups) codes.old codes.new places.new }
 {
-    let mut group = 0;
-    while group < groups {
+    for group in 0..groups {
         let at = 8 * group;
         let (kept, found) = kept_and_places::<C>(u16x8::from_slice(&codes[at..]), last);
         kept.copy_to_slice(&mut codes[at..]);
         found.cast::<u32>().copy_to_slice(&mut places[at..]);
-        group += 1;
     }
+}
+
+/// Returns the number of entries of the codec's index that have a lead and a trail.
+#[inline(always)]
+pub(crate) fn entry_count<C: LaneCodec>(tables: &FlatTables<'_>) -> usize
+    ensures count { result ≡ min (length (C.entries tables.now.flat)) C.pointers }
+    ensures small { C.pointers < 0x1_0000 }
+{
+    let entries = match C::index() {
+        IndexName::Big5 => tables.wide().len(),
+        name => tables.narrow(name).len(),
+    };
+    entries.min(C::pointer_count())
+}
+
+/// Returns the entries of the codec's index at eight places, with 0 for an entry past U+FFFF.
+#[inline(always)]
+pub(crate) fn entries_at<C: LaneCodec>(tables: &FlatTables<'_>, places: &[u32]) -> u16x8
+    requires eight { 8 ≤ length places.now }
+    requires within { (k : ℕ) → k < 8 → get_or places.now k 0 < length (C.entries tables.now.flat) }
+    ensures pairs { ArePairs (C.grammar tables.now.flat) (C.entries tables.now.flat) C.place }
+    ensures are { (k : ℕ) → k < 8 → get_or result k 0 ≢ 0 → get_or result k 0 ≡ get_or (C.entries tables.now.flat) (get_or places.now k 0) 0 }
+{
+    match C::index() {
+        IndexName::Big5 => wide_entries(tables.wide(), places),
+        name => narrow_entries(tables.narrow(name), places),
+    }
+}
+
+/// Returns the entries at eight places of an index of scalars up to U+FFFF.
+#[inline(always)]
+fn narrow_entries(index: &[u16], places: &[u32]) -> u16x8
+    requires eight { 8 ≤ length places.now }
+    requires within { (k : ℕ) → k < 8 → get_or places.now k 0 < length index.now }
+    ensures { (k : ℕ) → k < 8 → get_or result k 0 ≡ get_or index.now (get_or places.now k 0) 0 }
+{
+    u16x8::from_array([
+        index[places[0] as usize],
+        index[places[1] as usize],
+        index[places[2] as usize],
+        index[places[3] as usize],
+        index[places[4] as usize],
+        index[places[5] as usize],
+        index[places[6] as usize],
+        index[places[7] as usize],
+    ])
+}
+
+/// Returns the entries at eight places, or only zeros if one of them is past U+FFFF.
+#[inline(always)]
+fn wide_entries(index: &[u32], places: &[u32]) -> u16x8
+    requires eight { 8 ≤ length places.now }
+    requires within { (k : ℕ) → k < 8 → get_or places.now k 0 < length index.now }
+    ensures { (k : ℕ) → k < 8 → get_or result k 0 ≢ 0 → get_or result k 0 ≡ get_or index.now (get_or places.now k 0) 0 }
+{
+    let a = index[places[0] as usize];
+    let b = index[places[1] as usize];
+    let c = index[places[2] as usize];
+    let d = index[places[3] as usize];
+    let e = index[places[4] as usize];
+    let f = index[places[5] as usize];
+    let g = index[places[6] as usize];
+    let h = index[places[7] as usize];
+    if a >= 0x1_0000
+        || b >= 0x1_0000
+        || c >= 0x1_0000
+        || d >= 0x1_0000
+        || e >= 0x1_0000
+        || f >= 0x1_0000
+        || g >= 0x1_0000
+        || h >= 0x1_0000
+    {
+        return u16x8::splat(0);
+    }
+    u16x8::from_array([
+        a as u16, b as u16, c as u16, d as u16, e as u16, f as u16, g as u16, h as u16,
+    ])
 }
 
 /// Returns what is kept if it is ASCII, and otherwise the entry, for each of eight codes.
@@ -88,7 +159,6 @@ pub fn known_count(units: u16x8) -> usize
 /// It is given what is kept of the codes, and the places of their entries.
 #[inline(always)]
 fn units_of<C: LaneCodec>(tables: &FlatTables<'_>, kept: &[u16], places: &[u32]) -> u16x8
-    requires pairs { ArePairs (C.grammar tables.now.flat) (C.entries tables.now.flat) C.place }
     requires kept { 8 ≤ length kept.now }
     requires places { 8 ≤ length places.now }
     requires within { (k : ℕ) → k < 8 → get_or places.now k 0 < length (C.entries tables.now.flat) }
@@ -97,41 +167,6 @@ fn units_of<C: LaneCodec>(tables: &FlatTables<'_>, kept: &[u16], places: &[u32])
 {
     let entries = entries_at::<C>(tables, places);
     chosen(u16x8::from_slice(kept), entries)
-}
-
-/// Writes the codes in the first `groups` groups of eight, up to a group with an uncommon code.
-///
-/// It is given what is kept of the codes, and the places of their entries. Returns the number of groups written.
-#[inline(always)]
-fn put_groups<C: LaneCodec, T: Destination>(
-    tables: &FlatTables<'_>,
-    kept: &[u16],
-    places: &[u32],
-    groups: usize,
-    dst: &mut T,
-) -> usize
-    requires pairs { ArePairs (C.grammar tables.now.flat) (C.entries tables.now.flat) C.place }
-    requires kept { 8 * groups ≤ length kept.now }
-    requires places { 8 * groups ≤ length places.now }
-    requires within { (k : ℕ) → k < 8 * groups → get_or places.now k 0 < length (C.entries tables.now.flat) }
-    requires lanes { AreKept C.place (8 * groups) kept.now places.now }
-    requires room { 32 * groups ≤ T.room dst.old }
-    ensures most { result ≤ groups }
-    ensures writes { (codes : List ℕ) → 8 * groups ≤ length codes → AreLanes C.place (8 * groups) codes kept.now places.now →
-        AreWritten T.Destination (C.grammar tables.now.flat) codes kept.now (8 * result) dst.old dst.new }
-    ensures slack { T.room dst.old ≤ T.room dst.new + 24 * result }
-{
-    let mut group = 0;
-    while group < groups {
-        let at = 8 * group;
-        let units = units_of::<C>(tables, &kept[at..], &places[at..]);
-        if !are_known(units) {
-            return group;
-        }
-        dst.put_eight(units);
-        group += 1;
-    }
-    group
 }
 
 /// Writes the first `most` codes, up to one that is uncommon, and returns the number of codes written.
@@ -156,10 +191,19 @@ pub(crate) fn put_codes<C: LaneCodec, T: Destination>(
     if entries == 0 {
         return 0;
     }
-    let last = (entries - 1) as u16;
-    split_codes::<C>(codes, places, (most + 7) / 8, last);
+    split_codes::<C>(codes, places, (most + 7) / 8, (entries - 1) as u16);
     let groups = (most / 8).min(dst.free() / 32);
-    let at = 8 * put_groups::<C, T>(tables, codes, places, groups, dst);
+    let mut group = 0;
+    while group < groups {
+        let at = 8 * group;
+        let units = units_of::<C>(tables, &codes[at..], &places[at..]);
+        if !are_known(units) {
+            break;
+        }
+        dst.put_eight(units);
+        group += 1;
+    }
+    let at = 8 * group;
     if at == most || dst.free() < 32 {
         return at;
     }
@@ -172,7 +216,7 @@ pub(crate) fn put_codes<C: LaneCodec, T: Destination>(
 /// Returns the number of bytes of the forms of eight codes, given what is kept of each.
 #[inline(always)]
 fn byte_count(kept: u16x8) -> usize
-    ensures { result + count_by (λ k. ltb k 128) kept ≡ 16 }
+    ensures { result + ascii_count kept ≡ 16 }
 {
     16 - kept.simd_lt(u16x8::splat(0x80)).to_bitmask().count_ones() as usize
 }
@@ -182,7 +226,7 @@ fn byte_count(kept: u16x8) -> usize
 #[inline(never)]
 pub(crate) fn byte_total(kept: &[u16], count: usize) -> usize
     requires { 8 * (count / 8) + 8 ≤ length kept.now }
-    ensures { result + count_by (λ k. ltb k 128) (take count kept.now) ≡ 2 * count }
+    ensures { result + ascii_count (take count kept.now) ≡ 2 * count }
 {
     let mut bytes = 0;
     let mut group = 0;

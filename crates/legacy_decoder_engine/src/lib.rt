@@ -3,14 +3,12 @@
 //! trail.
 #![tactic(auto)]
 
-mod block_picks;
 pub mod common_forms;
 pub mod drive;
 mod eights;
 pub mod held_lead;
 pub mod lane_blocks;
 pub mod lane_codec;
-mod lane_entries;
 pub mod lane_places;
 pub mod lanes;
 pub mod lead_and_trail;

@@ -30,7 +30,7 @@ fn inner_bytes(past: u64) -> u64 {
 /// Returns the bits of the bytes at which forms start, if each byte past ASCII is the first or third of four.
 // The bits are checked, so the proof needs no facts about parities.
 #[inline(always)]
-#[tactic(auto, using(crate::proofs::FourStarts::asked, legacy_decoder_engine::proofs::FormStarts::lowest_set))]
+#[tactic(auto, using(crate::proofs::FourStarts::asked, legacy_decoder_engine::proofs::Picking::lowest_set))]
 fn four_starts(past: u64) -> Option<u64>
     ensures { IfSome result (λ starts. AreFourStarts past starts) }
 {

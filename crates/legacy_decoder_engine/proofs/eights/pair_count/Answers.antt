@@ -1,5 +1,5 @@
 use Rattle.std.proofs.{Common.{arith, w64}, lemmas.Nat.Bits.{bit_at-trailing_zeros, bit_at-zero}}
-use Rattle.legacy_decoder_engine.proofs.EightPairs.{byte_past}
+use Rattle.legacy_decoder_engine.proofs.LaneUnits.{byte_past}
 use Rattle.legacy_decoder_engine.proofs.eights.pair_count.Goals as goal
 
 pub returns-then-ascii-eq0-clause-past : goal.returns-then-ascii-eq0-clause-past

@@ -1,29 +1,27 @@
-use Rattle.std.proofs.Common.{◌∙◌, ◌+◌, ◌*◌, ◌<◌, ℕ, List, map, refl, arith}
-use Rattle.std.proofs.lemmas.{Bool.Decides.nat_tests, List.{map-id, Elements.All-from_get_or}}
-use Rattle.std.specs.Char.{IsScalar}
+use Rattle.std.proofs.Common.{◌≡◌, ℕ, List, length, arith}
+use Rattle.std.proofs.lemmas.List.{map-id}
 use lib.Lanes.{digits_l, number_l}
-use Rattle.{legacy_text.proofs.ScalarTurns.{lane, below_256}, legacy_decoder_engine.proofs.EightPairs.{form_at, pair_is, place_within}}
+use Rattle.legacy_decoder_engine.specs.LaneCodes.{AreForms}
+use Rattle.legacy_decoder_engine.proofs.LaneUnits.{first_forms, is_form, known_scalars, pair_forms}
 use Rattle.legacy_decoder_engine.proofs.eights.units_in.Goals as goal
 
 pub entries_at-requires-clause-within : goal.entries_at-requires-clause-within
-entries_at-requires-clause-within g c k h =
-    let e = c.kept_and_places.ensures in
-    let codes : List ℕ = digits_l 65536 8 (number_l 256 c.args.bytes) in
-    place_within g.C.LaneCodec.place c.args.last codes c.kept_and_places.result.0 (map (λ (p : ℕ). p) c.kept_and_places.result.1) refl e.small
-    e.kept (map-id c.kept_and_places.result.1 ∙ e.places) _ c.requires.within k h
+entries_at-requires-clause-within g c k h = rw (map-id c.kept_and_places.result.1) (omega (arith, (c.kept_and_places.ensures k h).1, c.requires))
 
 pub returns : goal.returns
 returns g c =
-    let e = c.kept_and_places.ensures in
     let codes : List ℕ = digits_l 65536 8 (number_l 256 c.args.bytes) in
-    let form = λ (k : ℕ) (h : k < 8).
-    form_at g.C.LaneCodec.place c.args.last codes c.kept_and_places.result.0 (map (λ (p : ℕ). p) c.kept_and_places.result.1) refl e.small
-    e.kept (map-id c.kept_and_places.result.1 ∙ e.places) _ _ (g.met.C.LaneCodec.ascii c.args.tables.now) c.requires.pairs
-    c.requires.within c.entries_at.result c.chosen.result k h (c.chosen.ensures.small k h) (c.entries_at.ensures k h) (c.chosen.ensures.lanes k h) in
-    let small = below_256 c.args.bytes c.fits-bytes.1 in
+    let kept = c.kept_and_places.result.0 in
+    let places = c.kept_and_places.result.1 in
+    let grammar = g.C.LaneCodec.grammar c.args.tables.now.flat in
+    let long : length c.chosen.result ≡ 8 = omega arith in
+    let forms : AreForms grammar g.C.LaneCodec.place kept places c.chosen.result =
+    λ code k h lane some. is_form _ (g.met.C.LaneCodec.ascii c.args.tables.now) _ _ c.entries_at.ensures.pairs code _ _ _ _ (c.chosen.ensures.small k h) lane
+    (omega (arith, (c.kept_and_places.ensures k h).1, c.requires)) (rw (map-id places) at (c.entries_at.ensures.are k h)) (c.chosen.ensures.lanes k h) some in
     record {
       small = c.chosen.ensures.small;
-      scalars = All-from_get_or IsScalar c.chosen.result 0 (λ k h. grind (arith, nat_tests, c.chosen.type_inv, form k));
-      pairs = λ k h some past. pair_is _ _ _ _ _ _
-          (lane 8 c.args.bytes k (λ i l. small i) c.fits-bytes.0 h) (small (2 * k)) (small (2 * k + 1)) past (form k h some);
+      scalars = known_scalars grammar g.C.LaneCodec.place c.args.last codes kept places c.chosen.result long c.kept_and_places.ensures forms;
+      pairs = λ n most past known. rw (pair_forms n 8 c.args.bytes c.fits-bytes.1 most (omega arith) past) at
+          ((first_forms grammar g.C.LaneCodec.place c.args.last codes kept places c.chosen.result long c.kept_and_places.ensures forms n most (omega arith)
+          (omega arith) known).0);
     }

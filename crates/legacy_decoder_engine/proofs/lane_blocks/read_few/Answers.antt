@@ -1,4 +1,3 @@
-use Rattle.std.proofs.Common.{arith}
 use Rattle.legacy_decoder_engine.proofs.{JoinedReads.reads_more}
 use Rattle.legacy_decoder_engine.proofs.lane_blocks.read_few.Goals as goal
 
@@ -21,6 +20,3 @@ pub loop-at-preserved : goal.loop-at-preserved
 loop-at-preserved g c =
     let ascii = c.read_ascii-ascii.ensures.ahead _ (g.met.C.LaneCodec.ascii c.args.blocks.now.tables.now) in
     reads_more (reads_more c.loop-at.invariant ascii) c.read_one_kind-few.ensures
-
-pub loop-at-smaller : goal.loop-at-smaller
-loop-at-smaller g c = omega arith

@@ -1,9 +1,5 @@
-use Rattle.std.proofs.{Common.arith, lemmas.List.{length-take, length-drop}}
 use Rattle.legacy_decoder_engine.proofs.{JoinedReads.reads_more}
 use Rattle.legacy_decoder_engine.proofs.lane_blocks.read_short.Goals as goal
-
-pub loop-codes-smaller : goal.loop-codes-smaller
-loop-codes-smaller g c = grind (arith, length-take, length-drop, c.read_front-read.ensures)
 
 pub loop-codes-preserved : goal.loop-codes-preserved
 loop-codes-preserved g c = reads_more c.loop-codes.invariant c.read_front-read.ensures.ahead

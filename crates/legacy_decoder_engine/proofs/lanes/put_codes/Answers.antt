@@ -1,27 +1,42 @@
-use Rattle.std.proofs.Common.{◌*◌, ◌+◌, ◌/◌, arith}
-use Rattle.legacy_decoder_engine.proofs.LaneUnits.{few_units, known_scalars, next_written}
+use Rattle.std.proofs.{Common.{◌≡◌, ◌*◌, ◌+◌, ◌/◌, length, take, arith}, lemmas.List.take_all}
+use Rattle.legacy_decoder_engine.proofs.{LaneUnits.{few_units, scalars_there, next_written}, WrittenReads.all_short}
 use Rattle.legacy_decoder_engine.proofs.lanes.put_codes.Goals as goal
 
-pub put_groups-at-requires-clause-lanes : goal.put_groups-at-requires-clause-lanes
-put_groups-at-requires-clause-lanes g c =
-    record { codes = c.args.codes.now; lanes = λ k h. c.split_codes.ensures.lanes k (omega arith) }
+pub put_eight-requires-clause-scalars : goal.put_eight-requires-clause-scalars
+put_eight-requires-clause-scalars g c =
+    scalars_there _ g.C.LaneCodec.place _ (8 * c.loop-group.group) (8 * ((c.args.most + 7) / 8)) c.args.codes.now c.split_codes.new.codes
+    c.split_codes.new.places _ (omega arith) (omega arith) c.split_codes.ensures c.units_of-units.ensures.forms
 
-pub returns-then-at-most-clause-writes : goal.returns-then-at-most-clause-writes
-returns-then-at-most-clause-writes g c =
-    c.put_groups-at.ensures.writes c.args.codes.now (omega arith) (λ k h. c.split_codes.ensures.lanes k (omega arith))
+pub loop-group-preserved : goal.loop-group-preserved
+loop-group-preserved g c =
+    let T = g.T.Destination in
+    let units = c.units_of-units.result in
+    let e = c.put_eight.ensures in
+    let long : length units ≡ 8 = omega arith in
+    let all : take 8 units ≡ units = take_all 8 units (omega arith) in
+    let eight : 8 * (c.loop-group.group + 1) ≡ 8 * c.loop-group.group + 8 = omega arith in
+    let most = all_short T.form units (λ k h. c.units_of-units.ensures.small k (omega arith)) in
+    record {
+      within = omega arith;
+      slack = omega arith;
+      writes = rw eight (next_written _ g.C.LaneCodec.place _ (8 * c.loop-group.group) (8 * ((c.args.most + 7) / 8)) c.args.codes.now
+          c.split_codes.new.codes c.split_codes.new.places units (omega arith) long c.split_codes.ensures c.units_of-units.ensures.forms T 8
+          (omega arith) c.requires.codes (omega arith) (c.are_known.ensures c.if-not-are_known.false) c.loop-group.invariant.writes
+          (rw all e.contents) (rw all e.room) e.loan);
+    }
 
 pub put_first-requires-clause-scalars : goal.put_first-requires-clause-scalars
 put_first-requires-clause-scalars g c =
-    known_scalars _ g.C.LaneCodec.place (8 * c.put_groups-at.result) (8 * ((c.args.most + 7) / 8)) c.args.codes.now c.split_codes.new.codes
-    c.split_codes.new.places _ (omega arith) (omega arith) c.split_codes.ensures.lanes c.units_of-units.ensures.forms
+    scalars_there _ g.C.LaneCodec.place _ (8 * c.loop-group.group) (8 * ((c.args.most + 7) / 8)) c.args.codes.now c.split_codes.new.codes
+    c.split_codes.new.places _ (omega arith) (omega arith) c.split_codes.ensures c.units_of-units-2.ensures.forms
 
 pub returns-clause-writes : goal.returns-clause-writes
 returns-clause-writes g c =
     let e = c.put_first.ensures in
-    next_written _ g.C.LaneCodec.place (8 * c.put_groups-at.result) (8 * ((c.args.most + 7) / 8)) c.args.codes.now c.split_codes.new.codes
-    c.split_codes.new.places _ (omega arith) (omega arith) c.split_codes.ensures.lanes c.units_of-units.ensures.forms g.T.Destination c.min-few.result
-    (omega arith) c.requires.codes (omega arith) (λ k h. c.known_count.ensures.known k (omega arith))
-    (c.put_groups-at.ensures.writes c.args.codes.now (omega arith) (λ k h. c.split_codes.ensures.lanes k (omega arith))) e.contents e.room e.loan
+    next_written _ g.C.LaneCodec.place _ (8 * c.loop-group.group) (8 * ((c.args.most + 7) / 8)) c.args.codes.now c.split_codes.new.codes
+    c.split_codes.new.places _ (omega arith) (omega arith) c.split_codes.ensures c.units_of-units-2.ensures.forms g.T.Destination c.min-few.result
+    (omega arith) c.requires.codes (omega arith) (λ k h. c.known_count.ensures.known k (omega arith)) c.loop-group.invariant.writes
+    e.contents e.room e.loan
 
 pub returns-clause-slack : goal.returns-clause-slack
-returns-clause-slack g c h = grind (arith, few_units, c.units_of-units.type_inv, c.units_of-units.ensures.small, c.known_count.ensures.most)
+returns-clause-slack g c h = grind (arith, few_units, c.units_of-units-2.type_inv, c.units_of-units-2.ensures.small, c.known_count.ensures.most)

@@ -1,28 +1,18 @@
-use Rattle.std.proofs.Common.{◌∙◌, ◌+◌, ◌-◌, ◌*◌, ◌≤◌, ℕ, length, map, arith}
-use Rattle.std.proofs.lemmas.{List.map-id, Simd.{get_or-chunk, get_or-put_chunk_above}}
-use Rattle.legacy_decoder_engine.specs.LaneCodes.{kept_of, place_of}
-use Rattle.legacy_decoder_engine.proofs.LaneUnits.{lane_is, next_eight_stored}
+use Rattle.std.proofs.Common.{◌≡◌, ◌∙◌, ◌+◌, ◌*◌, arith}
+use Rattle.std.proofs.lemmas.{List.map-id, Simd.get_or-put_chunk_above}
+use Rattle.legacy_decoder_engine.proofs.LaneUnits.{next_lanes}
 use Rattle.legacy_decoder_engine.proofs.lanes.split_codes.Goals as goal
 
 pub loop-group-preserved : goal.loop-group-preserved
 loop-group-preserved g c =
     let l = c.loop-group in
     let i = l.invariant in
-    let e = c.kept_and_places.ensures in
-    let room : 8 * (l.group + 1) ≤ length l.codes = omega arith in
-    let room' : 8 * (l.group + 1) ≤ length l.places = omega arith in
+    let next : 8 * (l.group + 1) ≡ 8 * l.group + 8 = omega arith in
     record {
-      within = omega arith;
-      small = λ k h.
-          let j : ℕ = k - 8 * l.group in
-          let loaded = get_or-chunk (8 * l.group) 8 l.codes j 0 in
-          grind (arith, loaded, i.small k, i.rest k, e.small j);
       rest = λ k h. get_or-put_chunk_above (8 * l.group) l.codes _ k 0 (omega arith) ∙ i.rest k (omega arith);
-      keeps = next_eight_stored (kept_of g.C.LaneCodec.place c.args.last) (8 * l.group) (8 * (l.group + 1)) c.args.codes.now l.codes l.codes _
-          (omega arith) e.kept room room i.rest i.keeps;
-      finds = next_eight_stored (place_of g.C.LaneCodec.place c.args.last) (8 * l.group) (8 * (l.group + 1)) c.args.codes.now l.codes l.places
-          (map (λ (p : ℕ). p) c.kept_and_places.result.1) (omega arith) (map-id c.kept_and_places.result.1 ∙ e.places) room room' i.rest i.finds;
+      lanes = rw (next, map-id) (next_lanes _ _ (8 * l.group) c.args.codes.now l.codes l.places _ _ (omega arith) (omega arith) (omega arith) (omega arith)
+          i.rest i.lanes c.kept_and_places.ensures);
     }
 
-pub returns-clause-lanes : goal.returns-clause-lanes
-returns-clause-lanes g c k h = grind (arith, lane_is, c.loop-group.invariant)
+pub returns : goal.returns
+returns g c k h = c.loop-group.invariant.lanes k (omega arith)

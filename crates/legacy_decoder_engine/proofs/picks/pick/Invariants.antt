@@ -4,11 +4,7 @@ use Rattle.legacy_decoder_engine.proofs.picks.pick.Given as goal
 
 abbrev pub invariant-loop-group : goal.invariant-loop-group
 invariant-loop-group l = record {
-  within : l.group ≤ 8;
   counted : l.at ≤ l.count + 8 * l.group;
   picked : take l.count l.fn.codes ++ map (code_at l.block) (places 0 64 l.starts)
       ≡ take l.at l.codes ++ map (code_at l.block) (places (8 * l.group) (64 - 8 * l.group) l.left);
 }
-
-abbrev pub decreases-loop-group : goal.decreases-loop-group
-decreases-loop-group l = 8 - l.group

@@ -1,5 +1,5 @@
 use Rattle.std.proofs.{Common.arith, lemmas.Grind.flat_map-append}
-use Rattle.legacy_decoder_engine.proofs.{FormStarts.picked, Picking.below_end}
+use Rattle.legacy_decoder_engine.proofs.Picking.{picked, below_end}
 use Rattle.legacy_decoder_engine.proofs.picks.pick_forms.Goals as goal
 
 pub returns-clause-forms : goal.returns-clause-forms

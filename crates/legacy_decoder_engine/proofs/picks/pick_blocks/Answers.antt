@@ -1,7 +1,7 @@
 use Rattle.std.proofs.{Common.{◌≡◌, ◌∙◌, length, take, drop, ap, sym, arith}, lemmas.List.length-take-le}
 use Rattle.legacy_decoder_engine.proofs.{LaneUnits.{picked_more, shorter_front}, WrittenReads.rest_of}
-use Rattle.legacy_decoder_engine.proofs.block_picks.pick_blocks.Goals.{then-rest-ge72, else-rest-ge72}
-use Rattle.legacy_decoder_engine.proofs.block_picks.pick_blocks.Goals as goal
+use Rattle.legacy_decoder_engine.proofs.picks.pick_blocks.Goals.{then-rest-ge72, else-rest-ge72}
+use Rattle.legacy_decoder_engine.proofs.picks.pick_blocks.Goals as goal
 
 pub loop-left-preserved : goal.loop-left-preserved
 loop-left-preserved g c =
@@ -19,12 +19,12 @@ loop-left-preserved g c =
       | else-rest-ge72 w ↦
           let e = w.pick_block-else-rest-ge72.ensures in
           let most = w.min-most.result in
-          let bytes = w.pick_block-else-rest-ge72.result.1 in
+          let most = w.min-most.result in
           let part : length (take most rest) ≡ most = length-take-le most rest (omega arith) in
           let padded = w.copy_front.new.padded in
           let front : take most padded ≡ take most rest = ap (λ k. take k padded) (sym part) ∙ rw is at w.copy_front.ensures in
-          let same = shorter_front bytes most padded rest e.limit front in
-          let forms = picked_more l.count w.pick_block-else-rest-ge72.result.0 l.at bytes l.codes w.pick_block-else-rest-ge72.new.codes src _
+          let same = shorter_front w.pick_block-else-rest-ge72.result.1 most padded rest e.limit front in
+          let forms = picked_more l.count w.pick_block-else-rest-ge72.result.0 l.at _ l.codes w.pick_block-else-rest-ge72.new.codes src _
           l.invariant.forms e.forms same in
           rw (w.codes-is, w.next-is) (record { room = omega arith; read = omega arith; forms = forms })
     ]

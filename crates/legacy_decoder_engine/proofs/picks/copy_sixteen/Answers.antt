@@ -1,7 +1,7 @@
 use Rattle.std.proofs.{Common.{◌≡◌, ◌∙◌, ◌++◌, List, ℕ, length, ap₂, sym, arith}, lemmas.{List.take_all, Simd.length-chunk}, Math.Seq.take-add}
 use lib.Lanes.{chunk}
 use Rattle.legacy_text.proofs.Ascii.{put_front}
-use Rattle.legacy_decoder_engine.proofs.block_picks.copy_sixteen.Goals as goal
+use Rattle.legacy_decoder_engine.proofs.picks.copy_sixteen.Goals as goal
 
 pub returns : goal.returns
 returns c =

@@ -1,6 +1,6 @@
 use Rattle.std.proofs.Common.{arith}
 use Rattle.legacy_decoder_engine.proofs.{LaneUnits.shorter_front}
-use Rattle.legacy_decoder_engine.proofs.block_picks.copy_front.Goals as goal
+use Rattle.legacy_decoder_engine.proofs.picks.copy_front.Goals as goal
 
 pub copy_sixteen-requires-2-clause-before : goal.copy_sixteen-requires-2-clause-before
 copy_sixteen-requires-2-clause-before c = shorter_front c.min.result 16 _ _ (omega arith) c.copy_sixteen.ensures

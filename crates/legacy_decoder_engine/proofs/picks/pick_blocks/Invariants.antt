@@ -1,6 +1,6 @@
 use Rattle.std.proofs.Common.{◌≡◌, ◌+◌, ◌*◌, ◌≤◌, length, take}
 use Rattle.legacy_decoder_engine.specs.PickedForms.{forms_of}
-use Rattle.legacy_decoder_engine.proofs.block_picks.pick_blocks.Given as goal
+use Rattle.legacy_decoder_engine.proofs.picks.pick_blocks.Given as goal
 
 abbrev pub invariant-loop-left : goal.invariant-loop-left
 invariant-loop-left g l = record {
