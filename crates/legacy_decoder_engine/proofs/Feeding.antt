@@ -1,20 +1,15 @@
 -- A machine that agrees with its grammar and keeps its rooms makes the moves that the loop requires.
-use Rattle.std.proofs.Common.{◌≡◌, ◌≢◌, ◌∙◌, ℕ, suc, ◌≤◌, List, [], ◌∷◌, ◌++◌, length, drop, refl, ap, subst, arith, append-nil, length-append}
-use Rattle.std.proofs.{Common.{length-drop, drop_of_length-le, true, false, ◌&&◌, ◌⊎◌, Some, None, All}, lemmas.List.drop-append-le}
-use Rattle.std.proofs.{lemmas.List.nil_from_length, lemmas.List.Elements.{All-nil, All-cons}, lemmas.Bool.Decides.nat_tests, Math.Seq.drop-length}
-use Rattle.std.specs.Char.{IsScalar, is_ascii}
-use Rattle.legacy_text.specs.EncodingForm.{EncodingForm, Utf8, Utf16, unit_count, total_unit_count, bmp_room}
-use Rattle.legacy_tables.specs.Unicode.{IsByte, AreBytes}
-use Rattle.legacy_base.specs.{States.{rests, may_hold, state_of}, DecoderActs.{act_room, takes, full_room, has_short_ascii, has_reported}}
-use Rattle.legacy_base.specs.{DecoderActs.{has_marks, full_room_in, HadRoom}, Lengths.{LengthQuery, to_utf16, to_utf8, query_form, room}}
-use Rattle.legacy_base.specs.Fronts.{reads, malformed}
-use Rattle.legacy_base.specs.{declared.results.DecodeEvent.TheVariants.Scalar, Grammar.{Grammar, events_of}, Calls.Progress}
-use Rattle.legacy_decoder_engine.specs.{Moves.{IsCovered, read_room, fed_scalars, Feeds, FeedsMalformedByte, Releases, Reports}, Feeding.{fed_of, Took}}
-use Rattle.legacy_decoder_engine.specs.{Steps.{Step, finish, step_held, step_length, StepMeets, DecoderMachine}, StepUnits.{units, step_units}}
-use Rattle.legacy_decoder_engine.specs.declared.moves.Fed.{Fed, TheVariants.MalformedSequence}
-use Rattle.legacy_decoder_engine.specs.{StatesAfterSteps.{IsOneOrMarked, Settles}, Shown.IsShown}
-use Rattle.legacy_base.proofs.{Rooms.release-full, GrammarLaws.{may_none, rests-none}}
-use Rattle.legacy_decoder_engine.proofs.{RoomMoves.all_needs, CallUnderWay.same_rooms}
+use Rattle.std.{proofs.Common.{◌≡◌, ◌≢◌, ℕ, suc, List, [], ◌++◌, refl, ap, append-nil, length-append, true, ◌&&◌, Some, ◌∙◌}, specs.Char.{IsScalar, is_ascii}}
+use Rattle.std.proofs.{Common.{◌≤◌, ◌∷◌, length, arith, length-drop, drop_of_length-le, All, drop, false, ◌⊎◌, None}, Math.Seq.drop-length}
+use Rattle.std.proofs.lemmas.{List.{drop-append-le, nil_from_length, Elements.{All-nil, All-cons}}, Bool.Decides.nat_tests}
+use Rattle.{legacy_text.specs.EncodingForm.{EncodingForm, Utf8, Utf16, unit_count, total_unit_count, bmp_room}, legacy_tables.specs.Unicode.{IsByte, AreBytes}}
+use Rattle.legacy_base.specs.{States.{rests, may_hold, state_of}, declared.results.DecodeEvent.TheVariants.Scalar, Calls.Progress, Fronts.{reads, malformed}}
+use Rattle.legacy_base.specs.{Lengths.{LengthQuery, to_utf16, to_utf8, query_form, room}, Grammar.{Grammar, events_of}, DecoderActs.takes}
+use Rattle.legacy_base.{specs.DecoderActs.{has_marks, act_room, full_room, has_short_ascii, has_reported, full_room_in, HadRoom}, proofs.Rooms.release-full}
+use Rattle.{legacy_base.proofs.GrammarLaws.{may_none, rests-none}, legacy_decoder_engine.specs.{Moves.{Feeds, fed_scalars, Reports}, Feeding.{fed_of, Took}}}
+use Rattle.legacy_decoder_engine.specs.{Moves.{IsCovered, read_room, Releases, FeedsMalformedByte}, Steps.{Step, step_held, step_length, StepMeets, finish}}
+use Rattle.legacy_decoder_engine.{specs.{Shown.IsShown, StatesAfterSteps.{IsOneOrMarked, Settles}}, proofs.{RoomMoves.all_needs, CallUnderWay.same_rooms}}
+use Rattle.legacy_decoder_engine.specs.{Steps.DecoderMachine, StepUnits.{units, step_units}, declared.moves.Fed.{Fed, TheVariants.MalformedSequence}}
 
 -- the code units of scalars, counted one by one
 pub units-total : (form : EncodingForm) (cs : List ℕ) → units (unit_count form) cs ≡ total_unit_count form cs
@@ -33,7 +28,7 @@ unfolding HadRoom
 had_usual form g free cs h h1 = grind (arith, nat_tests)
 
 pub all_dropped : (n : ℕ) (held : List ℕ) (b : ℕ) → n ≡ suc (length held) → drop n (held ++ b ∷ []) ≡ []
-all_dropped n held b e = drop_of_length-le (held ++ b ∷ []) (omega (arith, length-append held (b ∷ [])))
+all_dropped n held b e = grind (arith, drop_of_length-le, length-append)
 
 module _ {g : Grammar} {m : DecoderMachine} (shown : IsShown g m) (held : List ℕ) (may : may_hold g held ≡ true) (bytes : AreBytes held) where
   -- no next act needs more than the room of a query
@@ -45,39 +40,31 @@ module _ {g : Grammar} {m : DecoderMachine} (shown : IsShown g m) (held : List �
   }
 
   module _ (b : ℕ) (byte : IsByte b) (resting : rests g held ≡ true) where
-    meets : (s : Step) → m.step held b ≡ s → StepMeets g held b s (m.to held b)
-    meets s e = subst (λ s. StepMeets g held b s (m.to held b)) e (shown.meets.steps held b may resting)
-
-    settled : (s : Step) → m.step held b ≡ s → Settles (m.to held b) held b s
-    settled s e = subst (λ s. Settles (m.to held b) held b s) e (shown.settles held b may resting)
+    facts : (s : Step) → m.step held b ≡ s → StepMeets g held b s (m.to held b) × Settles (m.to held b) held b s
+    facts s e = rw (← e) (shown.meets.steps held b may resting, shown.settles held b may resting)
 
     fits_step : (form : EncodingForm) (s : Step) → m.step held b ≡ s → step_units (unit_count form) (bmp_room form) s ≤ read_room form (state_of g held) b
-    fits_step Utf8 s e = rw (← e) ((shown.rooms to_utf8).step_fits held b may resting bytes byte)
-    fits_step Utf16 s e = rw (← e) ((shown.rooms to_utf16).step_fits held b may resting bytes byte)
+    fits_step Utf8 s e = rw e at ((shown.rooms to_utf8).step_fits held b may resting bytes byte)
+    fits_step Utf16 s e = rw e at ((shown.rooms to_utf16).step_fits held b may resting bytes byte)
 
     had_is : (form : EncodingForm) (free : ℕ) (s : Step) → m.step held b ≡ s → read_room form (state_of g held) b ≤ free
         → HadRoom form g None free (fed_scalars (fed_of s held b))
     unfolding HadRoom
-    had_is form free (finish (reads n cs)) e le = grind (arith, short_or_usual, had_usual, settled)
+    had_is form free (finish (reads n cs)) e le = grind (arith, short_or_usual, had_usual, facts)
     had_is form free s e le = tt
 
     step_feeds : (s : Step) → m.step held b ≡ s → All IsScalar (fed_scalars (fed_of s held b))
         → Feeds (state_of g held) b (state_of (m.to held b) (step_held s held b)) (fed_of s held b)
-    step_feeds (finish (reads n (c ∷ d ∷ x ∷ cs))) e scalar = absurd (settled _ e).1
+    step_feeds (finish (reads n (c ∷ d ∷ x ∷ cs))) e scalar = absurd (facts _ e).1.1
     step_feeds s e scalar = record {
       passed = step_length s;
-      progress = record {
-        counts = omega (arith, (meets s e).counts);
-        rest = grind (arith, drop-append-le, meets s e, length-drop, append-nil);
-        codec = (shown.same_rooms held b).codec;
-        events = λ more l. grind (arith, (meets s e).goes_on more, settled s e);
-      };
-      holds = grind (arith, settled s e, all_dropped, rests-none, meets s e);
-      allowed = (meets s e).allowed;
+      progress = grind (arith, drop-append-le, facts s e, length-drop, append-nil, (shown.same_rooms held b).codec);
+      holds = grind (arith, facts s e, all_dropped, rests-none);
+      allowed = (facts s e).0.allowed;
       rooms = shown.same_rooms held b;
-      empties = grind (arith, settled s e, all_dropped);
+      empties = grind (arith, facts s e, all_dropped);
       report = λ form. release-full form g;
-      full = λ form h. grind (arith, nat_tests, all_dropped, settled s e);
+      full = λ form h. grind (arith, nat_tests, all_dropped, facts s e);
       fits = λ form. omega (arith, fits_step form s e, units-total form (fed_scalars (fed_of s held b)));
       had = λ form free. had_is form free s e;
       scalar = scalar;
@@ -123,7 +110,7 @@ module _ {g : Grammar} {m : DecoderMachine} (shown : IsShown g m) (held : List �
   ends_empty e = ap (events_of g) (nil_from_length held e) ∙ shown.meets.ends [] (may_none g) (rests-none g)
 
   pub ends_some : rests g held ≡ true → held ≢ [] → events_of g held ≢ []
-  ends_some r n e = grind (arith, meets)
+  ends_some r n e = grind (arith, shown.meets.ends held may r)
 
   -- there is something to report if bytes are held back, even if a scalar is still to be written
   pub ends_held : held ≢ [] → events_of g held ≢ []

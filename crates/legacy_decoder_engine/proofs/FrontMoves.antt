@@ -1,21 +1,15 @@
 -- The front of a list gives the move of a decoder, for every continuation.
-use Rattle.std.proofs.Common.{◌≡◌, ℕ, suc, ◌+◌, ◌<◌, ◌≤◌, List, [], ◌∷◌, ◌++◌, drop, length, Bool, true, false, cond, refl, sym, ◌∙◌, append_assoc}
-use Rattle.std.proofs.{Common.{length-append, length-drop, drop_of_length-le, le_refl, arith}, Math.Seq.{drop-length, drop-append_seam}}
-use Rattle.std.proofs.{lemmas.List.drop-append-le}
-use Rattle.legacy_base.specs.{Fronts.{Front, reads, malformed, front_length, front_events, reads_or, trail_rule, cut}, Grammar.{Grammar, events_of}}
-use Rattle.legacy_base.specs.{declared.results.DecodeEvent.TheVariants.Bad, Beginnings.BeginsWith, Events.shift, States.may_hold}
-use Rattle.legacy_decoder_engine.specs.Steps.{Step, hold, finish, leave, StepMeets, WriteMeets, end_events, ReportMeets, trail_step}
+use Rattle.std.proofs.Common.{◌≡◌, ℕ, suc, ◌+◌, ◌<◌, ◌≤◌, List, [], ◌∷◌, ◌++◌, drop, length, Bool, true, cond, refl, sym, ◌∙◌, append_assoc, length-append}
+use Rattle.std.proofs.{Common.{false, length-drop, drop_of_length-le, le_refl, arith}, Math.Seq.{drop-length, drop-append_seam}, lemmas.List.drop-append-le}
+use Rattle.legacy_base.specs.Fronts.{Front, reads, malformed, front_length, front_events, reads_or, trail_rule, cut}
+use Rattle.legacy_base.specs.{Grammar.{Grammar, events_of}, declared.results.DecodeEvent.TheVariants.Bad, Beginnings.BeginsWith, Events.shift, States.may_hold}
 use Rattle.legacy_base.proofs.{Shifts.shift-zero, Cuts.{cut-nil, cut-front}, Beginnings.no_sooner}
+use Rattle.legacy_decoder_engine.specs.Steps.{Step, hold, finish, leave, StepMeets, WriteMeets, end_events, ReportMeets, trail_step}
 
 -- the list begins with the front
 abbrev pub HasFront : (ℕ → List ℕ → Front) → List ℕ → Front → Type 0
 HasFront front [] f = ⊥
 HasFront front (b ∷ rest) f = front b rest ≡ f
-
--- the events of the front, and then those of the bytes after it
-pub front_move : (front : ℕ → List ℕ → Front) (bytes behind : List ℕ) (f : Front) → HasFront front bytes f → 0 < front_length f
-    → drop (front_length f) bytes ≡ behind → cut front 0 0 bytes ≡ front_events 0 f ++ shift (front_length f) (cut front 0 0 behind)
-front_move front bytes behind f h h1 h2 = grind (arith, cut-front)
 
 -- the front of a step is the same for every continuation
 abbrev pub Fits : (ℕ → List ℕ → Front) → (List ℕ → Bool) → List ℕ → ℕ → Step → Type 0
@@ -23,13 +17,6 @@ Fits front may held b hold = (length held ≤ 2) × (may (held ++ b ∷ []) ≡ 
 Fits front may held b (finish f) = ((more : List ℕ) → HasFront front (held ++ b ∷ more) f) × (0 < front_length f) × (front_length f ≤ suc (length held)) ×
     (may (drop (front_length f) (held ++ b ∷ [])) ≡ true)
 Fits front may held b (leave n) = ((more : List ℕ) → HasFront front (held ++ b ∷ more) (malformed n)) × (0 < n) × (n ≤ length held) × (may (drop n held) ≡ true)
-
--- if the events of a list begin with a malformed sequence of n bytes, its front is that sequence
-front_reported : (front : ℕ → List ℕ → Front) (b : ℕ) (rest : List ℕ) (n : ℕ) (f : Front) → front b rest ≡ f → 0 < front_length f
-    → BeginsWith (cut front 0 0 (b ∷ rest)) (Bad 0 n ∷ []) → f ≡ malformed n
-front_reported front b rest n (reads k []) e some g =
-    absurd (no_sooner k 0 n (cut front 0 0 (drop k (b ∷ rest))) g.0 some (sym (front_move front (b ∷ rest) _ (reads k []) e some refl) ∙ g.1))
-front_reported front b rest n f e some g = grind (arith, sym (front_move front (b ∷ rest) _ f e some refl) ∙ g.1)
 
 pub fits_test : (front : ℕ → List ℕ → Front) (may : List ℕ → Bool) (held : List ℕ) (b : ℕ) (t : Bool) (s₁ s₂ : Step) →
     (t ≡ true → Fits front may held b s₁) → (t ≡ false → Fits front may held b s₂) → Fits front may held b (cond t s₁ s₂)
@@ -41,19 +28,27 @@ pub fits_trail : (front : ℕ → List ℕ → Front) (may : List ℕ → Bool) 
 fits_trail front may held scalars t h h1 h2 = grind (arith, drop_of_length-le, length-append, fits_test, le_refl, drop-length)
 
 module _ (g : Grammar) (front : ℕ → List ℕ → Front) (ev_is : (bytes : List ℕ) → events_of g bytes ≡ cut front 0 0 bytes) where
-  pub ev_front : (bytes behind : List ℕ) (f : Front) → HasFront front bytes f → 0 < front_length f → drop (front_length f) bytes ≡ behind →
+  -- the events of the front, and then those of the bytes after it
+  ev_front : (bytes behind : List ℕ) (f : Front) → HasFront front bytes f → 0 < front_length f → drop (front_length f) bytes ≡ behind →
       events_of g bytes ≡ front_events 0 f ++ shift (front_length f) (events_of g behind)
-  ev_front bytes behind f h pos e = rw (ev_is bytes, ev_is behind) (front_move front bytes behind f h pos e)
+  ev_front bytes behind f h pos e = rw (ev_is bytes, ev_is behind) (grind (arith, cut-front))
+
+  -- if the events of a list begin with a malformed sequence of n bytes, its front is that sequence
+  front_reported : (b : ℕ) (rest : List ℕ) (n : ℕ) (f : Front) → front b rest ≡ f → 0 < front_length f
+      → BeginsWith (events_of g (b ∷ rest)) (Bad 0 n ∷ []) → f ≡ malformed n
+  front_reported b rest n (reads k []) e some begins =
+      absurd (no_sooner k 0 n (events_of g (drop k (b ∷ rest))) begins.0 some (sym (ev_front (b ∷ rest) _ (reads k []) e some refl) ∙ begins.1))
+  front_reported b rest n f e some begins = grind (arith, sym (ev_front (b ∷ rest) _ f e some refl) ∙ begins.1)
 
   pub fits_meets : (may : List ℕ → Bool) → ((held : List ℕ) → may_hold g held ≡ may held) → (held : List ℕ) (b : ℕ) (s : Step) → length held ≤ 3
       → Fits front may held b s → StepMeets g held b s g
   fits_meets may may_is held b hold few fits = grind (arith, may_is, append_assoc, shift-zero, length-append)
   fits_meets may may_is held b (finish f) few fits =
-      let goes_on = λ (more : List ℕ). ev_front (held ++ b ∷ more) (drop (front_length f) (held ++ b ∷ []) ++ more) f (fits.0 more) (fits.1)
+      let goes_on = λ (more : List ℕ). ev_front (held ++ b ∷ more) (drop (front_length f) (held ++ b ∷ []) ++ more) f (fits.0 more) fits.1
       (grind (arith, append_assoc, drop-append-le (front_length f) (held ++ b ∷ []) more, length-append)) in
       grind (arith, may_is, length-append, length-drop)
   fits_meets may may_is held b (leave n) few fits =
-      let goes_on = λ (more : List ℕ). ev_front (held ++ b ∷ more) _ (malformed n) (fits.0 more) (fits.1) (drop-append-le n held (b ∷ more) (fits.2)) in
+      let goes_on = λ (more : List ℕ). ev_front (held ++ b ∷ more) _ (malformed n) (fits.0 more) fits.1 (drop-append-le n held (b ∷ more) fits.2) in
       grind (arith, may_is, length-drop)
 
   pub write_meets : (held : List ℕ) (n c : ℕ) → ((more : List ℕ) → HasFront front (held ++ more) (reads n (c ∷ []))) → 0 < n → n ≤ length held
@@ -70,5 +65,5 @@ module _ (g : Grammar) (front : ℕ → List ℕ → Front) (ev_is : (bytes : Li
   pub report_meets : (held more : List ℕ) → ((b : ℕ) (rest : List ℕ) → held ++ more ≡ b ∷ rest → 0 < front_length (front b rest)) → ReportMeets g held more
   report_meets [] more some pos g = absurd (omega arith)
   report_meets (b ∷ held) more some pos g =
-      let is = front_reported front b (held ++ more) (length (b ∷ held)) _ refl (some b (held ++ more) refl) in
+      let is = front_reported b (held ++ more) (length (b ∷ held)) _ refl (some b (held ++ more) refl) in
       grind (arith, is, ev_is, ev_front (b ∷ (held ++ more)) more (malformed (length (b ∷ held))), drop-append_seam (b ∷ held) more)

@@ -1,11 +1,9 @@
 -- What is read ahead, one part after another.
-use Rattle.std.proofs.Common.{◌≡◌, ℕ, ◌+◌, ◌-◌, ◌<◌, ◌≤◌, List, ◌++◌, length, take, take_all, drop, sym, subst, arith, IsAscii}
+use Rattle.std.proofs.Common.{◌≡◌, ℕ, ◌+◌, ◌-◌, ◌<◌, ◌≤◌, List, ◌++◌, length, take, take_all, drop, arith, IsAscii}
 use Rattle.std.proofs.{lemmas.List.{length-take, length-take-le, length-drop}, Math.Seq.take-add}
-use Rattle.legacy_text.specs.{declared.destination.Destination.Ghosts}
-use Rattle.legacy_base.specs.{Grammar.Grammar, States.{DecoderState, new_state}}
-use Rattle.legacy_decoder_engine.specs.ReadAhead.{HasAscii, Writes, WritesTo, ReadsTo, ReadsAhead}
-use Rattle.legacy_decoder_engine.proofs.{AheadInCalls.reads_nothing, CallUnderWay.{same_rooms, both_rooms}}
-use Rattle.legacy_decoder_engine.proofs.WrittenReads.{rest_of, reads_none, writes_none, writes_then, writes_next, writes_ascii}
+use Rattle.{legacy_text.specs.declared.destination.Destination.Ghosts, legacy_base.specs.{Grammar.Grammar, States.{DecoderState, new_state}}}
+use Rattle.legacy_decoder_engine.{specs.ReadAhead.{HasAscii, Writes, WritesTo, ReadsTo, ReadsAhead}, proofs.{AheadInCalls.reads_nothing, WrittenReads.rest_of}}
+use Rattle.legacy_decoder_engine.proofs.{CallUnderWay.{same_rooms, both_rooms}, WrittenReads.{reads_none, writes_none, writes_then, writes_next, writes_ascii}}
 
 module _ {D : Type 0} {T : Ghosts D} {source : List ℕ} {old mid new : D} {r s : ℕ} where
   pub reads_then : {first next last : DecoderState} → ReadsTo T first next source r old mid
@@ -22,10 +20,10 @@ module _ {D : Type 0} {T : Ghosts D} {source : List ℕ} {old mid new : D} {r s 
 -- what is read where nothing was read before
 pub reads_first : {D : Type 0} {T : Ghosts D} {state : DecoderState} {source : List ℕ} {old mid new : D} {r s : ℕ} → r ≡ 0
     → ReadsAhead T state source r old mid → ReadsAhead T state source s mid new → ReadsAhead T state source s old new
-reads_first {T = T} {state} {source} {old} {mid} {new} {s = s} none a b =
+reads_first {source = source} {new = new} {s = s} none a b =
     let all = take_all (length source - 0) source (omega arith) in
     let sum : 0 + s ≡ s = omega arith in
-    subst (λ n. ReadsAhead T state source n old new) sum (reads_more (rw none at a) (subst (λ bytes. ReadsAhead T state bytes s mid new) (sym all) b))
+    rw sum at (reads_more {new = new} {s = s} (rw none at a) (rw all b))
 
 module _ {D : Type 0} {T : Ghosts D} {source : List ℕ} {old new : D} {r : ℕ} {g : Grammar} where
   -- the bytes read and the scalars written, with the room left if there are any

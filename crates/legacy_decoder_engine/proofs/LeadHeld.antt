@@ -1,13 +1,11 @@
 -- The moves of a decoder with leads, by the lead that it holds back.
-use Rattle.std.proofs.Common.{arith, ◌≡◌, ◌≢◌, ◌∙◌, ℕ, List, [], ◌∷◌, Bool, Option, Some, None, is_some, true, false, refl}
-use Rattle.std.proofs.lemmas.List.Elements.{All-nil, All-cons}
-use Rattle.std.specs.Char.{IsScalar}
+use Rattle.legacy_base.specs.{States.{state_of, may_hold}, Grammar.{Grammar, events_of}}
+use Rattle.legacy_decoder_engine.proofs.{CallUnderWay.same_rooms, WrittenReads.writes_none, YieldedForms.{has_ascii, pair_yields, ascii_is}}
+use Rattle.legacy_decoder_engine.specs.{declared.moves.Fed.Fed, ReadAhead.{Yields, HasAscii}, Moves.{IsCovered, Feeds, Reports}, Steps.Step, Feeding.Took}
+use Rattle.legacy_decoder_engine.specs.{Shown.IsShown, LeadMachines.{two_byte_machine, two_byte_step}, LeadCodecs.{IsLeadCodec, held_bytes, lead_state}}
 use Rattle.legacy_tables.specs.{Unicode.{IsByte, AreBytes}, AcceptedTables.AcceptedIndexes, Indexes.FlatIndexes}
-use Rattle.legacy_base.specs.{States.may_hold, Grammar.{Grammar, events_of}, Fronts.malformed}
-use Rattle.legacy_decoder_engine.specs.{declared.moves.Fed.Fed, Steps.{Step, finish}, Moves.{IsCovered, Feeds, FeedsMalformedByte, Reports}}
-use Rattle.legacy_decoder_engine.specs.{LeadMachines.{two_byte_machine, two_byte_step}, Shown.IsShown, Feeding.Took, ReadAhead.{Yields, HasAscii}}
-use Rattle.legacy_decoder_engine.specs.LeadCodecs.{IsLeadCodec, held_bytes, lead_state}
-use Rattle.legacy_decoder_engine.proofs.YieldedForms.{has_ascii, pair_yields, ascii_is}
+use Rattle.std.proofs.Common.{arith, ◌≡◌, ◌≢◌, ◌∙◌, ℕ, List, [], ◌∷◌, Bool, Option, Some, None, is_some, true, false, refl}
+use Rattle.std.{proofs.lemmas.List.Elements.{All-nil, All-cons}, specs.Char.IsScalar}
 use Rattle.legacy_decoder_engine.proofs.Feeding as feeding
 
 -- ASCII, and a pair that gives one scalar
@@ -36,10 +34,10 @@ module _ {L : Type 0} {grammar : FlatIndexes → Grammar} {is_lead_byte : ℕ �
   pub covered : (held : Option L) → IsCovered (lead_state grammar byte tables held)
   covered held = feeding.covered shown (held_bytes byte held) (may held) (are_bytes held)
 
-  pub feeds : (held : Option L) (b : ℕ) → IsByte b → (fed : Fed) (kept : Option L)
-      → Took (two_byte_step first (scalars tables.flat) (held_bytes byte held) b) (held_bytes byte held) b fed (held_bytes byte kept) →
-      Feeds (lead_state grammar byte tables held) b (lead_state grammar byte tables kept) fed
-  feeds held b is_byte fed kept took = feeding.feeds shown _ (may held) (are_bytes held) b is_byte (is.rests_is tables.flat _) fed _ took
+  pub feeds : (held : Option L) (b : ℕ) → IsByte b → (fed : Fed) (kept : List ℕ)
+      → Took (two_byte_step first (scalars tables.flat) (held_bytes byte held) b) (held_bytes byte held) b fed kept
+      → Feeds (lead_state grammar byte tables held) b (state_of (grammar tables.flat) kept) fed
+  feeds held b is_byte fed kept took = feeding.feeds shown _ (may held) (are_bytes held) b is_byte (is.rests_is tables.flat _) fed kept took
 
   pub ends_none : (held : Option L) → is_some held ≡ false → events_of (grammar tables.flat) (held_bytes byte held) ≡ []
   ends_none held e = grind (arith, shown, may, are_bytes)
@@ -50,5 +48,4 @@ module _ {L : Type 0} {grammar : FlatIndexes → Grammar} {is_lead_byte : ℕ �
   pub reports : (lead : L) → Reports (lead_state grammar byte tables (Some lead)) (lead_state grammar byte tables None) 1 0
   reports lead = feeding.reports_all shown _ (may (Some lead)) (are_bytes (Some lead)) (is.rests_is tables.flat _) (λ e. cc)
 
-  pub malformed_byte : (b : ℕ) → IsByte b → first b ≡ finish (malformed 1) → FeedsMalformedByte (lead_state grammar byte tables None) b
-  malformed_byte b is_byte e = feeding.malformed_byte shown b is_byte e refl
+pub ruleset moves = (covered, feeds, ends_none, ends_some, reports, same_rooms, writes_none)

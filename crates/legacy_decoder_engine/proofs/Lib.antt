@@ -7,7 +7,6 @@ pub mod WrittenReads
 pub mod JoinedReads
 pub mod YieldedForms
 pub mod LeadHeld
-pub mod OneByteMeets
 pub mod OneByteShown
 pub mod CommonPairs
 pub mod PairPlaces

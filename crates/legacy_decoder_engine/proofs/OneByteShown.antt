@@ -1,13 +1,16 @@
 -- The proof for the decoders of single bytes, which hold nothing back, from the few facts that each shows.
-use Rattle.std.proofs.{Common.{◌≡◌, ℕ, ◌<◌, List, [], ◌∷◌, Bool, cond, Option, option_to_list, ap, arith}, lemmas.Bool.{cond_both, false≢true, ltb-true}}
-use Rattle.std.specs.{Char.is_ascii, Option.IfSome}
-use Rattle.legacy_tables.specs.Unicode.{IsByte}
-use Rattle.legacy_base.specs.{Fronts.{Front, reads, malformed, reads_or, cut}, Profile.{Profile, byte_profile, is_empty, weightless}, Grammar.Grammar}
-use Rattle.legacy_base.specs.{Grammar.{profile, events_of}, States.may_hold}
-use Rattle.legacy_base.proofs.Cuts.{cut-nil}
-use Rattle.legacy_decoder_engine.specs.{Steps.{Step, finish, no_pending, DecoderMachine, Meets}, Shown.IsShown}
-use Rattle.legacy_decoder_engine.proofs.{CallUnderWay.same_rooms, FrontMoves.fits_meets, OneByteMeets.{few_held, no_report}, RoomMoves.{HasCosts, sloped_rooms}}
-use Rattle.legacy_decoder_engine.proofs.SettledSteps.{one_option, or_settles}
+use Rattle.std.proofs.Common.{◌≤◌, length, true, ◌≡◌, ℕ, ◌<◌, List, [], ◌∷◌, Bool, cond, Option, option_to_list, ap, arith}
+use Rattle.std.{proofs.lemmas.Bool.{cond_both, false≢true, ltb-true}, specs.{Char.is_ascii, Option.IfSome}}
+use Rattle.legacy_decoder_engine.{specs.{Steps.{ReportMeets, Step, finish, no_pending, DecoderMachine, Meets}, Shown.IsShown}, proofs.SettledSteps.one_option}
+use Rattle.legacy_decoder_engine.proofs.{SettledSteps.or_settles, CallUnderWay.same_rooms, FrontMoves.fits_meets, RoomMoves.{HasCosts, sloped_rooms}}
+use Rattle.{legacy_tables.specs.Unicode.IsByte, legacy_base.{specs.Fronts.{Front, reads, malformed, reads_or, cut}, proofs.Cuts.cut-nil}}
+use Rattle.legacy_base.specs.{Grammar.{Grammar, profile, events_of}, States.may_hold, Profile.{Profile, byte_profile, is_empty, weightless}}
+
+pub few_held : (held : List ℕ) → is_empty held ≡ true → length held ≤ 3
+few_held held h = grind (arith, false≢true)
+
+pub no_report : (g : Grammar) (held more : List ℕ) → is_empty held ≡ true → ReportMeets g held more
+no_report g held more h h1 = grind (arith, false≢true)
 
 abbrev pub one_byte_profile : (ℕ → List ℕ → Front) → Bool → Profile
 one_byte_profile front short = record (byte_profile (cut front 0 0)) { short_ascii = short }

@@ -1,15 +1,11 @@
 -- From the code units that a decoder's steps write to the lengths that its queries return.
-use Rattle.std.proofs.Common.{◌≡◌, ℕ, ◌+◌, ◌*◌, ◌<◌, ◌≤◌, List, [], ◌∷◌, length, Bool, true, false, cond, Some, ◌&&◌, mul-add, arith}
-use Rattle.std.proofs.{lemmas.Bool.{false≢true, cond_both}, lemmas.Bool.Decides.nat_tests, Math.Nat.mul-le-mul_left}
-use Rattle.legacy_tables.specs.Unicode.{IsByte, AreBytes}
-use Rattle.legacy_base.specs.{States.{DecoderState, may_hold, rests, state_of}, DecoderActs.{takes, writes, act_at_rest}}
-use Rattle.legacy_base.specs.DecoderActs.{act_room, room_of_act, need, full_room, full_room_in, release_room_in}
-use Rattle.legacy_base.specs.{Lengths.{LengthQuery, to_utf16, to_utf8, to_utf8_without_replacement, query_form, replacement_units, room}, Grammar.Grammar}
-use Rattle.legacy_text.specs.EncodingForm.{unit_count, bmp_room, wide_room}
-use Rattle.legacy_base.proofs.Enough.{room-rises}
-use Rattle.legacy_decoder_engine.specs.{Steps.{Step, step_held, DecoderMachine, Meets}, StepUnits.{step_units, step_left, IsWidth, Cost, WritePays}}
-use Rattle.legacy_decoder_engine.specs.Shown.{KeepsRooms}
-use Rattle.legacy_decoder_engine.proofs.Widths.{width_of}
+use Rattle.std.proofs.Common.{◌≡◌, ℕ, ◌+◌, ◌*◌, ◌<◌, ◌≤◌, List, [], ◌∷◌, length, Bool, true, false, cond, ◌&&◌, mul-add, arith}
+use Rattle.std.proofs.{lemmas.Bool.{false≢true, cond_both, Decides.nat_tests}, Math.Nat.mul-le-mul_left}
+use Rattle.{legacy_tables.specs.Unicode.{IsByte, AreBytes}, legacy_base.{specs.States.{DecoderState, may_hold, rests, state_of}, proofs.Enough.room-rises}}
+use Rattle.legacy_base.specs.DecoderActs.{takes, writes, act_room, need, full_room, full_room_in, release_room_in}
+use Rattle.legacy_base.specs.{Grammar.Grammar, Lengths.{LengthQuery, to_utf16, to_utf8, to_utf8_without_replacement, query_form, replacement_units, room}}
+use Rattle.{legacy_text.specs.EncodingForm.{unit_count, bmp_room, wide_room}, legacy_decoder_engine.specs.Steps.{Step, step_held, DecoderMachine, Meets}}
+use Rattle.legacy_decoder_engine.{specs.{StepUnits.{step_units, step_left, IsWidth, Cost, WritePays}, Shown.KeepsRooms}, proofs.Widths.width_of}
 
 pub first_room : (t : Bool) (x y : ℕ) → cond ((t && true) && true) x y ≡ cond t x y
 first_room t x y = grind (arith, nat_tests)
@@ -28,15 +24,9 @@ pub all_needs : (narrow wide : ℕ) (room : ℕ → ℕ) (g : Grammar) (m : Deco
     ((b n : ℕ) → 0 < n → act_room narrow wide (state_of g held) (takes b) ≤ room n) →
     ((n : ℕ) → 0 < length held → act_room narrow wide (state_of g held) writes ≤ room n) →
     (unread : List ℕ) (last : Bool) → need narrow wide (state_of g held) unread last ≤ room (length unread)
-all_needs narrow wide room g m meets empty held may take write unread last =
-    cond_both (rests g held) (act_at_rest (state_of g held) unread last) (Some writes)
-    (λ act. room_of_act narrow wide (state_of g held) act ≤ room (length unread)) (λ r. at_rest r unread)
-    (λ r. write (length unread) (grind (arith, false≢true)))
-  where
-    at_rest : rests g held ≡ true → (unread : List ℕ)
-        → room_of_act narrow wide (state_of g held) (act_at_rest (state_of g held) unread last) ≤ room (length unread)
-    at_rest r (b ∷ unread) = take b (length (b ∷ unread)) (omega arith)
-    at_rest r [] = rw (meets.ends held may r) (grind (arith, write 0))
+all_needs narrow wide room g m meets empty held may take write [] last = grind (arith, nat_tests, meets.ends held may, write 0, empty, false≢true)
+all_needs narrow wide room g m meets empty held may take write (b ∷ unread) last =
+    grind (arith, nat_tests, take b (length (b ∷ unread)), write (length (b ∷ unread)), empty, false≢true)
 
 -- each byte less lowers the room by at least half of `slope`
 abbrev pub Falls : (DecoderState → ℕ → ℕ) → Grammar → (List ℕ → ℕ) → ℕ → Type 0
@@ -82,11 +72,11 @@ module _ (g : Grammar) (m : DecoderMachine) (wt : List ℕ → ℕ) (paid : ℕ)
   pub sloped_rooms : KeepsRooms query g m
   sloped_rooms =
       let w = width_of (query_form query) in
-      let cost = costs.cost (unit_count (query_form query)) (bmp_room (query_form query)) (wide_room (query_form query)) w in
+      let cost = costs.cost _ _ _ w in
       record {
         step_fits = λ held b h r bytes byte. (cost held b h r bytes byte).fits;
         step_pays = λ held b n h r bytes byte.
-            let pays = paid_of query wt paid _ held b (m.step held b) (cost held b h r bytes byte) in
+            let pays = paid_of query wt paid _ _ _ _ (cost held b h r bytes byte) in
             rw (costs.to_is held b) (is.falls query held _ (n + 1) (n + step_left (m.step held b)) _ (grind (arith, mul-add)));
         write_pays = is.writes query;
         report_pays = λ b held h r. is.falls query (b ∷ held) [] 0 0 _ (grind (arith, mul-le-mul_left, is.heavy b held h));

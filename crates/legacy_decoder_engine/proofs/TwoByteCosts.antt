@@ -1,9 +1,8 @@
 -- The code units that the steps write in codecs with sequences of one and two bytes.
-use Rattle.std.proofs.{Common.{◌≡◌, ℕ, ◌*◌, ◌≤◌, List, [], ◌∷◌, length, Bool, true, false, cond, arith}, lemmas.Bool.ltb-true, lemmas.Bool.Decides.nat_tests}
+use Rattle.std.proofs.{Common.{◌≡◌, ℕ, ◌*◌, ◌≤◌, List, [], ◌∷◌, length, Bool, true, false, cond, arith}, lemmas.Bool.{ltb-true, Decides.nat_tests}}
 use Rattle.std.specs.Char.{is_ascii}
 use Rattle.legacy_tables.specs.Unicode.{is_katakana_byte}
-use Rattle.legacy_decoder_engine.specs.{Steps.{Step, trail_step}, StepUnits.{units, IsWidth, Cost}}
-use Rattle.legacy_decoder_engine.proofs.TwoByteMeets.{IsFirst, ascii}
+use Rattle.legacy_decoder_engine.{specs.{Steps.{Step, trail_step}, StepUnits.{units, IsWidth, Cost}}, proofs.TwoByteMeets.{IsFirst, ascii}}
 
 pub cost_test : (len : ℕ → ℕ) (narrow at_most : ℕ) (wt : List ℕ → ℕ) (slope : ℕ) (held : List ℕ) (b : ℕ) (t : Bool) (s₁ s₂ : Step) →
     (t ≡ true → Cost len narrow at_most wt slope held b s₁) → (t ≡ false → Cost len narrow at_most wt slope held b s₂)

@@ -1,13 +1,10 @@
 -- The machines of codecs with sequences of one and two bytes agree with their grammars.
-use Rattle.std.proofs.{Common.{◌≡◌, ◌∙◌, ℕ, ◌<◌, ◌≤◌, List, [], ◌∷◌, Bool, true, false, cond, refl, ap, arith}, lemmas.Bool.{false≢true, cond_both}}
-use Rattle.std.proofs.lemmas.Bool.Decides.{nat_tests}
-use Rattle.std.specs.{Char.is_ascii}
+use Rattle.std.proofs.Common.{refl, ◌≡◌, ◌∙◌, ℕ, ◌<◌, ◌≤◌, List, [], ◌∷◌, Bool, true, false, cond, ap, arith}
+use Rattle.std.{specs.Char.is_ascii, proofs.lemmas.Bool.{false≢true, cond_both, Decides.nat_tests}}
 use Rattle.legacy_base.specs.{Fronts.{Front, reads, malformed, reads_or, trail_rule, cut}, States.{is_lead, single_lead_may_hold, may_hold}}
-use Rattle.legacy_base.specs.{Profile.{Profile, lead_profile}, Grammar.{Grammar, profile, events_of}, DecoderActs.has_marks}
-use Rattle.legacy_decoder_engine.specs.{Steps.{Step, hold, finish, end_events, ReportMeets, Meets}, LeadMachines.{two_byte_machine, lead_first}}
-use Rattle.legacy_decoder_engine.specs.{LeadCodecs.IsPastAscii, StatesAfterSteps.{IsOneOrMarked}}
-use Rattle.legacy_base.proofs.Cuts.{cut-nil}
-use Rattle.legacy_decoder_engine.proofs.FrontMoves.{fits_trail, fits_meets, end_meets, report_meets}
+use Rattle.legacy_base.{specs.{Profile.{Profile, lead_profile}, Grammar.{Grammar, profile, events_of}, DecoderActs.has_marks}, proofs.Cuts.cut-nil}
+use Rattle.legacy_decoder_engine.specs.{Steps.{Step, hold, end_events, ReportMeets, Meets}, LeadMachines.{two_byte_machine, lead_first}, LeadCodecs.IsPastAscii}
+use Rattle.legacy_decoder_engine.{specs.{Steps.finish, StatesAfterSteps.IsOneOrMarked}, proofs.FrontMoves.{fits_trail, fits_meets, end_meets, report_meets}}
 
 -- The kinds of first bytes: ASCII, which is its own scalar; another scalar up to U+FFFF; a lead; or malformed. For each
 -- two bytes, `paid` code units are enough for the scalar.
@@ -88,7 +85,7 @@ pub lead_front_is : (is_lead_byte : ℕ → Bool) (scalars : ℕ → List ℕ) (
 lead_front_is is_lead_byte scalars rest pair b e = grind (arith, front_test)
 
 pub is_lead-past : (b : ℕ) → is_lead b ≡ true → IsPastAscii b
-is_lead-past b h = (grind (arith, nat_tests), grind (arith, nat_tests))
+is_lead-past b h = grind (arith, nat_tests)
 
 pub is_lead-in : (b : ℕ) → 0x81 ≤ b → b ≤ 0xFE → is_lead b ≡ true
 is_lead-in b low high = grind (arith, nat_tests)

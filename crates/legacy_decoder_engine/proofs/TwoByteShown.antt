@@ -1,12 +1,11 @@
 -- The proof for all codecs with sequences of one and two bytes, from the few facts that each shows.
 use Rattle.std.proofs.{Common.{◌≡◌, ℕ, ◌<◌, ◌≤◌, List, ◌∷◌, length, Bool, true, refl, arith}, lemmas.Bool.false≢true}
-use Rattle.legacy_base.specs.{DecoderActs.{full_room, full_room_in, release_room_in}, Fronts.Front, Grammar.Grammar, States.state_of, Lengths.LengthQuery}
-use Rattle.legacy_base.specs.Lengths.{query_form, room}
-use Rattle.legacy_tables.specs.{Indexes.FlatIndexes, TableChecks.AreAccepted}
+use Rattle.legacy_base.specs.{DecoderActs.{full_room, full_room_in, release_room_in}, Fronts.Front, States.state_of, Grammar.Grammar}
+use Rattle.{legacy_base.specs.Lengths.{LengthQuery, query_form, room}, legacy_tables.specs.{Indexes.FlatIndexes, TableChecks.AreAccepted}}
+use Rattle.legacy_decoder_engine.proofs.TwoByteMeets.{IsFirst, IsTwoByte, may_is, ascii_first, lead_holds, two_byte_meets}
 use Rattle.legacy_decoder_engine.specs.{Steps.Step, LeadMachines.two_byte_machine, StepUnits.{units, IsWidth}, Shown.IsShown, LeadCodecs.IsLeadCodec}
-use Rattle.legacy_decoder_engine.proofs.{TwoByteMeets.{IsFirst, IsTwoByte, may_is, ascii_first, lead_holds, two_byte_meets}, RoomMoves.{narrow_read, Falls}}
-use Rattle.legacy_decoder_engine.proofs.{RoomMoves.{query_slope, HasCosts, sloped_rooms}, CallUnderWay.same_rooms, TwoByteCosts.{first_cost, trail_cost}}
-use Rattle.legacy_decoder_engine.proofs.SettledSteps.{trail_settles}
+use Rattle.legacy_decoder_engine.proofs.RoomMoves.{narrow_read, Falls, query_slope, HasCosts, sloped_rooms}
+use Rattle.legacy_decoder_engine.proofs.{CallUnderWay.same_rooms, TwoByteCosts.{first_cost, trail_cost}, SettledSteps.trail_settles}
 
 -- The rooms of such a codec. A pair fits into the full room. For each two bytes, `paid` code units are enough. The
 -- rooms of the three queries fall by their slopes, and cover a byte and a lead.
@@ -24,9 +23,7 @@ module _ (g : Grammar) (front : ℕ → List ℕ → Front) (is_lead_byte : ℕ 
   costs has_rooms = record {
     to_is = λ held b. refl;
     cost = λ len narrow wide w held b h r bytes byte.
-        let pair = has_rooms.pair_units len narrow wide w in
-        let enough = has_rooms.is_paid len narrow wide w in
-        grind (arith, false≢true, narrow_read, first_cost, trail_cost, may_is, firsts b, pair, enough);
+        grind (arith, false≢true, narrow_read, first_cost, trail_cost, may_is, firsts b, has_rooms.pair_units _ _ _ w, has_rooms.is_paid _ _ _ w);
   }
 
   pub two_byte_shown : HasTwoByteRooms g scalars paid → IsShown g (two_byte_machine g first scalars)

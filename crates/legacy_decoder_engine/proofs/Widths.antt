@@ -1,8 +1,7 @@
 -- The code units of scalars in UTF-8 and UTF-16, and the scalars of indexes.
-use Rattle.std.proofs.{Common.{◌≡◌, [], ◌∷◌, ℕ, ◌<◌, ◌≤◌, List, get_or, Option, arith, option_to_list}, lemmas.Bool.cases_lt}
-use Rattle.std.proofs.{lemmas.Bool.Decides.nat_tests, lemmas.List.Elements.All-get_or, lemmas.List.get_or_past}
-use Rattle.legacy_text.specs.EncodingForm.{EncodingForm, unit_count, bmp_room, wide_room}
-use Rattle.legacy_tables.specs.Indexes.{idx}
+use Rattle.std.proofs.Common.{◌≡◌, [], ◌∷◌, ℕ, ◌<◌, ◌≤◌, List, get_or, Option, arith, option_to_list}
+use Rattle.std.proofs.lemmas.{Bool.{cases_lt, Decides.nat_tests}, List.{Elements.All-get_or, get_or_past}}
+use Rattle.{legacy_text.specs.EncodingForm.{EncodingForm, unit_count, bmp_room, wide_room}, legacy_tables.specs.Indexes.idx}
 use Rattle.legacy_text.proofs.CodeUnits.{encode_2, length-code_units-ascii, length-code_units-bmp, length-code_units-wide}
 use Rattle.legacy_decoder_engine.specs.StepUnits.{units, IsWidth, IsNarrowIndex}
 

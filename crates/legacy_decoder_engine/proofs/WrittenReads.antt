@@ -1,14 +1,12 @@
 -- Laws of the bytes that are read ahead and of the scalars written for them.
-use Rattle.std.proofs.Common.{add-zero, ◌≡◌, ℕ, zero, suc, ◌+◌, ◌-◌, ◌*◌, ◌≤◌, ◌<◌, List, [], ◌∷◌, ◌++◌, length, take, drop, get_or, refl, sym, subst}
-use Rattle.std.proofs.{Common.{arith, append_assoc, append-nil, length-append, IsAscii}, lemmas.List.{map-append, take_more, take_all, length-drop}}
-use Rattle.std.proofs.{lemmas.List.Elements.{All-append, All-nil}, Math.Seq.take-add}
-use Rattle.std.specs.Char.{IsScalar}
+use Rattle.std.proofs.Common.{add-zero, ◌≡◌, ℕ, ◌<◌, [], ◌∷◌, ◌++◌, length, take, drop, get_or, refl, sym, arith, suc, ◌+◌, ◌-◌, ◌*◌, ◌≤◌, List, append_assoc}
+use Rattle.std.proofs.{Common.{append-nil, length-append, IsAscii}, lemmas.List.{map-append, take_more, take_all, length-drop, Elements.{All-append, All-nil}}}
+use Rattle.std.{proofs.Math.Seq.take-add, specs.Char.IsScalar}
 use Rattle.legacy_text.specs.{EncodingForm.{EncodingForm, code_units, all_code_units, bmp_room, total_unit_count}, declared.destination.Destination.Ghosts}
-use Rattle.legacy_base.specs.{Grammar.Grammar, Lengths.query_form, States.DecoderState}
-use Rattle.legacy_base.proofs.{Shifts.{shift-append, shift-zero, shift-shift, shift-scalars}, SameUnits.some_unit}
 use Rattle.legacy_text.proofs.CodeUnits.{all_code_units-append, total_unit_count-append, code_units_ascii, length-code_units-bmp, length-code_units-wide}
-use Rattle.legacy_decoder_engine.specs.ReadAhead.{HasAscii, YieldsTo, Yields, WritesTo, Writes, ReadsAhead}
-use Rattle.legacy_decoder_engine.proofs.CallUnderWay.{same_rooms}
+use Rattle.legacy_base.specs.{Grammar.Grammar, States.DecoderState}
+use Rattle.legacy_base.proofs.{Shifts.{shift-append, shift-zero, shift-shift, shift-scalars}, SameUnits.some_unit}
+use Rattle.legacy_decoder_engine.{specs.ReadAhead.{HasAscii, YieldsTo, Yields, WritesTo, Writes, ReadsAhead}, proofs.CallUnderWay.same_rooms}
 
 pub yields_none : (g : Grammar) → Yields g [] []
 yields_none g = grind (arith, shift-zero, All-nil, add-zero)
@@ -17,18 +15,18 @@ pub yields_then : (g h k : Grammar) (xs ys cs ds : List ℕ) → YieldsTo g h xs
 yields_then g h k xs ys cs ds a b = record {
   events = λ more. simp (append_assoc, a.events, b.events, shift-append, shift-scalars, shift-shift, map-append, length-append);
   scalar = All-append IsScalar cs ds a.scalar b.scalar;
-  lowers = λ query n. grind (arith, a.lowers query (n + length ys), b.lowers query n, length-append xs ys, total_unit_count-append (query_form query) cs ds);
+  lowers = λ query n. grind (arith, a.lowers query (n + length ys), b.lowers query n, length-append, total_unit_count-append);
 }
 
 pub yields_more : (g : Grammar) (xs ys cs ds : List ℕ) → Yields g xs cs → Yields g ys ds → Yields g (xs ++ ys) (cs ++ ds)
-yields_more g xs ys cs ds a b = yields_then g g g xs ys cs ds a b
+yields_more g = yields_then g g g
 
 pub yields_ascii : (g : Grammar) → HasAscii g → (xs : List ℕ) → IsAscii xs → Yields g xs xs
 yields_ascii g law [] h = yields_none g
 yields_ascii g law (x ∷ xs) h = yields_more g (x ∷ []) xs (x ∷ []) xs (law x (h 0)) (yields_ascii g law xs (λ i. h (suc i)))
 
 pub yields_byte : {g : Grammar} → HasAscii g → (b c : ℕ) → b < 128 → c ≡ b → Yields g (b ∷ []) (c ∷ [])
-yields_byte {g} law b c below e = subst (λ x. Yields g (b ∷ []) (x ∷ [])) (sym e) (law b below)
+yields_byte law b c below e = rw e (law b below)
 
 pub all_code_units_ascii : (form : EncodingForm) (xs : List ℕ) → IsAscii xs → all_code_units form xs ≡ xs
 all_code_units_ascii form [] h = refl
@@ -42,13 +40,13 @@ short form c h = grind (arith, length-code_units-bmp)
 
 pub all_short : (form : EncodingForm) (cs : List ℕ) → ((k : ℕ) → k < length cs → get_or cs k 0 < 65536) → total_unit_count form cs ≤ 3 * length cs
 all_short form [] small = omega arith
-all_short form (c ∷ cs) small = grind (arith, length-append, short form c (small zero (omega arith)), all_short form cs (λ k h. small (suc k) (omega arith)))
+all_short form (c ∷ cs) small = grind (arith, length-append, short form c (small 0 (omega arith)), all_short form cs (λ k h. small (suc k) (omega arith)))
 
 pub three_fit : (form : EncodingForm) (c room : ℕ) → c < 65536 → 3 ≤ room → length (code_units form c) ≤ room
-three_fit form c room h k = let s = short form c h in omega arith
+three_fit form c room h k = omega (arith, short form c h)
 
 pub one_unit : (form : EncodingForm) (c : ℕ) → bmp_room form ≡ 1 → c < 65536 → length (code_units form c) ≡ 1
-one_unit form c room h = let most = length-code_units-bmp form c h in let least = some_unit form c in omega arith
+one_unit form c room h = omega (arith, length-code_units-bmp form c h, some_unit form c)
 
 pub take_two : (src : List ℕ) (at : ℕ) → at + 1 < length src → take (at + 2) src ≡ take at src ++ get_or src at 0 ∷ get_or src (at + 1) 0 ∷ []
 take_two src at h = grind (arith, take_more src (at + 1) 0 h, take_more src at 0, append_assoc)
@@ -59,7 +57,7 @@ take_four src at h = grind (arith, take_two src (at + 2), take_two src at, appen
 
 -- the rest of a source, as the code takes it
 pub rest_of : (source : List ℕ) (at : ℕ) → take (length source - at) (drop at source) ≡ drop at source
-rest_of source at = take_all (length source - at) (drop at source) (let l = length-drop at source in omega arith)
+rest_of source at = take_all _ (drop at source) (omega (arith, length-drop at source))
 
 module _ {D : Type 0} (T : Ghosts D) where
   pub writes_none : (g : Grammar) (old : D) → Writes T g [] old old

@@ -1,8 +1,7 @@
 -- The result of a decoder for a step of its machine.
 use Rattle.std.specs.{Prelude.{◌≡◌, ℕ, List, [], ◌∷◌, ◌++◌, drop, length, true, false}, Char.IsScalar}
-use Rattle.legacy_base.specs.Fronts.{reads, malformed}
-use Rattle.legacy_decoder_engine.specs.{declared.moves.Fed.TheVariants.{Nothing, One, Two, MalformedSequence}, Steps.{Step, hold, finish, leave, step_held}}
-use Rattle.legacy_decoder_engine.specs.declared.moves.Fed.{Fed}
+use Rattle.{legacy_base.specs.Fronts.{reads, malformed}, legacy_decoder_engine.specs.Steps.{Step, hold, finish, leave, step_held}}
+use Rattle.legacy_decoder_engine.specs.declared.moves.Fed.{TheVariants.{Nothing, One, Two, MalformedSequence}, Fed}
 
 -- the result of a sequence with these scalars: none, one, or two
 abbrev pub fed_form : List ℕ → Fed

@@ -1,9 +1,8 @@
 -- The codecs whose sequences are one byte, or a lead and a trail: what their common decoder requires of each.
 use Rattle.std.specs.{Prelude.{◌≡◌, ℕ, ◌<◌, ◌≤◌, List, [], ◌∷◌, Bool, true, false, length, Option, Some, None}, Char.is_ascii}
-use Rattle.legacy_base.specs.{States.{DecoderState, single_lead_may_hold, may_hold, rests, begins_in_ascii}, Fronts.reads, Grammar.Grammar}
-use Rattle.legacy_base.specs.{DecoderActs.{has_short_ascii, has_reported}, Lengths.weight}
-use Rattle.legacy_tables.specs.{Indexes.FlatIndexes, TableChecks.AreAccepted, AcceptedTables.AcceptedIndexes}
-use Rattle.legacy_decoder_engine.specs.{Steps.{Step, hold, finish}, LeadMachines.two_byte_machine, Shown.IsShown}
+use Rattle.legacy_base.specs.{States.{DecoderState, single_lead_may_hold, may_hold, rests, begins_in_ascii}, Fronts.reads, Grammar.Grammar, Lengths.weight}
+use Rattle.{legacy_base.specs.DecoderActs.{has_short_ascii, has_reported}, legacy_tables.specs.{TableChecks.AreAccepted, AcceptedTables.AcceptedIndexes}}
+use Rattle.{legacy_tables.specs.Indexes.FlatIndexes, legacy_decoder_engine.specs.{Steps.{Step, hold, finish}, LeadMachines.two_byte_machine, Shown.IsShown}}
 
 -- a byte past ASCII
 abbrev pub IsPastAscii : ℕ → Type 0

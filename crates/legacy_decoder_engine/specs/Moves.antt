@@ -1,15 +1,13 @@
 -- The small moves of a decoder, which make up its calls. A move is the same in both encoding forms.
 use Rattle.std.specs.Prelude.{◌≡◌, ◌≢◌, ℕ, ◌+◌, ◌-◌, ◌<◌, ◌≤◌, List, [], ◌∷◌, ◌++◌, length, map, true, false, IsTrue, Bool, Option, None, ◌⊎◌, All}
 use Rattle.std.specs.{Prelude.{if◌then◌else◌, get_or}, Char.IsScalar}
-use Rattle.legacy_base.specs.{declared.results.DecoderResult.TheVariants.{InputEmpty, OutputFull, Malformed}, States.{DecoderState, may_hold, rests}}
-use Rattle.legacy_base.specs.{DecoderActs.{act_room, full_room_in, release_room_in, room_needed, wants_full_room, HadRoom}, Lengths.{LengthQuery, query_form}}
-use Rattle.legacy_base.specs.{Lengths.{replacement_units, room}, declared.results.DecodeEvent.DecodeEvent, declared.results.DecodeEvent.TheVariants.Scalar}
-use Rattle.legacy_base.specs.{declared.results.DecodeEvent.TheVariants.Bad, declared.results.DecoderResult.DecoderResult, Grammar.{Grammar, as_new, events_of}}
-use Rattle.legacy_base.specs.Calls.{Progress, IsMalformedSequence}
-use Rattle.legacy_text.specs.EncodingForm.{EncodingForm, unit_count, all_code_units, total_unit_count, bmp_room, wide_room}
-use Rattle.legacy_text.specs.declared.destination.Destination.{Ghosts}
-use Rattle.legacy_decoder_engine.specs.{declared.moves.Fed.TheVariants.{Nothing, One, Two, MalformedSequence}, declared.moves.Room.Room, declared.moves.Fed.Fed}
-use Rattle.legacy_decoder_engine.specs.declared.moves.Room.TheVariants.{Nothing as NoRoom, Unit as OneUnit, Narrow, Wide}
+use Rattle.legacy_base.specs.declared.results.DecoderResult.{TheVariants.{InputEmpty, OutputFull, Malformed}, DecoderResult}
+use Rattle.legacy_base.specs.{declared.results.DecodeEvent.{DecodeEvent, TheVariants.{Scalar, Bad}}, Lengths.{LengthQuery, query_form, replacement_units, room}}
+use Rattle.legacy_base.specs.{States.{DecoderState, may_hold, rests}, Grammar.{Grammar, as_new, events_of}, Calls.{Progress, IsMalformedSequence}}
+use Rattle.legacy_base.specs.DecoderActs.{act_room, full_room_in, release_room_in, room_needed, wants_full_room, HadRoom}
+use Rattle.legacy_text.specs.{EncodingForm.{EncodingForm, unit_count, all_code_units, total_unit_count, bmp_room}, declared.destination.Destination.Ghosts}
+use Rattle.{legacy_text.specs.EncodingForm.wide_room, legacy_decoder_engine.specs.declared.moves.Fed.{TheVariants.{Nothing, One, Two, MalformedSequence}, Fed}}
+use Rattle.legacy_decoder_engine.specs.declared.moves.Room.{Room, TheVariants.{Narrow, Wide, Nothing as NoRoom, Unit as OneUnit}}
 use Rattle.legacy_base.specs.DecoderActs as acts
 
 -- the number of code units of an amount of room
@@ -86,8 +84,7 @@ pub record Feeds (before : DecoderState) (byte : ℕ) (after : DecoderState) (fe
   pub had : (form : EncodingForm) (free : ℕ) → read_room form before byte ≤ free → HadRoom form before.grammar None free (fed_scalars fed)
   pub scalar : All IsScalar (fed_scalars fed)
   -- the room still needed falls by what is written
-  pub lowers : (query : LengthQuery) (n : ℕ) →
-      room query after (n + length (unread_byte byte fed)) +
+  pub lowers : (query : LengthQuery) (n : ℕ) → room query after (n + length (unread_byte byte fed)) +
       (total_unit_count (query_form query) (fed_scalars fed) + fed_units query fed) ≤ room query before (n + 1)
 
 -- a byte that is malformed by itself if nothing is held back, whatever bytes follow; it leaves the state unchanged

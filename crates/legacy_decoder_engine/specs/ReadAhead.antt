@@ -3,8 +3,7 @@ use Rattle.std.specs.{Prelude.{◌≡◌, ℕ, ◌+◌, ◌<◌, ◌≤◌, List
 use Rattle.legacy_text.specs.{declared.destination.Destination.Ghosts, EncodingForm.{Utf8, all_code_units, total_unit_count}}
 use Rattle.legacy_base.specs.{declared.results.DecodeEvent.TheVariants.Scalar, Events.shift, Grammar.{Grammar, events_of}, States.{DecoderState, new_state}}
 use Rattle.legacy_base.specs.Lengths.{LengthQuery, query_form, room}
-use Rattle.legacy_decoder_engine.specs.{declared.common_forms.CommonForm.TheVariants.{Single, Pair, Other}, Moves.SameRooms}
-use Rattle.legacy_decoder_engine.specs.declared.common_forms.CommonForm.{CommonForm}
+use Rattle.legacy_decoder_engine.specs.{declared.common_forms.CommonForm.{TheVariants.{Single, Pair, Other}, CommonForm}, Moves.SameRooms}
 
 -- Whatever bytes follow, the events of the bytes in the first grammar are these scalars, and then the events of the
 -- following bytes in the second grammar. The room still needed falls by what is written.

@@ -1,8 +1,7 @@
 -- All facts about a codec's machine in one record. The proofs for all codecs use only this record.
 use Rattle.std.specs.{Prelude.{◌≡◌, ℕ, List, [], ◌∷◌, true, false, Option, Some, None, drop, ◌⊎◌}, Char.is_ascii}
-use Rattle.legacy_text.specs.EncodingForm.{unit_count, bmp_room, wide_room}
-use Rattle.legacy_base.specs.{Lengths.{LengthQuery, query_form, replacement_units, room}, Fronts.reads, Grammar.Grammar, States.{may_hold, rests}}
-use Rattle.legacy_base.specs.DecoderActs.{has_short_ascii, has_reported, has_marks}
+use Rattle.{legacy_text.specs.EncodingForm.{unit_count, bmp_room, wide_room}, legacy_base.specs.Lengths.{LengthQuery, query_form, replacement_units, room}}
+use Rattle.legacy_base.specs.{Fronts.reads, Grammar.Grammar, States.{may_hold, rests}, DecoderActs.{has_short_ascii, has_reported, has_marks}}
 use Rattle.legacy_decoder_engine.specs.{Steps.{finish, DecoderMachine, Meets}, Moves.SameRooms, StepUnits.RoomMeets, StatesAfterSteps.Settles}
 
 -- the rooms of one query are kept

@@ -1,6 +1,6 @@
 -- The states after the steps of a decoder.
 use Rattle.std.specs.Prelude.{ℕ, suc, ◌≡◌, List, [], ◌∷◌, ◌++◌, Bool, true, ◌&&◌, length, Some}
-use Rattle.legacy_base.specs.{Fronts.reads, Grammar.Grammar, States.rests, DecoderActs.has_marks, DecoderActs.is_mark_behind}
+use Rattle.legacy_base.specs.{Fronts.reads, Grammar.Grammar, States.rests, DecoderActs.{has_marks, is_mark_behind}}
 use Rattle.legacy_decoder_engine.specs.Steps.{Step, hold, finish}
 
 -- at most one scalar, or a letter and its mark

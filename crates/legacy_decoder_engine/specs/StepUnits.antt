@@ -1,8 +1,7 @@
 -- The code units that a move of a decoder writes, and their bounds.
 use Rattle.std.specs.Prelude.{ℕ, ◌+◌, ◌*◌, ◌<◌, ◌≤◌, ◌≡◌, List, [], ◌∷◌, true, false, drop, length, All, Option, Some, None}
-use Rattle.legacy_tables.specs.Unicode.{IsByte, AreBytes}
-use Rattle.legacy_base.specs.States.{DecoderState, state_of, may_hold, rests}
-use Rattle.legacy_base.specs.{Fronts.reads, Fronts.malformed, Grammar.Grammar, DecoderActs.takes, DecoderActs.writes, DecoderActs.act_room}
+use Rattle.{legacy_tables.specs.Unicode.{IsByte, AreBytes}, legacy_base.specs.DecoderActs.{takes, writes, act_room}}
+use Rattle.legacy_base.specs.{Grammar.Grammar, States.{DecoderState, state_of, may_hold, rests}, Fronts.{reads, malformed}}
 use Rattle.legacy_decoder_engine.specs.Steps.{Step, hold, finish, leave, step_held, DecoderMachine}
 
 -- the number of code units of scalars

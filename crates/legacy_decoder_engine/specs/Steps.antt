@@ -1,8 +1,7 @@
 -- The next step of a decoder, and its agreement with the grammar.
 use Rattle.std.specs.{Prelude.{ℕ, ◌+◌, ◌≤◌, ◌<◌, ◌≡◌, List, [], ◌∷◌, ◌++◌, true, false, drop, length, Option, Some, None, if◌then◌else◌}, Char.is_ascii}
-use Rattle.legacy_base.specs.{Fronts.{Front, reads, malformed, front_length, front_events}, declared.results.DecodeEvent.DecodeEvent}
-use Rattle.legacy_base.specs.{declared.results.DecodeEvent.TheVariants.{Scalar, Bad}, Beginnings.BeginsWith, Events.shift, Grammar.{Grammar, events_of}}
-use Rattle.legacy_base.specs.States.{may_hold, rests}
+use Rattle.legacy_base.specs.{Fronts.{Front, reads, malformed, front_length, front_events}, Beginnings.BeginsWith, Events.shift, States.{may_hold, rests}}
+use Rattle.legacy_base.specs.{declared.results.DecodeEvent.{DecodeEvent, TheVariants.{Scalar, Bad}}, Grammar.{Grammar, events_of}}
 
 -- what a decoder does with the next byte if no held-back scalar is to be written
 pub data Step : Type 0 where
@@ -41,20 +40,16 @@ abbrev pub step_unread : Step → ℕ → List ℕ → List ℕ
 step_unread (leave n) b more = b ∷ more
 step_unread s b more = more
 
--- the length of a malformed sequence
-abbrev pub IsMalformedLength : ℕ → Type 0
-IsMalformedLength n = (0 < n) × (n ≤ 4)
-
 -- if it is malformed, it has 1 to 4 bytes
 abbrev pub HasMalformedLength : Front → Type 0
 HasMalformedLength (reads n scalars) = Unit {0}
-HasMalformedLength (malformed n) = IsMalformedLength n
+HasMalformedLength (malformed n) = (0 < n) × (n ≤ 4)
 
 -- a reported malformed sequence has 1 to 4 bytes
 abbrev pub StepMalformed : Step → Type 0
 StepMalformed hold = Unit {0}
 StepMalformed (finish f) = HasMalformedLength f
-StepMalformed (leave n) = IsMalformedLength n
+StepMalformed (leave n) = HasMalformedLength (malformed n)
 
 -- the law of one step, for every continuation
 pub record StepMeets (g : Grammar) (held : List ℕ) (b : ℕ) (s : Step) (to : Grammar) : Type 0 where

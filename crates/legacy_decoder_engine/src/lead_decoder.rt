@@ -1,4 +1,6 @@
 //! The one decoder of the codecs whose forms have one byte, or a lead and a trail.
+#![tactic(auto, using(crate::proofs::LeadHeld::moves))]
+
 ghost use Rattle.std.specs.Prelude.{◌≡◌, ℕ, List, [], ◌∷◌, Bool, true, length};
 ghost use Rattle.legacy_tables.specs.Indexes.{FlatIndexes};
 ghost use Rattle.legacy_text.specs.EncodingForm.{EncodingForm};
@@ -143,7 +145,6 @@ impl<'a, C: LeadCodec> DecoderMoves for LeadDecoder<'a, C> {
     }
 
     #[inline]
-    #[tactic(auto, using(crate::proofs::LeadHeld::covered))]
     fn reading_room(&self, byte: u8) -> Room {
         if byte < 0x80 && self.held.is_none() {
             return Room::Unit;
@@ -152,7 +153,6 @@ impl<'a, C: LeadCodec> DecoderMoves for LeadDecoder<'a, C> {
     }
 
     #[inline]
-    #[tactic(auto, using(crate::proofs::LeadHeld::covered))]
     fn release_room(&self) -> Room {
         C::room()
     }
@@ -163,7 +163,6 @@ impl<'a, C: LeadCodec> DecoderMoves for LeadDecoder<'a, C> {
     }
 
     #[inline(always)]
-    #[tactic(auto, using(crate::proofs::LeadHeld::feeds))]
     fn feed(&mut self, byte: u8) -> Fed {
         let (fed, held) = read::<C>(self.tables, self.held, byte);
         self.held = held;
@@ -176,13 +175,11 @@ impl<'a, C: LeadCodec> DecoderMoves for LeadDecoder<'a, C> {
     }
 
     #[inline]
-    #[tactic(auto, using(crate::proofs::LeadHeld::ends_none, crate::proofs::LeadHeld::ends_some))]
     fn has_report(&self) -> bool {
         self.held.is_some()
     }
 
     #[inline]
-    #[tactic(auto, using(crate::proofs::LeadHeld::ends_none, crate::proofs::LeadHeld::reports))]
     fn report(&mut self) -> Option<(u8, u8)> {
         match self.held {
             Some(_) => {
@@ -202,7 +199,6 @@ impl<'a, C: LeadCodec> DecoderMoves for LeadDecoder<'a, C> {
     }
 
     #[inline(always)]
-    #[tactic(auto, using(crate::proofs::WrittenReads::no_bytes))]
     fn read_common<T: Destination>(&mut self, src: &[u8], dst: &mut T) -> usize {
         if self.held.is_some() {
             return 0;

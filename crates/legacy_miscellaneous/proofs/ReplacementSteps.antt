@@ -2,7 +2,7 @@
 use Rattle.std.proofs.{Common.{◌≡◌, ℕ, [], Bool, true, refl, arith}, lemmas.{Bool.false≢true, List.Elements.All-nil}}
 use Rattle.{legacy_tables.specs.Unicode.IsByte, legacy_base.specs.{Grammar.{replacement, events_of}, States.state_of, Lengths.{LengthQuery, query_form}}}
 use Rattle.{legacy_base.specs.Replacement.replacement_events, legacy_decoder_engine.specs.{declared.moves.Fed.Fed, Feeding.fed_of}}
-use Rattle.legacy_decoder_engine.{specs.{Moves.{IsCovered, Feeds}, Steps.Meets, Shown.{KeepsRooms, IsShown}}, proofs.OneByteMeets.{few_held, no_report}}
+use Rattle.legacy_decoder_engine.{specs.{Moves.{IsCovered, Feeds}, Steps.Meets, Shown.{KeepsRooms, IsShown}}, proofs.OneByteShown.{few_held, no_report}}
 use Rattle.legacy_decoder_engine.proofs.{RoomMoves.{no_short_room, cond_most}, Widths.width_of, CallUnderWay.same_rooms}
 use Rattle.legacy_miscellaneous.specs.ReplacementMachine.{replacement_first, replacement_machine}
 use Rattle.legacy_decoder_engine.proofs.Feeding as moves

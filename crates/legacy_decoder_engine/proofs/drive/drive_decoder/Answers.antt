@@ -1,6 +1,5 @@
-use Rattle.std.proofs.Common.{◌∙◌, ◌++◌, [], ◌∷◌, arith, refl, sym, ap, append-nil, add-zero, length-append}
-use Rattle.legacy_text.specs.EncodingForm.{code_units}
-use Rattle.legacy_decoder_engine.proofs.CallUnderWay.{going_start, going_release, call_full_release, call_end}
+use Rattle.std.proofs.Common.{◌∙◌, [], ◌∷◌, arith, refl, sym, append-nil, add-zero, length-append}
+use Rattle.{legacy_text.specs.EncodingForm.code_units, legacy_decoder_engine.proofs.CallUnderWay.{going_start, going_release, call_full_release, call_end}}
 use Rattle.legacy_decoder_engine.proofs.AheadInCalls.{read_going, front_going, left_malformed, byte_going, byte_ends}
 use Rattle.legacy_decoder_engine.proofs.drive.drive_decoder.Goals.{then-not-rests+else-not-has_room+in-Some, else-not-rests}
 use Rattle.legacy_decoder_engine.proofs.drive.drive_decoder.Goals as goal
@@ -10,31 +9,29 @@ report_malformed-result-requires g c = (left_malformed _ _ (c.read_ahead-count.e
 
 pub returns-then-is_malformed-clause-call : goal.returns-then-is_malformed-clause-call
 returns-then-is_malformed-clause-call g c =
-    let i = read_going c.args.dst.now c.loop-decoder.invariant c.read_ahead-count.ensures.read in
-    let some = (left_malformed _ _ (c.read_ahead-count.ensures.malformed c.if-is_malformed.true)).0 in
-    byte_ends g.T.Destination c.args.dst.now i some c.report_malformed-result.result.0 c.report_malformed-result.result.1 refl c.report_malformed-result.ensures
+    byte_ends g.T.Destination c.args.dst.now (read_going g.T.Destination c.args.dst.now c.loop-decoder.invariant c.read_ahead-count.ensures.read) _ _
+    (left_malformed _ _ (c.read_ahead-count.ensures.malformed c.if-is_malformed.true)).0 refl c.report_malformed-result.ensures
 
 pub read_byte-requires : goal.read_byte-requires
 read_byte-requires g c =
-    (front_going c.args.dst.now c.loop-decoder.invariant c.read_ahead-count.ensures.read c.hold_back-read.ensures.within
+    (front_going g.T.Destination c.args.dst.now c.loop-decoder.invariant c.read_ahead-count.ensures.read c.hold_back-read.ensures.within
     c.hold_back-read.ensures.holds).1.resting
 
 pub returns-in-Some-read_byte-clause-call : goal.returns-in-Some-read_byte-clause-call
 returns-in-Some-read_byte-clause-call g c =
-    let i = front_going c.args.dst.now c.loop-decoder.invariant c.read_ahead-count.ensures.read c.hold_back-read.ensures.within
+    let i = front_going g.T.Destination c.args.dst.now c.loop-decoder.invariant c.read_ahead-count.ensures.read c.hold_back-read.ensures.within
     c.hold_back-read.ensures.holds in
-    let ends = c.in-Some-read_byte.ensures in
-    byte_ends g.T.Destination c.args.dst.now i (omega arith) c.in-Some-read_byte.result c.in-Some-read_byte.count ends.1 ends.0
+    byte_ends g.T.Destination c.args.dst.now i _ _ (omega arith) c.in-Some-read_byte.ensures.1 c.in-Some-read_byte.ensures.0
 
 pub loop-decoder-preserved : goal.loop-decoder-preserved
 loop-decoder-preserved g c =
-    let i = front_going c.args.dst.now c.loop-decoder.invariant c.read_ahead-count.ensures.read c.hold_back-read.ensures.within
+    let i = front_going g.T.Destination c.args.dst.now c.loop-decoder.invariant c.read_ahead-count.ensures.read c.hold_back-read.ensures.within
     c.hold_back-read.ensures.holds in
     byte_going g.T.Destination c.args.dst.now i (omega arith) c.in_default-read_byte.ensures
 
 pub finish-requires : goal.finish-requires
 finish-requires g c =
-    (front_going c.args.dst.now c.loop-decoder.invariant c.read_ahead-count.ensures.read c.hold_back-read.ensures.within
+    (front_going g.T.Destination c.args.dst.now c.loop-decoder.invariant c.read_ahead-count.ensures.read c.hold_back-read.ensures.within
     c.hold_back-read.ensures.holds).1.resting
 
 pub loop-decoder-init : goal.loop-decoder-init
@@ -46,7 +43,7 @@ loop-decoder-init g c =
           rw (w.decoder-is, w.dst-is) (
             w.in-Some.scalar ∷ [],
             going_release (sym c.rests.ensures.is ∙ w.if-not-rests.true) enough w.in-Some.ensures,
-            w.put.ensures.contents ∙ ap (λ l. T.contents c.args.dst.now ++ l) (sym (append-nil (code_units T.form w.in-Some.scalar))),
+            rw (append-nil (code_units T.form w.in-Some.scalar)) w.put.ensures.contents,
             simp length-append (omega arith),
             w.put.ensures.loan,
           )
@@ -71,6 +68,6 @@ returns-then-not-has_room-clause-call g c =
 
 pub returns-clause-call : goal.returns-clause-call
 returns-clause-call g c =
-    let i = front_going c.args.dst.now c.loop-decoder.invariant c.read_ahead-count.ensures.read c.hold_back-read.ensures.within
+    let i = front_going g.T.Destination c.args.dst.now c.loop-decoder.invariant c.read_ahead-count.ensures.read c.hold_back-read.ensures.within
     c.hold_back-read.ensures.holds in
     (i.0, rw (← c.if-read-src.true) (call_end i.1 _ i.3 c.if-read-src.true c.finish.ensures), i.2)

@@ -1,4 +1,4 @@
-use Rattle.legacy_decoder_engine.proofs.{JoinedReads.reads_more}
+use Rattle.legacy_decoder_engine.proofs.JoinedReads.{reads_more}
 use Rattle.legacy_decoder_engine.proofs.read_ahead.read_ascii_nearby.Goals as goal
 
 pub returns-clause-ahead : goal.returns-clause-ahead

@@ -1,4 +1,4 @@
-use Rattle.legacy_decoder_engine.proofs.{JoinedReads.reads_more}
+use Rattle.legacy_decoder_engine.proofs.JoinedReads.{reads_more}
 use Rattle.legacy_decoder_engine.proofs.read_ahead.read_blocks.Goals as goal
 
 pub loop-at-preserved : goal.loop-at-preserved

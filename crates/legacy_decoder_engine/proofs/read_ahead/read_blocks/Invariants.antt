@@ -1,6 +1,5 @@
 use Rattle.std.proofs.Common.{◌-◌, length}
-use Rattle.legacy_base.specs.States.{new_state}
-use Rattle.legacy_decoder_engine.specs.ReadAhead.{ReadsAhead}
+use Rattle.{legacy_base.specs.States.new_state, legacy_decoder_engine.specs.ReadAhead.ReadsAhead}
 use Rattle.legacy_decoder_engine.proofs.read_ahead.read_blocks.Given as goal
 
 abbrev pub invariant-loop-at : goal.invariant-loop-at

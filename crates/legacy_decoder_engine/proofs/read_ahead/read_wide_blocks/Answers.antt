@@ -1,5 +1,5 @@
 use Rattle.std.proofs.Common.{arith}
-use Rattle.legacy_decoder_engine.proofs.{JoinedReads.{reads_ascii, reads_more}}
+use Rattle.legacy_decoder_engine.proofs.JoinedReads.{reads_ascii, reads_more}
 use Rattle.legacy_decoder_engine.proofs.read_ahead.read_wide_blocks.Goals as goal
 
 pub returns-then-count-lt64-clause-ahead : goal.returns-then-count-lt64-clause-ahead

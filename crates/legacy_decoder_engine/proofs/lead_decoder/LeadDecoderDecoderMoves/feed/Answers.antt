@@ -6,4 +6,4 @@ pub returns : goal.returns
 returns g c =
     let byte : c.args.byte < 2 ^ 8 = omega arith in
     let laws = g.met.C.LeadCodec in
-    feeds laws.codec laws.leads c.args.self.now.tables.now c.args.self.now.held c.args.byte byte c.read-fed.result.0 c.read-fed.result.1 c.read-fed.ensures
+    feeds laws.codec laws.leads c.args.self.now.tables.now c.args.self.now.held c.args.byte byte _ _ c.read-fed.ensures
