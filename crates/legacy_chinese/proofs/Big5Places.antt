@@ -1,38 +1,38 @@
 -- The entry of index Big5 at the sum of a lead's place and a trail's place.
-use Rattle.std.proofs.{Common.{◌≡◌, ℕ, ◌+◌, ◌/◌, ◌%◌, ◌≤◌, [], ◌∷◌, cond, length, get_or, refl, arith, Some}, lemmas.Bool.Decides.nat_tests}
+use Rattle.std.{specs.Char.IsScalar, proofs.{Common.{◌≡◌, ◌∙◌, ℕ, ◌+◌, ◌/◌, ◌%◌, [], ◌∷◌, cond, get_or, refl, arith, Some}, lemmas.Bool.Decides.nat_tests}}
 use Rattle.legacy_tables.{specs.{Indexes.idx, AcceptedTables.AcceptedIndexes, Unicode.IsByte}, proofs.Accepted.{length-big5, big5-scalars, entry-used}}
-use Rattle.legacy_base.specs.{Big5.big5_scalars, States.is_lead, Grammar.big5}
-use Rattle.legacy_decoder_engine.{specs.{ReadAhead.Yields, LaneCodes.ArePairs, Places.IsTableOf}, proofs.{LeadHeld.pair, PairPlaces.{none_past, pair_entry}}}
-use Rattle.legacy_chinese.specs.{Big5Shown.{big5_codec, big5_pair_scalars}, Big5Places.{big5_place, big5_lead_place, big5_trail_place}}
-use Rattle.legacy_chinese.{specs.declared.big5.places.TheConstants.{ROWS_OF_157, TRAILS}, proofs.EntryScalars.scalar_at}
+use Rattle.{legacy_base.specs.{Big5.big5_scalars, States.is_lead, Grammar.big5}, legacy_decoder_engine.specs.{ReadAhead.Yields, LaneCodes.ArePairs}}
+use Rattle.legacy_decoder_engine.{specs.{Places.IsTableOf, LanePlaces.trail_place}, proofs.{LeadHeld.pair, PairPlaces.{found, none_past, pair_entry}}}
+use Rattle.legacy_chinese.specs.{Big5Shown.{big5_codec, big5_pair_scalars}, PairPlaces.{pair_place, big5_lead_place}}
+use Rattle.legacy_chinese.specs.declared.big5.places.TheConstants.{ROWS_OF_157}
 use Rattle.legacy_tables.specs.declared.tables.IndexName.TheVariants as names
 
 pub big5_rows_are : IsTableOf big5_lead_place ROWS_OF_157
 unfolding big5_lead_place
 big5_rows_are = refl
 
-pub big5_trails_are : IsTableOf big5_trail_place TRAILS
-unfolding big5_trail_place
-big5_trails_are = refl
-
-pub big5_at : (tables : AcceptedIndexes) (lead trail : ℕ) → big5_scalars tables.flat.big5 (big5_lead_place lead + big5_trail_place trail)
+pub big5_at : (tables : AcceptedIndexes) (lead trail : ℕ) → big5_scalars tables.flat.big5 (big5_lead_place lead + trail_place 0xA1 0xFE trail)
     ≡ cond (is_lead lead) (big5_pair_scalars tables.flat.big5 lead trail) []
-unfolding big5_lead_place big5_trail_place
+unfolding big5_lead_place
 big5_at tables lead trail = grind (arith, pair_entry, none_past, nat_tests, length-big5 tables.flat tables.accepted)
 
+-- an entry is the only scalar of its pointer
+entry_alone : (tables : AcceptedIndexes) (p c : ℕ) → Some c ≡ idx tables.flat.big5 p → c ∷ [] ≡ big5_scalars tables.flat.big5 p
+entry_alone tables p c e = let used = entry-used tables.flat tables.accepted names.Big5 p c e in grind arith
+
 -- an entry at the sum of the places is the scalar of the lead and the trail
-pub big5_yields : (tables : AcceptedIndexes) (lead trail c : ℕ) → IsByte lead → IsByte trail →
-    Some c ≡ idx tables.flat.big5 (big5_lead_place lead + big5_trail_place trail) → Yields (big5 tables.flat.big5) (lead ∷ trail ∷ []) (c ∷ [])
-big5_yields tables lead trail c byte byte' e =
-    let p = big5_lead_place lead + big5_trail_place trail in
-    let used = entry-used tables.flat tables.accepted names.Big5 p c e in
-    let yields = pair big5_codec tables lead trail c byte byte' in
-    grind (arith, big5_at tables lead trail, scalar_at tables names.Big5 p c, yields)
+pub big5_yields : (tables : AcceptedIndexes) (lead trail p c : ℕ) → IsByte lead → IsByte trail → IsScalar c →
+    p ≡ big5_lead_place lead + trail_place 0xA1 0xFE trail → Some c ≡ idx tables.flat.big5 p → Yields (big5 tables.flat.big5) (lead ∷ trail ∷ []) (c ∷ [])
+big5_yields tables lead trail p c byte byte' scalar is e =
+    let both = found (is_lead lead) (big5_pair_scalars tables.flat.big5 lead trail) c (rw is at (entry_alone tables p c e) ∙ big5_at tables lead trail) in
+    pair big5_codec tables lead trail c byte byte' scalar both.0 both.1
 
 -- the same of a code of two bytes
-pub big5_pairs : (tables : AcceptedIndexes) → ArePairs (big5 tables.flat.big5) tables.flat.big5 big5_place
+pub big5_pairs : (tables : AcceptedIndexes) → ArePairs (big5 tables.flat.big5) tables.flat.big5 (pair_place 157 0xA1)
+unfolding big5_lead_place
 big5_pairs tables code small past within narrow some =
-    let short : length tables.flat.big5 ≤ 65535 = let most = length-big5 tables.flat tables.accepted in omega arith in
-    let at : big5_place code ≡ big5_lead_place (code % 256) + big5_trail_place (code / 256) = omega (arith, within, short) in
-    let yields = big5_yields tables (code % 256) (code / 256) (get_or tables.flat.big5 (big5_place code) 0) in
-    grind (arith, nat_tests, big5-scalars tables.flat tables.accepted (big5_place code) 0, yields)
+    let p = pair_place 157 0xA1 code in
+    let c = get_or tables.flat.big5 p 0 in
+    let is : p ≡ big5_lead_place (code % 256) + trail_place 0xA1 0xFE (code / 256) = omega (arith, within, length-big5 tables.flat tables.accepted) in
+    let scalar : IsScalar c = big5-scalars tables.flat tables.accepted p 0 within in
+    (scalar, (narrow, big5_yields tables (code % 256) (code / 256) p c (omega arith) (omega arith) scalar is (grind (arith, nat_tests))))

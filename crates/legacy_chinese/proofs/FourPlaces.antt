@@ -1,8 +1,8 @@
 -- The tables contain the parts of the four bytes; the ranges are read at their pointer.
 use Rattle.std.proofs.{Common.{◌≡◌, ℕ, ◌≤◌, ◌<◌, List, [], ◌∷◌, get_or, Some, None, refl, arith}, lemmas.Bool.Decides.nat_tests}
-use Rattle.{legacy_tables.specs.{AcceptedTables.AcceptedIndexes, Indexes.range}, legacy_base.specs.Grammar.gb18030}
-use Rattle.{legacy_decoder_engine.{proofs.PairPlaces.read, specs.ReadAhead.Yields}, legacy_chinese.specs.FourForms.{lead_part, digit_part, four_place}}
-use Rattle.legacy_chinese.{specs.declared.gb18030.four_places.TheConstants.{LEADS, DIGITS}, proofs.Gb18030Held.four}
+use Rattle.legacy_chinese.specs.{declared.gb18030.four_places.TheConstants.{LEADS, DIGITS}, FourForms.{lead_part, digit_part, four_place}}
+use Rattle.{legacy_tables.specs.{AcceptedTables.AcceptedIndexes, Indexes.range}, legacy_decoder_engine.{proofs.PairPlaces.read, specs.ReadAhead.Yields}}
+use Rattle.{legacy_chinese.proofs.Gb18030Held.four, legacy_base.specs.Grammar.gb18030}
 
 pub lead_read : (b : ℕ) → b < 256 → (get_or LEADS b 0 ≡ lead_part b) × (lead_part b ≤ 1_240_000)
 unfolding lead_part

@@ -1,14 +1,10 @@
 -- The forms that are picked at their starts are the front of the block: ASCII bytes, and sequences of four bytes.
-use Rattle.std.proofs.Common.{◌≡◌, ◌∙◌, ℕ, zero, suc, ◌+◌, ◌-◌, ◌*◌, ◌/◌, ◌^◌, ◌<◌, ◌≤◌, List, [], ◌∷◌, ◌++◌, cond, ◌==◌}
-use Rattle.std.proofs.Common.{length, map, flat_map, take, drop, get_or, w64, inl, inr, bit_and, bit_or, bit_xor, refl, sym, ap, arith}
-use Rattle.std.proofs.lemmas.List.{length-drop, take_more, get_or-drop, length-map, length-take-le}
-use Rattle.std.proofs.lemmas.{Bool.{Decides.nat_tests, cases_lt}, Nat.{shr-shr, or_lt, and_le_l}}
-use Rattle.std.proofs.Common.{length-append, append_assoc, append-nil}
+use Rattle.std.proofs.Common.{◌≡◌, ◌∙◌, ℕ, zero, suc, ◌+◌, ◌-◌, ◌*◌, ◌/◌, ◌^◌, ◌<◌, ◌≤◌, List, [], ◌∷◌, ◌++◌, cond, ◌==◌, length, map, flat_map, take, drop}
+use Rattle.std.proofs.Common.{get_or, w64, inl, inr, bit_and, bit_or, bit_xor, refl, sym, ap, arith, length-append, append_assoc, append-nil}
+use Rattle.std.proofs.{lemmas.{List.{length-drop, take_more, get_or-drop, length-map, length-take-le}, Bool.{Decides.nat_tests, cases_lt}}, Math.Seq.take-add}
+use Rattle.std.{proofs.lemmas.Nat.{shr-shr, or_lt, and_le_l}, specs.Int.{bit_at, trailing_zeros}}
 use Rattle.std.proofs.lemmas.Nat.Bits.{bit_at-lt, bit_at-zero, bit_at_and, bit_at_xor, bit_at_or, bit_at_ones, bit_at-trailing_zeros, bit_at-pow_other}
-use Rattle.std.specs.Int.{bit_at, trailing_zeros}
-use Rattle.{std.proofs.Math.Seq.take-add, legacy_decoder_engine.proofs.WrittenReads.{rest_of, take_two}}
-use Rattle.legacy_decoder_engine.specs.PickedForms.{places, code_at}
-use Rattle.legacy_text.specs.PastAscii.{ArePast}
+use Rattle.{legacy_decoder_engine.{proofs.WrittenReads.{rest_of, take_two}, specs.PickedForms.{places, code_at}}, legacy_text.specs.PastAscii.ArePast}
 use Rattle.legacy_chinese.specs.FourForms.{four_form, fours_of, form_at, AreFourStarts, IsFourEnd}
 
 -- a bit of the bits further on

@@ -1,15 +1,14 @@
 -- Forms whose codes are read eight at a time are written, and an ASCII byte after a sequence.
-use Rattle.std.proofs.Common.{◌≡◌, ◌≢◌, ℕ, zero, suc, ◌+◌, ◌/◌, ◌%◌, ◌<◌, ◌≤◌, cond, ltb, min, List, [], ◌∷◌, ◌++◌}
-use Rattle.std.proofs.Common.{add-zero, ap, append-nil, arith, drop, get_or, length, length-append, refl, subst, sym, take, IsAscii}
+use Rattle.std.proofs.Common.{◌≡◌, ◌≢◌, ℕ, zero, suc, ◌+◌, ◌/◌, ◌%◌, ◌<◌, ◌≤◌, cond, ltb, min, List, [], ◌∷◌, ◌++◌, add-zero, ap, append-nil, arith, drop}
+use Rattle.std.proofs.{Common.{get_or, length, length-append, refl, subst, sym, take, IsAscii}, Math.Seq.{take-add, take-append_seam}}
 use Rattle.std.proofs.lemmas.List.{take-take, take-append-drop, take_more, get_or-drop, get_or-take, length-drop, length-take, length-take-le}
-use Rattle.std.proofs.{Math.Seq.{take-add, take-append_seam}, lemmas.{Bool.Decides.nat_tests, Simd.get_or-chunk}}
-use lib.Lanes.{chunk}
+use Rattle.std.proofs.lemmas.{Bool.Decides.nat_tests, Simd.get_or-chunk}
 use Rattle.legacy_text.specs.{declared.destination.Destination.Ghosts, EncodingForm.{all_code_units, total_unit_count}}
-use Rattle.legacy_tables.specs.{AcceptedTables.AcceptedIndexes}
-use Rattle.legacy_base.specs.{Grammar.{Grammar, gb18030}, States.new_state}
-use Rattle.legacy_decoder_engine.specs.ReadAhead.{HasAscii, Yields, Writes, ReadsAhead}
-use Rattle.legacy_decoder_engine.proofs.{JoinedReads.reads_front, WrittenReads.{yields_none, yields_more, yields_byte, writes_ascii, writes_then}}
+use Rattle.{legacy_tables.specs.AcceptedTables.AcceptedIndexes, legacy_base.specs.{Grammar.{Grammar, gb18030}, States.new_state}}
+use Rattle.legacy_decoder_engine.{specs.ReadAhead.{HasAscii, Yields, Writes, ReadsAhead}, proofs.JoinedReads.reads_front}
+use Rattle.legacy_decoder_engine.proofs.WrittenReads.{yields_none, yields_more, yields_byte, writes_ascii, writes_then}
 use Rattle.legacy_chinese.{specs.{FourForms.{four_form, fours_of, IsFour}, Gb18030Shown.ascii}, proofs.{FourPlaces.four_at, FourStarts.fours_append}}
+use lib.Lanes.{chunk}
 
 -- the number of bytes of one form more
 pub next_length : (at : ℕ) (fs bs : List ℕ) → at < length fs → at < length bs

@@ -1,19 +1,16 @@
 -- The gb18030 decoder holds back only what its machine may hold back, and its moves are the machine's.
-use Rattle.std.proofs.Common.{◌≡◌, ◌≢◌, ◌∙◌, ℕ, ◌+◌, ◌/◌, ◌%◌, ◌≤◌, List, [], ◌∷◌, length, get_or, true, false, refl, sym, ap, arith, Some}
-use Rattle.std.{proofs.lemmas.{Bool.Decides.nat_tests, List.Elements.{All-nil, All-cons}}, specs.{Prelude.option_to_list, Char.{IsScalar, is_ascii_digit}}}
-use Rattle.{legacy_text.specs.EncodingForm.{EncodingForm, wide_room}, legacy_tables.specs.{Unicode.{IsByte, AreBytes}, Indexes.{idx, range}}}
-use Rattle.legacy_tables.{specs.AcceptedTables.AcceptedIndexes, proofs.Accepted.{gb18030-below, gb18030-scalars, range-scalar}}
-use Rattle.legacy_base.specs.{Gb18030.{gb18030_scalars, gb18030_range_pointer}, States.{is_lead, gb18030_may_hold, rests}}
-use Rattle.legacy_base.specs.{States.{DecoderState, state_of}, Grammar.{Grammar, gb18030, events_of}}
+use Rattle.std.proofs.Common.{◌≡◌, ◌≢◌, ℕ, ◌+◌, ◌/◌, ◌%◌, ◌≤◌, List, [], ◌∷◌, length, get_or, true, false, cond, refl, sym, arith, Some}
+use Rattle.std.{proofs.lemmas.{Bool.Decides.nat_tests, List.Elements.{All-nil, All-cons}}, specs.{Char.{IsScalar, is_ascii_digit}, Prelude.option_to_list}}
+use Rattle.legacy_base.specs.{Gb18030.{gb18030_scalars, gb18030_range_pointer}, Grammar.{Grammar, gb18030, events_of}}
+use Rattle.{legacy_base.specs.States.{is_lead, gb18030_may_hold, rests, DecoderState, state_of}, legacy_chinese.specs.Gb18030Decoder.held_bytes}
+use Rattle.legacy_chinese.specs.{Gb18030Machine.{gb18030_step, gb18030_machine}, Gb18030Shown.{lead_other, gb18030_shown}, PairPlaces.pair_place}
 use Rattle.legacy_chinese.specs.declared.gb18030.{decoder.Held.{Held, TheVariants.Nothing}, digit.Digit.Digit as HeldDigit}
-use Rattle.legacy_chinese.specs.{Gb18030Machine.{gb18030_step, gb18030_machine}, Gb18030Held.{held_bytes, is_resting}}
-use Rattle.legacy_chinese.{specs.Gb18030Places.{gb18030_place, gb18030_trail_place}, proofs.{Gb18030Places.{gb18030_entry, short}, EntryScalars.scalar_at}}
-use Rattle.{legacy_chinese.specs.Gb18030Shown.{lead_other, gb18030_shown}, legacy_decoder_engine.specs.declared.{held_lead.Lead.Lead, moves.Fed.Fed}}
-use Rattle.legacy_decoder_engine.specs.{declared.moves.Fed.TheVariants.One, ReadAhead.{Yields, IsPair}, LaneCodes.ArePairs}
-use Rattle.legacy_decoder_engine.specs.Moves.{IsCovered, Feeds, FeedsMalformedByte, Releases, Reports, read_room}
-use Rattle.legacy_decoder_engine.specs.{Feeding.Took, Places.lead_place, Shown.IsShown}
-use Rattle.legacy_decoder_engine.proofs.{YieldedForms.{pair_yields, four_yields}, Widths.idx_below, LanePlaces.entry_is, PairPlaces.found}
-use Rattle.legacy_tables.specs.declared.tables.IndexName.TheVariants as names
+use Rattle.legacy_decoder_engine.proofs.{LanePlaces.entry_is, PairPlaces.{none_past, pair_entry}, Widths.idx_below, YieldedForms.{pair_yields, four_yields}}
+use Rattle.legacy_decoder_engine.specs.{Feeding.Took, LaneCodes.ArePairs, LanePlaces.trail_place, Places.lead_place, ReadAhead.{Yields, IsPair}}
+use Rattle.legacy_decoder_engine.specs.{Moves.{IsCovered, Feeds, FeedsMalformedByte, Releases, Reports, read_room}, Shown.IsShown, declared.held_lead.Lead.Lead}
+use Rattle.{legacy_decoder_engine.specs.declared.moves.Fed.{Fed, TheVariants.One}, legacy_tables.specs.{Indexes.{range, idx}, Unicode.{IsByte, AreBytes}}}
+use Rattle.legacy_tables.{proofs.Accepted.{length-gb18030, gb18030-below, gb18030-scalars, range-scalar}, specs.AcceptedTables.AcceptedIndexes}
+use Rattle.legacy_text.specs.EncodingForm.{EncodingForm, wide_room}
 use Rattle.legacy_decoder_engine.proofs.Feeding as moves
 
 may : (held : Held) → gb18030_may_hold (held_bytes held) ≡ true
@@ -35,10 +32,6 @@ module _ (tables : AcceptedIndexes) where
   abbrev state : Held → DecoderState
   state held = state_of g (held_bytes held)
 
-  -- the held-back bytes rest exactly if there is no digit to write
-  pub rests-held : (held : Held) → rests g (held_bytes held) ≡ is_resting held
-  rests-held held = grind (arith, nat_tests)
-
   shown : IsShown g (gb18030_machine tables.flat.gb18030 tables.flat.ranges)
   shown = gb18030_shown tables.flat.gb18030 tables.flat.ranges
 
@@ -54,9 +47,9 @@ module _ (tables : AcceptedIndexes) where
   feeds held = moves.feeds shown _ (may held) (are_bytes held)
 
   -- a trail after a lead gives the scalar of the pair
-  pub takes_pair : (first : Lead) (b c : ℕ) → c ∷ [] ≡ gb18030_scalars tables.flat.gb18030 first.byte b → IsScalar c →
+  pub takes_pair : (first : Lead) (b c : ℕ) → c ∷ [] ≡ cond (is_lead first.byte) (gb18030_scalars tables.flat.gb18030 first.byte b) [] → IsScalar c →
       Took (gb18030_step tables.flat.gb18030 tables.flat.ranges (first.byte ∷ []) b) (first.byte ∷ []) b (One c) []
-  takes_pair first b c e scalar = grind (arith, trail_not_digit tables.flat.gb18030 first.byte b c)
+  takes_pair first b c e scalar = grind (arith, nat_tests, trail_not_digit tables.flat.gb18030 first.byte b c)
 
   -- reading a byte needs no more room than any scalar
   pub reads_wide : (form : EncodingForm) (held : Held) (b : ℕ) → read_room form (state held) b ≤ wide_room form
@@ -80,22 +73,31 @@ module _ (tables : AcceptedIndexes) where
 
   -- ---- what is read ahead
 
-  -- a pair whose entry at the sum of the places is a scalar
-  pub pair_at : (lead trail c : ℕ) → IsByte lead → IsByte trail →
-      option_to_list (idx tables.flat.gb18030 (lead_place lead + gb18030_trail_place trail)) ≡ c ∷ [] → IsPair g lead trail c
-  pair_at lead trail c byte byte' e =
-      let index = tables.flat.gb18030 in
-      let both = found (is_lead lead) (gb18030_scalars index lead trail) c (sym e ∙ gb18030_entry tables lead trail) in
-      let yields = pair_yields shown lead trail c byte byte' (scalar_at tables names.Gb18030 _ c e) in
-      (idx_below index _ c (gb18030-below tables.flat tables.accepted) e, grind (arith, trail_not_digit index lead trail c, lead_other, yields))
+  short : length tables.flat.gb18030 ≤ 65535
+  short = let most = length-gb18030 tables.flat tables.accepted in omega arith
+
+  -- the entry at the sum of the places of a lead and a trail
+  pub gb18030_entry : (lead trail : ℕ) → option_to_list (idx tables.flat.gb18030 (lead_place lead + trail_place 0x80 0xFE trail))
+      ≡ cond (is_lead lead) (gb18030_scalars tables.flat.gb18030 lead trail) []
+  unfolding lead_place
+  gb18030_entry lead trail = grind (arith, pair_entry, none_past, short)
+
+  -- a lead and a trail
+  pub pair_form : (lead trail c : ℕ) → IsByte lead → IsByte trail → IsScalar c
+      → c ∷ [] ≡ cond (is_lead lead) (gb18030_scalars tables.flat.gb18030 lead trail) [] → IsPair g lead trail c
+  pair_form lead trail c byte byte' scalar e =
+      let narrow = gb18030-below tables.flat tables.accepted in
+      let yields = pair_yields shown lead trail c byte byte' scalar in
+      grind (arith, nat_tests, idx_below tables.flat.gb18030, trail_not_digit tables.flat.gb18030 lead trail c, lead_other, yields)
 
   -- the same of a code of two bytes
-  pub lane_pair : ArePairs g tables.flat.gb18030 gb18030_place
-  lane_pair code small past within narrow some =
-      let index = tables.flat.gb18030 in
-      let at : gb18030_place code ≡ lead_place (code % 256) + gb18030_trail_place (code / 256) = omega (arith, within, short tables) in
-      let given = ap (λ p. option_to_list (idx index p)) (sym at) ∙ entry_is (get_or index (gb18030_place code) 0) some in
-      (gb18030-scalars tables.flat tables.accepted (gb18030_place code) 0 within, pair_at (code % 256) (code / 256) _ (omega arith) (omega arith) given)
+  pub lane_pair : ArePairs g tables.flat.gb18030 (pair_place 190 0x80)
+  lane_pair code small past within high some =
+      let p = pair_place 190 0x80 code in
+      let scalar : IsScalar (get_or tables.flat.gb18030 p 0) = gb18030-scalars tables.flat tables.accepted p 0 within in
+      let entry = entry_is (get_or tables.flat.gb18030 p 0) some in
+      let none = none_past tables.flat.gb18030 short in
+      (scalar, pair_form (code % 256) (code / 256) _ (omega arith) (omega arith) scalar (grind (arith, nat_tests, none, entry)))
 
   -- four bytes that give a scalar
   pub four : (a b c d x : ℕ) → is_lead a ≡ true → is_ascii_digit b ≡ true → is_lead c ≡ true → is_ascii_digit d ≡ true →

@@ -1,11 +1,10 @@
 -- A walk over the pointers of index gb18030 lists the codes of the scalars that have the code of their pointer. The
 -- other scalars of gb18030 and GBK are looked up one by one.
-use Rattle.{std.proofs.{Common.{◌≡◌, ℕ, ◌<◌, List, [], ◌∷◌, None, Some, Bool, false, refl, arith}, lemmas.Bool.le-ltb}, legacy_tables.specs.Indexes.FlatIndexes}
-use Rattle.legacy_tables.specs.{Indexes.gb18030_pua_of, Pointers.range_pointer_of, TableChecks.AreAccepted}
-use Rattle.legacy_tables.proofs.{Accepted.gb18030-scalars, PointerBounds.{gb18030-bound, range-bound}}
-use Rattle.{legacy_base.specs.Gb18030.{gb18030_code, gbk_code}, legacy_encoder_engine.proofs.CachedPairs.{outside-one, outside-first}}
-use Rattle.{legacy_encoder_engine.proofs.WalkedPairs.{GoesByPointers, halves}, legacy_chinese.specs.{Gb18030Codec.gb18030_codec, Gb18030List.GoesByPointer}}
-use Rattle.legacy_chinese.specs.Gb18030List.{is_in_rows, gb18030_mark}
+use Rattle.std.proofs.{Common.{◌≡◌, ℕ, ◌<◌, List, [], ◌∷◌, None, Some, Bool, false, refl, arith}, lemmas.Bool.le-ltb}
+use Rattle.legacy_tables.{specs.{Indexes.{FlatIndexes, gb18030_pua_of}, Pointers.range_pointer_of, TableChecks.AreAccepted}, proofs.Accepted.gb18030-scalars}
+use Rattle.{legacy_tables.proofs.PointerBounds.{gb18030-bound, range-bound}, legacy_base.specs.Gb18030.{gb18030_code, gbk_code}}
+use Rattle.legacy_encoder_engine.proofs.{CachedPairs.{outside-one, outside-first}, WalkedPairs.{GoesByPointers, halves}}
+use Rattle.legacy_chinese.specs.{Gb18030Codec.gb18030_codec, Gb18030List.{GoesByPointer, is_in_rows, gb18030_mark}}
 use Rattle.legacy_tables.specs.declared.tables.packed.PackedPart.TheVariants as parts
 
 no-row : (rows : List (ℕ × ℕ × ℕ)) (c : ℕ) → is_in_rows rows c ≡ false → gb18030_pua_of rows c ≡ None

@@ -4,8 +4,6 @@ pub mod FourStarts
 pub mod FourLanes
 pub mod FourWrites
 pub mod FourPlaces
-pub mod EntryScalars
 pub mod Big5Places
-pub mod Gb18030Places
 pub mod Big5Walk
 pub mod Gb18030Walk

@@ -1,8 +1,6 @@
 -- The bytes of the codes of Big5.
 use Rattle.std.{proofs.Common.{ℕ, ◌≢◌, ◌+◌, ◌*◌, ◌/◌, ◌%◌, List, refl, arith, nat_lt}, specs.Prelude.if◌then◌else◌}
-use Rattle.legacy_tables.specs.Pointers.{big5_pointer_of}
-use Rattle.legacy_base.specs.Big5.{big5_code, big5_bytes}
-use Rattle.legacy_base.specs.Encoders.{big5}
+use Rattle.{legacy_tables.specs.Pointers.big5_pointer_of, legacy_base.specs.{Big5.{big5_code, big5_bytes}, Encoders.big5}}
 use Rattle.legacy_encoder_engine.{specs.PairCodecs.IsPairCodec, proofs.PairAnswers.by_pointers}
 
 -- Big5 is a codec of ASCII and pairs, with any index

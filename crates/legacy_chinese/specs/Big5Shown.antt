@@ -1,20 +1,13 @@
 -- The steps of Big5 agree with its grammar.
-use Rattle.std.{proofs.Common.{ℕ, ◌<◌, ◌≤◌, List, [], ◌∷◌, Option, true, arith}, specs.Option.option_map_or}
-use Rattle.legacy_base.specs.Big5.{big5_front, big5_pair, big5_pointer, big5_scalars}
-use Rattle.legacy_base.specs.{Grammar.big5, States.is_lead}
-use Rattle.legacy_decoder_engine.specs.LeadMachines.{lead_first}
-use Rattle.legacy_decoder_engine.specs.{StepUnits.{units, IsWidth}, StatesAfterSteps.IsOneOrMarked, LeadCodecs.IsLeadCodec}
-use Rattle.legacy_decoder_engine.proofs.{Widths.idx_units, SettledSteps.{one_test, one_option}, TwoByteCosts.units_test}
-use Rattle.legacy_decoder_engine.proofs.TwoByteMeets.{IsTwoByte, is_lead-past, lead_byte_below, lead_first_is, lead_front_is}
-use Rattle.legacy_decoder_engine.proofs.TwoByteShown.{HasTwoByteRooms, lead_codec}
+use Rattle.std.{proofs.Common.{ℕ, ◌<◌, ◌≤◌, List, [], ◌∷◌, Option, arith}, specs.Option.option_map_or}
+use Rattle.legacy_base.specs.{Big5.{big5_front, big5_pair, big5_pointer, big5_scalars}, Grammar.big5, States.is_lead}
+use Rattle.legacy_decoder_engine.proofs.{SettledSteps.{one_test, one_option}, TwoByteCosts.units_test, TwoByteShown.{HasTwoByteRooms, lead_codec}}
+use Rattle.legacy_decoder_engine.proofs.{TwoByteMeets.{IsTwoByte, is_lead-past, lead_byte_below, lead_first_is, lead_front_is}, Widths.idx_units}
+use Rattle.legacy_decoder_engine.specs.{LeadCodecs.IsLeadCodec, LeadMachines.lead_first, StepUnits.{units, IsWidth}}
 
 -- the scalars of a lead and a trail, if they have a pointer with scalars
 abbrev pub big5_pair_scalars : List ℕ → ℕ → ℕ → List ℕ
 big5_pair_scalars index lead trail = option_map_or (big5_scalars index) (big5_pointer lead trail) []
-
--- each pointer gives at most one scalar, or a letter and a combining mark
-one : (index : List ℕ) (o : Option ℕ) → IsOneOrMarked true (option_map_or (big5_scalars index) o [])
-one index o = grind (arith, one_test, one_option)
 
 module _ (len : ℕ → ℕ) (narrow wide : ℕ) (w : IsWidth len narrow wide) where
   two_units : (c d : ℕ) → c < 0x800 → d < 0x800 → units len (c ∷ d ∷ []) ≤ wide
@@ -25,7 +18,7 @@ module _ (len : ℕ → ℕ) (narrow wide : ℕ) (w : IsWidth len narrow wide) w
 
 is : (index : List ℕ) → IsTwoByte (big5 index) (big5_front index) is_lead (lead_first is_lead) (big5_pair_scalars index)
 unfolding big5_front big5_pair
-is index = grind (arith, lead_front_is, one)
+is index = grind (arith, lead_front_is, one_test, one_option)
 
 rooms : (index : List ℕ) → HasTwoByteRooms (big5 index) (big5_pair_scalars index) 4
 rooms index = grind (arith, scalar_units)

@@ -1,8 +1,7 @@
 -- The codec of an encoder of gb18030 or GBK, and its state between two calls, which never changes.
 use Rattle.std.specs.Prelude.{Bool, true, false}
-use Rattle.legacy_tables.specs.Indexes.{FlatIndexes}
 use Rattle.legacy_base.specs.Encoders.{Codec, EncoderState, gb18030, gbk, new_encoder}
-use Rattle.legacy_chinese.specs.declared.gb18030.encoder.Gb18030Encoder.{Gb18030Encoder}
+use Rattle.{legacy_chinese.specs.declared.gb18030.encoder.Gb18030Encoder.Gb18030Encoder, legacy_tables.specs.Indexes.FlatIndexes}
 
 -- gb18030 if `extended` is true, and GBK otherwise
 abbrev pub gb18030_codec : FlatIndexes → Bool → Codec

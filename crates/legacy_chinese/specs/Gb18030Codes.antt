@@ -1,7 +1,7 @@
 -- The bytes of the codes of gb18030 and GBK.
 use Rattle.std.proofs.{Common.{Bool, true, false, refl, arith}, lemmas.Bool.{Decides.nat_tests, lt-ltb}}
-use Rattle.{legacy_tables.specs.Indexes.FlatIndexes, legacy_base.specs.{Gb18030.{gb18030_code, gbk_code}, Lengths.{number, ◌⊕◌, ◌⊗◌}}}
-use Rattle.{legacy_encoder_engine.specs.PlainCodecs.IsPlainCodec, legacy_chinese.specs.Gb18030Codec.gb18030_codec}
+use Rattle.{legacy_encoder_engine.specs.PlainCodecs.IsPlainCodec, legacy_chinese.specs.Gb18030Codec.gb18030_codec, legacy_tables.specs.Indexes.FlatIndexes}
+use Rattle.legacy_base.specs.{Gb18030.{gb18030_code, gbk_code}, Lengths.{number, ◌⊕◌, ◌⊗◌}}
 
 -- GB18030 and GBK are codecs without modes, whose codes have at most four bytes
 pub gb18030_plain : (flat : FlatIndexes) (extended : Bool) → IsPlainCodec (gb18030_codec flat extended) 4

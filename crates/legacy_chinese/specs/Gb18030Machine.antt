@@ -1,10 +1,7 @@
 -- The machine of the gb18030 decoder, byte by byte.
 use Rattle.std.specs.{Prelude.{ℕ, List, [], ◌∷◌, Option, Some, None, ◌==◌, if◌then◌else◌, option_to_list}, Char.{is_ascii, is_ascii_digit}}
-use Rattle.legacy_base.specs.Fronts.{reads, malformed, reads_or}
-use Rattle.legacy_tables.specs.Indexes.{range}
-use Rattle.legacy_base.specs.Gb18030.{gb18030_scalars, gb18030_range_pointer}
-use Rattle.legacy_base.specs.{States.is_lead, Grammar.gb18030}
-use Rattle.legacy_decoder_engine.specs.Steps.{Step, hold, finish, leave, DecoderMachine, trail_step}
+use Rattle.legacy_base.specs.{Fronts.{reads, malformed, reads_or}, Gb18030.{gb18030_scalars, gb18030_range_pointer}, Grammar.gb18030, States.is_lead}
+use Rattle.{legacy_decoder_engine.specs.Steps.{Step, hold, finish, leave, DecoderMachine, trail_step}, legacy_tables.specs.Indexes.range}
 
 -- the held-back digit after a malformed lead, which is written before the next byte is read
 abbrev pub gb18030_pending : List ℕ → Option (ℕ × ℕ)

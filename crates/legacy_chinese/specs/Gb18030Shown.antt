@@ -1,16 +1,15 @@
 -- The machine of gb18030 agrees with its grammar.
 use Rattle.std.proofs.{Common.{◌≡◌, ℕ, ◌<◌, ◌≤◌, List, [], ◌∷◌, length, true, false, refl, ◌==◌, arith}, lemmas.Bool.{false≢true, ltb-true, Decides.nat_tests}}
-use Rattle.{std.specs.Char.{is_ascii, is_ascii_digit}, legacy_text.proofs.CodeUnits.length-code_units-ascii, legacy_tables.specs.Indexes.range}
-use Rattle.legacy_base.specs.{Fronts.{Front, cut}, Grammar.{Grammar, gb18030, events_of}, Gb18030.{gb18030_scalars, gb18030_range_pointer, gb18030_fourth}}
-use Rattle.legacy_base.{specs.{Gb18030.{gb18030_third, gb18030_second, gb18030_front}, States.{is_lead, gb18030_may_hold, rests}}, proofs.Cuts.cut-nil}
-use Rattle.{legacy_base.proofs.FrontLaws.gb18030_front-of, legacy_decoder_engine.specs.{Steps.{DecoderMachine, WriteMeets, end_events, Meets}, StepUnits.units}}
-use Rattle.legacy_decoder_engine.specs.{StepUnits.{IsWidth, Cost}, StatesAfterSteps.Settles, Shown.{IsShown, WriteSettles}}
-use Rattle.legacy_decoder_engine.proofs.{FrontMoves.{Fits, fits_trail, fits_meets, write_meets, end_meets, report_meets}, Widths.{idx_units, option_units}}
-use Rattle.legacy_decoder_engine.proofs.{TwoByteCosts.{cost_test, units_test, trail_cost}, CallUnderWay.same_rooms, RoomMoves.{first_room, held_room_is}}
-use Rattle.legacy_decoder_engine.proofs.{RoomMoves.{HasCosts, IsSloped, sloped_rooms}, SettledSteps.{settles_test, one_test, one_option, trail_settles}}
-use Rattle.{legacy_decoder_engine.proofs.SettledSteps.{or_settles, write_test}, legacy_chinese.specs.Gb18030Machine.{gb18030_pending, gb18030_step}}
-use Rattle.{legacy_chinese.specs.Gb18030Machine.gb18030_machine, legacy_tables.specs.AcceptedTables.AcceptedIndexes}
-use Rattle.legacy_decoder_engine.{specs.ReadAhead.HasAscii, proofs.YieldedForms.{has_ascii, ascii_is}}
+use Rattle.std.specs.Char.{is_ascii, is_ascii_digit}
+use Rattle.legacy_base.specs.Gb18030.{gb18030_scalars, gb18030_range_pointer, gb18030_fourth, gb18030_third, gb18030_second, gb18030_front}
+use Rattle.legacy_base.{specs.{States.{is_lead, gb18030_may_hold, rests}, Grammar.{Grammar, gb18030, events_of}}, proofs.FrontLaws.gb18030_front-of}
+use Rattle.{legacy_base.{specs.Fronts.{Front, cut}, proofs.Cuts.cut-nil}, legacy_chinese.specs.Gb18030Machine.{gb18030_pending, gb18030_step, gb18030_machine}}
+use Rattle.legacy_decoder_engine.proofs.{SettledSteps.{settles_test, one_test, one_option, trail_settles, or_settles, write_test}, CallUnderWay.same_rooms}
+use Rattle.legacy_decoder_engine.proofs.{FrontMoves.{Fits, fits_trail, fits_meets, write_meets, end_meets, report_meets}, YieldedForms.{has_ascii, ascii_is}}
+use Rattle.legacy_decoder_engine.proofs.{RoomMoves.{first_room, held_room_is, HasCosts, sloped_rooms}, Widths.{idx_units, option_units}}
+use Rattle.legacy_decoder_engine.{specs.Steps.{DecoderMachine, WriteMeets, end_events, Meets}, proofs.TwoByteCosts.{cost_test, units_test, trail_cost}}
+use Rattle.legacy_decoder_engine.specs.{StepUnits.{units, IsWidth, Cost}, Shown.{IsShown, WriteSettles}, StatesAfterSteps.Settles, ReadAhead.HasAscii}
+use Rattle.{legacy_tables.specs.{AcceptedTables.AcceptedIndexes, Indexes.range}, legacy_text.proofs.CodeUnits.length-code_units-ascii}
 
 -- a lead is no other first byte
 pub lead_other : (b : ℕ) → is_lead b ≡ true → (is_ascii b ≡ false) × ((b == 0x80) ≡ false) × (is_ascii_digit b ≡ false)
@@ -76,9 +75,6 @@ module _ (index : List ℕ) (ranges : List (ℕ × ℕ)) where
     ];
   }
 
-  sloped : IsSloped g machine length 6
-  sloped = grind (arith, digit_other, length-code_units-ascii)
-
   -- ---- states
 
   settles : (held : List ℕ) (b : ℕ) → gb18030_may_hold held ≡ true → rests g held ≡ true → Settles g held b (gb18030_step index ranges held b)
@@ -88,7 +84,9 @@ module _ (index : List ℕ) (ranges : List (ℕ × ℕ)) where
   write_settles held h = grind (arith, write_test, lead_other, digit_other, false≢true)
 
   pub gb18030_shown : IsShown g machine
-  gb18030_shown = let rooms = sloped_rooms g machine length 6 meets costs sloped in grind (arith, meets, rooms, settles, write_settles, same_rooms)
+  gb18030_shown =
+      let rooms = sloped_rooms g machine length 6 meets costs (grind (arith, digit_other, length-code_units-ascii)) in
+      grind (arith, meets, rooms, settles, write_settles, same_rooms)
 
 pub ascii : (tables : AcceptedIndexes) → HasAscii (gb18030 tables.flat.gb18030 tables.flat.ranges)
 ascii tables = has_ascii (gb18030_shown tables.flat.gb18030 tables.flat.ranges) (λ b. refl) (λ b h. let a = ascii_is b h in rw a refl)

@@ -1,13 +1,11 @@
 -- The decoder of EUC-JP holds back only what its machine may, and its moves are the machine's.
-use Rattle.std.proofs.Common.{◌≡◌, ℕ, ◌+◌, ◌-◌, ◌*◌, List, [], ◌∷◌, length, true, refl, arith, ◌≢◌, ◌/◌, ◌%◌, get_or}
-use Rattle.std.{proofs.lemmas.{Bool.Decides.nat_tests, List.Elements.{All-nil, All-cons}}, specs.{Char.IsScalar, Int.is_in_range}}
-use Rattle.legacy_base.specs.{EucJp.euc_jp_scalars, Fronts.malformed, Grammar.{Grammar, euc_jp, events_of}}
-use Rattle.legacy_base.specs.States.{euc_jp_may_hold, is_euc_jp_lead, state_of}
-use Rattle.legacy_decoder_engine.specs.{Steps.finish, Shown.IsShown, Moves.{IsCovered, Feeds, FeedsMalformedByte, Reports}, Feeding.Took}
-use Rattle.legacy_decoder_engine.specs.{ReadAhead.IsPair, LaneCodes.ArePairs, LanePlaces.row_place, declared.moves.Fed.Fed}
-use Rattle.legacy_decoder_engine.proofs.{Widths.idx_below, YieldedForms.pair_yields, LanePlaces.entry_is}
-use Rattle.legacy_japanese.specs.{EucJpMachine.{euc_jp_machine, euc_jp_first, euc_jp_step}, declared.euc_jp.decoder.Held.{TheVariants.Nothing, Held}}
-use Rattle.legacy_japanese.specs.{EucJpDecoder.held_bytes, EucJpShown.euc_jp_is_shown}
+use Rattle.std.{proofs.{Common.{◌≡◌, ℕ, List, [], ◌∷◌, length, true, refl, arith, ◌≢◌, ◌/◌, ◌%◌, get_or}, lemmas.Bool.Decides.nat_tests}, specs.Char.IsScalar}
+use Rattle.std.proofs.lemmas.List.Elements.{All-nil, All-cons}
+use Rattle.legacy_base.specs.{EucJp.euc_jp_scalars, Fronts.malformed, Grammar.{Grammar, euc_jp, events_of}, States.{euc_jp_may_hold, is_euc_jp_lead, state_of}}
+use Rattle.legacy_decoder_engine.specs.{Steps.finish, Shown.IsShown, Moves.{IsCovered, Feeds, FeedsMalformedByte, Reports}, Feeding.Took, ReadAhead.IsPair}
+use Rattle.legacy_decoder_engine.{specs.{LaneCodes.ArePairs, LanePlaces.row_place, declared.moves.Fed.Fed}, proofs.{Widths.idx_below, YieldedForms.pair_yields}}
+use Rattle.{legacy_decoder_engine.proofs.LanePlaces.entry_is, legacy_japanese.specs.EucJpMachine.{euc_jp_machine, euc_jp_first, euc_jp_step}}
+use Rattle.legacy_japanese.specs.{declared.euc_jp.decoder.Held.{TheVariants.Nothing, Held}, EucJpDecoder.held_bytes, EucJpShown.euc_jp_is_shown}
 use Rattle.legacy_tables.{specs.{AcceptedTables.AcceptedIndexes, Unicode.{IsByte, AreBytes}}, proofs.Accepted.{jis0208-below, jis0208-scalars, length-jis0208}}
 use Rattle.legacy_decoder_engine.proofs.Feeding as moves
 
@@ -58,12 +56,8 @@ module _ (tables : AcceptedIndexes) where
   -- the same of a code of two bytes, by the entry at its place
   pub lane_pair : ArePairs grammar tables.flat.jis0208 (row_place 0xA1 0x5D 94 0xA1)
   lane_pair code small past within high some =
-      let index : List ℕ = tables.flat.jis0208 in
+      let c = get_or tables.flat.jis0208 (row_place 0xA1 0x5D 94 0xA1 code) 0 in
       let short = length-jis0208 tables.flat tables.accepted in
-      let both : (is_in_range 0xA1 0xFE (code % 256) ≡ true) × (is_in_range 0xA1 0xFE (code / 256) ≡ true) = grind (arith, short) in
-      let p : ℕ = (code % 256 - 0xA1) * 94 + (code / 256 - 0xA1) in
-      let exact : row_place 0xA1 0x5D 94 0xA1 code ≡ p = rw (both.0, both.1) (omega arith) in
-      let c = get_or index p 0 in
-      let scalar : IsScalar c = jis0208-scalars tables.flat tables.accepted _ 0 (rw exact at within) in
-      let found = entry_is c (rw exact at some) in
-      rw exact (scalar, pair (code % 256) (code / 256) c (omega arith) (omega arith) scalar both.0 (rw both.1 found))
+      let scalar : IsScalar c = jis0208-scalars tables.flat tables.accepted _ 0 within in
+      let entry = entry_is c some in
+      (scalar, pair (code % 256) (code / 256) c (omega arith) (omega arith) scalar (grind (arith, nat_tests, short)) (grind (arith, nat_tests, short, entry)))

@@ -1,33 +1,21 @@
 -- The text that the ISO-2022-JP decoder reads ahead, and the escapes in it.
-use Rattle.std.proofs.Common.{◌≡◌, ◌≢◌, ◌∙◌, ℕ, suc, ◌+◌, ◌-◌, ◌*◌, ◌%◌, ◌^◌, ◌<◌, ◌≤◌, Bool, false, cond, ltb, Some, List, [], ◌∷◌, ◌++◌, length, map}
-use Rattle.std.proofs.Common.{take, drop, get_or, replicate, w8, w64, IsAscii, refl, sym, ap, arith, append-nil, length-drop}
-use Rattle.std.proofs.lemmas.{Bool.{cases_lt, ne_eqb, Decides.nat_tests}, Nat.Bits.{bit_at-trailing_zeros, bit_at-zero}, Grind.common_steps}
-use Rattle.std.proofs.lemmas.{List.{length-take-le, length-map, get_or-map, get_or-take, drop-drop, Elements.{All-nil, All-cons, All-from_get_or}}}
-use Rattle.std.proofs.{lemmas.{Simd.{bit_mask_l, bitmask_splat, mask_l-lt, zip2_splat}, Str.Ascii.IsAscii-from_all}, Math.Seq.{drop-cons, take-add}}
-use Rattle.std.specs.{Prelude.{All}, Char.IsScalar, Int.trailing_zeros}
-use lib.Lanes.{mask_l, zip2, top}
-use Rattle.legacy_text.{specs.{declared.destination.Destination.{Ghosts}, EncodingForm.{code_units, unit_count}}, proofs.CodeUnits.{code_units_ascii}}
+use Rattle.std.proofs.Common.{◌≡◌, ◌≢◌, ◌∙◌, ℕ, suc, ◌+◌, ◌-◌, ◌*◌, ◌%◌, ◌^◌, ◌<◌, ◌≤◌, Bool, false, cond, ltb, Some, List, [], ◌∷◌, ◌++◌, length, map, take}
+use Rattle.std.proofs.{Common.{drop, get_or, replicate, w8, w64, IsAscii, sym, ap, arith, append-nil, length-drop}, Math.Seq.{drop-cons, take-add}}
+use Rattle.std.proofs.lemmas.{Bool.{Decides.nat_tests, cases_lt, ne_eqb}, Grind.common_steps, List.Elements.{All-nil, All-cons}, Str.Ascii.IsAscii-from_all}
+use Rattle.std.proofs.lemmas.{List.{length-take-le, length-map, get_or-map, take-take, drop-drop}, Nat.Bits.{bit_at-trailing_zeros, bit_at-zero}}
+use Rattle.std.{proofs.lemmas.Simd.{bit_mask_l, bitmask_splat, mask_l-lt, zip2_splat}, specs.{Char.IsScalar, Int.trailing_zeros, Prelude.All}}
+use Rattle.legacy_text.specs.declared.destination.Destination.{Ghosts}
 use Rattle.legacy_base.specs.{Iso2022Jp.{ascii, two_byte, iso_2022_jp_front, esc}, Grammar.{iso_2022_jp, events_of}, States.DecoderState}
 use Rattle.legacy_base.proofs.{Iso2022JpFronts.{step_one, step_two}, Iso2022JpParts.no_escape, Shifts.{shift-append, shift-shift, shift-scalars}}
 use Rattle.legacy_tables.{specs.{AcceptedTables.AcceptedIndexes, Indexes.idx}, proofs.Accepted.length-jis0208}
-use Rattle.legacy_japanese.specs.declared.iso_2022_jp.{steps.{Mode.{TheVariants.Ascii, Mode}, Escape.Escape}, places.TheConstants.{LEADS, TRAILS}}
-use Rattle.legacy_japanese.specs.{Iso2022JpAhead.{AreAsciiText, IsAsciiText, begun_state, HasEscape}, Iso2022JpAhead.jis_lead_place}
-use Rattle.legacy_japanese.specs.{Iso2022JpAhead.jis_trail_place, Iso2022JpMachine.{mode_meaning, mode_of, second_of, third_of}}
+use Rattle.legacy_japanese.specs.declared.iso_2022_jp.steps.{Mode.{TheVariants.Ascii, Mode}, Escape.Escape}
+use Rattle.legacy_japanese.specs.Iso2022JpAhead.{IsAsciiText, begun_state, HasEscape, jis_place}
+use Rattle.legacy_japanese.specs.Iso2022JpMachine.{mode_meaning, mode_of, second_of, third_of}
 use Rattle.legacy_japanese.proofs.{Iso2022JpRooms.{entry_narrow, one_fits, room-falls, times_one, same_rooms}, Iso2022JpStep.{events_in, escape_alone}}
-use Rattle.legacy_decoder_engine.specs.{ReadAhead.{Yields, IsPair, ReadsAhead, YieldsTo, ReadsTo}, Places.IsTableOf}
-use Rattle.legacy_decoder_engine.proofs.WrittenReads.{yields_none, yields_more}
-use Rattle.legacy_decoder_engine.proofs.{WrittenReads.{all_code_units_ascii, rest_of}, PairPlaces.idx_past, JoinedReads.{reads_front, reads_more, reads_then}}
-use Rattle.legacy_decoder_engine.proofs.AheadInCalls.{reads_nothing}
-
--- ---- the places of leads and trails in two-byte mode
-
-pub jis_leads_are : IsTableOf jis_lead_place LEADS
-unfolding jis_lead_place
-jis_leads_are = refl
-
-pub jis_trails_are : IsTableOf jis_trail_place TRAILS
-unfolding jis_trail_place
-jis_trails_are = refl
+use Rattle.legacy_decoder_engine.specs.ReadAhead.{Yields, IsPair, ReadsAhead, YieldsTo, ReadsTo}
+use Rattle.legacy_decoder_engine.proofs.{WrittenReads.{yields_none, yields_more, all_code_units_ascii, rest_of}, PairPlaces.idx_past}
+use Rattle.legacy_decoder_engine.proofs.{JoinedReads.{reads_more, reads_then, reads_written}, AheadInCalls.reads_nothing}
+use lib.Lanes.{mask_l, zip2, top}
 
 -- ---- a byte of ASCII text
 
@@ -48,50 +36,33 @@ unfolding events_of iso_2022_jp_front
 pair_yield jis0208 a b c low high low' high' narrow scalar is = grind (arith, nat_tests, step_two, ne_eqb, All-cons, All-nil, room-falls, times_one, one_fits)
 
 -- the scalar of two bytes, by the sum of their places
-pub placed_scalar : (tables : AcceptedIndexes) (a b c : ℕ) → idx tables.flat.jis0208 (jis_lead_place a + jis_trail_place b) ≡ Some c
+pub placed_scalar : (tables : AcceptedIndexes) (a b c : ℕ) → idx tables.flat.jis0208 (jis_place 94 a + jis_place 1 b) ≡ Some c
     → IsPair (iso_2022_jp tables.flat.jis0208 two_byte) a b c
-unfolding jis_lead_place jis_trail_place
+unfolding jis_place
 placed_scalar tables a b c is =
     let short = length-jis0208 tables.flat tables.accepted in
-    let small = entry_narrow tables (jis_lead_place a + jis_trail_place b) c is in grind (arith, cases_lt, nat_tests, pair_yield, idx_past)
+    let one : (b - 0x21) * 1 ≡ b - 0x21 = omega arith in
+    let small = entry_narrow tables (jis_place 94 a + jis_place 1 b) c is in grind (arith, cases_lt, nat_tests, pair_yield, idx_past)
 
 -- ---- ASCII text
 
 pub ascii_text : (bytes : List ℕ) → All IsAsciiText bytes → IsAscii bytes
 ascii_text bytes text = IsAscii-from_all _ (λ i d l. (text i d l).0)
 
--- the front of a block of the rest of a source
-pub block_text : (source : List ℕ) (at count : ℕ) → 64 ≤ length source - at → count ≤ 64
-    → AreAsciiText (take 64 (take (length source - at) (drop at source))) count → All IsAsciiText (take count (take (length source - at) (drop at source)))
-block_text source at count long most text =
-    let rest = take (length source - at) (drop at source) in
-    let l : length (take count rest) ≡ count = grind (arith, rest_of, length-drop, length-take-le) in
-    All-from_get_or IsAsciiText (take count rest) 0 (λ k h.
-    let same = get_or-take 64 rest k 0 (omega (arith, h, l)) in
-    rw (get_or-take count rest k 0 (omega (arith, h, l)), ← same) (text k (omega (arith, h, l))))
-
-pub reads_ascii_text : {D : Type 0} (T : Ghosts D) (jis0208 source : List ℕ) (old new : D) (count : ℕ) → count ≤ length source
-    → All IsAsciiText (take count source) → T.contents new ≡ T.contents old ++ take count source → T.room new + count ≡ T.room old
-    → T.loan new ≡ T.loan old → (0 < count → count + 3 ≤ T.room old) → ReadsAhead T (begun_state jis0208 Ascii) source count old new
-reads_ascii_text T jis0208 source old new count within text contents room loan enough =
-    let l : length (take count source) ≡ count = length-take-le count source within in
-    let same = all_code_units_ascii T.form (take count source) (ascii_text _ text) in
-    reads_front within (record {
-      scalars = take count source;
-      yields = ascii_text_bytes jis0208 (take count source) text;
-      written = contents ∙ ap (λ units. T.contents old ++ units) (sym same);
-      room = omega (arith, ap length same, l, room);
-      loan = loan;
-    }) (λ h. omega (arith, enough h)) (λ h. omega (arith, enough h))
-
 -- a block of ASCII text, after the text before it
 pub reads_ascii_text_block : {D : Type 0} (T : Ghosts D) (jis0208 source : List ℕ) {old mid new : D} (at count : ℕ) → 64 ≤ length source - at
-    → 67 ≤ T.room mid → count ≤ 64 → AreAsciiText (take 64 (take (length source - at) (drop at source))) count
+    → 67 ≤ T.room mid → count ≤ 64 → All IsAsciiText (take count (take 64 (take (length source - at) (drop at source))))
     → T.contents new ≡ T.contents mid ++ take count (take (length source - at) (drop at source)) → T.room new + count ≡ T.room mid → T.loan new ≡ T.loan mid
     → ReadsAhead T (begun_state jis0208 Ascii) source at old mid → ReadsAhead T (begun_state jis0208 Ascii) source (at + count) old new
 reads_ascii_text_block T jis0208 source {old} {mid} {new} at count long enough most text contents room loan front =
-    let within : count ≤ length (take (length source - at) (drop at source)) = grind (arith, rest_of, length-drop) in
-    reads_more front (reads_ascii_text T jis0208 _ mid new count within (block_text source at count long most text) contents room loan (λ h. omega arith))
+    let rest : List ℕ = take (length source - at) (drop at source) in
+    let within : count ≤ length rest = grind (arith, rest_of, length-drop) in
+    let all = rw (take-take count 64 rest most) at text in
+    let same = all_code_units_ascii T.form (take count rest) (ascii_text _ all) in
+    let yields = ascii_text_bytes jis0208 (take count rest) all in
+    reads_more front (reads_written within
+    (record { scalars = take count rest; yields = yields; written = rw same contents; room = rw (same, length-take-le count rest within) room; loan = loan })
+    (omega arith) (omega arith))
 
 -- ---- the bytes before a control
 
@@ -113,8 +84,9 @@ pub ascii_text_before : (block : List ℕ) (k : ℕ) → length block ≡ 64 →
     → IsAsciiText (get_or block k 0)
 ascii_text_before block k long within low h =
     let moved : distances block ≡ map (λ b. (b + 242) % 256) block = zip2_splat (λ a b. (a + (2 ^ 8 - b)) % 2 ^ 8) block 64 14 long in
-    let mask = bitmask_splat w8 ltb (distances block) 64 18 (ap length moved ∙ length-map block (λ b. (b + 242) % 256) ∙ long) (omega arith) in
-    let none = none_before (λ b. ltb b 18) (distances block) k (ap length moved ∙ length-map block (λ b. (b + 242) % 256) ∙ long) within (rw mask at h) in
+    let same = ap length moved ∙ length-map block (λ b. (b + 242) % 256) ∙ long in
+    let mask = bitmask_splat w8 ltb (distances block) 64 18 same (omega arith) in
+    let none = none_before (λ b. ltb b 18) (distances block) k same within (rw mask at h) in
     grind (arith, nat_tests, rw moved at none, get_or-map)
 
 -- ---- before and after an escape
@@ -137,16 +109,6 @@ escape_bytes : (e : Escape) (source : List ℕ) (read : ℕ) → HasEscape e sou
 escape_bytes e source read has some = grind (arith, take-add, bytes_after_escape)
 
 module _ {D : Type 0} {T : Ghosts D} where
-  -- an escape and text of its mode
-  reads_escape : (jis0208 : List ℕ) (mode : Mode) (e : Escape) (source : List ℕ) (old new : D) (read : ℕ) → HasEscape e source → 0 < read
-      → ReadsAhead T (begun_state jis0208 (mode_of e)) (drop 3 source) read old new →
-      ReadsTo T (begun_state jis0208 mode) (begun_state jis0208 (mode_of e)) source (3 + read) old new
-  reads_escape jis0208 mode e source old new read has some reads =
-      let behind = rw (bytes_after_escape source read has.within some) at reads.writes.yields in
-      let yields : YieldsTo (iso_2022_jp jis0208 (mode_meaning mode)) (iso_2022_jp jis0208 (mode_meaning (mode_of e))) (take (3 + read) source)
-      reads.writes.scalars = rw (escape_bytes e source read has some) (escape_yields jis0208 mode e _ _ _ has.alone behind) in
-      grind (arith, same_rooms, length-drop, yields)
-
   -- text, then an escape and text of its mode
   pub reads_on : (jis0208 : List ℕ) (first mode next : Mode) (e : Escape) (source : List ℕ) {old mid new : D} (at read : ℕ) → next ≡ mode_of e
       → HasEscape e (take (length source - at) (drop at source)) → 0 < read
@@ -157,7 +119,12 @@ module _ {D : Type 0} {T : Ghosts D} where
       let S : List ℕ = take (length source - at) (drop at source) in
       let rest : take (length source - (at + 3)) (drop (at + 3) source) ≡ drop 3 S = rest_of source (at + 3) ∙ sym (drop-drop 3 at source)
       ∙ ap (drop 3) (sym (rest_of source at)) in
-      rw is (reads_then front (reads_escape jis0208 mode e S mid new read has some (rw (is, rest) at reads)))
+      let text = rw (is, rest) at reads in
+      let behind = rw (bytes_after_escape S read has.within some) at text.writes.yields in
+      let yields : YieldsTo (iso_2022_jp jis0208 (mode_meaning mode)) (iso_2022_jp jis0208 (mode_meaning (mode_of e))) (take (3 + read) S) text.writes.scalars =
+      rw (escape_bytes e S read has some) (escape_yields jis0208 mode e _ _ _ has.alone behind) in
+      let both : ReadsTo T (begun_state jis0208 mode) (begun_state jis0208 (mode_of e)) S (3 + read) mid new = grind (arith, same_rooms, length-drop, yields, text) in
+      rw is (reads_then front both)
 
   -- text, after which nothing was read
   pub reads_end : {before after other : DecoderState} {source behind : List ℕ} {old mid new : D} {at read : ℕ} → read ≡ 0 →

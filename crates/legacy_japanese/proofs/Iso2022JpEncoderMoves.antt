@@ -5,9 +5,9 @@ use Rattle.legacy_text.specs.EncodingForm.{EncodingForm, Utf8}
 use Rattle.legacy_base.specs.Iso2022Jp.{iso_2022_jp_encoder, iso_2022_jp_code, is_two_byte_scalar, is_roman_scalar, escape_between, iso_2022_jp_reported}
 use Rattle.legacy_base.specs.{Iso2022Jp.mode_behind, EncodeEvents.{code_events}, EncoderProfile.{EncoderProfile, EncoderMode}}
 use Rattle.legacy_base.specs.{EncoderProfile.{in_ascii, in_two_byte}, declared.results.EncodeEvent.EncodeEvent, Beginnings.BeginsWith}
-use Rattle.legacy_base.{specs.Encoders.{encoder_profile, iso_2022_jp, is_pending}, proofs.{SameUnits.some_unit, Iso2022JpEncoding.{mode_by, mode_for-by, code_by}}}
+use Rattle.legacy_base.{specs.Encoders.{encoder_profile, iso_2022_jp, is_pending}, proofs.SameUnits.some_unit}
 use Rattle.legacy_base.proofs.Iso2022JpEncoding.{code-short, text_events, text_events-here, text_events-escape, text_events-end, text_events-open, mode_for}
-use Rattle.legacy_base.proofs.Iso2022JpEncoding.{mode_for-twice}
+use Rattle.legacy_base.proofs.Iso2022JpEncoding.{mode_by, mode_for-by, mode_for-twice, code_by}
 use Rattle.legacy_encoder_engine.specs.{Moves.{differs, Moves, Finishes, IsCode}, ProfileSuffices.{Serves, mode_room}}
 use Rattle.legacy_encoder_engine.specs.{UnfinishedCall.ReadsByte, UnitTurns.ReadsUnit}
 use Rattle.legacy_encoder_engine.specs.declared.moves.EncoderMove.{EncoderMove, TheVariants.{One, Two}}

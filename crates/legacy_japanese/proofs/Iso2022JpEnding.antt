@@ -1,17 +1,16 @@
 -- Writing a held-back scalar and ending the input, as the decoders' loop sees them.
-use Rattle.std.{specs.{Prelude.is_some, Int.is_in_range}, proofs.Common.{◌≡◌, ◌≢◌, ◌∙◌, ℕ, ◌++◌, ◌⊎◌, Bool, true, false, Option, Some, None, List, [], ◌∷◌}}
-use Rattle.std.proofs.{Common.{inl, inr, length, refl, sym, ap, arith, append-nil, ◌+◌, ◌≤◌, drop, lit≤}, lemmas.Bool.Decides.nat_tests}
-use Rattle.legacy_base.specs.{declared.results.DecodeEvent.{DecodeEvent, TheVariants.{Scalar, Bad}}, Iso2022Jp.{esc, escape_mode, part_mode, iso_2022_jp_front}}
-use Rattle.legacy_base.specs.{Beginnings.BeginsWith, Events.shift, Grammar.{iso_2022_jp, events_of}, Lengths.replacement_units, States.is_two_byte_mode}
-use Rattle.legacy_base.{specs.States.rests, proofs.{Iso2022JpFronts.{step_end, step_one, step_two, step_escape, step_no_escape}, Shifts.shift-shift}}
-use Rattle.legacy_base.proofs.{Iso2022JpParts.first_part, Beginnings.no_sooner}
-use Rattle.legacy_text.proofs.CodeUnits.{length-code_units-bmp}
-use Rattle.legacy_decoder_engine.specs.Moves.{Releases, Reports}
-use Rattle.legacy_japanese.specs.declared.iso_2022_jp.steps.{Start.{TheVariants.{Nothing, EscapeByte, Dollar, Paren}}, Mode.{Mode, TheVariants.TwoByte}}
-use Rattle.legacy_japanese.specs.{declared.iso_2022_jp.steps.{Escape.Escape, Held.{Held, TheVariants.{Byte, Begun}}}, Iso2022JpMachine.mode_meaning}
-use Rattle.legacy_japanese.specs.Iso2022JpMachine.{bytes_held, finish, is_held, is_resting, mode_of, second_of, single, state_in, third_of, weight_of}
+use Rattle.std.proofs.Common.{◌≡◌, ◌≢◌, ◌∙◌, ℕ, ◌++◌, ◌⊎◌, Bool, true, false, Option, Some, None, List, [], ◌∷◌, inl, inr, length, refl, sym, ap, arith}
+use Rattle.std.{proofs.{Common.{append-nil, ◌+◌, ◌≤◌, drop, lit≤}, lemmas.Bool.Decides.nat_tests}, specs.{Int.is_in_range, Prelude.is_some}}
+use Rattle.legacy_base.proofs.{Beginnings.no_sooner, Iso2022JpFronts.{step_end, step_one, step_two, step_escape, step_no_escape}, Iso2022JpParts.first_part}
+use Rattle.legacy_base.{proofs.Shifts.shift-shift, specs.{Beginnings.BeginsWith, Events.shift, Grammar.{iso_2022_jp, events_of}, Lengths.replacement_units}}
+use Rattle.legacy_base.specs.{Iso2022Jp.{esc, escape_mode, part_mode, iso_2022_jp_front}, States.{is_two_byte_mode, rests}}
+use Rattle.{legacy_base.specs.declared.results.DecodeEvent.{DecodeEvent, TheVariants.{Scalar, Bad}}, legacy_decoder_engine.specs.Moves.{Releases, Reports}}
 use Rattle.legacy_japanese.proofs.Iso2022JpRooms.{same_rooms, room-falls, replacement_fits, times_one, held_allowed, held_rests, single_narrow}
 use Rattle.legacy_japanese.proofs.Iso2022JpStep.{MeetsEnd, ended, escape_alone, escaped, events_in, in_range_plain, second_kept}
+use Rattle.legacy_japanese.specs.Iso2022JpMachine.{mode_meaning, bytes_held, finish, is_held, is_resting, mode_of, second_of, single, state_in, third_of}
+use Rattle.legacy_japanese.specs.{Iso2022JpMachine.weight_of, declared.iso_2022_jp.steps.{Escape.Escape, Held.{Held, TheVariants.{Byte, Begun}}, Mode.Mode}}
+use Rattle.legacy_japanese.specs.declared.iso_2022_jp.steps.{Mode.TheVariants.TwoByte, Start.TheVariants.{Nothing, EscapeByte, Dollar, Paren}}
+use Rattle.legacy_text.proofs.CodeUnits.{length-code_units-bmp}
 use Rattle.legacy_base.specs.Iso2022Jp as iso
 
 -- ---- what the end leaves

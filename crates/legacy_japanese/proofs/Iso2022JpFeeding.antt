@@ -1,18 +1,15 @@
 -- The machine's steps, as the decoders' loop sees them.
-use Rattle.std.{specs.Char.IsScalar, proofs.Common.{◌≡◌, ◌∙◌, ℕ, ◌+◌, ◌-◌, ◌*◌, ◌<◌, ◌≤◌, Option, true, false, None, Some, List, [], ◌∷◌}}
-use Rattle.std.proofs.Common.{length-append, length, sym, arith, cond, ◌==◌, take, refl}
-use Rattle.std.proofs.lemmas.{List.Elements.{All-cons, All-nil}, Bool.Decides.nat_tests}
-use Rattle.legacy_base.specs.{DecoderActs.HadRoom, States.{DecoderState, rests}, Grammar.{iso_2022_jp, events_of}, Lengths.query_form, Iso2022Jp.esc}
-use Rattle.legacy_text.specs.EncodingForm.{total_unit_count, EncodingForm, bmp_room}
-use Rattle.legacy_tables.specs.AcceptedTables.{AcceptedIndexes}
+use Rattle.std.{specs.Char.IsScalar, proofs.lemmas.{List.Elements.{All-cons, All-nil}, Bool.Decides.nat_tests}}
+use Rattle.std.proofs.Common.{◌≡◌, ◌∙◌, ℕ, ◌+◌, ◌<◌, ◌≤◌, true, false, None, Some, List, [], ◌∷◌, length-append, length, sym, arith, cond, ◌==◌, take, refl}
+use Rattle.legacy_base.specs.{Grammar.{iso_2022_jp, events_of}, States.{DecoderState, rests}, DecoderActs.HadRoom, Lengths.query_form, Iso2022Jp.esc}
 use Rattle.legacy_decoder_engine.specs.Moves.{fed_scalars, fed_units, unread_byte, Feeds, FeedsMalformedByte, HoldsBytes}
-use Rattle.legacy_decoder_engine.specs.declared.moves.Fed.{Fed, TheVariants.{Nothing as Kept, One, Two}}
-use Rattle.legacy_japanese.specs.declared.iso_2022_jp.steps.{Mode.Mode, Held.{Held, TheVariants.{Begun, Byte}}, Escape.Escape}
-use Rattle.legacy_japanese.specs.declared.iso_2022_jp.steps.Start.{Start, TheVariants.{Nothing, EscapeByte, Dollar, Paren}}
-use Rattle.legacy_japanese.specs.Iso2022JpMachine.{mode_meaning, bytes_held, is_held, malformed, read, second_of, third_of, state_in}
-use Rattle.legacy_japanese.{specs.Iso2022JpAhead.{begun_state, BeginsEscape}, proofs.Iso2022JpStep.{done, step_events, IsStep, read_step}}
+use Rattle.{legacy_decoder_engine.specs.declared.moves.Fed.{TheVariants.{Nothing as Kept, One, Two}, Fed}, legacy_tables.specs.AcceptedTables.AcceptedIndexes}
 use Rattle.legacy_japanese.proofs.Iso2022JpRooms.{read_room-is, one_fits, room-falls, replacement_fits, times_one, held_allowed, held_rests, same_rooms}
-use Rattle.legacy_japanese.proofs.Iso2022JpRooms.{single_narrow, entry_narrow}
+use Rattle.legacy_japanese.proofs.{Iso2022JpRooms.{single_narrow, entry_narrow}, Iso2022JpStep.{done, step_events, IsStep, read_step}}
+use Rattle.legacy_japanese.specs.Iso2022JpMachine.{mode_meaning, bytes_held, is_held, malformed, read, second_of, third_of, state_in}
+use Rattle.legacy_japanese.specs.declared.iso_2022_jp.steps.{Start.TheVariants.{Nothing, EscapeByte, Dollar, Paren}, Held.TheVariants.Begun, Escape.Escape}
+use Rattle.legacy_japanese.specs.{declared.iso_2022_jp.steps.{Start.Start, Mode.Mode, Held.Held}, Iso2022JpAhead.{begun_state, BeginsEscape}}
+use Rattle.legacy_text.specs.EncodingForm.{total_unit_count, EncodingForm, bmp_room}
 
 -- at most one scalar, which is not above U+FFFF
 abbrev IsNarrow : Fed → Type 0
@@ -40,6 +37,7 @@ module _ (tables : AcceptedIndexes) (mode : Mode) (held : Held) (byte : ℕ) (o 
       let law = step.law in
       let fits = step.fits in
       let lower = step.room in
+      let room = λ (form : EncodingForm). read_room-is form tables.flat.jis0208 mode held byte in
       let small : IsNarrow o.0 = rw is (narrow tables mode held byte) in
       record {
         passed = done held byte o;
@@ -54,9 +52,9 @@ module _ (tables : AcceptedIndexes) (mode : Mode) (held : Held) (byte : ℕ) (o 
         rooms = same_rooms tables.flat.jis0208 mode o.1;
         empties = step.empties;
         report = λ form. omega arith;
-        full = λ form some. rw (read_room-is form tables.flat.jis0208 mode held byte) (omega arith);
-        fits = λ form. rw (read_room-is form tables.flat.jis0208 mode held byte) (grind (arith, one_fits));
-        had = λ form free enough. let e = read_room-is form tables.flat.jis0208 mode held byte in grind arith;
+        full = λ form some. rw (room form) (omega arith);
+        fits = λ form. rw (room form) (grind (arith, one_fits));
+        had = λ form free enough. let e = room form in grind arith;
         scalar = grind (arith, All-cons, All-nil);
         lowers = λ query n. room-falls query tables.flat.jis0208 mode o.1 held o.2 (n + 1) (n + length (unread_byte byte o.0)) (length (step_events 0 o.0))
             (total_unit_count (query_form query) (fed_scalars o.0) + fed_units query o.0) (omega arith)
@@ -91,14 +89,11 @@ module _ (form : EncodingForm) (free : ℕ) (enough : bmp_room form ≤ free) (t
     rest,
   )
 
-  holds_whole : (e : Escape) → HoldsBytes form free (state (Begun None Nothing)) (esc ∷ second_of e ∷ third_of e ∷ []) (state (Begun (Some e) Nothing))
-  unfolding HoldsBytes
-  holds_whole e =
-      holds_byte Nothing esc (Begun None EscapeByte) (second_of e ∷ third_of e ∷ []) (Begun (Some e) Nothing) refl
-      (holds_byte EscapeByte (second_of e) (Begun None (second_start e)) (third_of e ∷ []) (Begun (Some e) Nothing) (grind arith)
-      (holds_byte (second_start e) (third_of e) (Begun (Some e) Nothing) [] (Begun (Some e) Nothing) (grind arith) refl))
-
   -- the escape at the beginning of the source
   pub holds_escape : (e : Escape) (source : List ℕ) → BeginsEscape e source →
-      HoldsBytes form free (begun_state tables.flat.jis0208 mode) (take 3 source) (state_in tables.flat.jis0208 mode (Begun (Some e) Nothing))
-  holds_escape e source has = grind (arith, holds_whole)
+      HoldsBytes form free (begun_state tables.flat.jis0208 mode) (take 3 source) (state (Begun (Some e) Nothing))
+  unfolding HoldsBytes
+  holds_escape e source has =
+      rw has.begins (holds_byte Nothing esc (Begun None EscapeByte) (second_of e ∷ third_of e ∷ []) (Begun (Some e) Nothing) refl
+      (holds_byte EscapeByte (second_of e) (Begun None (second_start e)) (third_of e ∷ []) (Begun (Some e) Nothing) (grind arith)
+      (holds_byte (second_start e) (third_of e) (Begun (Some e) Nothing) [] (Begun (Some e) Nothing) (grind arith) refl)))

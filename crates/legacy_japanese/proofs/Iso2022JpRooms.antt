@@ -1,10 +1,10 @@
 -- What may be held back, and the room that an ISO-2022-JP decoder needs and how it decreases.
-use Rattle.std.proofs.Common.{◌≡◌, ℕ, ◌+◌, ◌*◌, ◌<◌, ◌≤◌, Bool, true, cond, None, Some, List, [], ◌∷◌, length, refl, arith, length-append, ◌&&◌}
+use Rattle.std.proofs.Common.{◌≡◌, ℕ, ◌+◌, ◌*◌, ◌<◌, ◌≤◌, Bool, true, None, Some, List, [], ◌∷◌, length, refl, arith, length-append, ◌&&◌}
 use Rattle.std.{specs.Char.{is_ascii, IsScalar}, proofs.lemmas.{Bool.Decides.nat_tests, Grind.common_steps}}
 use Rattle.legacy_tables.{specs.{Indexes.idx, AcceptedTables.AcceptedIndexes}, proofs.Accepted.{idx-all, jis0208-below, jis0208-scalars}}
-use Rattle.legacy_base.specs.{DecoderActs.{writes, act_at_rest, room_of_act}, Lengths.{LengthQuery, query_form, replacement_units, room}}
-use Rattle.legacy_base.{specs.{Grammar.{iso_2022_jp, events_of}, States.{rests, is_empty, may_hold}}, proofs.Iso2022JpFronts.step_end}
-use Rattle.legacy_text.{specs.EncodingForm.{EncodingForm, bmp_room, wide_room, code_units, total_unit_count}, proofs.CodeUnits.length-code_units-bmp}
+use Rattle.legacy_base.specs.{DecoderActs.room_needed, Lengths.{LengthQuery, query_form, replacement_units, room}, Grammar.{iso_2022_jp, events_of}}
+use Rattle.legacy_base.{specs.States.{rests, is_empty, may_hold}, proofs.Iso2022JpFronts.step_end}
+use Rattle.legacy_text.{specs.EncodingForm.{EncodingForm, bmp_room, code_units, total_unit_count}, proofs.CodeUnits.length-code_units-bmp}
 use Rattle.legacy_decoder_engine.{specs.Moves.{IsCovered, SameRooms, read_room}, proofs.RoomMoves.no_short_room}
 use Rattle.legacy_japanese.specs.declared.iso_2022_jp.steps.{Mode.Mode, Start.TheVariants.Nothing, Held.{Held, TheVariants.Begun}}
 use Rattle.legacy_japanese.specs.Iso2022JpMachine.{mode_meaning, bytes_held, is_held, is_resting, single, state_in, weight_of}
@@ -66,29 +66,12 @@ times_one query u h = grind arith
 
 -- ---- the room of the next act
 
-module _ (query : LengthQuery) (jis0208 : List ℕ) (mode : Mode) where
-  -- the room of the next act, by whether the held-back bytes rest
-  needed : Held → List ℕ → Bool → Bool → ℕ
-  needed held unread last resting =
-      room_of_act (bmp_room (query_form query)) (wide_room (query_form query)) (state_in jis0208 mode held)
-      (cond resting (act_at_rest (state_in jis0208 mode held) unread last) (Some writes))
-
-  most : (held : Held) (unread : List ℕ) (last resting : Bool) → needed held unread last resting ≤ bmp_room (query_form query)
-  unfolding needed
-  most held unread last resting = grind (arith, read_room-is)
-
-  none : (last : Bool) → needed (Begun None Nothing) [] last true ≡ 0
-  unfolding needed events_of
-  none last = rw (step_end jis0208 (mode_meaning mode)) refl
-
-  enough : (unread : List ℕ) (last : Bool) (held : Held)
-      → needed held unread last (rests (iso_2022_jp jis0208 (mode_meaning mode)) (bytes_held held)) ≤ bmp_room
-      (query_form query) * (length unread + weight_of held)
-  enough [] last (Begun None Nothing) = let n = none last in omega arith
-  enough unread last held = let m = most held unread last (rests (iso_2022_jp jis0208 (mode_meaning mode)) (bytes_held held)) in grind arith
-
 -- the room of a length query is enough for the next act
 pub covered : (jis0208 : List ℕ) (mode : Mode) (held : Held) → IsCovered (state_in jis0208 mode held)
-unfolding needed
-covered jis0208 mode held =
-    record { covers = λ query unread last. rw (room-is query jis0208 mode held (length unread)) (enough query jis0208 mode unread last held) }
+unfolding events_of
+covered jis0208 mode held = record { covers = λ query unread last. rw (room-is query jis0208 mode held (length unread)) (enough query last unread held) }
+  where
+    enough : (query : LengthQuery) (last : Bool) (unread : List ℕ) (held : Held) → room_needed (query_form query) (state_in jis0208 mode held) unread last
+        ≤ bmp_room (query_form query) * (length unread + weight_of held)
+    enough query last [] (Begun None Nothing) = rw (step_end jis0208 (mode_meaning mode)) (omega arith)
+    enough query last unread held = grind (arith, nat_tests, read_room-is)

@@ -1,16 +1,14 @@
 -- The law that each step of the machine must meet. Each step meets it, and leaves only what may be held back.
 use Rattle.std.proofs.Common.{◌≡◌, ◌≢◌, ℕ, ◌+◌, ◌-◌, ◌≤◌, true, Option, Some, None, List, [], ◌∷◌, ◌++◌, length, map, drop, ◌⊎◌, suc, false, cond, leb, arith}
-use Rattle.std.{proofs.lemmas.Bool.{eqb-true, ne_eqb, leb-true, and_parts, cond_both, Decides.nat_tests}, specs.Prelude.{◌==◌, is_some}}
-use Rattle.std.specs.Int.{is_in_range}
-use Rattle.legacy_base.specs.{Beginnings.BeginsWith, Events.shift, Iso2022Jp.{iso_2022_jp_front, iso_2022_jp_events, esc}}
-use Rattle.legacy_base.specs.{Iso2022Jp.{part_mode}, declared.results.DecodeEvent.{DecodeEvent, TheVariants.{Scalar, Bad}}, States.is_two_byte_mode}
+use Rattle.std.{proofs.lemmas.Bool.{eqb-true, ne_eqb, leb-true, and_parts, cond_both, Decides.nat_tests}, specs.{Prelude.{◌==◌, is_some}, Int.is_in_range}}
+use Rattle.legacy_base.specs.{Beginnings.BeginsWith, Events.shift, Iso2022Jp.{iso_2022_jp_front, iso_2022_jp_events, esc, part_mode}, States.is_two_byte_mode}
+use Rattle.legacy_base.{specs.declared.results.DecodeEvent.{DecodeEvent, TheVariants.{Scalar, Bad}}, proofs.Iso2022JpParts.no_escape}
 use Rattle.legacy_base.proofs.{Iso2022JpFronts.{step_one, step_two, step_no_escape, step_escape}, Shifts.{shift-append, shift-shift, shift-zero}}
-use Rattle.legacy_base.proofs.Iso2022JpParts.{no_escape}
 use Rattle.legacy_decoder_engine.specs.{Moves.{fed_scalars, fed_malformed, unread_byte, FedHolds}, declared.moves.Fed.Fed}
 use Rattle.legacy_japanese.specs.declared.iso_2022_jp.steps.{Mode.{Mode, TheVariants.TwoByte}, Escape.Escape, Start.{TheVariants.{Nothing, EscapeByte}, Start}}
 use Rattle.legacy_japanese.specs.declared.iso_2022_jp.steps.Held.{Held, TheVariants.{Begun, Byte}}
-use Rattle.legacy_japanese.specs.Iso2022JpMachine.{mode_meaning, bytes_held, is_held, is_resting, mode_of, read, read_in_mode, state_in, weight_of}
-use Rattle.legacy_japanese.specs.Iso2022JpMachine.{read_start, read_trail, second_of, start_bytes, third_of}
+use Rattle.legacy_japanese.specs.Iso2022JpMachine.{mode_meaning, bytes_held, is_held, is_resting, mode_of, read, read_in_mode, state_in, weight_of, read_start}
+use Rattle.legacy_japanese.specs.Iso2022JpMachine.{read_trail, second_of, start_bytes, third_of}
 
 -- the definitions at the modes of the code
 abbrev pub events_in : List ℕ → Mode → List ℕ → List DecodeEvent

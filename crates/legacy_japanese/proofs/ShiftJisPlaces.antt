@@ -1,25 +1,16 @@
 -- The places of leads and trails of Shift_JIS, byte by byte and in lanes, and the byte sequences that give one scalar.
-use Rattle.std.proofs.Common.{◌≡◌, ℕ, ◌+◌, [], ◌∷◌, false, cond, Some, refl, ap, arith, ◌≤◌, ◌<◌, ◌^◌, ◌==◌, List, Option, true, ◌∙◌, ◌-◌, ◌*◌, ◌/◌, ◌%◌}
-use Rattle.std.proofs.{Common.{length, get_or, map, min, replicate, sym, w16, Fits}, lemmas.Bool.{Decides.nat_tests, cond_both, agree_below_at, eqb-true}}
-use Rattle.std.{proofs.lemmas.Nat.xor_mod, specs.{Int.{is_in_range, Bits.bit_xor}, Prelude.option_to_list, Char.IsScalar, Option.option_map_or}}
-use Rattle.legacy_tables.{specs.{AcceptedTables.AcceptedIndexes, Indexes.idx, Unicode.katakana_of}, proofs.Accepted.entry-used}
-use Rattle.legacy_tables.proofs.Accepted.{length-jis0208, jis0208-below, jis0208-scalars}
-use Rattle.legacy_base.specs.{ShiftJis.{is_shift_jis_lead, shift_jis_scalars, shift_jis_pointer}, Grammar.shift_jis}
-use Rattle.legacy_decoder_engine.specs.{Places.IsTableOf, ReadAhead.Yields, StepUnits.IsNarrowIndex, LaneCodes.ArePairs}
-use Rattle.legacy_decoder_engine.{specs.LanePlaces.{lead_place_of, trail_place}, proofs.{LanePlaces.entry_is, PairPlaces.{none_past, pair_entry}}}
-use Rattle.legacy_decoder_engine.proofs.{LeadHeld.pair, Widths.idx_below, YieldedForms.single_yields}
-use Rattle.legacy_japanese.specs.{ShiftJisPlaces.{shift_jis_lead_place, shift_jis_place}, ShiftJisShown.shift_jis_pair_scalars}
-use Rattle.legacy_japanese.specs.{declared.shift_jis.places.TheConstants.{LEADS, TRAILS}, ShiftJisShown.shift_jis_codec}
-use lib.Lanes.{Each1, zip2}
+use Rattle.std.proofs.Common.{◌≡◌, ℕ, ◌+◌, [], ◌∷◌, false, cond, Some, refl, ap, arith, ◌≤◌, ◌<◌, ◌^◌, ◌==◌, List, true, ◌-◌, ◌*◌, ◌/◌, ◌%◌, length}
+use Rattle.std.proofs.{Common.{get_or, map, min, replicate, w16, Fits}, lemmas.{Bool.{Decides.nat_tests, agree_below_at, eqb-true}, Nat.xor_mod}}
+use Rattle.std.specs.{Int.{is_in_range, Bits.bit_xor}, Prelude.option_to_list, Char.IsScalar}
+use Rattle.{legacy_base.specs.{Grammar.shift_jis, ShiftJis.{is_shift_jis_lead, shift_jis_scalars}}, legacy_tables.specs.Unicode.katakana_of}
+use Rattle.legacy_decoder_engine.proofs.{LanePlaces.entry_is, LeadHeld.pair, PairPlaces.{none_past, pair_entry}, Widths.idx_below, YieldedForms.single_yields}
+use Rattle.legacy_decoder_engine.specs.{LaneCodes.ArePairs, LanePlaces.{lead_place_of, trail_place}, ReadAhead.Yields}
+use Rattle.legacy_japanese.specs.ShiftJisPlaces.{shift_jis_lead_place, shift_jis_place}
+use Rattle.legacy_japanese.specs.ShiftJisShown.{shift_jis_pair_scalars, shift_jis_codec}
+use Rattle.legacy_tables.{proofs.Accepted.{entry-used, length-jis0208, jis0208-below, jis0208-scalars}, specs.{AcceptedTables.AcceptedIndexes, Indexes.idx}}
 use Rattle.legacy_text.proofs.UnitLanes.{of_eight}
+use lib.Lanes.{Each1, zip2}
 use Rattle.legacy_tables.specs.declared.tables.IndexName.TheVariants as names
-
-pub shift_jis_leads_are : IsTableOf shift_jis_lead_place LEADS
-unfolding shift_jis_lead_place
-shift_jis_leads_are = refl
-
-pub shift_jis_trails_are : IsTableOf (trail_place 0x80 0xFC) TRAILS
-shift_jis_trails_are = refl
 
 pub shift_jis_entry : (tables : AcceptedIndexes) (lead trail : ℕ) →
     shift_jis_scalars tables.flat.jis0208 (shift_jis_lead_place lead + trail_place 0x80 0xFC trail)
@@ -36,17 +27,13 @@ entry_alone tables p c e =
 
 -- ---- byte sequences that give one scalar
 
-scalar_below : (jis0208 : List ℕ) (o : Option ℕ) (c : ℕ) → IsNarrowIndex jis0208 → option_map_or (shift_jis_scalars jis0208) o [] ≡ c ∷ [] → c < 0x1_0000
-scalar_below jis0208 o c h h1 = grind (arith, cond_both, nat_tests, idx_below)
-
 module _ (tables : AcceptedIndexes) where
   -- a lead and a trail
   pub pair_form : (lead trail c : ℕ) → lead < 2 ^ 8 → trail < 2 ^ 8 → IsScalar c
       → c ∷ [] ≡ cond (is_shift_jis_lead lead) (shift_jis_pair_scalars tables.flat.jis0208 lead trail) []
       → (c < 0x1_0000) × Yields (shift_jis tables.flat.jis0208) (lead ∷ trail ∷ []) (c ∷ [])
   pair_form lead trail c byte byte' scalar e =
-      let below = scalar_below tables.flat.jis0208 (shift_jis_pointer lead trail) c (jis0208-below tables.flat tables.accepted) in
-      grind (arith, pair shift_jis_codec tables lead trail c, below)
+      let below = jis0208-below tables.flat tables.accepted in grind (arith, nat_tests, pair shift_jis_codec tables lead trail c, idx_below tables.flat.jis0208)
 
   -- half-width katakana
   pub katakana_form : (b c : ℕ) → 0xA1 ≤ b → b ≤ 0xDF → c ≡ katakana_of b → (c < 0x1_0000) × Yields (shift_jis tables.flat.jis0208) (b ∷ []) (c ∷ [])

@@ -1,8 +1,6 @@
 -- The bytes of the codes of EUC-JP.
-use Rattle.std.proofs.Common.{ℕ, ◌≢◌, ◌+◌, ◌*◌, ◌/◌, ◌%◌, List, refl, arith}
-use Rattle.std.proofs.lemmas.Bool.Decides.{nat_tests}
-use Rattle.legacy_base.specs.{EucJp.euc_jp_code, Encoders.euc_jp}
-use Rattle.legacy_encoder_engine.specs.PairCodecs.{IsPairCodec}
+use Rattle.std.proofs.{Common.{ℕ, ◌≢◌, ◌+◌, ◌*◌, ◌/◌, ◌%◌, List, refl, arith}, lemmas.Bool.Decides.nat_tests}
+use Rattle.{legacy_base.specs.{EucJp.euc_jp_code, Encoders.euc_jp}, legacy_encoder_engine.specs.PairCodecs.IsPairCodec}
 
 -- EUC-JP is a codec of ASCII and pairs, with any indexes
 pub euc_jp_pairs : (jis0208 jis0212 : List ℕ) → IsPairCodec (euc_jp jis0208 jis0212)

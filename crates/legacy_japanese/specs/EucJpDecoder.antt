@@ -1,8 +1,7 @@
 -- The held-back bytes of the EUC-JP decoder, and its state between two calls.
 use Rattle.std.specs.Prelude.{ℕ, List, [], ◌∷◌}
 use Rattle.legacy_base.specs.{Grammar.euc_jp, States.DecoderState}
-use Rattle.legacy_japanese.specs.declared.euc_jp.decoder.EucJpDecoder.{EucJpDecoder}
-use Rattle.legacy_japanese.specs.declared.euc_jp.decoder.Held.{Held, TheVariants.{Nothing, Katakana, Jis0212, Lead, Jis0212Lead}}
+use Rattle.legacy_japanese.specs.declared.euc_jp.decoder.{EucJpDecoder.EucJpDecoder, Held.{Held, TheVariants.{Nothing, Katakana, Jis0212, Lead, Jis0212Lead}}}
 
 -- the held-back bytes
 abbrev pub held_bytes : Held → List ℕ

@@ -1,7 +1,6 @@
 -- The machine of the EUC-JP decoder, byte by byte.
-use Rattle.std.specs.Prelude.{◌∷◌, ◌||◌, ◌==◌, if◌then◌else◌, ℕ, List, []}
-use Rattle.std.specs.Char.{is_ascii}
-use Rattle.legacy_base.specs.{Fronts.reads, Fronts.malformed, EucJp.euc_jp_scalars, Grammar.euc_jp, States.is_euc_jp_lead}
+use Rattle.std.specs.{Prelude.{◌∷◌, ◌||◌, ◌==◌, if◌then◌else◌, ℕ, List, []}, Char.is_ascii}
+use Rattle.legacy_base.specs.{Fronts.{reads, malformed}, EucJp.euc_jp_scalars, Grammar.euc_jp, States.is_euc_jp_lead}
 use Rattle.legacy_tables.specs.Unicode.{is_katakana_byte, katakana_of}
 use Rattle.legacy_decoder_engine.specs.Steps.{Step, hold, finish, DecoderMachine, no_pending, trail_step}
 

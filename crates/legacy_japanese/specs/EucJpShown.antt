@@ -1,26 +1,25 @@
 -- The steps of EUC-JP agree with its grammar.
-use Rattle.std.proofs.Common.{◌≡◌, ℕ, ◌+◌, ◌-◌, ◌*◌, ◌≤◌, List, [], ◌∷◌, true, cond, refl, inl, ◌∙◌, arith, ◌≢◌}
-use Rattle.std.{proofs.lemmas.Bool.{false≢true, ltb-true, Decides.nat_tests}, specs.Char.is_ascii}
-use Rattle.legacy_base.specs.{EucJp.{euc_jp_front, euc_jp_katakana, euc_jp_second, euc_jp_third, euc_jp_pair, euc_jp_scalars, euc_jp_weight}, Fronts.Front}
-use Rattle.legacy_base.specs.{Fronts.cut, Grammar.{Grammar, euc_jp, events_of}, DecoderActs.{act_room, takes}, States.{euc_jp_may_hold, state_of}}
-use Rattle.legacy_base.proofs.{Cuts.cut-nil, FrontLaws.euc_jp_front-of}
-use Rattle.legacy_decoder_engine.specs.{Steps.{DecoderMachine, end_events, Meets}, StepUnits.{units, IsWidth, IsNarrowIndex, Cost}}
-use Rattle.legacy_decoder_engine.{specs.{StatesAfterSteps.Settles, Shown.IsShown, ReadAhead.HasAscii}, proofs.YieldedForms.{has_ascii, ascii_is}}
-use Rattle.legacy_decoder_engine.proofs.{FrontMoves.{Fits, fits_test, fits_trail, fits_meets, end_meets, report_meets}, SettledSteps.{one_test, one_option}}
-use Rattle.legacy_decoder_engine.proofs.{SettledSteps.{settles_test, trail_settles}, RoomMoves.{first_room, held_room_is, HasCosts, sloped_rooms}}
-use Rattle.legacy_decoder_engine.proofs.{CallUnderWay.same_rooms, Widths.narrow_idx_units, TwoByteCosts.{cost_test, units_test, katakana_below}}
+use Rattle.std.proofs.{Common.{◌≡◌, ℕ, ◌+◌, ◌-◌, ◌*◌, ◌≤◌, List, [], ◌∷◌, true, cond, refl, inl, ◌∙◌, arith}, lemmas.Bool.{false≢true, ltb-true}}
+use Rattle.std.{proofs.lemmas.Bool.Decides.nat_tests, specs.Char.is_ascii}
+use Rattle.legacy_base.specs.EucJp.{euc_jp_front, euc_jp_katakana, euc_jp_second, euc_jp_third, euc_jp_pair, euc_jp_scalars, euc_jp_weight}
+use Rattle.legacy_base.specs.{Fronts.{Front, cut}, Grammar.{Grammar, euc_jp, events_of}, DecoderActs.{act_room, takes}, States.{euc_jp_may_hold, state_of}}
+use Rattle.{legacy_base.proofs.{Cuts.cut-nil, FrontLaws.euc_jp_front-of}, legacy_decoder_engine.specs.Steps.{DecoderMachine, end_events, Meets}}
+use Rattle.legacy_decoder_engine.specs.{StepUnits.{units, IsWidth, IsNarrowIndex, Cost}, StatesAfterSteps.Settles, Shown.IsShown, ReadAhead.HasAscii}
+use Rattle.legacy_decoder_engine.proofs.{YieldedForms.{has_ascii, ascii_is}, FrontMoves.{Fits, fits_test, fits_trail, fits_meets, end_meets, report_meets}}
+use Rattle.legacy_decoder_engine.proofs.{SettledSteps.{one_test, one_option, settles_test, trail_settles}, CallUnderWay.same_rooms, Widths.narrow_idx_units}
+use Rattle.legacy_decoder_engine.proofs.{RoomMoves.{first_room, held_room_is, HasCosts, sloped_rooms}, TwoByteCosts.{cost_test, units_test, katakana_below}}
 use Rattle.{legacy_japanese.specs.EucJpMachine.euc_jp_machine, legacy_tables.specs.AcceptedTables.AcceptedIndexes}
 use Rattle.legacy_tables.proofs.Accepted.{jis0208-below, jis0212-below}
 
-module _ (jis0208 jis0212 : List ℕ) where
+module _ (tables : AcceptedIndexes) where
   abbrev g : Grammar
-  g = euc_jp jis0208 jis0212
+  g = euc_jp tables.flat.jis0208 tables.flat.jis0212
 
   abbrev front : ℕ → List ℕ → Front
-  front = euc_jp_front jis0208 jis0212
+  front = euc_jp_front tables.flat.jis0208 tables.flat.jis0212
 
   abbrev machine : DecoderMachine
-  machine = euc_jp_machine jis0208 jis0212
+  machine = euc_jp_machine tables.flat.jis0208 tables.flat.jis0212
 
   -- ---- the front of each step
 
@@ -57,23 +56,26 @@ module _ (jis0208 jis0212 : List ℕ) where
     pair_units index lead b h =
         units_test len narrow wide w narrow _ _ [] (λ e. narrow_idx_units len narrow wide w index ((lead - 0xA1) * 94 + (b - 0xA1)) h) (λ e. omega arith)
 
-    costs : IsNarrowIndex jis0208 → IsNarrowIndex jis0212 → (held : List ℕ) (b : ℕ) → euc_jp_may_hold held ≡ true
-        → Cost len narrow (most held b narrow) euc_jp_weight 3 held b (machine.step held b)
-    costs n m held b h = grind (arith, cost_test, ltb-true, pair_units, katakana_below, false≢true)
+    costs : (held : List ℕ) (b : ℕ) → euc_jp_may_hold held ≡ true → Cost len narrow (most held b narrow) euc_jp_weight 3 held b (machine.step held b)
+    costs held b h =
+        let first = jis0208-below tables.flat tables.accepted in
+        let second = jis0212-below tables.flat tables.accepted in
+        grind (arith, cost_test, ltb-true, pair_units, katakana_below, false≢true)
 
-  pub euc_jp_shown : IsNarrowIndex jis0208 → IsNarrowIndex jis0212 → IsShown (euc_jp jis0208 jis0212) (euc_jp_machine jis0208 jis0212)
-  euc_jp_shown n m =
+  -- the machine over checked tables
+  pub euc_jp_is_shown : IsShown g machine
+  euc_jp_is_shown =
       let meets : Meets g machine = record {
         writes = λ held h. refl;
         steps = λ held b h r. fits_meets g front ev_is euc_jp_may_hold (λ held'. refl) held b _ (grind arith) (fits held b h);
         ends = λ held h r. all_end held h;
         reports = λ held more h r. report_meets g front ev_is held more
-            (λ b rest e. (euc_jp_front-of {P = ⊥} jis0208 jis0212 (λ n. absurd n) (λ n. absurd n) b rest).some);
+            (λ b rest e. (euc_jp_front-of {P = ⊥} tables.flat.jis0208 tables.flat.jis0212 (λ n. absurd n) (λ n. absurd n) b rest).some);
         few = λ held h. grind arith;
       } in
       let costs : HasCosts g machine euc_jp_weight 3 = record {
         to_is = λ held b. refl;
-        cost = λ len narrow wide w held b h r bytes byte. rw (room_is narrow wide held b) (costs len narrow wide w n m held b h);
+        cost = λ len narrow wide w held b h r bytes byte. rw (room_is narrow wide held b) (costs len narrow wide w held b h);
       } in record {
         meets = meets;
         rooms = λ query. sloped_rooms g machine euc_jp_weight 3 meets costs (grind arith) query;
@@ -85,11 +87,5 @@ module _ (jis0208 jis0212 : List ℕ) where
         swallows = inl refl;
       }
 
--- the machine over checked tables
-pub euc_jp_is_shown : (tables : AcceptedIndexes)
-    → IsShown (euc_jp tables.flat.jis0208 tables.flat.jis0212) (euc_jp_machine tables.flat.jis0208 tables.flat.jis0212)
-euc_jp_is_shown tables =
-    euc_jp_shown tables.flat.jis0208 tables.flat.jis0212 (jis0208-below tables.flat tables.accepted) (jis0212-below tables.flat tables.accepted)
-
-pub ascii : (tables : AcceptedIndexes) → HasAscii (euc_jp tables.flat.jis0208 tables.flat.jis0212)
-ascii tables = has_ascii (euc_jp_is_shown tables) (λ b. refl) (λ b h. let a = ascii_is b h in rw a refl)
+  pub ascii : HasAscii g
+  ascii = has_ascii euc_jp_is_shown (λ b. refl) (λ b h. let a = ascii_is b h in rw a refl)

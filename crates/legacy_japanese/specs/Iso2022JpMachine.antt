@@ -2,13 +2,11 @@
 -- held-back bytes.
 use Rattle.std.specs.Prelude.{ℕ, ◌+◌, ◌-◌, ◌*◌, Bool, true, false, not, ◌==◌, ◌||◌, if◌then◌else◌, Option, Some, None, List, [], ◌∷◌, ◌++◌, length}
 use Rattle.std.specs.{Int.is_in_range, Char.is_ascii}
-use Rattle.legacy_tables.specs.Indexes.{idx}
 use Rattle.legacy_base.specs.{Grammar.iso_2022_jp, Iso2022Jp.esc, States.{DecoderState, is_iso_2022_jp_byte, is_two_byte_mode}}
-use Rattle.legacy_decoder_engine.specs.declared.moves.Fed.{Fed, TheVariants.{Nothing as Kept, One, MalformedSequence}}
-use Rattle.legacy_japanese.specs.declared.iso_2022_jp.steps.Mode.{Mode, TheVariants.{Ascii, Roman, Katakana, TwoByte}}
-use Rattle.legacy_japanese.specs.declared.iso_2022_jp.steps.Escape.{Escape, TheVariants.{ToAscii, ToRoman, ToKatakana, ToJis1978, ToJis1983}}
+use Rattle.{legacy_decoder_engine.specs.declared.moves.Fed.{Fed, TheVariants.{Nothing as Kept, One, MalformedSequence}}, legacy_tables.specs.Indexes.idx}
+use Rattle.legacy_japanese.specs.declared.iso_2022_jp.steps.{Escape.{Escape, TheVariants.{ToAscii, ToRoman, ToKatakana, ToJis1978, ToJis1983}}, Held.Held}
+use Rattle.legacy_japanese.specs.declared.iso_2022_jp.steps.{Held.TheVariants.{Byte, Begun}, Mode.{Mode, TheVariants.{Ascii, Roman, Katakana, TwoByte}}}
 use Rattle.legacy_japanese.specs.declared.iso_2022_jp.steps.Start.{Start, TheVariants.{Nothing, EscapeByte, Dollar, Paren}}
-use Rattle.legacy_japanese.specs.declared.iso_2022_jp.steps.Held.{Held, TheVariants.{Byte, Begun}}
 use Rattle.legacy_base.specs.Iso2022Jp as iso
 
 -- the mode of the grammar
@@ -87,27 +85,22 @@ single Roman b =
 single Katakana b = if is_in_range 0x21 0x5F b then Some (0xFF61 + (b - 0x21)) else None
 single TwoByte b = None
 
--- a byte outside two-byte mode is written as its scalar, or is malformed
-abbrev pub read_single : Mode → Option ℕ → Fed × Mode × Held
-read_single mode (Some c) = (One c, mode, Begun None Nothing)
-read_single mode None = malformed 1 false mode (Begun None Nothing)
+-- n bytes are written as their scalar, or are malformed
+abbrev pub read_or : ℕ → Mode → Option ℕ → Fed × Mode × Held
+read_or n mode (Some c) = (One c, mode, Begun None Nothing)
+read_or n mode None = malformed n false mode (Begun None Nothing)
 
 -- reads a byte that is not the escape byte, with nothing held back
 abbrev pub read_in_mode : Mode → ℕ → Fed × Mode × Held
-read_in_mode TwoByte b = if is_in_range 0x21 0x7E b then (Kept, TwoByte, Byte b) else read_single TwoByte None
-read_in_mode mode b = read_single mode (single mode b)
-
--- a pair is written as its scalar, or is malformed
-abbrev pub read_pair : Option ℕ → Fed × Mode × Held
-read_pair (Some c) = (One c, TwoByte, Begun None Nothing)
-read_pair None = malformed 2 false TwoByte (Begun None Nothing)
+read_in_mode TwoByte b = if is_in_range 0x21 0x7E b then (Kept, TwoByte, Byte b) else read_or 1 TwoByte None
+read_in_mode mode b = read_or 1 mode (single mode b)
 
 -- reads a byte after a lead
 abbrev pub read_trail : List ℕ → ℕ → ℕ → Fed × Mode × Held
 read_trail jis0208 l b =
     if b == esc then malformed 1 false TwoByte (Begun None EscapeByte)
-    else if is_in_range 0x21 0x7E b then read_pair (idx jis0208 ((l - 0x21) * 94 + (b - 0x21)))
-    else read_pair None
+    else if is_in_range 0x21 0x7E b then read_or 2 TwoByte (idx jis0208 ((l - 0x21) * 94 + (b - 0x21)))
+    else read_or 2 TwoByte None
 
 -- the escape that a byte completes
 abbrev pub completes : Start → ℕ → Option Escape

@@ -1,9 +1,6 @@
 -- The bytes of the codes of Shift_JIS.
-use Rattle.std.proofs.Common.{ℕ, ◌≢◌, ◌+◌, ◌*◌, ◌/◌, ◌%◌, List, refl, arith, nat_lt}
-use Rattle.std.specs.Prelude.{if◌then◌else◌}
-use Rattle.std.proofs.lemmas.Bool.Decides.{nat_tests}
-use Rattle.legacy_base.specs.{ShiftJis.shift_jis_code, Encoders.shift_jis}
-use Rattle.legacy_encoder_engine.specs.PairCodecs.{IsPairCodec}
+use Rattle.std.{proofs.{Common.{ℕ, ◌≢◌, ◌+◌, ◌*◌, ◌/◌, ◌%◌, List, refl, arith, nat_lt}, lemmas.Bool.Decides.nat_tests}, specs.Prelude.if◌then◌else◌}
+use Rattle.{legacy_base.specs.{ShiftJis.shift_jis_code, Encoders.shift_jis}, legacy_encoder_engine.specs.PairCodecs.IsPairCodec}
 
 -- Shift_JIS is a codec of ASCII and pairs, with any index
 pub shift_jis_pairs : (jis0208 : List ℕ) → IsPairCodec (shift_jis jis0208)

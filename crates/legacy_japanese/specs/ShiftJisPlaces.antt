@@ -1,8 +1,7 @@
 -- The place of a lead's row in its index, and of a trail in a row. A pair's pointer is their sum. A byte that is not a
 -- lead or not a trail has a place past the end of every index.
 use Rattle.std.specs.{Prelude.{◌+◌, ◌*◌, if◌then◌else◌, ℕ, min}, Int.Bits.bit_xor}
-use Rattle.legacy_base.specs.ShiftJis.{is_shift_jis_lead, shift_jis_lead_part}
-use Rattle.legacy_decoder_engine.specs.LanePlaces.{lead_place_of, trail_place_of}
+use Rattle.{legacy_base.specs.ShiftJis.{is_shift_jis_lead, shift_jis_lead_part}, legacy_decoder_engine.specs.LanePlaces.{lead_place_of, trail_place_of}}
 
 -- the place of a lead of Shift_JIS; a row has 188 entries
 unfoldable pub shift_jis_lead_place : ℕ → ℕ

@@ -1,15 +1,12 @@
 -- The steps of Shift_JIS agree with its grammar.
 use Rattle.std.proofs.{Common.{◌≡◌, ℕ, ◌<◌, ◌≤◌, List, [], ◌∷◌, Option, Bool, true, false, cond, refl, ◌||◌, ◌==◌, arith}, lemmas.Bool.eqb-true}
 use Rattle.std.{proofs.lemmas.Bool.Decides.nat_tests, specs.{Prelude.if◌then◌else◌, Option.option_map_or, Char.is_ascii}}
-use Rattle.legacy_base.specs.ShiftJis.{shift_jis_front, shift_jis_pair, is_shift_jis_lead, shift_jis_scalars, shift_jis_pointer}
-use Rattle.legacy_base.specs.{Fronts.Front, Fronts.reads, Fronts.malformed, Grammar.shift_jis}
-use Rattle.legacy_tables.specs.{Unicode.is_katakana_byte, Unicode.katakana_of}
-use Rattle.legacy_decoder_engine.specs.{Steps.{Step, hold, finish}, StepUnits.units, StepUnits.IsWidth, StepUnits.IsNarrowIndex, StatesAfterSteps.IsOneOrMarked}
-use Rattle.legacy_decoder_engine.specs.LeadCodecs.{IsLeadCodec}
-use Rattle.legacy_decoder_engine.proofs.TwoByteMeets.{IsFirst, ascii, other, IsTwoByte, step_front, first_test, front_test}
-use Rattle.legacy_decoder_engine.proofs.{Widths.narrow_idx_units, SettledSteps.one_test, SettledSteps.one_option}
-use Rattle.legacy_decoder_engine.proofs.{TwoByteCosts.katakana_below, TwoByteShown.HasTwoByteRooms, TwoByteShown.lead_codec}
-use Rattle.legacy_tables.proofs.Accepted.{jis0208-below}
+use Rattle.legacy_base.specs.{ShiftJis.{shift_jis_front, shift_jis_pair, is_shift_jis_lead, shift_jis_scalars, shift_jis_pointer}, Grammar.shift_jis}
+use Rattle.{legacy_base.specs.Fronts.{Front, reads, malformed}, legacy_tables.{specs.Unicode.{is_katakana_byte, katakana_of}, proofs.Accepted.jis0208-below}}
+use Rattle.legacy_decoder_engine.specs.{Steps.{Step, hold, finish}, StepUnits.{units, IsWidth, IsNarrowIndex}}
+use Rattle.legacy_decoder_engine.{specs.LeadCodecs.IsLeadCodec, proofs.TwoByteMeets.{IsFirst, ascii, other, IsTwoByte, step_front, first_test, front_test}}
+use Rattle.legacy_decoder_engine.proofs.{Widths.narrow_idx_units, SettledSteps.{one_test, one_option}, TwoByteCosts.katakana_below}
+use Rattle.legacy_decoder_engine.proofs.TwoByteShown.{HasTwoByteRooms, lead_codec}
 
 -- the step at a byte if nothing is held back
 abbrev pub shift_jis_first : ℕ → Step
@@ -41,16 +38,13 @@ front_is : (jis0208 : List ℕ) (b : ℕ) (rest : List ℕ) (pair : Front) → p
     ≡ step_front (shift_jis_pair_scalars jis0208 b) rest (shift_jis_first b)
 front_is jis0208 b rest pair e = grind (arith, front_test)
 
-one : (jis0208 : List ℕ) (o : Option ℕ) → IsOneOrMarked false (option_map_or (shift_jis_scalars jis0208) o [])
-one jis0208 o = grind (arith, one_test, one_option)
-
 scalar_units : (len : ℕ → ℕ) (narrow wide : ℕ) → IsWidth len narrow wide → (jis0208 : List ℕ) → IsNarrowIndex jis0208
     → (o : Option ℕ) → units len (option_map_or (shift_jis_scalars jis0208) o []) ≤ narrow
 scalar_units len narrow wide w jis0208 h o = grind (arith, nat_tests, w.bmp, narrow_idx_units len narrow wide w jis0208)
 
 is : (jis0208 : List ℕ) → IsTwoByte (shift_jis jis0208) (shift_jis_front jis0208) is_shift_jis_lead shift_jis_first (shift_jis_pair_scalars jis0208)
 unfolding shift_jis_front shift_jis_pair
-is jis0208 = grind (arith, front_is, one)
+is jis0208 = grind (arith, front_is, one_test, one_option)
 
 rooms : (jis0208 : List ℕ) → IsNarrowIndex jis0208 → HasTwoByteRooms (shift_jis jis0208) (shift_jis_pair_scalars jis0208) 6
 rooms jis0208 accepted =

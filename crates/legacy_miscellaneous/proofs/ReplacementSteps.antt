@@ -1,10 +1,9 @@
 -- The machine of the replacement decoder agrees with its grammar, and its moves hold nothing back.
 use Rattle.std.proofs.{Common.{◌≡◌, ℕ, [], Bool, true, refl, arith}, lemmas.{Bool.false≢true, List.Elements.All-nil}}
-use Rattle.{legacy_tables.specs.Unicode.IsByte, legacy_base.specs.{Grammar.{replacement, events_of}, States.state_of, Lengths.{LengthQuery, query_form}}}
-use Rattle.{legacy_base.specs.Replacement.replacement_events, legacy_decoder_engine.specs.{declared.moves.Fed.Fed, Feeding.fed_of}}
-use Rattle.legacy_decoder_engine.{specs.{Moves.{IsCovered, Feeds}, Steps.Meets, Shown.{KeepsRooms, IsShown}}, proofs.OneByteShown.{few_held, no_report}}
-use Rattle.legacy_decoder_engine.proofs.{RoomMoves.{no_short_room, cond_most}, Widths.width_of, CallUnderWay.same_rooms}
-use Rattle.legacy_miscellaneous.specs.ReplacementMachine.{replacement_first, replacement_machine}
+use Rattle.legacy_base.specs.{Grammar.{replacement, events_of}, Lengths.{LengthQuery, query_form}, Replacement.replacement_events, States.state_of}
+use Rattle.legacy_decoder_engine.proofs.{CallUnderWay.same_rooms, OneByteShown.{few_held, no_report}, RoomMoves.{no_short_room, cond_most}, Widths.width_of}
+use Rattle.legacy_decoder_engine.specs.{Feeding.fed_of, Moves.{IsCovered, Feeds}, Shown.{KeepsRooms, IsShown}, Steps.Meets, declared.moves.Fed.Fed}
+use Rattle.{legacy_miscellaneous.specs.ReplacementMachine.{replacement_first, replacement_machine}, legacy_tables.specs.Unicode.IsByte}
 use Rattle.legacy_decoder_engine.proofs.Feeding as moves
 
 module _ (reported : Bool) where

@@ -1,18 +1,15 @@
 -- What the x-user-defined decoder reads ahead.
 use Rattle.std.proofs.Common.{◌≡◌, true, ℕ, zero, suc, ◌+◌, ◌-◌, ◌%◌, ◌<◌, ◌≤◌, ◌^◌, ◌==◌, List, [], ◌++◌, bit_and, bit_xor, refl, arith, IsAscii, length, take}
-use Rattle.std.proofs.{Common.{drop, get_or}, lemmas.{Bool.{agree_below_at, eqb-true, Decides.nat_tests}, List.{Elements.All-nil, take_more, take_all}}}
-use Rattle.{std.{proofs.lemmas.List.{length-drop, get_or-drop}, specs.Char.IsScalar}, legacy_tables.specs.Unicode.IsByte, legacy_base.specs.States.new_state}
-use Rattle.{legacy_base.specs.Grammar.user_defined, legacy_text.specs.{declared.destination.Destination.Ghosts, EncodingForm.{code_units, all_code_units}}}
-use Rattle.{legacy_text.specs.EncodingForm.total_unit_count, legacy_decoder_engine.specs.{declared.moves.Fed.TheVariants.One, ReadAhead.{Yields, IsSingle}}}
-use Rattle.legacy_decoder_engine.{specs.{ReadAhead.{HasAscii, ReadsAhead}, Moves.Feeds}, proofs.YieldedForms.{ascii_is, single_yields, has_ascii}}
-use Rattle.legacy_decoder_engine.proofs.JoinedReads.{reads_more, reads_written, reads_ascii}
-use Rattle.legacy_decoder_engine.proofs.WrittenReads.{yields_none, yields_more, rest_of, all_short, short, reads_none, three_fit, writes_none, writes_one}
-use Rattle.legacy_miscellaneous.specs.UserDefinedMachine.{unit_of_byte}
-use Rattle.legacy_miscellaneous.proofs.UserDefinedShown.{user_defined_shown}
+use Rattle.std.proofs.{Common.{drop, get_or}, lemmas.{Bool.{agree_below_at, eqb-true, Decides.nat_tests}, List.{Elements.All-nil, take_more, get_or-drop}}}
+use Rattle.std.specs.Char.{IsScalar}
+use Rattle.legacy_tables.specs.Unicode.{IsByte}
+use Rattle.legacy_base.specs.{States.new_state, Grammar.user_defined}
+use Rattle.legacy_text.specs.{declared.destination.Destination.Ghosts, EncodingForm.code_units}
+use Rattle.legacy_decoder_engine.specs.{declared.moves.Fed.TheVariants.One, ReadAhead.{Yields, IsSingle, HasAscii, ReadsAhead}, Moves.Feeds}
+use Rattle.legacy_decoder_engine.proofs.{YieldedForms.{ascii_is, single_yields, has_ascii}, JoinedReads.{reads_written, reads_ascii}}
+use Rattle.legacy_decoder_engine.proofs.WrittenReads.{yields_none, yields_more, rest_of, short, reads_none, three_fit, writes_none, writes_one}
+use Rattle.legacy_miscellaneous.{specs.UserDefinedMachine.unit_of_byte, proofs.UserDefinedShown.user_defined_shown}
 use Rattle.legacy_decoder_engine.proofs.Feeding as moves
-
-pub user_defined_ascii : HasAscii user_defined
-user_defined_ascii = has_ascii user_defined_shown (λ b. refl) (λ b h. let a = ascii_is b h in rw a refl)
 
 -- each byte yields its scalar
 pub is_single : (b c : ℕ) → b < 2 ^ 8 → IsScalar c → c ≡ unit_of_byte b → IsSingle user_defined b c
@@ -33,7 +30,7 @@ unit_scalar b h = grind (arith, nat_tests)
 -- ---- eight bytes at once
 
 -- the first bytes yield the first units
-units_yield : (source units : List ℕ) (r : ℕ) → ((k : ℕ) → get_or source k 0 < 2 ^ 8) → r ≤ length source → r ≤ length units →
+pub units_yield : (source units : List ℕ) (r : ℕ) → ((k : ℕ) → get_or source k 0 < 2 ^ 8) → r ≤ length source → r ≤ length units →
     ((k : ℕ) → k < r → get_or units k 0 ≡ unit_of_byte (get_or source k 0)) → Yields user_defined (take r source) (take r units)
 units_yield source units zero bytes within room are = yields_none user_defined
 units_yield source units (suc r) bytes within room are =
@@ -47,26 +44,14 @@ units_yield source units (suc r) bytes within room are =
 pub rest_bytes : (source : List ℕ) (at : ℕ) → ((k : ℕ) → get_or source k 0 < 2 ^ 8) → (k : ℕ) → get_or (take (length source - at) (drop at source)) k 0 < 2 ^ 8
 rest_bytes source at bytes k = grind (arith, rest_of, get_or-drop)
 
--- eight more bytes are read, and their units are written
-pub eight_more : {D : Type 0} (T : Ghosts D) (source units : List ℕ) {old mid new : D} (at : ℕ) → ((k : ℕ) → get_or source k 0 < 2 ^ 8) →
-    at + 8 ≤ length source → length units ≡ 8 → ReadsAhead T (new_state user_defined) source at old mid → 35 ≤ T.room mid →
-    ((k : ℕ) → k < 8 → get_or units k 0 ≡ unit_of_byte (get_or (take (length source - at) (drop at source)) k 0)) →
-    T.contents new ≡ T.contents mid ++ all_code_units T.form units → T.room new + total_unit_count T.form units ≡ T.room mid → T.loan new ≡ T.loan mid →
-    ReadsAhead T (new_state user_defined) source (at + 8) old new
-eight_more T source units {old} {mid} {new} at bytes within long before enough are contents room loan =
-    let rest : List ℕ = take (length source - at) (drop at source) in
-    let longer : 8 ≤ length rest = grind (arith, rest_of, length-drop) in
-    let few = all_short T.form units (λ k h. grind (arith, are k, rest_bytes source at bytes k)) in
-    let yields = units_yield rest units 8 (rest_bytes source at bytes) longer (omega arith) are in
-    reads_more before (grind (arith, reads_written, take_all 8 units, yields))
-
 -- ---- ASCII, and a byte after it
 
 module _ {D : Type 0} (T : Ghosts D) (source : List ℕ) (r : ℕ) {old mid : D} where
   pub reads_front : r ≤ 64 → 64 ≤ length source → IsAscii (take r source) → 67 ≤ T.room old → T.contents mid ≡ T.contents old ++ take r source →
       T.room mid + r ≡ T.room old → T.loan mid ≡ T.loan old → ReadsAhead T (new_state user_defined) source r old mid
   reads_front few long ascii enough contents room loan =
-      reads_ascii user_defined_ascii (omega arith) ascii contents room loan (λ h. omega (arith, room))
+      let law : HasAscii user_defined = has_ascii user_defined_shown (λ b. refl) (λ b h. let a = ascii_is b h in rw a refl) in
+      reads_ascii law (omega arith) ascii contents room loan (λ h. omega (arith, room))
 
   pub reads_byte : {new : D} (c : ℕ) → ReadsAhead T (new_state user_defined) source r old mid → r < length source → 7 ≤ T.room mid →
       IsSingle user_defined (get_or source r 0) c → T.contents new ≡ T.contents mid ++ code_units T.form c →

@@ -1,8 +1,8 @@
 -- The steps of x-user-defined agree with its grammar, and its moves hold nothing back.
-use Rattle.{std.proofs.{Common.{◌≡◌, ◌+◌, ◌-◌, [], false, Some, refl, arith}, lemmas.List.Elements.All-nil}, legacy_tables.specs.Unicode.IsByte}
-use Rattle.legacy_base.specs.{UserDefined.user_defined_front, Grammar.{user_defined, events_of}, States.new_state}
-use Rattle.legacy_decoder_engine.{specs.{Moves.IsCovered, Shown.IsShown}, proofs.OneByteShown.one_byte_shown}
-use Rattle.legacy_miscellaneous.specs.UserDefinedMachine.{user_defined_machine}
+use Rattle.std.proofs.{Common.{◌≡◌, ◌+◌, ◌-◌, [], false, Some, refl, arith}, lemmas.List.Elements.All-nil}
+use Rattle.legacy_base.specs.{Grammar.{user_defined, events_of}, States.new_state, UserDefined.user_defined_front}
+use Rattle.legacy_decoder_engine.{proofs.OneByteShown.one_byte_shown, specs.{Moves.IsCovered, Shown.IsShown}}
+use Rattle.{legacy_miscellaneous.specs.UserDefinedMachine.user_defined_machine, legacy_tables.specs.Unicode.IsByte}
 use Rattle.legacy_decoder_engine.proofs.Feeding as moves
 
 pub user_defined_shown : IsShown user_defined user_defined_machine

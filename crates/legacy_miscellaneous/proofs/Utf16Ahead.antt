@@ -1,14 +1,14 @@
 -- What the UTF-16 decoders read ahead.
 use Rattle.std.proofs.Common.{rules, ◌≡◌, ℕ, zero, suc, ◌+◌, ◌-◌, ◌*◌, ◌<◌, ◌≤◌, List, ◌++◌, Bool, length, take, drop, get_or, sym, arith, refl}
 use Rattle.std.proofs.lemmas.{Bool.Decides.nat_tests, List.{Elements.All-get_or, take_more, length-take-le, length-drop, get_or-take, get_or-drop, take_all}}
-use Rattle.{std.specs.{Prelude.IsAscii, Char.IsScalar}, legacy_text.specs.{declared.destination.Destination.Ghosts, EncodingForm.{code_units, all_code_units}}}
-use Rattle.{legacy_text.specs.EncodingForm.total_unit_count, legacy_tables.specs.Unicode.IsByte, legacy_base.specs.{Grammar.utf16, Utf16.unit_of}}
-use Rattle.{legacy_base.specs.States.new_state, legacy_decoder_engine.{specs.ReadAhead.{Yields, IsPair, Writes, ReadsAhead}, proofs.YieldedForms.pair_yields}}
-use Rattle.legacy_decoder_engine.proofs.{JoinedReads.reads_written, WrittenReads.{yields_none, yields_more, take_two, writes_two, rest_of, writes_next}}
-use Rattle.legacy_decoder_engine.proofs.WrittenReads.{all_code_units_ascii, all_short, one_unit, short, three_fit, writes_none, reads_none}
-use Rattle.legacy_miscellaneous.specs.Utf16Decoder.{HasAsciiUnits, AreUnitsBelow}
-use Rattle.legacy_text.proofs.Ascii.{ascii_front}
-use Rattle.legacy_miscellaneous.{specs.Utf16Decoder.unit_at, proofs.{Utf16Held.{unit_below, utf16_shown}, UserDefinedAhead.rest_bytes}}
+use Rattle.std.specs.{Prelude.IsAscii, Char.IsScalar}
+use Rattle.legacy_text.{specs.{declared.destination.Destination.Ghosts, EncodingForm.{code_units, all_code_units, total_unit_count}}, proofs.Ascii.ascii_front}
+use Rattle.{legacy_tables.specs.Unicode.IsByte, legacy_base.specs.{Grammar.utf16, Utf16.unit_of, States.new_state}}
+use Rattle.legacy_decoder_engine.{specs.ReadAhead.{Yields, IsPair, Writes, ReadsAhead}, proofs.{YieldedForms.pair_yields, JoinedReads.reads_written}}
+use Rattle.legacy_decoder_engine.proofs.WrittenReads.{yields_none, yields_more, take_two, writes_two, rest_of, writes_next, all_code_units_ascii, all_short}
+use Rattle.legacy_decoder_engine.proofs.WrittenReads.{one_unit, short, three_fit, writes_none, reads_none}
+use Rattle.legacy_miscellaneous.{specs.Utf16Decoder.{HasAsciiUnits, AreUnitsBelow, unit_at}, proofs.Utf16Held.{unit_below, utf16_shown}}
+use Rattle.legacy_miscellaneous.proofs.UserDefinedAhead.{rest_bytes}
 
 -- a unit that is not a surrogate yields itself
 pub unit_pair : (be : Bool) (a b c : ℕ) → IsByte a → IsByte b → c ≡ unit_of be a b → IsScalar c → IsPair (utf16 be) a b c

@@ -1,8 +1,8 @@
 -- The units of UTF-16 give the same events as its fronts.
 use Rattle.std.proofs.{Common.{◌≡◌, ℕ, ◌+◌, ◌*◌, List, ◌∷◌, ◌++◌, Bool, inl, inr, refl, ◌&&◌, arith}, lemmas.Bool.cases_Bool}
-use Rattle.{std.specs.Char.Utf16.{is_high_surrogate, is_low_surrogate}, legacy_base.specs.{Fronts.{Front, cut}, Utf16.{unit_of, units_of, has_odd_byte}}}
-use Rattle.{legacy_base.{specs.Utf16.{single_unit_events, units_events}, proofs.Cuts.cut_at}, legacy_miscellaneous.specs.Utf16Fronts.single_unit_front}
-use Rattle.legacy_miscellaneous.specs.Utf16Fronts.{utf16_front}
+use Rattle.std.specs.Char.Utf16.{is_high_surrogate, is_low_surrogate}
+use Rattle.legacy_base.{specs.{Fronts.{Front, cut}, Utf16.{unit_of, units_of, has_odd_byte, single_unit_events, units_events}}, proofs.Cuts.cut_at}
+use Rattle.legacy_miscellaneous.specs.Utf16Fronts.{single_unit_front, utf16_front}
 
 -- two bytes of an unpaired unit
 cut_lone : (front : ℕ → List ℕ → Front) (i u a b : ℕ) (rest : List ℕ) → front a (b ∷ rest) ≡ single_unit_front u →

@@ -1,9 +1,8 @@
 -- The units of a vector of bytes, and the greater ones of two vectors.
-use Rattle.std.proofs.Common.{◌≡◌, ◌∙◌, ℕ, ◌+◌, ◌-◌, ◌*◌, ◌%◌, ◌<◌, ◌≤◌, List, ◌++◌, Bool, true, false, length, map, take, get_or, sym, subst, arith}
-use Rattle.std.proofs.lemmas.List.{get_or-take, get_or_append_left, length-take-le, FromFn.{get_or-map-range_with_len, length-map-range_with_len}}
-use Rattle.{std.specs.{List.range_with_len, Simd.Lanes.{number_l, digits_l}}, legacy_tables.specs.Unicode.IsByte, legacy_text.proofs.ScalarTurns.lane}
-use Rattle.legacy_miscellaneous.specs.Utf16Decoder.{unit_at, AreBelow}
-use Rattle.std.proofs.{Common.{zero, suc, ◌^◌, cond, ltb, ◌∷◌}, lemmas.Bool.Decides.nat_tests}
+use Rattle.std.proofs.Common.{◌≡◌, ◌∙◌, ℕ, ◌+◌, ◌-◌, ◌*◌, ◌%◌, ◌<◌, ◌≤◌, List, ◌++◌, Bool, true, false, length, map, take, get_or, sym, subst, arith, zero, suc}
+use Rattle.std.proofs.{Common.{◌^◌, cond, ltb, ◌∷◌}, lemmas.{Bool.Decides.nat_tests, List.FromFn.{get_or-map-range_with_len, length-map-range_with_len}}}
+use Rattle.std.{proofs.lemmas.List.{get_or-take, get_or_append_left, length-take-le}, specs.{List.range_with_len, Simd.Lanes.{number_l, digits_l}}}
+use Rattle.{legacy_tables.specs.Unicode.IsByte, legacy_text.proofs.ScalarTurns.lane, legacy_miscellaneous.specs.Utf16Decoder.{unit_at, AreBelow}}
 use lib.Lanes.{zip2, sel_l, top}
 
 -- units in little-endian order

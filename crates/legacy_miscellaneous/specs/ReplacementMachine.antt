@@ -1,8 +1,6 @@
 -- The machine of the replacement decoder, byte by byte.
 use Rattle.std.specs.Prelude.{[], Bool, true, if◌then◌else◌}
-use Rattle.legacy_base.specs.Fronts.{reads, malformed}
-use Rattle.legacy_base.specs.Grammar.{replacement}
-use Rattle.legacy_decoder_engine.specs.Steps.{Step, finish, no_pending, DecoderMachine}
+use Rattle.{legacy_base.specs.{Fronts.{reads, malformed}, Grammar.replacement}, legacy_decoder_engine.specs.Steps.{Step, finish, no_pending, DecoderMachine}}
 
 -- the malformed sequence is reported once, and each later byte is dropped
 abbrev pub replacement_first : Bool → Step

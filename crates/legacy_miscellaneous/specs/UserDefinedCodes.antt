@@ -1,13 +1,8 @@
 -- The bytes of the codes of x-user-defined, and the state of its encoder between two calls, which never changes.
-use Rattle.std.proofs.Common.{refl, arith}
-use Rattle.std.proofs.lemmas.Bool.{lt-ltb}
-use Rattle.std.specs.Int.{is_in_range}
-use Rattle.legacy_base.specs.UserDefined.{user_defined_code}
-use Rattle.legacy_base.specs.Encoders.{EncoderState, new_encoder, user_defined}
+use Rattle.std.{proofs.{Common.{refl, arith}, lemmas.Bool.lt-ltb}, specs.Int.is_in_range}
+use Rattle.legacy_base.specs.{UserDefined.user_defined_code, Encoders.{EncoderState, new_encoder, user_defined}}
 use Rattle.legacy_miscellaneous.specs.declared.user_defined.encoder.UserDefinedEncoder.{UserDefinedEncoder}
-use Rattle.legacy_encoder_engine.specs.PlainCodecs.{IsPlainCodec}
-use Rattle.legacy_encoder_engine.specs.PlainLengths.{byte_lengths}
-use Rattle.legacy_encoder_engine.proofs.PlainServes.{short_past, short_if}
+use Rattle.legacy_encoder_engine.{specs.{PlainCodecs.IsPlainCodec, PlainLengths.byte_lengths}, proofs.PlainServes.{short_past, short_if}}
 
 pub user_defined_plain : IsPlainCodec user_defined 1
 unfolding user_defined_code

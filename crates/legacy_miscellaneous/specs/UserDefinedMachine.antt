@@ -1,9 +1,6 @@
 -- The machine of the x-user-defined decoder, byte by byte.
-use Rattle.std.specs.Prelude.{ℕ, ◌+◌, ◌-◌, [], ◌∷◌, if◌then◌else◌}
-use Rattle.std.specs.Char.{is_ascii}
-use Rattle.legacy_base.specs.Fronts.{reads}
-use Rattle.legacy_base.specs.Grammar.{user_defined}
-use Rattle.legacy_decoder_engine.specs.Steps.{finish, no_pending, DecoderMachine}
+use Rattle.std.specs.{Prelude.{ℕ, ◌+◌, ◌-◌, [], ◌∷◌, if◌then◌else◌}, Char.is_ascii}
+use Rattle.{legacy_base.specs.{Fronts.reads, Grammar.user_defined}, legacy_decoder_engine.specs.Steps.{finish, no_pending, DecoderMachine}}
 
 -- the code unit of a byte: ASCII is itself, 80 to FF are U+F780 to U+F7FF
 abbrev pub unit_of_byte : ℕ → ℕ

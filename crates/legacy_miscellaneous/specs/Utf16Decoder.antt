@@ -1,11 +1,7 @@
 -- The state of the UTF-16 decoders between two calls.
 use Rattle.std.specs.Prelude.{◌≡◌, ℕ, ◌+◌, ◌*◌, ◌<◌, length, slice_index, ◌/◌, ◌%◌, List, [], ◌∷◌, Bool, if◌then◌else◌}
-use Rattle.legacy_base.specs.Grammar.{utf16}
-use Rattle.legacy_base.specs.Utf16.{unit_of}
-use Rattle.legacy_base.specs.States.{DecoderState}
-use Rattle.legacy_miscellaneous.specs.declared.utf16.held_bytes.Held.{Held}
-use Rattle.legacy_miscellaneous.specs.declared.utf16.held_bytes.Held.TheVariants.{Nothing, Odd, High, HighOdd, Pending}
-use Rattle.legacy_miscellaneous.specs.declared.utf16.decoder.Utf16Decoder.{Utf16Decoder}
+use Rattle.{legacy_base.specs.{Grammar.utf16, States.DecoderState, Utf16.unit_of}, legacy_miscellaneous.specs.declared.utf16.decoder.Utf16Decoder.Utf16Decoder}
+use Rattle.legacy_miscellaneous.specs.declared.utf16.held_bytes.Held.{Held, TheVariants.{Nothing, Odd, High, HighOdd, Pending}}
 
 -- the first byte of a unit, in the byte order
 abbrev pub first_byte : Bool → ℕ → ℕ

@@ -1,8 +1,6 @@
 -- UTF-16 as fronts of a list of bytes. They give the same events as `utf16_events`, which reads units.
-use Rattle.std.specs.Prelude.{ℕ, List, [], ◌∷◌, Bool, ◌&&◌, ◌||◌, if◌then◌else◌}
-use Rattle.std.specs.Char.Utf16.{is_high_surrogate, is_low_surrogate, surrogate_pair_char}
-use Rattle.legacy_base.specs.Fronts.{Front, reads, malformed}
-use Rattle.legacy_base.specs.Utf16.{unit_of}
+use Rattle.std.specs.{Prelude.{ℕ, List, [], ◌∷◌, Bool, ◌&&◌, ◌||◌, if◌then◌else◌}, Char.Utf16.{is_high_surrogate, is_low_surrogate, surrogate_pair_char}}
+use Rattle.legacy_base.specs.{Fronts.{Front, reads, malformed}, Utf16.unit_of}
 
 -- the front of a unit alone
 abbrev pub single_unit_front : ℕ → Front

@@ -1,10 +1,7 @@
 -- The machine of the UTF-16 decoders, byte by byte.
 use Rattle.std.specs.Prelude.{ℕ, List, [], ◌∷◌, Bool, Option, Some, None, if◌then◌else◌}
 use Rattle.std.specs.Char.Utf16.{is_high_surrogate, is_low_surrogate, surrogate_pair_char}
-use Rattle.legacy_base.specs.Fronts.{reads, malformed}
-use Rattle.legacy_base.specs.Utf16.{unit_of}
-use Rattle.legacy_base.specs.Grammar.{utf16}
-use Rattle.legacy_decoder_engine.specs.Steps.{Step, hold, finish, DecoderMachine}
+use Rattle.{legacy_base.specs.{Fronts.{reads, malformed}, Utf16.unit_of, Grammar.utf16}, legacy_decoder_engine.specs.Steps.{Step, hold, finish, DecoderMachine}}
 
 -- a held-back unit that is not a high surrogate, which is to be written
 abbrev pub utf16_pending : Bool → List ℕ → Option (ℕ × ℕ)

@@ -1,6 +1,6 @@
 -- The length of the front of Latin-1 bytes.
 use Rattle.std.proofs.Common.{◌≡◌, ◌∙◌, ℕ, ◌<◌, ◌≤◌, List, length, get_or, take, true, false, sym, arith, get_or-take, length-take-le, length-drop, IsAscii}
-use Rattle.std.proofs.{lemmas.Bool.Decides.nat_tests, lemmas.List.Folds.length-prefix_len, lemmas.List.Sums.prefix_len_is}
+use Rattle.std.proofs.lemmas.{Bool.Decides.nat_tests, List.{Folds.length-prefix_len, Sums.prefix_len_is}}
 use Rattle.{legacy_text.proofs.Ascii.{ascii_next, ascii_front, no_past}, legacy_base.specs.Latin1.{is_latin1_byte, latin1_front}}
 
 pub latin1_front-length : (table bytes : List ℕ) (n : ℕ) → n ≤ length bytes →

@@ -1,31 +1,20 @@
 -- What the single-byte decoders read ahead.
-use Rattle.std.proofs.Common.{rules, IsAscii, ◌≡◌, ◌∙◌, ℕ, List, ◌+◌, ◌-◌, ◌≤◌, ◌<◌, ◌^◌, ◌++◌, zero, suc, length, take, drop, get_or}
-use Rattle.std.proofs.{Common.{Some, refl, ap, arith, All}, lemmas.Bool.Decides.nat_tests, lemmas.List.Elements.All-from_get_or}
-use Rattle.std.proofs.lemmas.List.{get_or_past, take_all, take_more, take-take, get_or-take}
-use Rattle.std.proofs.lemmas.List.{get_or-drop, length-drop, length-take-le, get_or-map, length-map}
-use Rattle.std.proofs.Math.Seq.{take-append_seam}
-use Rattle.std.specs.Char.{IsScalar}
-use Rattle.legacy_text.specs.declared.destination.Destination.{Ghosts}
-use Rattle.legacy_text.specs.{EncodingForm.{all_code_units, bmp_room, total_unit_count}, PastAscii.{ArePast, ArePastFrom}}
-use Rattle.legacy_text.{specs.ByteUnits.{AreByteScalars, HaveScalars, scalars_of}, proofs.ByteUnits.one_each}
+use Rattle.std.proofs.lemmas.List.{get_or_past, take_all, take_more, take-take, get_or-take, get_or-drop, length-drop, length-take-le, Elements.All-from_get_or}
+use Rattle.std.proofs.Common.{rules, IsAscii, ◌≡◌, ℕ, List, ◌+◌, ◌-◌, ◌≤◌, ◌<◌, ◌^◌, ◌++◌, zero, suc, length, take, drop, get_or, Some, refl, arith, All}
+use Rattle.std.{proofs.{lemmas.Bool.Decides.nat_tests, Math.Seq.take-append_seam}, specs.Char.IsScalar}
+use Rattle.legacy_decoder_engine.proofs.WrittenReads.{yields_none, yields_more, writes_none, writes_one, writes_next, writes_ascii, rest_of, short, three_fit}
+use Rattle.legacy_decoder_engine.{proofs.WrittenReads.{one_unit, reads_none}, specs.ReadAhead.{Yields, IsSingle, HasAscii, Writes, ReadsAhead}}
+use Rattle.legacy_decoder_engine.proofs.{YieldedForms.{single_yields, has_ascii, ascii_is}, JoinedReads.reads_written}
+use Rattle.legacy_single_byte.{specs.ByteEntries.{IsByteEntry, AreByteEntries}, proofs.SingleByteShown.shown}
+use Rattle.legacy_text.specs.{EncodingForm.{all_code_units, total_unit_count}, declared.destination.Destination.Ghosts, PastAscii.{ArePast, ArePastFrom}}
+use Rattle.legacy_tables.{proofs.AcceptedTable.{table-below, table-scalars}, specs.{AcceptedTables.AcceptedTable, Indexes.idx}}
 use Rattle.legacy_base.specs.{States.{DecoderState, new_state}, Grammar.single_byte}
-use Rattle.legacy_tables.specs.{Indexes.{idx}, AcceptedTables.AcceptedTable}
-use Rattle.legacy_text.proofs.Ascii.{ascii_front}
-use Rattle.legacy_tables.proofs.AcceptedTable.{table-below, table-scalars}
-use Rattle.legacy_decoder_engine.specs.ReadAhead.{Yields, IsSingle, HasAscii, Writes, ReadsAhead}
-use Rattle.legacy_single_byte.specs.{ByteEntries.{IsByteEntry, AreByteEntries}}
-use Rattle.legacy_decoder_engine.proofs.{YieldedForms.{single_yields, has_ascii, ascii_is}, JoinedReads.{reads_written}}
-use Rattle.legacy_decoder_engine.proofs.WrittenReads.{yields_none, yields_more, writes_none, writes_one, writes_next, writes_ascii, rest_of}
-use Rattle.legacy_decoder_engine.proofs.WrittenReads.{short, three_fit, one_unit, reads_none}
-use Rattle.legacy_single_byte.proofs.SingleByteShown.{shown}
+use Rattle.legacy_text.{specs.ByteUnits.AreByteScalars, proofs.Ascii.ascii_front}
 
 small : (x : ℕ) → x < 0x80 → IsScalar x
 small x h = search rules
 
 module _ (table : AcceptedTable) where
-  pub single_byte_ascii : HasAscii (single_byte table.entries)
-  single_byte_ascii = has_ascii (shown table) (λ b. refl) (λ b h. let a = ascii_is b h in rw a refl)
-
   -- the scalar at a place is at most U+FFFF
   pub place_below : (p c : ℕ) → Some c ≡ idx table.entries p → (c < 0x1_0000) × IsScalar c
   place_below p c e = grind (arith, table-below table.entries table.accepted p 0, table-scalars table.entries table.accepted p 0, get_or_past)
@@ -50,8 +39,9 @@ module _ (table : AcceptedTable) where
   ascii_next T source at n m {old} {mid} {new} few long most before ascii contents room loan =
       let front : IsAscii (take n (take (length source - at) (drop at source))) =
       rw (rest_of source at) (ascii_front (drop at source) n (λ k h. rw (get_or-drop at source k 0) (ascii k (omega arith) (omega arith)))) in
+      let law : HasAscii (single_byte table.entries) = has_ascii (shown table) (λ b. refl) (λ b h. let a = ascii_is b h in rw a refl) in
       let size : length (take n (take (length source - at) (drop at source))) ≡ n = grind (arith, rest_of, length-drop, length-take-le) in
-      writes_next T source at n before (writes_ascii T _ mid new _ single_byte_ascii front contents (omega (arith, size)) loan)
+      writes_next T source at n before (writes_ascii T _ mid new _ law front contents (omega (arith, size)) loan)
 
   -- ---- several bytes at once, by their entries
 
@@ -85,23 +75,6 @@ module _ (table : AcceptedTable) where
   -- the entries of all bytes
   pub byte_scalars : (entries : List ℕ) → length entries ≡ 256 → AreByteEntries table.entries entries 256 → AreByteScalars entries
   byte_scalars entries long same = grind (arith, same, entry_below, All-from_get_or (λ c. (c < 0x1_0000) × IsScalar c) entries 0)
-
-  -- bytes at the front were read and their scalars were written, each as one code unit
-  pub reads_units : (source entries : List ℕ) (r : ℕ) → ((k : ℕ) → get_or source k 0 < 2 ^ 8) → AreByteScalars entries
-      → AreByteEntries table.entries entries 256
-      → {D : Type 0} (T : Ghosts D) (old new : D) → bmp_room T.form ≡ 1 → r ≤ 64 → 64 ≤ length source → HaveScalars entries (take r source)
-      → T.contents new ≡ T.contents old ++ all_code_units T.form (scalars_of entries (take r source))
-      → T.room new + total_unit_count T.form (scalars_of entries (take r source)) ≡ T.room old → T.loan new ≡ T.loan old → 70 ≤ T.room old
-      → ReadsAhead T (new_state (single_byte table.entries)) source r old new
-  reads_units source entries r bytes all same T old new one few within have contents room loan enough =
-      let front : length (take r source) ≡ r = length-take-le r source (omega (arith, few, within)) in
-      let units : List ℕ = scalars_of entries (take r source) in
-      let long : length units ≡ r = length-map (take r source) (λ b. get_or entries b 0) ∙ front in
-      let unit : (k : ℕ) → k < r → get_or units k 0 ≡ get_or entries (get_or source k 0) 0 =
-      λ k h. get_or-map (λ b. get_or entries b 0) (take r source) k 0 0 (omega (arith, h, front)) ∙ ap (λ b. get_or entries b 0) (get_or-take r source k 0 h) in
-      reads_entries source units r bytes (λ k h. rw (unit k h) (same (get_or source k 0) (bytes k))) T old new
-      (λ k h past none. grind (arith, have k 0, unit k h, get_or-take r source k 0 h)) (omega (arith, few, within)) long contents room loan
-      (omega (arith, one_each T.form entries (take r source) one all, front, few, enough)) (omega (arith, enough))
 
 -- what was read of bytes with others after them
 pub reads_padded : {D : Type 0} {T : Ghosts D} {state : DecoderState} {source padded : List ℕ} {r : ℕ} {old new : D} → r ≤ length source →

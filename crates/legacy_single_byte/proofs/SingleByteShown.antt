@@ -1,11 +1,9 @@
 -- The steps of the single-byte decoders agree with their grammar, and their moves hold nothing back.
 use Rattle.std.proofs.{Common.{◌≡◌, ℕ, ◌-◌, [], true, refl, arith}, lemmas.List.Elements.All-nil}
-use Rattle.legacy_base.specs.{SingleByte.single_byte_front, Grammar.{single_byte, events_of}, States.new_state}
-use Rattle.legacy_tables.specs.{Indexes.idx, Unicode.IsByte, AcceptedTables.AcceptedTable}
-use Rattle.legacy_tables.proofs.{AcceptedTable.table-below, PackedAccepted.entry-narrow}
-use Rattle.legacy_decoder_engine.specs.{declared.moves.Fed.Fed, Moves.{IsCovered, Feeds}, Feeding.{HasScalars, fed_of}, Shown.IsShown}
-use Rattle.legacy_decoder_engine.proofs.OneByteShown.{one_byte_shown}
-use Rattle.legacy_single_byte.specs.SingleByteMachine.{single_byte_first, single_byte_machine}
+use Rattle.legacy_base.specs.{Grammar.{single_byte, events_of}, SingleByte.single_byte_front, States.new_state}
+use Rattle.legacy_decoder_engine.{proofs.OneByteShown.one_byte_shown, specs.{Feeding.{HasScalars, fed_of}, Moves.{IsCovered, Feeds}, Shown.IsShown}}
+use Rattle.{legacy_decoder_engine.specs.declared.moves.Fed.Fed, legacy_single_byte.specs.SingleByteMachine.{single_byte_first, single_byte_machine}}
+use Rattle.legacy_tables.{proofs.{AcceptedTable.table-below, PackedAccepted.entry-narrow}, specs.{AcceptedTables.AcceptedTable, Indexes.idx, Unicode.IsByte}}
 use Rattle.legacy_decoder_engine.proofs.Feeding as moves
 
 module _ (table : AcceptedTable) where

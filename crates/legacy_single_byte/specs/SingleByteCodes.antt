@@ -1,11 +1,7 @@
 -- The bytes of the codes of the single-byte codecs.
-use Rattle.std.proofs.Common.{ℕ, ◌+◌, ◌==◌, List, [], ◌∷◌, refl, arith, position}
-use Rattle.std.proofs.lemmas.Bool.{lt-ltb}
-use Rattle.legacy_base.specs.SingleByte.{single_byte_code}
-use Rattle.legacy_base.specs.Encoders.{single_byte}
-use Rattle.legacy_encoder_engine.specs.PlainCodecs.{IsPlainCodec}
-use Rattle.legacy_encoder_engine.specs.PlainLengths.{byte_lengths}
-use Rattle.legacy_encoder_engine.proofs.PlainServes.{short_past, short_map}
+use Rattle.std.proofs.{Common.{ℕ, ◌+◌, ◌==◌, List, [], ◌∷◌, refl, arith, position}, lemmas.Bool.lt-ltb}
+use Rattle.legacy_base.specs.{SingleByte.single_byte_code, Encoders.single_byte}
+use Rattle.legacy_encoder_engine.{specs.{PlainCodecs.IsPlainCodec, PlainLengths.byte_lengths}, proofs.PlainServes.{short_past, short_map}}
 
 -- a single-byte codec has no modes, and its codes have one byte
 pub single_byte_plain : (table : List ℕ) → IsPlainCodec (single_byte table) 1

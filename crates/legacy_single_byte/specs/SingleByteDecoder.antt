@@ -1,7 +1,6 @@
 -- The state of a single-byte decoder between two calls, with nothing held back.
 use Rattle.std.specs.Prelude.{ℕ, List}
-use Rattle.legacy_base.specs.Grammar.{single_byte}
-use Rattle.legacy_base.specs.States.{DecoderState, new_state}
+use Rattle.legacy_base.specs.{Grammar.single_byte, States.{DecoderState, new_state}}
 use Rattle.legacy_single_byte.specs.declared.single_byte.decoder.SingleByteDecoder.{SingleByteDecoder}
 
 -- the entries of its table

@@ -1,11 +1,7 @@
 -- The machine of a single-byte decoder, byte by byte.
-use Rattle.std.specs.Prelude.{ℕ, ◌-◌, List, [], ◌∷◌, if◌then◌else◌, option_to_list}
-use Rattle.std.specs.Char.{is_ascii}
-use Rattle.legacy_base.specs.Fronts.{reads, malformed, reads_or}
-use Rattle.legacy_tables.specs.Indexes.{idx}
-use Rattle.legacy_base.specs.Grammar.{single_byte}
-use Rattle.legacy_decoder_engine.specs.Steps.{no_pending}
-use Rattle.legacy_decoder_engine.specs.Steps.{Step, finish, DecoderMachine}
+use Rattle.std.specs.{Prelude.{ℕ, ◌-◌, List, [], ◌∷◌, if◌then◌else◌, option_to_list}, Char.is_ascii}
+use Rattle.{legacy_base.specs.{Fronts.{reads, malformed, reads_or}, Grammar.single_byte}, legacy_tables.specs.Indexes.idx}
+use Rattle.legacy_decoder_engine.specs.Steps.{no_pending, Step, finish, DecoderMachine}
 
 -- the step at a byte
 abbrev pub single_byte_first : List ℕ → ℕ → Step

@@ -2,8 +2,7 @@
 -- on.
 use Rattle.std.specs.Prelude.{◌≡◌, ℕ, ◌+◌, ◌<◌, ◌≤◌, List, Option, Some, None, ◌==◌, nat_lt, not, find, if◌then◌else◌, option_map, slice_index}
 use Rattle.std.specs.List.{range_with_len}
-use Rattle.legacy_single_byte.specs.declared.single_byte.run.SingleByteRunError.{SingleByteRunError}
-use Rattle.legacy_single_byte.specs.declared.single_byte.run.SingleByteRunError.TheVariants.{RunStart, RunPastEnd, RunMismatch}
+use Rattle.legacy_single_byte.specs.declared.single_byte.run.SingleByteRunError.{SingleByteRunError, TheVariants.{RunStart, RunPastEnd, RunMismatch}}
 
 -- the table contains the run
 abbrev pub IsRun : List ℕ → ℕ → ℕ → ℕ → Type 0

@@ -1,9 +1,8 @@
 //! The decoder of Big5.
 ghost use Rattle.std.specs.Prelude.{◌*◌, ℕ, [], ◌∷◌};
 ghost use Rattle.legacy_base.specs.{Big5.big5_scalars, Grammar.big5, States.is_lead};
-ghost use Rattle.legacy_decoder_engine.specs.{Feeding.Took, LeadMachines.lead_first, Steps.trail_step};
-ghost use Rattle.legacy_decoder_engine.proofs.{LeadHeld.ascii, TwoByteMeets.is_lead-in};
-ghost use Rattle.legacy_chinese.specs.{Big5Places.big5_place, Big5Shown.{big5_codec, big5_pair_scalars}};
+ghost use Rattle.legacy_decoder_engine.{specs.{Feeding.Took, LeadMachines.lead_first, Steps.trail_step}, proofs.{LeadHeld.ascii, TwoByteMeets.is_lead-in}};
+ghost use Rattle.legacy_chinese.specs.{Big5Shown.{big5_codec, big5_pair_scalars}, PairPlaces.pair_place};
 
 use super::places::{ROWS_OF_157, TRAILS};
 use legacy_base::{IndexName, Tables};
@@ -41,8 +40,7 @@ pub type Big5Decoder<'a> = LeadDecoder<'a, Big5>;
 #[inline]
 #[tactic(auto, using(std::proofs::lemmas::Grind::common_steps))]
 fn read_pointer(tables: &Tables<'_>, pointer: usize, trail: u8) -> Fed
-    ensures { (lead : ℕ) → Took (trail_step 1 (big5_scalars tables.now.flat.big5 pointer) trail)
-        (lead ∷ []) trail result [] }
+    ensures { (lead : ℕ) → Took (trail_step 1 (big5_scalars tables.now.flat.big5 pointer) trail) (lead ∷ []) trail result [] }
 {
     match pointer {
         1133 => Fed::Two('\u{CA}', '\u{304}'),
@@ -58,7 +56,7 @@ impl LaneCodec for Big5 {
 
     ghost entries = { λ flat. flat.big5 };
 
-    ghost place = { big5_place };
+    ghost place = { pair_place 157 0xA1 };
 
     ghost pointers = { 126 * 157 };
 

@@ -1,21 +1,18 @@
 //! The decoder of GB18030 and GBK.
-ghost use Rattle.std.specs.{Prelude.{◌≡◌, ℕ, List, ◌∷◌, [], true, length, option_to_list, IfSome}, Char.IsScalar};
-ghost use Rattle.legacy_base.specs.{Gb18030.gb18030_scalars, Grammar.gb18030, States.{is_neutral, new_state}};
-ghost use Rattle.legacy_decoder_engine.specs.Feeding.{Took};
-ghost use Rattle.legacy_chinese.specs.{Gb18030Decoder.gb18030_state, Gb18030Held.{held_bytes, is_resting}, Gb18030Machine.gb18030_step};
+ghost use Rattle.std.specs.Prelude.{◌≡◌, ℕ, List, ◌∷◌, [], true, length, IfSome};
+ghost use Rattle.{legacy_base.specs.{Grammar.gb18030, States.{is_neutral, new_state, rests}}, legacy_decoder_engine.specs.Feeding.Took};
+ghost use Rattle.legacy_chinese.specs.{Gb18030Decoder.{gb18030_state, held_bytes}, Gb18030Machine.gb18030_step};
 
 use super::digit::Digit;
-use super::four_byte_blocks::{Gb18030, guessed_scalar};
+use super::four_byte_blocks::{Gb18030, form_scalar, guessed_scalar};
 use super::four_places::four_pointer;
-use super::pair_places::TRAILS;
-use legacy_base::{DecoderStep, Destination, IndexName, RawDecoder, Tables};
+use legacy_base::{DecoderStep, Destination, RawDecoder, Tables};
 use legacy_decoder_engine::drive::{count_malformed_bytes, drive_decoder};
 use legacy_decoder_engine::held_lead::Lead;
 use legacy_decoder_engine::lane_blocks::read_by_tables;
 use legacy_decoder_engine::lead_and_trail::{malformed_through, read_trail};
 use legacy_decoder_engine::moves::{DecoderMoves, Fed, Room};
 use legacy_decoder_engine::near_malformed::AFTER_MALFORMED;
-use legacy_decoder_engine::places::{ROWS_OF_190, pair_pointer};
 use legacy_tables::DecoderTables;
 use std::cell::Cell;
 
@@ -55,17 +52,6 @@ pub struct Gb18030Decoder<'a> {
     guess: Cell<usize>,
     /// The number of bytes that are to be read without lanes, because a malformed sequence came before them.
     without_lanes: usize,
-}
-
-/// Returns the scalar of a lead and a trail, or `None` if they have no entry.
-#[inline]
-fn pair_scalar(tables: &Tables, lead: Lead, trail: u8) -> Option<char>
-    ensures value { option_to_list result ≡ gb18030_scalars tables.now.flat.gb18030 lead.byte
-        trail }
-    ensures scalar { IfSome result IsScalar }
-{
-    let pointer = pair_pointer(&ROWS_OF_190, &TRAILS, lead.byte, trail);
-    tables.idx(IndexName::Gb18030, pointer)
 }
 
 /// Returns what a byte leads to if nothing is held back.
@@ -123,7 +109,7 @@ fn read_fourth(
 // Only the first byte is read without a call: few bytes come here, but for malformed ones.
 #[inline(never)]
 fn read_next(tables: &Tables, guess: &Cell<usize>, held: Held, byte: u8) -> (Fed, Held)
-    requires { is_resting held ≡ true }
+    requires { rests (gb18030 tables.now.flat.gb18030 tables.now.flat.ranges) (held_bytes held) ≡ true }
     ensures { Took (gb18030_step tables.now.flat.gb18030 tables.now.flat.ranges
         (held_bytes held) byte)
         (held_bytes held) byte result.0 (held_bytes result.1) }
@@ -133,7 +119,7 @@ fn read_next(tables: &Tables, guess: &Cell<usize>, held: Held, byte: u8) -> (Fed
         Held::First(first) => match Digit::new(byte) {
             Some(second) => (Fed::Nothing, Held::Second(first, second)),
             None => (
-                read_trail(pair_scalar(tables, first, byte), byte),
+                read_trail(form_scalar(tables, first.byte, byte), byte),
                 Held::Nothing,
             ),
         },
@@ -148,25 +134,12 @@ fn read_next(tables: &Tables, guess: &Cell<usize>, held: Held, byte: u8) -> (Fed
     }
 }
 
-/// Returns what a byte leads to, and what is held back after it.
-#[inline(always)]
-fn read(tables: &Tables, guess: &Cell<usize>, held: Held, byte: u8) -> (Fed, Held)
-    requires { is_resting held ≡ true }
-    ensures { Took (gb18030_step tables.now.flat.gb18030 tables.now.flat.ranges
-        (held_bytes held) byte)
-        (held_bytes held) byte result.0 (held_bytes result.1) }
-{
-    match held {
-        Held::Nothing => read_first(byte),
-        _ => read_next(tables, guess, held, byte),
-    }
-}
-
 /// Returns what is held back after a byte that only continues a sequence, or `None` for any other byte.
 #[inline(always)]
 fn held_after(held: Held, byte: u8) -> Option<Held>
-    ensures { IfSome result (λ next. (is_resting held ≡ true) × ((index : List ℕ) (ranges : List (ℕ × ℕ)) →
-        Took (gb18030_step index ranges (held_bytes held) byte) (held_bytes held) byte Fed.Nothing (held_bytes next))) }
+    ensures { IfSome result (λ next. (index : List ℕ) (ranges : List (ℕ × ℕ)) →
+        (rests (gb18030 index ranges) (held_bytes held) ≡ true)
+        × Took (gb18030_step index ranges (held_bytes held) byte) (held_bytes held) byte Fed.Nothing (held_bytes next)) }
 {
     match held {
         Held::Nothing => Some(Held::First(Lead::new(byte)?)),
@@ -193,8 +166,7 @@ impl<'a> Gb18030Decoder<'a> {
     ghost use Rattle.legacy_base.specs.Lengths.{answer, weighted};
     /// Returns a decoder before its first byte, which uses index gb18030 and the ranges of the tables.
     pub fn new(tables: &'a Tables<'a>) -> Gb18030Decoder<'a>
-        ensures { gb18030_state result ≡ new_state
-            (gb18030 tables.now.flat.gb18030 tables.now.flat.ranges) }
+        ensures { gb18030_state result ≡ new_state (gb18030 tables.now.flat.gb18030 tables.now.flat.ranges) }
     {
         Gb18030Decoder {
             tables,
@@ -262,15 +234,18 @@ impl DecoderMoves for Gb18030Decoder<'_> {
     }
 
     #[inline(always)]
-    #[tactic(auto, using(crate::proofs::Gb18030Held::feeds, crate::proofs::Gb18030Held::takes_pair))]
+    #[tactic(auto, using(std::proofs::lemmas::Grind::common_steps, crate::proofs::Gb18030Held::feeds, crate::proofs::Gb18030Held::takes_pair))]
     fn feed(&mut self, byte: u8) -> Fed {
         if let Held::First(first) = self.held {
-            if let Some(scalar) = pair_scalar(self.tables, first, byte) {
+            if let Some(scalar) = form_scalar(self.tables, first.byte, byte) {
                 self.held = Held::Nothing;
                 return Fed::One(scalar);
             }
         }
-        let (fed, held) = read(self.tables, &self.guess, self.held, byte);
+        let (fed, held) = match self.held {
+            Held::Nothing => read_first(byte),
+            held => read_next(self.tables, &self.guess, held, byte),
+        };
         self.held = held;
         fed
     }

@@ -1,6 +1,5 @@
 //! A digit that the gb18030 decoder holds back between two calls.
-ghost use Rattle.std.specs.Prelude.{◌≡◌, ◌≤◌, true, false, MatchOption};
-ghost use Rattle.std.specs.Char.{is_ascii_digit};
+ghost use Rattle.std.specs.{Prelude.{◌≡◌, ◌≤◌, true, false, MatchOption}, Char.is_ascii_digit};
 
 /// An ASCII digit.
 #[derive(Clone, Copy)]
@@ -14,8 +13,7 @@ impl Digit {
     /// Returns the byte as a digit, or `None` if it is not one.
     #[inline]
     pub fn new(byte: u8) -> Option<Digit>
-        ensures { MatchOption result (is_ascii_digit byte ≡ false)
-            (λ digit. (digit.byte ≡ byte) × (is_ascii_digit byte ≡ true)) }
+        ensures { MatchOption result (is_ascii_digit byte ≡ false) (λ digit. (digit.byte ≡ byte) × (is_ascii_digit byte ≡ true)) }
     {
         if byte < 0x30 || byte > 0x39 {
             return None;

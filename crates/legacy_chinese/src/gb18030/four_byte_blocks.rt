@@ -1,10 +1,9 @@
 //! What GB18030 reads ahead: pairs by lanes, and sequences of four bytes with ASCII bytes between them.
 // Functions that run for each sequence or block are always inlined. A call would pass vectors through memory, and keep
 // the destination's place there.
-ghost use Rattle.std.specs.Prelude.{◌*◌, ◌≡◌, ◌<◌, Some, IfSome};
-ghost use Rattle.legacy_tables.specs.{Indexes.range, RangeParts.IsRangePart};
-ghost use Rattle.{legacy_base.specs.Grammar.gb18030, legacy_chinese.specs.Gb18030Places.gb18030_place};
-ghost use Rattle.legacy_chinese.specs.Gb18030Shown.{ascii};
+ghost use Rattle.std.specs.{Prelude.{◌*◌, ◌≡◌, ◌<◌, [], Some, IfSome, option_to_list, if◌then◌else◌}, Char.IsScalar};
+ghost use Rattle.{legacy_tables.specs.{Indexes.range, RangeParts.IsRangePart}, legacy_base.specs.{Gb18030.gb18030_scalars, Grammar.gb18030, States.is_lead}};
+ghost use Rattle.legacy_chinese.specs.{Gb18030Shown.ascii, PairPlaces.pair_place};
 
 use super::four_lanes::read_fours;
 use super::four_places::four_pointer;
@@ -81,6 +80,20 @@ fn scalar_and_part(
     Some((scalar, ranges.part_at(guess.get())))
 }
 
+/// Returns the scalar of two bytes, or `None` if they are not a lead and a trail with an entry.
+#[inline]
+pub(super) fn form_scalar<V: DecoderTables>(tables: &V, lead: u8, trail: u8) -> Option<char>
+    ensures value { option_to_list result ≡ (if is_lead lead
+        then gb18030_scalars (V.indexes tables.now).flat.gb18030 lead trail
+        else []) }
+    ensures scalar { IfSome result IsScalar }
+{
+    tables.idx(
+        IndexName::Gb18030,
+        pair_pointer(&ROWS_OF_190, &TRAILS, lead, trail),
+    )
+}
+
 /// The codec of GB18030 and GBK as its blocks are read.
 ///
 /// The place of the last range that was used is the guess for the next sequence of four bytes.
@@ -91,7 +104,7 @@ impl LaneCodec for Gb18030 {
 
     ghost entries = { λ flat. flat.gb18030 };
 
-    ghost place = { gb18030_place };
+    ghost place = { pair_place 190 0x80 };
 
     ghost pointers = { 126 * 190 };
 
@@ -103,9 +116,9 @@ impl LaneCodec for Gb18030 {
     }
 
     #[inline]
+    #[tactic(auto, using(crate::proofs::Gb18030Held::pair_form, legacy_decoder_engine::proofs::CommonPairs::common_pair))]
     fn front(tables: &FlatTables<'_>, lead: u8, trail: u8) -> CommonForm {
-        let pointer = pair_pointer(&ROWS_OF_190, &TRAILS, lead, trail);
-        CommonForm::of_pair(tables.idx(IndexName::Gb18030, pointer))
+        CommonForm::of_pair(form_scalar(tables, lead, trail))
     }
 
     #[inline(always)]

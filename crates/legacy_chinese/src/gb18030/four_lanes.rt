@@ -1,9 +1,7 @@
 //! ASCII and sequences of four bytes eight at a time, if all sequences have their scalars in one range.
-ghost use Rattle.std.specs.Prelude.{◌≡◌, ◌≢◌, ℕ, ◌+◌, ◌*◌, ◌/◌, ◌%◌, ◌<◌, ◌≤◌, All, List, true, cond, ltb, length, min, get_or, take};
-ghost use Rattle.std.specs.Char.{IsScalar};
-ghost use Rattle.legacy_tables.specs.RangeParts.{IsRangePart};
-ghost use Rattle.{legacy_base.specs.{Grammar.gb18030, States.new_state}, legacy_decoder_engine.specs.ReadAhead.{ReadsAhead, Writes}};
-ghost use Rattle.legacy_chinese.specs.FourForms.{four_place, fours_of, half_place, part_unit, IsFour};
+ghost use Rattle.std.specs.{Prelude.{◌≡◌, ◌≢◌, ℕ, ◌+◌, ◌*◌, ◌/◌, ◌%◌, ◌<◌, ◌≤◌, All, List, true, cond, ltb, length, min, get_or, take}, Char.IsScalar};
+ghost use Rattle.{legacy_base.specs.{Grammar.gb18030, States.new_state}, legacy_chinese.specs.FourForms.{four_place, fours_of, half_place, part_unit, IsFour}};
+ghost use Rattle.{legacy_decoder_engine.specs.ReadAhead.{ReadsAhead, Writes}, legacy_tables.specs.RangeParts.IsRangePart};
 
 use super::four_picks::pick_fours;
 use legacy_base::Destination;

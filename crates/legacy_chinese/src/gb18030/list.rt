@@ -24,10 +24,8 @@ impl Marks for Gb18030 {
 /// Looks up the entries of the scalars of private-use rows, and writes them.
 pub(super) fn ask_rows<E: PairEntries>(entries: &E, rows: &[(u16, u8, u8)], pairs: &mut [u16])
     requires { length pairs.old ≡ 65536 }
-    ensures inside { (c : ℕ) → is_in_rows rows.now c ≡ true →
-        E.right entries.now c (slice_index pairs.new c) }
-    ensures outside { (c : ℕ) → is_in_rows rows.now c ≡ false →
-        slice_index pairs.new c ≡ slice_index pairs.old c }
+    ensures inside { (c : ℕ) → is_in_rows rows.now c ≡ true → E.right entries.now c (slice_index pairs.new c) }
+    ensures outside { (c : ℕ) → is_in_rows rows.now c ≡ false → slice_index pairs.new c ≡ slice_index pairs.old c }
 {
     for row in rows {
         let scalar = u32::from(row.0);

@@ -3,8 +3,7 @@ ghost use Rattle.std.specs.{Prelude.{◌*◌, ◌≡◌, [], length, option_to_l
 ghost use Rattle.legacy_base.specs.{EucJp.euc_jp_scalars, Grammar.euc_jp, States.{is_neutral, new_state}};
 ghost use Rattle.legacy_tables.specs.Tables.{index_list};
 ghost use Rattle.legacy_decoder_engine.specs.{Feeding.Took, LanePlaces.row_place};
-ghost use Rattle.legacy_japanese.specs.EucJpShown.{ascii};
-ghost use Rattle.legacy_japanese.specs.{EucJpMachine.euc_jp_step, EucJpDecoder.{euc_jp_state, held_bytes}};
+ghost use Rattle.legacy_japanese.specs.{EucJpShown.ascii, EucJpMachine.euc_jp_step, EucJpDecoder.{euc_jp_state, held_bytes}};
 
 use super::held_lead::EucJpLead;
 use crate::shift_jis::decoder::katakana;
@@ -65,8 +64,7 @@ fn pair_scalar<V: DecoderTables>(
     lead: EucJpLead,
     trail: u8,
 ) -> Option<char>
-    ensures value { option_to_list result
-        ≡ euc_jp_scalars (index_list (V.indexes tables.now).flat name) lead.byte trail }
+    ensures value { option_to_list result ≡ euc_jp_scalars (index_list (V.indexes tables.now).flat name) lead.byte trail }
     ensures scalar { IfSome result IsScalar }
 {
     if trail < 0xA1 || trail > 0xFE {
@@ -118,19 +116,6 @@ fn read_next(tables: &Tables, held: Held, byte: u8) -> (Fed, Held)
     }
 }
 
-/// Returns what a byte leads to, and what is held back after it.
-#[inline(always)]
-fn read(tables: &Tables, held: Held, byte: u8) -> (Fed, Held)
-    ensures { Took
-        (euc_jp_step tables.now.flat.jis0208 tables.now.flat.jis0212 (held_bytes held) byte)
-        (held_bytes held) byte result.0 (held_bytes result.1) }
-{
-    match held {
-        Held::Nothing => read_first(byte),
-        _ => read_next(tables, held, byte),
-    }
-}
-
 /// Returns the number of held-back bytes.
 #[inline]
 fn held_length(held: Held) -> u8
@@ -148,8 +133,7 @@ impl<'a> EucJpDecoder<'a> {
 
     /// Returns a decoder before its first byte, which uses indexes jis0208 and jis0212 of the tables.
     pub fn new(tables: &'a Tables<'a>) -> EucJpDecoder<'a>
-        ensures { euc_jp_state result
-            ≡ new_state (euc_jp tables.now.flat.jis0208 tables.now.flat.jis0212) }
+        ensures { euc_jp_state result ≡ new_state (euc_jp tables.now.flat.jis0208 tables.now.flat.jis0212) }
     {
         EucJpDecoder {
             tables,
@@ -205,7 +189,10 @@ impl DecoderMoves for EucJpDecoder<'_> {
     #[inline(always)]
     #[tactic(auto, using(crate::proofs::EucJpHeld::feeds))]
     fn feed(&mut self, byte: u8) -> Fed {
-        let (fed, held) = read(self.tables, self.held, byte);
+        let (fed, held) = match self.held {
+            Held::Nothing => read_first(byte),
+            held => read_next(self.tables, held, byte),
+        };
         self.held = held;
         fed
     }
@@ -242,6 +229,7 @@ impl DecoderMoves for EucJpDecoder<'_> {
     }
 
     #[inline(always)]
+    #[tactic(auto, using(legacy_decoder_engine::proofs::WrittenReads::no_bytes))]
     fn read_common<T: Destination>(&mut self, src: &[u8], dst: &mut T) -> usize {
         match self.held {
             Held::Nothing => {

@@ -14,8 +14,7 @@ impl EucJpLead {
     /// Returns the byte as a lead, or `None` if it is not one.
     #[inline]
     pub fn new(byte: u8) -> Option<EucJpLead>
-        ensures { MatchOption result (is_euc_jp_lead byte ≡ false)
-            (λ lead. (lead.byte ≡ byte) × (is_euc_jp_lead byte ≡ true)) }
+        ensures { MatchOption result (is_euc_jp_lead byte ≡ false) (λ lead. (lead.byte ≡ byte) × (is_euc_jp_lead byte ≡ true)) }
     {
         if byte < 0xA1 || byte > 0xFE {
             return None;

@@ -1,7 +1,6 @@
 //! The decoder of ISO-2022-JP.
 ghost use Rattle.std.specs.Prelude.{◌≡◌, true};
-ghost use Rattle.legacy_base.specs.{Grammar.iso_2022_jp, Iso2022Jp.ascii, States.{is_neutral, new_state}};
-ghost use Rattle.legacy_japanese.specs.Iso2022JpMachine.{is_held};
+ghost use Rattle.{legacy_base.specs.{Grammar.iso_2022_jp, Iso2022Jp.ascii, States.{is_neutral, new_state}}, legacy_japanese.specs.Iso2022JpMachine.is_held};
 
 use super::read_ahead::{front_escape, read_modes};
 use super::steps::{Held, Mode, NOTHING, Start, finish, read, single_scalar};
@@ -41,8 +40,7 @@ impl<'a> Iso2022JpDecoder<'a> {
     ///
     /// It looks up pairs in index jis0208 of the tables, which it borrows.
     pub fn new(tables: &'a Tables<'a>) -> Iso2022JpDecoder<'a>
-        ensures { iso_2022_jp_state result
-            ≡ new_state (iso_2022_jp tables.now.flat.jis0208 ascii) }
+        ensures { iso_2022_jp_state result ≡ new_state (iso_2022_jp tables.now.flat.jis0208 ascii) }
     {
         Iso2022JpDecoder {
             tables,

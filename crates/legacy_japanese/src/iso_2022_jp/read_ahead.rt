@@ -2,10 +2,9 @@
 //! escapes between them.
 // Functions that run for each sequence or block are always inlined, and so are their callers. A call would pass vectors
 // through memory, and keep the destination's place there.
-ghost use Rattle.std.specs.Prelude.{◌≡◌, ◌≤◌, IfSome, length, true};
-ghost use Rattle.legacy_japanese.specs.Iso2022JpAhead.{AreAsciiText, BeginsEscape, HasEscape, IsAsciiText, ReadsModes};
-ghost use Rattle.legacy_base.specs.{Grammar.iso_2022_jp, Iso2022Jp.two_byte, States.new_state};
-ghost use Rattle.legacy_decoder_engine.specs.ReadAhead.{ReadsAhead, ReadsInto};
+ghost use Rattle.std.specs.Prelude.{◌≡◌, ◌≤◌, All, IfSome, take, true};
+ghost use Rattle.{legacy_base.specs.{Grammar.iso_2022_jp, Iso2022Jp.two_byte, States.new_state}, legacy_decoder_engine.specs.ReadAhead.{ReadsAhead, ReadsInto}};
+ghost use Rattle.legacy_japanese.specs.Iso2022JpAhead.{BeginsEscape, HasEscape, IsAsciiText, ReadsModes};
 
 use super::places::{LEADS, TRAILS};
 use super::steps::{DOLLAR, ESCAPE, Escape, Mode, PAREN, Start, completed};
@@ -85,7 +84,7 @@ fn is_ascii_text(byte: u8) -> bool
 #[inline(always)]
 fn ascii_text_count(block: u8x64) -> usize
     ensures most { result ≤ 64 }
-    ensures text { AreAsciiText block result }
+    ensures text { All IsAsciiText (take result block) }
 {
     let offsets = block - u8x64::splat(0x0E);
     let controls = offsets.simd_lt(u8x64::splat(0x12)).to_bitmask();

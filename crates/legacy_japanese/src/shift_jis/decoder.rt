@@ -1,10 +1,8 @@
 //! The decoder of Shift_JIS.
 ghost use Rattle.std.specs.{Prelude.{◌*◌, ◌≡◌, ◌≤◌, [], option_to_list, IfSome, if◌then◌else◌}, Char.IsScalar};
-ghost use Rattle.legacy_tables.specs.Unicode.{katakana_of};
-ghost use Rattle.legacy_base.specs.{ShiftJis.{is_shift_jis_lead, shift_jis_scalars}, Grammar.shift_jis};
+ghost use Rattle.{legacy_tables.specs.Unicode.katakana_of, legacy_base.specs.{ShiftJis.{is_shift_jis_lead, shift_jis_scalars}, Grammar.shift_jis}};
 ghost use Rattle.legacy_japanese.specs.{ShiftJisPlaces.shift_jis_place, ShiftJisShown.{shift_jis_codec, shift_jis_first, shift_jis_pair_scalars}};
-ghost use Rattle.legacy_decoder_engine.proofs.LeadHeld.{ascii};
-ghost use Rattle.legacy_decoder_engine.specs.{Feeding.Took, LeadCodecs.held_bytes};
+ghost use Rattle.legacy_decoder_engine.{proofs.LeadHeld.ascii, specs.{Feeding.Took, LeadCodecs.held_bytes}};
 
 use super::held_lead::ShiftJisLead;
 use super::places::{LEADS, TRAILS};
@@ -73,8 +71,7 @@ pub(crate) fn katakana(byte: u8) -> char
 #[inline]
 #[tactic(auto, using(crate::proofs::ShiftJisPlaces::entry_alone))]
 fn pointer_scalar<V: DecoderTables>(tables: &V, pointer: usize) -> Option<char>
-    ensures { option_to_list result
-        ≡ shift_jis_scalars (V.indexes tables.now).flat.jis0208 pointer }
+    ensures { option_to_list result ≡ shift_jis_scalars (V.indexes tables.now).flat.jis0208 pointer }
 {
     if let Some(scalar) = tables.idx(IndexName::Jis0208, pointer) {
         return Some(scalar);

@@ -1,8 +1,6 @@
 //! The replacement decoder.
 ghost use Rattle.std.specs.Prelude.{◌≡◌, false};
-ghost use Rattle.legacy_base.specs.Grammar.{replacement};
-ghost use Rattle.legacy_base.specs.States.{new_state};
-ghost use Rattle.legacy_miscellaneous.specs.ReplacementDecoder.{replacement_state};
+ghost use Rattle.{legacy_base.specs.{Grammar.replacement, States.new_state}, legacy_miscellaneous.specs.ReplacementDecoder.replacement_state};
 
 use legacy_base::{DecoderStep, Destination, RawDecoder};
 use legacy_decoder_engine::drive::drive_decoder;

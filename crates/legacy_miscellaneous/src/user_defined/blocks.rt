@@ -4,10 +4,8 @@
 #![tactic(auto, using(crate::proofs::UserDefinedAhead::steps))]
 
 ghost use Rattle.std.specs.Prelude.{◌≡◌, ◌<◌, ◌≤◌, ℕ, length, slice_index};
-ghost use Rattle.legacy_base.specs.Grammar.{user_defined};
-ghost use Rattle.legacy_base.specs.States.{new_state};
-ghost use Rattle.legacy_decoder_engine.specs.ReadAhead.{ReadsAhead};
-ghost use Rattle.legacy_miscellaneous.specs.UserDefinedMachine.{unit_of_byte};
+ghost use Rattle.{legacy_miscellaneous.specs.UserDefinedMachine.unit_of_byte, legacy_decoder_engine.specs.ReadAhead.ReadsAhead};
+ghost use Rattle.legacy_base.specs.{Grammar.user_defined, States.new_state};
 
 use legacy_base::Destination;
 use legacy_decoder_engine::read_ahead::{BlockReader, SLACK, read_blocks};

@@ -1,8 +1,6 @@
 //! The decoder of x-user-defined.
 ghost use Rattle.std.specs.Prelude.{◌≡◌};
-ghost use Rattle.legacy_base.specs.Grammar.{user_defined};
-ghost use Rattle.legacy_base.specs.States.{new_state};
-ghost use Rattle.legacy_miscellaneous.specs.UserDefinedDecoder.{user_defined_state};
+ghost use Rattle.{legacy_base.specs.{Grammar.user_defined, States.new_state}, legacy_miscellaneous.specs.UserDefinedDecoder.user_defined_state};
 
 use super::blocks::{read_few, read_text, scalar_of};
 use legacy_base::{DecoderStep, Destination, RawDecoder};

@@ -1,8 +1,6 @@
 //! The decoder of UTF-16.
 ghost use Rattle.std.specs.Prelude.{◌≡◌};
-ghost use Rattle.legacy_base.specs.Grammar.{utf16};
-ghost use Rattle.legacy_base.specs.States.{additional_from_state, new_state};
-ghost use Rattle.legacy_base.specs.Lengths.{answer, most_code_units};
+ghost use Rattle.legacy_base.specs.{Grammar.utf16, States.{additional_from_state, new_state}, Lengths.{answer, most_code_units}};
 ghost use Rattle.legacy_miscellaneous.specs.Utf16Decoder.{utf16_state};
 
 use super::held_bytes::Held;

@@ -1,6 +1,5 @@
 //! The held-back bytes of the UTF-16 decoders.
-ghost use Rattle.std.specs.Prelude.{◌≡◌, ◌<◌, true, false};
-ghost use Rattle.std.specs.Char.Utf16.{is_high_surrogate, is_low_surrogate};
+ghost use Rattle.std.specs.{Prelude.{◌≡◌, ◌<◌, true, false}, Char.Utf16.{is_high_surrogate, is_low_surrogate}};
 
 /// A code unit from D800 to DBFF.
 #[derive(Clone, Copy)]

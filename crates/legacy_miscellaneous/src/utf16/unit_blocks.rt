@@ -3,13 +3,9 @@
 // keep the destination's place there.
 #![tactic(auto, using(crate::proofs::Utf16Ahead::steps))]
 
-ghost use Rattle.std.specs.Prelude.{◌≡◌, ◌+◌, ◌*◌, ◌%◌, ◌<◌, ◌≤◌, ℕ, length, true, false, slice_index};
-ghost use Rattle.std.specs.Char.{IsScalar};
-ghost use Rattle.legacy_text.specs.EncodingForm.{bmp_room};
-ghost use Rattle.legacy_base.specs.Grammar.{utf16};
-ghost use Rattle.legacy_base.specs.States.{new_state};
-ghost use Rattle.legacy_decoder_engine.specs.ReadAhead.{ReadsAhead};
-ghost use Rattle.legacy_miscellaneous.specs.Utf16Decoder.{HasAsciiUnits, IsNarrow, AreUnitsBelow};
+ghost use Rattle.std.specs.{Prelude.{◌≡◌, ◌+◌, ◌*◌, ◌%◌, ◌<◌, ◌≤◌, ℕ, length, true, false, slice_index}, Char.IsScalar};
+ghost use Rattle.{legacy_text.specs.EncodingForm.bmp_room, legacy_base.specs.{Grammar.utf16, States.new_state}};
+ghost use Rattle.{legacy_decoder_engine.specs.ReadAhead.ReadsAhead, legacy_miscellaneous.specs.Utf16Decoder.{HasAsciiUnits, IsNarrow, AreUnitsBelow}};
 
 use super::unit_steps::unit;
 use super::vectors::{eight_units, sixteen_units};
@@ -138,8 +134,7 @@ impl Units {
         requires some { 0 < eights }
         requires source { 16 * eights ≤ length src.now }
         requires room { 24 * eights + 11 ≤ T.room dst.old }
-        ensures { ReadsAhead T.Destination (new_state (utf16 self.now.big_endian)) src.now result
-            dst.old dst.new }
+        ensures { ReadsAhead T.Destination (new_state (utf16 self.now.big_endian)) src.now result dst.old dst.new }
     {
         if self.are_below(src, eights, 0x80) {
             return read_blocks(&AsciiUnits { units: self }, src, dst);
@@ -164,8 +159,7 @@ impl Units {
         requires source { 16 * eights ≤ length src.now }
         requires short { is_short ≡ true → AreUnitsBelow self.now.big_endian src.now (8 * eights) 0x800 }
         requires room { 0 < eights → 24 * eights + 11 ≤ T.room dst.old }
-        ensures { ReadsAhead T.Destination (new_state (utf16 self.now.big_endian)) src.now result
-            dst.old dst.new }
+        ensures { ReadsAhead T.Destination (new_state (utf16 self.now.big_endian)) src.now result dst.old dst.new }
     {
         let mut group = 0;
         while group < eights {
@@ -194,8 +188,7 @@ impl Units {
         requires room { 16 + SLACK ≤ T.room dst.old }
         ensures most { result ≤ 32 }
         ensures room { T.room dst.old ≤ T.room dst.new + 16 }
-        ensures ahead { ReadsAhead T.Destination (new_state (utf16 self.now.big_endian)) src.now result
-            dst.old dst.new }
+        ensures ahead { ReadsAhead T.Destination (new_state (utf16 self.now.big_endian)) src.now result dst.old dst.new }
     {
         let units = sixteen_units(self.big_endian, src).to_array();
         if has_surrogate(&units) {
@@ -215,8 +208,7 @@ impl Units {
     #[inline(always)]
     fn read_sixteens<T: Destination>(&self, src: &[u8], dst: &mut T) -> usize
         requires { bmp_room T.form ≡ 1 }
-        ensures { ReadsAhead T.Destination (new_state (utf16 self.now.big_endian)) src.now result
-            dst.old dst.new }
+        ensures { ReadsAhead T.Destination (new_state (utf16 self.now.big_endian)) src.now result dst.old dst.new }
     {
         let mut left = (src.len() / 32).min(dst.free().saturating_sub(SLACK) / 16);
         let mut at = 0;
@@ -235,8 +227,7 @@ impl Units {
     // The numbers of groups are constants, so that the compiler unrolls the loops over them.
     #[inline(always)]
     fn read_vectors<T: Destination>(&self, src: &[u8], dst: &mut T) -> usize
-        ensures { ReadsAhead T.Destination (new_state (utf16 self.now.big_endian)) src.now result
-            dst.old dst.new }
+        ensures { ReadsAhead T.Destination (new_state (utf16 self.now.big_endian)) src.now result dst.old dst.new }
     {
         if T::narrow() == 1 {
             return self.read_sixteens(src, dst);

@@ -1,12 +1,7 @@
 //! The steps of the UTF-16 decoders, byte by byte.
-ghost use Rattle.std.specs.Prelude.{◌≡◌, [], ◌∷◌, true, false, Bool};
-ghost use Rattle.std.specs.Char.Utf16.{is_high_surrogate, is_low_surrogate, surrogate_pair_char};
-ghost use Rattle.legacy_base.specs.Grammar.{utf16};
-ghost use Rattle.legacy_base.specs.Utf16.{unit_of};
-ghost use Rattle.legacy_base.specs.States.{rests};
-ghost use Rattle.legacy_miscellaneous.specs.Utf16Machine.{utf16_step};
-ghost use Rattle.legacy_decoder_engine.specs.Feeding.{Took};
-ghost use Rattle.legacy_miscellaneous.specs.Utf16Decoder.{first_byte, second_byte, held_bytes};
+ghost use Rattle.std.specs.{Prelude.{◌≡◌, [], ◌∷◌, true, false, Bool}, Char.Utf16.{is_high_surrogate, is_low_surrogate, surrogate_pair_char}};
+ghost use Rattle.{legacy_base.specs.{Grammar.utf16, States.rests, Utf16.unit_of}, legacy_decoder_engine.specs.Feeding.Took};
+ghost use Rattle.legacy_miscellaneous.specs.{Utf16Decoder.{first_byte, second_byte, held_bytes}, Utf16Machine.utf16_step};
 
 use super::held_bytes::{Held, HighSurrogate, OddByte, UnitScalar};
 use legacy_decoder_engine::lead_and_trail::malformed_through;
@@ -68,8 +63,7 @@ fn pair(high: HighSurrogate, low: u16) -> char
 #[inline]
 fn hold_unit(unit: u16) -> Held
     requires { is_low_surrogate unit ≡ false }
-    ensures { (big_endian : Bool) → held_bytes big_endian result
-        ≡ first_byte big_endian unit ∷ second_byte big_endian unit ∷ [] }
+    ensures { (big_endian : Bool) → held_bytes big_endian result ≡ first_byte big_endian unit ∷ second_byte big_endian unit ∷ [] }
 {
     if is_high(unit) {
         return Held::High(HighSurrogate { unit });

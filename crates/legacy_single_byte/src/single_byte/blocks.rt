@@ -3,12 +3,9 @@
 // and keep the destination's place there.
 #![tactic(auto, using(crate::proofs::SingleByteAhead::steps))]
 
-ghost use Rattle.std.specs.Prelude.{◌≡◌, ◌+◌, ◌*◌, ◌<◌, ◌≤◌, ◌++◌, All, true, length, take};
-ghost use Rattle.std.specs.Char.{IsScalar};
+ghost use Rattle.std.specs.{Prelude.{◌≡◌, ◌+◌, ◌*◌, ◌<◌, ◌≤◌, ◌++◌, All, true, length, take}, Char.IsScalar};
+ghost use Rattle.{legacy_base.specs.{Grammar.{Grammar, single_byte}, States.new_state}, legacy_decoder_engine.specs.ReadAhead.ReadsAhead};
 ghost use Rattle.legacy_text.specs.EncodingForm.{all_code_units, bmp_room, total_unit_count};
-ghost use Rattle.legacy_base.specs.Grammar.{Grammar, single_byte};
-ghost use Rattle.legacy_base.specs.States.{new_state};
-ghost use Rattle.legacy_decoder_engine.specs.ReadAhead.{ReadsAhead};
 
 use super::scalars::ByteScalars;
 use legacy_base::Destination;
@@ -48,8 +45,7 @@ trait Parts {
         requires source { 64 < length src.now }
         requires room { 70 ≤ T.room dst.old }
         ensures most { result.0 ≤ most }
-        ensures ahead { ReadsAhead T.Destination (new_state (grammar self.now)) src.now result.0
-            dst.old dst.new }
+        ensures ahead { ReadsAhead T.Destination (new_state (grammar self.now)) src.now result.0 dst.old dst.new }
         ensures goes_on { result.1 ≡ true → 0 < result.0 };
 }
 
@@ -59,8 +55,7 @@ trait Parts {
 #[inline(always)]
 fn read_parts<P: Parts, T: Destination>(parts: &P, src: &[u8], most: usize, dst: &mut T) -> usize
     ensures most { result ≤ most }
-    ensures ahead { ReadsAhead T.Destination (new_state (P.grammar parts.now)) src.now result
-        dst.old dst.new }
+    ensures ahead { ReadsAhead T.Destination (new_state (P.grammar parts.now)) src.now result dst.old dst.new }
 {
     let mut at = 0;
     while at < most && src.len() - at > 64 && dst.free() >= 64 + 3 + SLACK {
@@ -71,6 +66,15 @@ fn read_parts<P: Parts, T: Destination>(parts: &P, src: &[u8], most: usize, dst:
         }
     }
     at
+}
+
+/// Returns the number of bytes read of a part of `end` bytes, and whether another part may follow.
+#[inline(always)]
+fn ended(read: usize, end: usize) -> (usize, bool)
+    ensures read { result.0 ≡ read }
+    ensures goes_on { result.1 ≡ true → 0 < read }
+{
+    (read, read > 0 && read == end)
 }
 
 /// The greatest number of bytes past ASCII in a block that is stored whole.
@@ -100,8 +104,7 @@ impl Parts for MostlyAscii<'_> {
         }
         let end = most.min(64);
         if T::narrow() == 1 {
-            let read = dst.put_bytes(src, self.scalars.entries(), end);
-            return (read, read > 0 && read == end);
+            return ended(dst.put_bytes(src, self.scalars.entries(), end), end);
         }
         let mut at = 0;
         loop {
@@ -109,7 +112,7 @@ impl Parts for MostlyAscii<'_> {
             dst.put_block(&src[at..], count);
             at += count;
             if at == end || src[at + 1] >= 0x80 {
-                return (at, at > 0 && at == end);
+                return ended(at, end);
             }
             match self.scalars.scalar(src[at]) {
                 Some(scalar) => dst.put_entry(scalar, self.scalars.utf8_entry(src[at])),
@@ -245,8 +248,7 @@ fn copy_last(src: &[u8], text: &mut [u8])
 // They are copied into an array with as many bytes after them: this makes short pieces fast.
 #[inline(always)]
 fn read_last<T: Destination>(scalars: &ByteScalars, src: &[u8], dst: &mut T) -> usize
-    ensures { ReadsAhead T.Destination (new_state (single_byte scalars.now.table.now.entries))
-        src.now result dst.old dst.new }
+    ensures { ReadsAhead T.Destination (new_state (single_byte scalars.now.table.now.entries)) src.now result dst.old dst.new }
 {
     if src.len() > 64 {
         return 0;
@@ -261,8 +263,7 @@ fn read_last<T: Destination>(scalars: &ByteScalars, src: &[u8], dst: &mut T) -> 
 /// It stops before a byte that has no scalar, and if few code units are free.
 #[inline(always)]
 pub fn read_text<T: Destination>(scalars: &ByteScalars, src: &[u8], dst: &mut T) -> usize
-    ensures { ReadsAhead T.Destination (new_state (single_byte scalars.now.table.now.entries))
-        src.now result dst.old dst.new }
+    ensures { ReadsAhead T.Destination (new_state (single_byte scalars.now.table.now.entries)) src.now result dst.old dst.new }
 {
     // Bytes without a scalar are often followed by more.
     if src.len() < 2 || scalars.scalar(src[0]).is_none() || scalars.scalar(src[1]).is_none() {

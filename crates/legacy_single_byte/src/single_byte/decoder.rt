@@ -1,8 +1,6 @@
 //! The decoder of the single-byte encodings.
 ghost use Rattle.std.specs.Prelude.{◌≡◌, ◌≤◌, length, take, IsAscii};
-ghost use Rattle.legacy_base.specs.Grammar.{single_byte};
-ghost use Rattle.legacy_base.specs.Latin1.{is_latin1_byte, latin1_front};
-ghost use Rattle.legacy_base.specs.States.{new_state};
+ghost use Rattle.legacy_base.specs.{Grammar.single_byte, Latin1.{is_latin1_byte, latin1_front}, States.new_state};
 ghost use Rattle.legacy_single_byte.specs.SingleByteDecoder.{single_byte_entries, single_byte_state};
 
 use super::blocks::read_text;

@@ -1,7 +1,6 @@
 //! The runs of consecutive scalars in single-byte tables: their check, and the longest one.
 ghost use Rattle.std.specs.Prelude.{◌≡◌, ℕ, ◌+◌, ◌<◌, ◌≤◌, MatchResult, Some, None, slice_index};
-ghost use Rattle.legacy_single_byte.specs.SingleByteRun.{IsRun, first_mismatch, single_byte_run_fault};
-ghost use Rattle.legacy_single_byte.specs.LongestRun.{LongestToThe};
+ghost use Rattle.legacy_single_byte.specs.{SingleByteRun.{IsRun, first_mismatch, single_byte_run_fault}, LongestRun.LongestToThe};
 
 use legacy_base::SingleByteTable;
 use thiserror::Error;
@@ -62,8 +61,7 @@ pub(super) fn check_run(
 ) -> Result<(), SingleByteRunError>
     ensures fault { let found = single_byte_run_fault table.now.entries scalar start count in
         MatchResult result (λ _. found ≡ None) (λ e. found ≡ Some e) }
-    ensures is_run { MatchResult result (λ _. IsRun table.now.entries scalar start count)
-        (λ _. Unit {0}) }
+    ensures is_run { MatchResult result (λ _. IsRun table.now.entries scalar start count) (λ _. Unit {0}) }
     ensures within { MatchResult result (λ _. start + count ≤ 128) (λ _. Unit {0}) }
     ensures in_plane { MatchResult result (λ _. scalar + count ≤ 0x1_0000) (λ _. Unit {0}) }
 {
@@ -120,8 +118,7 @@ impl SingleByteRun {
     /// encodings are below U+2000. The search takes 96 steps.
     #[tactic(auto, using(crate::proofs::LongestRuns::not_refused))]
     pub fn longest(table: &SingleByteTable) -> SingleByteRun
-        ensures accepted { single_byte_run_fault table.now.entries
-            result.scalar result.start result.count ≡ None }
+        ensures accepted { single_byte_run_fault table.now.entries result.scalar result.start result.count ≡ None }
         ensures letters { result.scalar + result.count ≤ 0x2000 }
         ensures longest { (scalar start count : ℕ) →
             single_byte_run_fault table.now.entries scalar start count ≡ None →

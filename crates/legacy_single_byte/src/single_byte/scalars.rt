@@ -3,11 +3,8 @@
 // Functions that run for each block are always inlined. A call would pass vectors through memory,
 // and keep the destination's place there.
 ghost use Rattle.std.specs.Prelude.{◌≡◌, ◌<◌, ◌≤◌, ℕ, length, slice_index, IfSome};
-ghost use Rattle.legacy_base.specs.Grammar.{single_byte};
-ghost use Rattle.legacy_decoder_engine.specs.ReadAhead.{IsSingle};
-ghost use Rattle.legacy_text.specs.ByteUnits.{AreByteScalars};
-ghost use Rattle.legacy_text.specs.UnitBytes.{IsUtf8Entry};
-ghost use Rattle.legacy_single_byte.specs.ByteEntries.{IsByteEntry, AreByteEntries, AreUtf8Entries};
+ghost use Rattle.{legacy_single_byte.specs.ByteEntries.{IsByteEntry, AreByteEntries, AreUtf8Entries}, legacy_decoder_engine.specs.ReadAhead.IsSingle};
+ghost use Rattle.{legacy_text.specs.{ByteUnits.AreByteScalars, UnitBytes.IsUtf8Entry}, legacy_base.specs.Grammar.single_byte};
 
 use legacy_base::SingleByteTable;
 use legacy_text::utf8_entry;
@@ -115,8 +112,7 @@ impl<'a> ByteScalars<'a> {
     pub fn units(&self, src: &[u8]) -> [u16; 8]
         requires { 8 ≤ length src.now }
         ensures count { length result ≡ 8 }
-        ensures same { (k : ℕ) → k < 8 → IsByteEntry self.now.table.now.entries
-            (slice_index src.now k) (slice_index result k) }
+        ensures same { (k : ℕ) → k < 8 → IsByteEntry self.now.table.now.entries (slice_index src.now k) (slice_index result k) }
     {
         let mut units = [0u16; 8];
         let mut at = 0;

@@ -1,6 +1,5 @@
 use Rattle.std.proofs.{Common.{◌≡◌, length, take, arith}, lemmas.List.take_all}
-use Rattle.legacy_decoder_engine.proofs.{LaneUnits.few_units, WrittenReads.all_short}
-use Rattle.legacy_chinese.proofs.FourWrites.{next_written}
+use Rattle.{legacy_decoder_engine.proofs.{LaneUnits.few_units, WrittenReads.all_short}, legacy_chinese.proofs.FourWrites.next_written}
 use Rattle.legacy_chinese.proofs.gb18030.four_lanes.put_fours.Goals as goal
 
 pub returns-then-few-lt8-clause-writes : goal.returns-then-few-lt8-clause-writes

@@ -1,7 +1,5 @@
 use Rattle.std.proofs.Common.{◌<◌, ◌-◌, ◌≤◌, take}
-use Rattle.legacy_base.specs.Grammar.{gb18030}
-use Rattle.legacy_decoder_engine.specs.ReadAhead.{Writes}
-use Rattle.legacy_chinese.specs.FourForms.{fours_of}
+use Rattle.{legacy_base.specs.Grammar.gb18030, legacy_decoder_engine.specs.ReadAhead.Writes, legacy_chinese.specs.FourForms.fours_of}
 use Rattle.legacy_chinese.proofs.gb18030.four_lanes.put_fours.Given as goal
 
 abbrev pub invariant-loop-at : goal.invariant-loop-at

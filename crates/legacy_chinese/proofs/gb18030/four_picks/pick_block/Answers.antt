@@ -1,6 +1,5 @@
 use Rattle.std.proofs.Common.{◌∙◌, ◌<◌, ◌++◌, ℕ, List, ap, arith, flat_map, get_or, take}
-use Rattle.legacy_text.specs.PastAscii.{ArePast}
-use Rattle.legacy_decoder_engine.proofs.{Picking.{front_chunk, below_end}, WrittenReads.rest_of}
+use Rattle.{legacy_text.specs.PastAscii.ArePast, legacy_decoder_engine.proofs.{Picking.{front_chunk, below_end}, WrittenReads.rest_of}}
 use Rattle.legacy_chinese.{specs.FourForms.{fours_of, form_at}, proofs.FourStarts.{block_picked, picked}}
 use Rattle.legacy_chinese.proofs.gb18030.four_picks.pick_block.Goals as goal
 

@@ -6,11 +6,7 @@ use Rattle.legacy_japanese.proofs.iso_2022_jp.read_ahead.read_ascii_text_bytes.G
 pub loop-at-preserved : goal.loop-at-preserved
 loop-at-preserved g c =
     let byte = get_or c.args.src.now c.loop-at.at 0 in
-    let i = c.loop-at.invariant in
-    let e = rw c.from.ensures at c.put.ensures in
     let text = c.is_ascii_text.ensures c.if-is_ascii_text.true in
     let unit = ap length (code_units_ascii g.T.Destination.form byte text.0) in
     let yields = ascii_text_yields c.args.tables.now.flat.jis0208 byte text in
-    reads_front (omega (arith, c.loop-at-test.true))
-    (writes_one g.T.Destination c.args.src.now c.loop-at.at byte c.loop-at-test.true i.writes yields e.contents e.room e.loan)
-    (λ h. omega (arith, e.room, unit, c.if-free.true, c.free.ensures)) (λ h. omega (arith, i.writes.room, c.if-free.true, c.free.ensures))
+    grind (arith, reads_front, writes_one, yields, unit)

@@ -1,5 +1,5 @@
-use Rattle.{std.proofs.Common.{◌+◌, ◌*◌, ◌-◌, ◌≤◌, take}, legacy_text.specs.EncodingForm.bmp_room, legacy_base.specs.Grammar.user_defined}
-use Rattle.legacy_decoder_engine.specs.ReadAhead.{Writes}
+use Rattle.std.proofs.Common.{◌+◌, ◌*◌, ◌-◌, ◌≤◌, take}
+use Rattle.{legacy_text.specs.EncodingForm.bmp_room, legacy_base.specs.Grammar.user_defined, legacy_decoder_engine.specs.ReadAhead.Writes}
 use Rattle.legacy_miscellaneous.proofs.user_defined.blocks.read_few.Given as goal
 
 -- the bytes read are written, with at most the units of a scalar up to U+FFFF for each

@@ -1,6 +1,5 @@
 use Rattle.std.proofs.Common.{◌+◌, ◌*◌, ◌≤◌, length}
-use Rattle.legacy_base.specs.{Grammar.single_byte, States.new_state}
-use Rattle.legacy_decoder_engine.specs.ReadAhead.{ReadsAhead}
+use Rattle.{legacy_base.specs.{Grammar.single_byte, States.new_state}, legacy_decoder_engine.specs.ReadAhead.ReadsAhead}
 use Rattle.legacy_single_byte.proofs.single_byte.blocks.read_eights.Given as goal
 
 -- what was read was written, and there are bytes and room for the turns left

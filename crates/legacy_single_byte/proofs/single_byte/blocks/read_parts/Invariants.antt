@@ -1,6 +1,5 @@
 use Rattle.std.proofs.Common.{◌-◌, ◌≤◌}
-use Rattle.legacy_base.specs.States.{new_state}
-use Rattle.legacy_decoder_engine.specs.ReadAhead.{ReadsAhead}
+use Rattle.{legacy_base.specs.States.new_state, legacy_decoder_engine.specs.ReadAhead.ReadsAhead}
 use Rattle.legacy_single_byte.proofs.single_byte.blocks.read_parts.Given as goal
 
 -- what was read was written

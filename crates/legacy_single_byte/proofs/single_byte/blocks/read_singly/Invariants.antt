@@ -1,7 +1,5 @@
 use Rattle.std.proofs.Common.{◌≡◌, ◌+◌, ◌*◌, ◌-◌, ◌≤◌, take}
-use Rattle.legacy_text.specs.EncodingForm.{bmp_room}
-use Rattle.legacy_base.specs.Grammar.{single_byte}
-use Rattle.legacy_decoder_engine.specs.ReadAhead.{Writes}
+use Rattle.{legacy_text.specs.EncodingForm.bmp_room, legacy_base.specs.Grammar.single_byte, legacy_decoder_engine.specs.ReadAhead.Writes}
 use Rattle.legacy_single_byte.proofs.single_byte.blocks.read_singly.Given as goal
 
 -- the bytes read are written, with at most three code units for each, or one in UTF-16

@@ -1,9 +1,8 @@
-use Rattle.std.proofs.Common.{◌/◌, ◌%◌, arith}
-use Rattle.legacy_chinese.specs.Big5Places.{big5_lead_place, big5_trail_place}
+use Rattle.std.proofs.Common.{arith}
+use Rattle.legacy_decoder_engine.specs.LanePlaces.{lead_place_of, trail_place_of}
 use Rattle.legacy_chinese.proofs.big5.decoder.Big5LaneCodec.places.Goals as goal
 
 pub returns : goal.returns
-unfolding big5_lead_place big5_trail_place
 returns c =
-    c.place_sums.ensures 19782 (λ code. big5_lead_place (code % 256)) (λ code. big5_trail_place (code / 256)) c.args.codes (omega arith)
+    c.place_sums.ensures 19782 (lead_place_of 0x81 0x7D 157) (trail_place_of 0xA1 0xFE) c.args.codes (omega arith)
     (c.lead_places.ensures 0x7D (omega arith) (omega arith)) (c.trail_places.ensures 19782)

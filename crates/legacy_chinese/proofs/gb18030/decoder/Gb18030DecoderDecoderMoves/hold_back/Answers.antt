@@ -1,6 +1,6 @@
-use Rattle.{std.proofs.{Common.{arith, get_or, take, ◌∙◌, ◌≤◌}, lemmas.List.take_more}, legacy_decoder_engine.specs.Moves.read_room}
-use Rattle.legacy_decoder_engine.{specs.declared.moves.Fed.TheVariants.Nothing, proofs.CallUnderWay.{holds_more}}
-use Rattle.legacy_chinese.{specs.{Gb18030Decoder.gb18030_state, Gb18030Held.held_bytes}, proofs.Gb18030Held.{feeds, reads_wide, rests-held}}
+use Rattle.std.proofs.{Common.{arith, get_or, take, ◌≤◌}, lemmas.List.take_more}
+use Rattle.legacy_decoder_engine.{specs.{Moves.read_room, declared.moves.Fed.TheVariants.Nothing}, proofs.CallUnderWay.holds_more}
+use Rattle.legacy_chinese.{specs.Gb18030Decoder.{gb18030_state, held_bytes}, proofs.Gb18030Held.{feeds, reads_wide}}
 use Rattle.legacy_chinese.proofs.gb18030.decoder.Gb18030DecoderDecoderMoves.hold_back.Goals as goal
 
 pub loop-at-preserved : goal.loop-at-preserved
@@ -11,9 +11,8 @@ loop-at-preserved g c =
     let tables = c.loop-at.self.tables.now in
     let held = c.loop-at.self.held in
     let byte = get_or src at 0 in
-    let is = c.in-Some.ensures in
-    let fed =
-    feeds tables held byte (omega arith) (rests-held tables held ∙ is.0) Nothing (held_bytes c.in-Some.held) (is.1 tables.flat.gb18030 tables.flat.ranges) in
+    let is = c.in-Some.ensures tables.flat.gb18030 tables.flat.ranges in
+    let fed = feeds tables held byte (omega arith) is.0 Nothing (held_bytes c.in-Some.held) is.1 in
     let room : read_room form (gb18030_state c.loop-at.self) byte ≤ g.T.Destination.room c.args.dst.now =
     omega (arith, reads_wide tables form held byte, c.free.ensures, c.wide.ensures, c.if-free-wide.false) in
     let more = holds_more form _ _ _ _ (take at src) byte c.loop-at.invariant.holds fed room in

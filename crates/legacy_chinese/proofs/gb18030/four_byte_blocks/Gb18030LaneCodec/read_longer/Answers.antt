@@ -1,6 +1,6 @@
-use Rattle.{std.proofs.Common.{◌+◌, get_or, arith}, legacy_decoder_engine.proofs.{JoinedReads.reads_front, WrittenReads.{yields_byte, writes_one}}}
-use Rattle.{legacy_decoder_engine.proofs.WrittenReads.{writes_four, four_fit}, legacy_text.proofs.CodeUnits.code_units_ascii}
-use Rattle.legacy_chinese.{specs.Gb18030Shown.ascii, proofs.{FourWrites.writes_behind, FourPlaces.four_at}}
+use Rattle.std.proofs.Common.{◌+◌, get_or, arith}
+use Rattle.legacy_decoder_engine.proofs.{JoinedReads.reads_front, WrittenReads.{yields_byte, writes_one, writes_four, four_fit}}
+use Rattle.{legacy_text.proofs.CodeUnits.code_units_ascii, legacy_chinese.{specs.Gb18030Shown.ascii, proofs.{FourWrites.writes_behind, FourPlaces.four_at}}}
 use Rattle.legacy_chinese.proofs.gb18030.four_byte_blocks.Gb18030LaneCodec.read_longer.Goals as goal
 
 pub returns-then-src-at-lt128 : goal.returns-then-src-at-lt128

@@ -1,5 +1,5 @@
-use Rattle.{std.proofs.Common.{◌≡◌, ◌+◌, ◌-◌, ◌≤◌, take, length}, legacy_tables.specs.RangeParts.IsRangePart, legacy_base.specs.Grammar.gb18030}
-use Rattle.legacy_decoder_engine.specs.ReadAhead.{Writes}
+use Rattle.std.proofs.Common.{◌≡◌, ◌+◌, ◌-◌, ◌≤◌, take, length}
+use Rattle.{legacy_tables.specs.RangeParts.IsRangePart, legacy_base.specs.Grammar.gb18030, legacy_decoder_engine.specs.ReadAhead.Writes}
 use Rattle.legacy_chinese.proofs.gb18030.four_byte_blocks.Gb18030LaneCodec.read_longer.Given as goal
 
 -- what was read is written, and took at most one code unit a byte

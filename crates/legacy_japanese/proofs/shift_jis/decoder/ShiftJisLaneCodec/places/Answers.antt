@@ -1,6 +1,5 @@
 use Rattle.std.{proofs.Common.{◌∙◌, arith}, specs.Int.Bits.bit_xor}
-use Rattle.legacy_decoder_engine.specs.LanePlaces.{lead_place_of, trail_place_of}
-use Rattle.legacy_japanese.proofs.ShiftJisPlaces.{changed_leads}
+use Rattle.{legacy_decoder_engine.specs.LanePlaces.{lead_place_of, trail_place_of}, legacy_japanese.proofs.ShiftJisPlaces.changed_leads}
 use Rattle.legacy_japanese.proofs.shift_jis.decoder.ShiftJisLaneCodec.places.Goals as goal
 
 pub returns : goal.returns

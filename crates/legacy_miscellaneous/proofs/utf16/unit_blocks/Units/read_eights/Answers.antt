@@ -1,4 +1,4 @@
-use Rattle.{std.{proofs.{Common.{◌<◌, arith}, lemmas.List.Elements.All-from_get_or}, specs.Char.IsScalar}}
+use Rattle.std.{proofs.{Common.{◌<◌, arith}, lemmas.List.Elements.All-from_get_or}, specs.Char.IsScalar}
 use Rattle.legacy_miscellaneous.proofs.Utf16Ahead.{below_scalar, eight_more, short_eight}
 use Rattle.legacy_miscellaneous.proofs.utf16.unit_blocks.Units.read_eights.Goals.{then-is_short, else-is_short+else-has_surrogate}
 use Rattle.legacy_miscellaneous.proofs.utf16.unit_blocks.Units.read_eights.Goals as goal

@@ -1,5 +1,5 @@
-use Rattle.{std.proofs.Common.{◌+◌, ◌*◌, ◌<◌, ◌≤◌, length}, legacy_base.specs.{Grammar.utf16, States.new_state}}
-use Rattle.legacy_decoder_engine.specs.ReadAhead.{ReadsAhead}
+use Rattle.std.proofs.Common.{◌+◌, ◌*◌, ◌<◌, ◌≤◌, length}
+use Rattle.{legacy_base.specs.{Grammar.utf16, States.new_state}, legacy_decoder_engine.specs.ReadAhead.ReadsAhead}
 use Rattle.legacy_miscellaneous.proofs.utf16.unit_blocks.Units.read_sixteens.Given as goal
 
 -- the bytes before `at` are read, and there are bytes and room for the turns left

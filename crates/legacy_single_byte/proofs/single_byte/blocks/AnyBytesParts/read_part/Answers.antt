@@ -1,6 +1,5 @@
 use Rattle.std.proofs.Common.{arith}
-use Rattle.legacy_decoder_engine.proofs.WrittenReads.{all_short}
-use Rattle.legacy_single_byte.proofs.SingleByteAhead.{entry_below, units_are_scalars, reads_entries}
+use Rattle.{legacy_decoder_engine.proofs.WrittenReads.all_short, legacy_single_byte.proofs.SingleByteAhead.{entry_below, units_are_scalars, reads_entries}}
 use Rattle.legacy_single_byte.proofs.single_byte.blocks.AnyBytesParts.read_part.Goals as goal
 
 pub put_units-requires-clause-scalars : goal.put_units-requires-clause-scalars

@@ -1,7 +1,5 @@
 use Rattle.std.proofs.Common.{◌≡◌, ◌-◌, ◌+◌, ◌≤◌, take, length, min}
-use Rattle.legacy_base.specs.Grammar.{single_byte}
-use Rattle.legacy_text.specs.PastAscii.{ArePastFrom}
-use Rattle.legacy_decoder_engine.specs.ReadAhead.{Writes}
+use Rattle.{legacy_base.specs.Grammar.single_byte, legacy_text.specs.PastAscii.ArePastFrom, legacy_decoder_engine.specs.ReadAhead.Writes}
 use Rattle.legacy_single_byte.proofs.single_byte.blocks.MostlyAsciiParts.read_part.Given as goal
 
 -- what was read is written, the next block can be loaded and stored, and the bits are those of the bytes from here on

@@ -1,6 +1,5 @@
 use Rattle.std.proofs.Common.{◌≡◌, ◌<◌, ◌≤◌, ◌-◌, ℕ, length, get_or, true}
-use Rattle.legacy_base.specs.Latin1.{is_latin1_byte}
-use Rattle.legacy_single_byte.specs.SingleByteDecoder.{single_byte_entries}
+use Rattle.{legacy_base.specs.Latin1.is_latin1_byte, legacy_single_byte.specs.SingleByteDecoder.single_byte_entries}
 use Rattle.legacy_single_byte.proofs.single_byte.decoder.SingleByteDecoder.latin1_byte_compatible_up_to.Given as goal
 
 -- the first `count` bytes are Latin-1

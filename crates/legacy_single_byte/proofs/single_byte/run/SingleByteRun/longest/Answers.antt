@@ -1,6 +1,5 @@
 use Rattle.std.proofs.Common.{arith}
-use Rattle.legacy_single_byte.proofs.{LongestRuns.{kept, replaced, none_longer}, single_byte.run.SingleByteRun.longest.Goals.then-run-best}
-use Rattle.legacy_single_byte.proofs.single_byte.run.SingleByteRun.longest.Goals.{else-run-best}
+use Rattle.legacy_single_byte.proofs.{LongestRuns.{kept, replaced, none_longer}, single_byte.run.SingleByteRun.longest.Goals.{then-run-best, else-run-best}}
 use Rattle.legacy_single_byte.proofs.single_byte.run.SingleByteRun.longest.Goals as goal
 
 pub loop-place-preserved : goal.loop-place-preserved
