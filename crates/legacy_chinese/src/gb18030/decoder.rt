@@ -164,6 +164,7 @@ fn held_length(held: Held) -> u8
 
 impl<'a> Gb18030Decoder<'a> {
     ghost use Rattle.legacy_base.specs.Lengths.{answer, weighted};
+
     /// Returns a decoder before its first byte, which uses index gb18030 and the ranges of the tables.
     pub fn new(tables: &'a Tables<'a>) -> Gb18030Decoder<'a>
         ensures { gb18030_state result ≡ new_state (gb18030 tables.now.flat.gb18030 tables.now.flat.ranges) }
