@@ -138,7 +138,7 @@ pub fn pick_forms(
 /// Leaves out long ASCII at the end. Returns the place after the codes, and the number of bytes of the forms, which is at
 /// most `limit`. It is 0 if few of the first `limit` bytes are past ASCII, if forms of one byte past ASCII are among them,
 /// if the starts are not those of pairs, or if a longer form is first.
-// Half as many as at the beginning are enough. Eight bytes after the block are read too, because the codes of its
+// Half as many as `begins_many` asks for are enough. Eight bytes after the block are read too, because the codes of its
 // last eight bytes are picked from sixteen.
 #[inline(always)]
 #[tactic(auto, using(crate::proofs::Picking::front_chunk))]

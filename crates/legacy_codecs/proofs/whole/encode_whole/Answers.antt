@@ -1,4 +1,4 @@
-use Rattle.std.proofs.Common.{◌∙◌, arith, append-nil}
+use Rattle.std.proofs.Common.{◌∙◌, arith, append-nil, rules}
 use Rattle.legacy_codecs.proofs.WholeTexts.{bytes_end, bytes_less, bytes_after}
 use Rattle.legacy_codecs.proofs.whole.encode_whole.Goals as goal
 
@@ -21,3 +21,6 @@ calls-preserved g c =
       omega (arith, c.calls.invariant.2),
       call.codec ∙ c.calls.invariant.3,
     )
+
+pub returns-in-InputEmpty-clause-end : goal.returns-in-InputEmpty-clause-end
+returns-in-InputEmpty-clause-end g c = search rules

@@ -1,3 +1,4 @@
+use Rattle.std.proofs.Common.{rules}
 use Rattle.std.proofs.{Common.{arith}, lemmas.List.take_more}
 use Rattle.legacy_decoder_engine.proofs.WrittenReads.{yields_byte}
 use Rattle.legacy_decoder_engine.proofs.lane_blocks.form_at.Goals as goal
@@ -9,3 +10,6 @@ returns-then-byte-lt128 g c =
 
 pub returns-then-begins_longer : goal.returns-then-begins_longer
 returns-then-begins_longer g c = c.longer_at.ensures
+
+pub returns-in-Pair : goal.returns-in-Pair
+returns-in-Pair g c = search rules

@@ -40,3 +40,9 @@ returns-clause-writes g c =
 
 pub returns-clause-slack : goal.returns-clause-slack
 returns-clause-slack g c h = grind (arith, few_units, c.units_of-units-2.type_inv, c.units_of-units-2.ensures.small, c.known_count.ensures.most)
+
+pub put_eight-requires-clause-room : goal.put_eight-requires-clause-room
+put_eight-requires-clause-room g c = omega arith
+
+pub returns-then-at-most-clause-slack : goal.returns-then-at-most-clause-slack
+returns-then-at-most-clause-slack g c = omega arith

@@ -1,6 +1,6 @@
 use Rattle.std.proofs.{Common.{arith, ◌∙◌, ap, w64, take, append-nil, ◌+◌}, lemmas.{Bool.Decides.nat_tests, Simd.get_or-chunk}}
 use Rattle.std.{proofs.lemmas.List.take-set-le, specs.Int.trailing_zeros}
-use Rattle.legacy_text.proofs.ByteUnits.{stored_ascii, stored_next}
+use Rattle.legacy_text.proofs.ByteUnits.{stored_ascii, stored_next, store_steps}
 use Rattle.legacy_text.proofs.byte_units.store_scalars.Goals as goal
 
 pub loop-past-init : goal.loop-past-init
@@ -19,3 +19,9 @@ loop-past-preserved c =
       stored = stored_next c.args.entries.now c.args.bytes.now c.args.at c.requires.entries c.requires.block c.loop-past.dst c.loop-past.past _
           (grind (arith, c.loop-past-test.true)) (grind arith) (grind arith) (grind arith) (grind arith) c.loop-past.invariant.stored;
     }
+
+pub returns-then-entry-eq0-clause-have : goal.returns-then-entry-eq0-clause-have
+returns-then-entry-eq0-clause-have c = grind (arith, store_steps)
+
+pub returns-then-entry-eq0-clause-stored : goal.returns-then-entry-eq0-clause-stored
+returns-then-entry-eq0-clause-stored c = grind (arith, store_steps)

@@ -1,4 +1,4 @@
-use Rattle.std.proofs.Common.{refl}
+use Rattle.std.proofs.Common.{refl, rules}
 use Rattle.legacy_encoder_engine.specs.declared.moves.EncoderMove.TheVariants.{Two, Four}
 use Rattle.legacy_encoder_engine.proofs.PlainServes.{plain_puts}
 use Rattle.legacy_encoder_engine.proofs.plain.AnyAheadCodes.put_past_ascii.Goals as goal
@@ -19,3 +19,6 @@ returns-clause-puts g c =
     let common = c.has_bytes.ensures c.if-not-has_bytes.false in
     plain_puts _ _ (g.C.PlainCodes.plain c.args.self.now) c.args.c c.code_of-step.result c.code_of-step.ensures common.0 common.1 _ _ _ _
     c.put_move.ensures.bytes c.put_move.ensures.end
+
+pub returns-then-not-has_bytes-clause-puts : goal.returns-then-not-has_bytes-clause-puts
+returns-then-not-has_bytes-clause-puts g c = search rules

@@ -1,3 +1,4 @@
+use Rattle.std.proofs.Common.{rules}
 use Rattle.legacy_index_files.proofs.EmptyIndexes.{empty_index, empty_single_byte}
 use Rattle.legacy_index_files.proofs.owned_indexes.OwnedIndexes.new.Goals as goal
 
@@ -11,3 +12,6 @@ returns-clause-empty c = record {
   ranges = c.new-7.ensures.items;
   single_byte = empty_single_byte;
 }
+
+pub returns-clause-unallocated : goal.returns-clause-unallocated
+returns-clause-unallocated c = search rules

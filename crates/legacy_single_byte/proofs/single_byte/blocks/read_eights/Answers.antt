@@ -1,4 +1,5 @@
 use Rattle.std.proofs.Common.{arith}
+use Rattle.legacy_single_byte.proofs.SingleByteAhead.{steps}
 use Rattle.legacy_decoder_engine.proofs.JoinedReads.{reads_more}
 use Rattle.legacy_single_byte.proofs.single_byte.blocks.read_eights.Goals as goal
 
@@ -7,3 +8,6 @@ loop-left-preserved g c = grind (arith, reads_more c.loop-left.invariant.3 c.rea
 
 pub returns-then-read-lt8-clause-ahead : goal.returns-then-read-lt8-clause-ahead
 returns-then-read-lt8-clause-ahead g c = reads_more c.loop-left.invariant.3 c.read_singly-read.ensures.ahead
+
+pub loop-left-init : goal.loop-left-init
+loop-left-init g c = grind (arith, steps)

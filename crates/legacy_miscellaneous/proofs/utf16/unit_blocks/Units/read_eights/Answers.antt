@@ -1,3 +1,4 @@
+use Rattle.std.proofs.Common.{rules}
 use Rattle.std.{proofs.{Common.{◌<◌, arith}, lemmas.List.Elements.All-from_get_or}, specs.Char.IsScalar}
 use Rattle.legacy_miscellaneous.proofs.Utf16Ahead.{below_scalar, eight_more, short_eight}
 use Rattle.legacy_miscellaneous.proofs.utf16.unit_blocks.Units.read_eights.Goals.{then-is_short, else-is_short+else-has_surrogate}
@@ -26,3 +27,6 @@ loop-group-preserved g c =
           rw w.dst-is (eight_more units.result (λ k. (c.type_inv.src k).fits) c.requires.source c.loop-group-test.true (omega arith) c.loop-group.invariant
           (λ k h. (units.ensures k h, w.has_surrogate.ensures w.if-has_surrogate.false k (omega arith))) e.contents e.room e.loan)
     ]
+
+pub returns-then-has_surrogate : goal.returns-then-has_surrogate
+returns-then-has_surrogate g c = search rules
