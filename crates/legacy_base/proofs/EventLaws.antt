@@ -109,14 +109,14 @@ module _ (Q : Type 0) where
               (further 3 (length rest) size (omega arith) (iso_2022_jp_events jis0208 next rest) (below next rest (omega arith))))
 
       -- a byte of a body
-      module _ (mode : Mode) (b : ℕ) (plain : (b == esc) ≡ false) where
+      module _ (mode : Mode) (b : ℕ) (unescaped : (b == esc) ≡ false) where
         one_of : (rest : List ℕ) (f : Front) → length rest ≤ n → iso_2022_jp_front jis0208 mode b (first_part rest) ≡ f →
             IsFrontOf (suc (length (first_part rest))) Q f → front_length f ≡ 1 → AreOf (length (b ∷ rest)) (iso_2022_jp_events jis0208 mode (b ∷ rest))
         one_of rest f h is i one =
             let shorter = first_shorter rest in
             let all = front_and (length (b ∷ rest)) f (length rest) (iso_2022_jp_events jis0208 mode rest)
             (wider (suc (length (first_part rest))) (length (b ∷ rest)) f (omega arith) i) (omega (arith, one)) (below mode rest h) in
-            rw (step_one jis0208 mode b rest f plain is one) (rw one at all)
+            rw (step_one jis0208 mode b rest f unescaped is one) (rw one at all)
 
         two_of : (rest : List ℕ) (f : Front) → length rest ≤ n → iso_2022_jp_front jis0208 mode b (first_part rest) ≡ f →
             IsFrontOf (suc (length (first_part rest))) Q f → front_length f ≡ 2 → AreOf (length (b ∷ rest)) (iso_2022_jp_events jis0208 mode (b ∷ rest))
@@ -129,7 +129,7 @@ module _ (Q : Type 0) where
               let all = front_and (length (b ∷ t ∷ rest)) f (length rest) (iso_2022_jp_events jis0208 mode rest)
               (wider (suc (suc (length (first_part rest)))) (length (b ∷ t ∷ rest)) f (omega arith) i') (omega (arith, two))
               (below mode rest (omega arith)) in
-              rw (step_two jis0208 mode b t rest f plain e (rw e at is) two) (rw two at all)
+              rw (step_two jis0208 mode b t rest f unescaped e (rw e at is) two) (rw two at all)
         ]
 
         body_of : (rest : List ℕ) → length rest ≤ n → AreOf (length (b ∷ rest)) (iso_2022_jp_events jis0208 mode (b ∷ rest))

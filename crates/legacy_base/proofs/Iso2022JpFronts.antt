@@ -19,7 +19,7 @@ pub step_one : (jis0208 : List ℕ) (mode : Mode) (b : ℕ) (more : List ℕ) (f
     → iso_2022_jp_front jis0208 mode b (first_part more) ≡ f → front_length f ≡ 1
     → iso_2022_jp_events jis0208 mode (b ∷ more) ≡ front_events 0 f ++ shift 1 (iso_2022_jp_events jis0208 mode more)
 unfolding cut
-step_one jis0208 mode b more f plain is one =
+step_one jis0208 mode b more f unescaped is one =
     grind (arith, nat_tests, events-by_parts, cut_from_zero, first_part, shift-append, shift-shift, append_assoc, one-add)
 
 -- a front of two bytes
@@ -27,7 +27,7 @@ pub step_two : (jis0208 : List ℕ) (mode : Mode) (b t : ℕ) (more : List ℕ) 
     → iso_2022_jp_front jis0208 mode b (t ∷ first_part more) ≡ f → front_length f ≡ 2
     → iso_2022_jp_events jis0208 mode (b ∷ t ∷ more) ≡ front_events 0 f ++ shift 2 (iso_2022_jp_events jis0208 mode more)
 unfolding cut
-step_two jis0208 mode b t more f plain plain_t is two =
+step_two jis0208 mode b t more f unescaped unescaped_t is two =
     grind (arith, nat_tests, first_part, events-by_parts, cut_from_zero, shift-append, shift-shift, append_assoc)
 
 -- ---- escapes

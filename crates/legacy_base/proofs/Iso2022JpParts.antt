@@ -29,11 +29,11 @@ unfolding part_mode
 no_escape b part h = grind arith
 
 -- the first part begins with no escape, valid or not
-first_plain : (place : ℕ) (bytes : List ℕ) (next : List (List ℕ)) →
+first_unescaped : (place : ℕ) (bytes : List ℕ) (next : List (List ℕ)) →
     (part_mode (first_part bytes) ≡ None) × (escape_length (first_part bytes) ≡ 0) × (escape_events place (first_part bytes) next ≡ [])
 unfolding part_mode escape_length escape_events
-first_plain place [] next = (refl, refl, refl)
-first_plain place (b ∷ bytes) next = let plain = no_escape b (first_part bytes) in grind (arith, plain)
+first_unescaped place [] next = (refl, refl, refl)
+first_unescaped place (b ∷ bytes) next = let unescaped = no_escape b (first_part bytes) in grind (arith, unescaped)
 
 -- the first part is all body, in the mode in which the list begins
 first_events : (jis0208 : List ℕ) (mode : Mode) (place : ℕ) (bytes : List ℕ) (next : List (List ℕ)) → parts_events jis0208 mode place (first_part bytes ∷ next)
@@ -41,7 +41,7 @@ first_events : (jis0208 : List ℕ) (mode : Mode) (place : ℕ) (bytes : List �
     ++ parts_events jis0208 mode (place + length (first_part bytes)) next
 unfolding parts_events part_events
 first_events jis0208 mode place bytes next =
-    let plain = first_plain place bytes next in rw (plain.0, plain.2, plain.1, add-zero)
+    let unescaped = first_unescaped place bytes next in rw (unescaped.0, unescaped.2, unescaped.1, add-zero)
 
 -- the events of parts that begin k places later are shifted by k
 escape_events-shift : (k place : ℕ) (part : List ℕ) (next : List (List ℕ)) → escape_events (k + place) part next ≡ shift k (escape_events place part next)

@@ -24,8 +24,8 @@ read_in in_roman = roman
 read_in in_two_byte = two_byte
 
 -- the list does not begin with a valid escape
-plain_start : (b : ℕ) (bytes : List ℕ) → (b == esc) ≡ false → is_whole_escape (b ∷ bytes) ≡ false
-plain_start b bytes h = grind arith
+unescaped_start : (b : ℕ) (bytes : List ℕ) → (b == esc) ≡ false → is_whole_escape (b ∷ bytes) ≡ false
+unescaped_start b bytes h = grind arith
 
 -- `part_mode` and `is_whole_escape` agree on which lists begin with a valid escape
 escape_begins : (bytes : List ℕ) → is_some (part_mode bytes) ≡ is_whole_escape bytes
@@ -55,8 +55,8 @@ module _ (jis0208 : List ℕ) where
 
   -- the facts about the two bytes of pointer p, which decode to c
   record IsPair (p c : ℕ) : Type 0 where
-    first_plain : ((p / 94 + 0x21) == esc) ≡ false
-    second_plain : ((p % 94 + 0x21) == esc) ≡ false
+    first_unescaped : ((p / 94 + 0x21) == esc) ≡ false
+    second_unescaped : ((p % 94 + 0x21) == esc) ≡ false
     front : (rest : List ℕ) → iso_2022_jp_front jis0208 two_byte (p / 94 + 0x21) ((p % 94 + 0x21) ∷ rest) ≡ reads 2 (c ∷ [])
 
   is_pair_of : (p c : ℕ) → LeadsBack is_jis0208_pointer jis0208 c p → IsPair p c
@@ -65,16 +65,16 @@ module _ (jis0208 : List ℕ) where
 
 -- ---- adjacent escapes
 
-adjacent-plain : (b : ℕ) (bytes : List ℕ) → (b == esc) ≡ false → holds_adjacent_escapes (b ∷ bytes) ≡ holds_adjacent_escapes bytes
+adjacent-unescaped : (b : ℕ) (bytes : List ℕ) → (b == esc) ≡ false → holds_adjacent_escapes (b ∷ bytes) ≡ holds_adjacent_escapes bytes
 unfolding holds_adjacent_escapes
-adjacent-plain b bytes h = rw (plain_start b bytes h) refl
+adjacent-unescaped b bytes h = rw (unescaped_start b bytes h) refl
 
 -- a valid escape with no other one after it
 adjacent-escape : (a b : ℕ) (rest : List ℕ) → (a == esc) ≡ false → (b == esc) ≡ false → is_whole_escape rest ≡ false
     → holds_adjacent_escapes (esc ∷ a ∷ b ∷ rest) ≡ holds_adjacent_escapes rest
 unfolding holds_adjacent_escapes
 adjacent-escape a b rest ha hb h =
-    rw (h, plain_start a (b ∷ rest) ha, plain_start b rest hb, and_right (is_some (escape_mode a b)) false refl) refl
+    rw (h, unescaped_start a (b ∷ rest) ha, unescaped_start b rest hb, and_right (is_some (escape_mode a b)) false refl) refl
 
 escape_adjacent : (old new : EncoderMode) (rest : List ℕ) → is_whole_escape rest ≡ false →
     holds_adjacent_escapes (escape_between old new ++ rest) ≡ holds_adjacent_escapes rest
@@ -93,17 +93,17 @@ module _ (jis0208 katakana_index : List ℕ) where
 
   -- bytes in a mode that decode to c, and neither begin with an escape nor contain one
   record OwnRead (mode : EncoderMode) (c : ℕ) (bytes : List ℕ) : Type 0 where
-    plain : (more : List ℕ) → is_whole_escape (bytes ++ more) ≡ false
+    unescaped : (more : List ℕ) → is_whole_escape (bytes ++ more) ≡ false
     gives : (more : List ℕ) →
         iso_2022_jp_events jis0208 (read_in mode) (bytes ++ more) ≡ Scalar c ∷ shift (length bytes) (iso_2022_jp_events jis0208 (read_in mode) more)
     quiet : (more : List ℕ) → holds_adjacent_escapes (bytes ++ more) ≡ holds_adjacent_escapes more
 
   own_byte : (mode : EncoderMode) (c b : ℕ) → (b == esc) ≡ false
       → ((rest : List ℕ) → iso_2022_jp_front jis0208 (read_in mode) b rest ≡ reads 1 (c ∷ [])) → OwnRead mode c (b ∷ [])
-  own_byte mode c b plain is = grind (arith, nat_tests, plain_start, step_one, first_part, adjacent-plain)
+  own_byte mode c b unescaped is = grind (arith, nat_tests, unescaped_start, step_one, first_part, adjacent-unescaped)
 
   own_pair : (p c : ℕ) → LeadsBack is_jis0208_pointer jis0208 c p → OwnRead in_two_byte c (iso_2022_jp_pair p)
-  own_pair p c back = grind (arith, nat_tests, is_pair_of, plain_start, step_two, first_part, adjacent-plain)
+  own_pair p c back = grind (arith, nat_tests, is_pair_of, unescaped_start, step_two, first_part, adjacent-unescaped)
 
   own_neutral : (mode : EncoderMode) (c : ℕ) → is_ascii c ≡ true → is_mode_control c ≡ false → (c == 0x5C || c == 0x7E) ≡ false →
       OwnRead (roman_or_ascii mode) c (c ∷ [])
@@ -128,7 +128,7 @@ module _ (jis0208 katakana_index : List ℕ) where
   no_fold c h = grind arith
 
   pub ascii_stands : (c : ℕ) → is_ascii c ≡ true → own_scalar c ≡ c
-  ascii_stands c h = let plain : is_fold (iso_2022_jp jis0208 katakana_index) c ≡ false = grind (arith, nat_tests) in no_fold c plain
+  ascii_stands c h = let unfolded : is_fold (iso_2022_jp jis0208 katakana_index) c ≡ false = grind (arith, nat_tests) in no_fold c unfolded
 
   -- the pair of the pointer that is looked up for c
   own_looked_up : (c p : ℕ) → iso_2022_jp_pointer_of jis0208 katakana_index c ≡ Some p → OwnRead in_two_byte (own_scalar c) (iso_2022_jp_pair p)
@@ -177,12 +177,12 @@ module _ (jis0208 katakana_index : List ℕ) where
 
   text_begins : (mode : EncoderMode) (text more : List ℕ) → is_whole_escape more ≡ false
       → is_whole_escape (text_bytes mode text) ≡ false → is_whole_escape (text_bytes mode text ++ more) ≡ false
-  text_begins mode [] more plain h =
+  text_begins mode [] more unescaped h =
       let alone = rw (text_bytes-end mode) at h in rw (text_bytes-end mode) (grind arith)
-  text_begins mode (c ∷ text) more plain h =
+  text_begins mode (c ∷ text) more unescaped h =
       let new = mode_of mode c in
-      let later = text_begins new text more plain in
-      let first = λ (own : List ℕ) (e : code c ≡ Some own). (own_read mode c own e).plain (text_bytes new text ++ more) in
+      let later = text_begins new text more unescaped in
+      let first = λ (own : List ℕ) (e : code c ≡ Some own). (own_read mode c own e).unescaped (text_bytes new text ++ more) in
       let alone = rw (text_bytes-scalar mode c text) at h in
       rw (text_bytes-scalar mode c text) (grind (arith, later, first, append_assoc))
 
@@ -225,16 +225,16 @@ module _ (jis0208 katakana_index : List ℕ) where
       let all = behind ++ more in
       let joined : IsTextRead new (c ∷ back) (own ++ behind) more =
       rw (append_assoc, length-append) (o.gives all ∙ rw read (scalar_then (length own) (length behind) c back (iso_2022_jp_events jis0208 ascii more))) in
-      escape_then mode new (c ∷ back) (own ++ behind) more (rw (append_assoc own behind more) (o.plain all)) joined
+      escape_then mode new (c ∷ back) (own ++ behind) more (rw (append_assoc own behind more) (o.unescaped all)) joined
 
   pub text_read : (mode : EncoderMode) (text more : List ℕ) → is_whole_escape more ≡ false
       → holds_adjacent_escapes (text_bytes mode text) ≡ false → IsTextRead mode (text_back text) (text_bytes mode text) more
-  text_read mode [] more plain h = rw (text_bytes-end mode) (escape_read jis0208 mode in_ascii more plain)
-  text_read mode (c ∷ text) more plain h =
+  text_read mode [] more unescaped h = rw (text_bytes-end mode) (escape_read jis0208 mode in_ascii more unescaped)
+  text_read mode (c ∷ text) more unescaped h =
       let new = mode_of mode c in
       let behind = text_bytes new text in
-      let later = text_read new text more plain in
-      let begins = text_begins new text more plain in
+      let later = text_read new text more unescaped in
+      let begins = text_begins new text more unescaped in
       let none = apart_behind (escape_between mode new) behind in
       let some = λ (own : List ℕ) (e : code c ≡ Some own) (k : holds_adjacent_escapes (escape_between mode new ++ (own ++ behind)) ≡ false).
       text_read-scalar mode new (own_scalar c) own (text_back text) behind more (own_read mode c own e)
@@ -269,5 +269,5 @@ module _ (jis0208 katakana_index : List ℕ) where
       let rest = text_apart new text t.rest t.behind in
       record {
         coded_all = rw here.code_is (ap (λ (l : List ℕ). c ∷ l) rest.coded_all);
-        apart = rw (escape.split, t.split) (escape_adjacent mode new (here.own ++ t.rest) (own.plain t.rest) ∙ own.quiet t.rest ∙ rest.apart);
+        apart = rw (escape.split, t.split) (escape_adjacent mode new (here.own ++ t.rest) (own.unescaped t.rest) ∙ own.quiet t.rest ∙ rest.apart);
       }

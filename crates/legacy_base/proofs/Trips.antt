@@ -29,7 +29,7 @@ cut-code front bytes more c h = grind (arith, nat_tests, cut-front, dropped)
 -- ---- the bytes of events
 
 -- events that are all bytes and begin with `own`: the remaining events are bytes too
-pub record BeginsWith (own bytes : List ℕ) (events : List EncodeEvent) : Type 0 where
+pub record BeginsWithBytes (own bytes : List ℕ) (events : List EncodeEvent) : Type 0 where
   pub rest : List ℕ
   pub split : bytes ≡ own ++ rest
   pub behind : events ≡ map Byte rest
@@ -39,7 +39,7 @@ same_byte_lists [] [] e = refl
 same_byte_lists (x ∷ xs) (y ∷ ys) e = grind (arith, same_byte_lists xs ys)
 same_byte_lists _ _ e = cc
 
-pub begins_with : (own bytes : List ℕ) (events : List EncodeEvent) → map Byte own ++ events ≡ map Byte bytes → BeginsWith own bytes events
+pub begins_with : (own bytes : List ℕ) (events : List EncodeEvent) → map Byte own ++ events ≡ map Byte bytes → BeginsWithBytes own bytes events
 begins_with [] bytes events e = record { rest = bytes; split = refl; behind = e }
 begins_with (b ∷ own) [] events e = cc
 begins_with (b ∷ own) (a ∷ bytes) events e =
@@ -50,7 +50,7 @@ begins_with (b ∷ own) (a ∷ bytes) events e =
 pub record HasCode (c : ℕ) (code : Option (List ℕ)) (bytes : List ℕ) (events : List EncodeEvent) : Type 0 where
   pub own : List ℕ
   pub code_is : code ≡ Some own
-  pub begins : BeginsWith own bytes events
+  pub begins : BeginsWithBytes own bytes events
 
 pub has_code : (c : ℕ) (code : Option (List ℕ)) (bytes : List ℕ) (events : List EncodeEvent) → code_events c code ++ events ≡ map Byte bytes →
     HasCode c code bytes events

@@ -16,8 +16,7 @@ pub use legacy_tables::{
     Tables,
 };
 pub use legacy_text::{
-    ByteSource, Destination, ReadingLoop, Source, Utf8Destination, Utf8Source, Utf16Destination,
-    Utf16Source,
+    ByteSource, Destination, Source, Utf8Destination, Utf8Source, Utf16Destination, Utf16Source,
 };
 pub use results::{
     DecodeEvent, DecoderResult, DecoderStep, EncodeEvent, EncoderResult, EncoderStep,

@@ -22,9 +22,9 @@ pub use decode_run::{DecodeRun, decode_run_utf8, decode_run_utf16};
 pub use encode_run::{EncodeRun, encode_run_utf8, encode_run_utf16};
 pub use legacy_base::{
     ByteSource, DecodeEvent, DecoderResult, Destination, EncodeEvent, EncoderResult,
-    GB18030_2022_PUA, IndexName, Indexes, Packed, PackedPart, RawDecoder, RawEncoder, ReadingLoop,
-    Run, SingleByteTable, Source, TableError, Tables, Utf8Destination, Utf8Source,
-    Utf16Destination, Utf16Source,
+    GB18030_2022_PUA, IndexName, Indexes, Packed, PackedPart, RawDecoder, RawEncoder, Run,
+    SingleByteTable, Source, TableError, Tables, Utf8Destination, Utf8Source, Utf16Destination,
+    Utf16Source,
 };
 pub use legacy_chinese::{Big5Decoder, Big5Encoder, Gb18030Decoder, Gb18030Encoder};
 pub use legacy_encoder_engine::cached::{CachedEncoder, EncodesPairs, PAIR_ROOM};

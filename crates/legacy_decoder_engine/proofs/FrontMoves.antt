@@ -3,13 +3,8 @@ use Rattle.std.proofs.Common.{◌≡◌, ℕ, suc, ◌+◌, ◌<◌, ◌≤◌, 
 use Rattle.std.proofs.{Common.{false, length-drop, drop_of_length-le, le_refl, arith}, Math.Seq.{drop-length, drop-append_seam}, lemmas.List.drop-append-le}
 use Rattle.legacy_base.specs.Fronts.{Front, reads, malformed, front_length, front_events, reads_or, trail_rule, cut}
 use Rattle.legacy_base.specs.{Grammar.{Grammar, events_of}, declared.results.DecodeEvent.TheVariants.Bad, Beginnings.BeginsWith, Events.shift, States.may_hold}
-use Rattle.legacy_base.proofs.{Shifts.shift-zero, Cuts.{cut-nil, cut-front}, Beginnings.no_sooner}
+use Rattle.legacy_base.proofs.{Shifts.shift-zero, Cuts.{cut-nil, cut-front}, Trips.HasFront, Beginnings.no_sooner}
 use Rattle.legacy_decoder_engine.specs.Steps.{Step, hold, finish, leave, StepMeets, WriteMeets, end_events, ReportMeets, trail_step}
-
--- the list begins with the front
-abbrev pub HasFront : (ℕ → List ℕ → Front) → List ℕ → Front → Type 0
-HasFront front [] f = ⊥
-HasFront front (b ∷ rest) f = front b rest ≡ f
 
 -- the front of a step is the same for every continuation
 abbrev pub Fits : (ℕ → List ℕ → Front) → (List ℕ → Bool) → List ℕ → ℕ → Step → Type 0

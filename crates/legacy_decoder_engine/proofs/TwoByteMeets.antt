@@ -8,11 +8,11 @@ use Rattle.legacy_decoder_engine.{specs.{Steps.finish, StatesAfterSteps.IsOneOrM
 
 -- The kinds of first bytes: ASCII, which is its own scalar; another scalar up to U+FFFF; a lead; or malformed. For each
 -- two bytes, `paid` code units are enough for the scalar.
-pub data IsFirst (is_lead_byte : ℕ → Bool) (paid b : ℕ) (s : Step) : Type 0 where
-  ascii : s ≡ finish (reads 1 (b ∷ [])) → is_ascii b ≡ true → is_lead_byte b ≡ false → 2 ≤ paid → IsFirst is_lead_byte paid b s
-  other : (c : ℕ) → s ≡ finish (reads 1 (c ∷ [])) → is_ascii b ≡ false → is_lead_byte b ≡ false → c < 0x1_0000 → 6 ≤ paid → IsFirst is_lead_byte paid b s
-  leads : s ≡ hold → is_ascii b ≡ false → is_lead_byte b ≡ true → IsFirst is_lead_byte paid b s
-  fails : s ≡ finish (malformed 1) → is_ascii b ≡ false → is_lead_byte b ≡ false → IsFirst is_lead_byte paid b s
+pub data IsFirstStep (is_lead_byte : ℕ → Bool) (paid b : ℕ) (s : Step) : Type 0 where
+  ascii : s ≡ finish (reads 1 (b ∷ [])) → is_ascii b ≡ true → is_lead_byte b ≡ false → 2 ≤ paid → IsFirstStep is_lead_byte paid b s
+  other : (c : ℕ) → s ≡ finish (reads 1 (c ∷ [])) → is_ascii b ≡ false → is_lead_byte b ≡ false → c < 0x1_0000 → 6 ≤ paid → IsFirstStep is_lead_byte paid b s
+  leads : s ≡ hold → is_ascii b ≡ false → is_lead_byte b ≡ true → IsFirstStep is_lead_byte paid b s
+  fails : s ≡ finish (malformed 1) → is_ascii b ≡ false → is_lead_byte b ≡ false → IsFirstStep is_lead_byte paid b s
 
 -- the front of a list that begins with a byte with this first step
 abbrev pub step_front : (ℕ → List ℕ) → List ℕ → Step → Front
@@ -35,7 +35,7 @@ pub record IsTwoByte (g : Grammar) (front : ℕ → List ℕ → Front) (is_lead
   pub front_is : (b : ℕ) (rest : List ℕ) → front b rest ≡ step_front (scalars b) rest (first b)
   pub pair_one : (lead t : ℕ) → IsOneOrMarked (has_marks g) (scalars lead t)
 
-module _ (is_lead_byte : ℕ → Bool) (paid : ℕ) (first : ℕ → Step) (firsts : (b : ℕ) → IsFirst is_lead_byte paid b (first b)) where
+module _ (is_lead_byte : ℕ → Bool) (paid : ℕ) (first : ℕ → Step) (firsts : (b : ℕ) → IsFirstStep is_lead_byte paid b (first b)) where
   pub ascii_first : (b : ℕ) → is_ascii b ≡ true → first b ≡ finish (reads 1 (b ∷ []))
   ascii_first b a = grind (arith, nat_tests)
 
@@ -44,7 +44,7 @@ module _ (is_lead_byte : ℕ → Bool) (paid : ℕ) (first : ℕ → Step) (firs
 
 module _ (g : Grammar) (front : ℕ → List ℕ → Front) (is_lead_byte : ℕ → Bool) (first : ℕ → Step) (scalars : ℕ → ℕ → List ℕ)
     (is : IsTwoByte g front is_lead_byte first scalars)
-    (paid : ℕ) (firsts : (b : ℕ) → IsFirst is_lead_byte paid b (first b)) where
+    (paid : ℕ) (firsts : (b : ℕ) → IsFirstStep is_lead_byte paid b (first b)) where
   pub may_is : (held : List ℕ) → may_hold g held ≡ single_lead_may_hold is_lead_byte held
   may_is held = ap (λ p. p.may_hold held) is.profile_is
 
@@ -65,7 +65,7 @@ module _ (g : Grammar) (front : ℕ → List ℕ → Front) (is_lead_byte : ℕ 
       grind (arith, may_is, is.profile_is, fits, false≢true, fits_trail, lead_holds, all_ends, all_reports)
 
 pub first_test : (is_lead_byte : ℕ → Bool) (paid b : ℕ) (t : Bool) (s₁ s₂ : Step) →
-    (t ≡ true → IsFirst is_lead_byte paid b s₁) → (t ≡ false → IsFirst is_lead_byte paid b s₂) → IsFirst is_lead_byte paid b (cond t s₁ s₂)
+    (t ≡ true → IsFirstStep is_lead_byte paid b s₁) → (t ≡ false → IsFirstStep is_lead_byte paid b s₂) → IsFirstStep is_lead_byte paid b (cond t s₁ s₂)
 first_test is_lead_byte paid b true s₁ s₂ f₁ f₂ = f₁ refl
 first_test is_lead_byte paid b false s₁ s₂ f₁ f₂ = f₂ refl
 
@@ -77,7 +77,7 @@ module _ (is_lead_byte : ℕ → Bool) (are_leads : (b : ℕ) → is_lead_byte b
   pub lead_byte_below : (b : ℕ) → is_lead_byte b ≡ true → b < 0x100
   lead_byte_below b h = (are_leads b h).1
 
-  pub lead_first_is : (paid : ℕ) → 2 ≤ paid → (b : ℕ) → IsFirst is_lead_byte paid b (lead_first is_lead_byte b)
+  pub lead_first_is : (paid : ℕ) → 2 ≤ paid → (b : ℕ) → IsFirstStep is_lead_byte paid b (lead_first is_lead_byte b)
   lead_first_is paid enough b = grind (arith, nat_tests, first_test, are_leads)
 
 pub lead_front_is : (is_lead_byte : ℕ → Bool) (scalars : ℕ → List ℕ) (rest : List ℕ) (pair : Front) (b : ℕ) → pair ≡ step_front scalars rest hold →

@@ -2,7 +2,7 @@
 use Rattle.std.proofs.{Common.{◌≡◌, ℕ, ◌<◌, ◌≤◌, List, ◌∷◌, length, Bool, true, refl, arith}, lemmas.Bool.false≢true}
 use Rattle.legacy_base.specs.{DecoderActs.{full_room, full_room_in, release_room_in}, Fronts.Front, States.state_of, Grammar.Grammar}
 use Rattle.{legacy_base.specs.Lengths.{LengthQuery, query_form, room}, legacy_tables.specs.{Indexes.FlatIndexes, TableChecks.AreAccepted}}
-use Rattle.legacy_decoder_engine.proofs.TwoByteMeets.{IsFirst, IsTwoByte, may_is, ascii_first, lead_holds, two_byte_meets}
+use Rattle.legacy_decoder_engine.proofs.TwoByteMeets.{IsFirstStep, IsTwoByte, may_is, ascii_first, lead_holds, two_byte_meets}
 use Rattle.legacy_decoder_engine.specs.{Steps.Step, LeadMachines.two_byte_machine, StepUnits.{units, IsWidth}, Shown.IsShown, LeadCodecs.IsLeadCodec}
 use Rattle.legacy_decoder_engine.proofs.RoomMoves.{narrow_read, Falls, query_slope, HasCosts, sloped_rooms}
 use Rattle.legacy_decoder_engine.proofs.{CallUnderWay.same_rooms, TwoByteCosts.{first_cost, trail_cost}, SettledSteps.trail_settles}
@@ -18,7 +18,7 @@ pub record HasTwoByteRooms (g : Grammar) (scalars : ℕ → ℕ → List ℕ) (p
 
 module _ (g : Grammar) (front : ℕ → List ℕ → Front) (is_lead_byte : ℕ → Bool) (first : ℕ → Step) (scalars : ℕ → ℕ → List ℕ)
     (is : IsTwoByte g front is_lead_byte first scalars)
-    (paid : ℕ) (firsts : (b : ℕ) → IsFirst is_lead_byte paid b (first b)) where
+    (paid : ℕ) (firsts : (b : ℕ) → IsFirstStep is_lead_byte paid b (first b)) where
   costs : HasTwoByteRooms g scalars paid → HasCosts g (two_byte_machine g first scalars) length paid
   costs has_rooms = record {
     to_is = λ held b. refl;
@@ -35,7 +35,7 @@ module _ (g : Grammar) (front : ℕ → List ℕ → Front) (is_lead_byte : ℕ 
 module _ (grammar : FlatIndexes → Grammar) (front : FlatIndexes → ℕ → List ℕ → Front) (is_lead_byte : ℕ → Bool) (first : ℕ → Step)
     (scalars : FlatIndexes → ℕ → ℕ → List ℕ)
     (is : (flat : FlatIndexes) → IsTwoByte (grammar flat) (front flat) is_lead_byte first (scalars flat)) (paid : ℕ)
-    (firsts : (b : ℕ) → IsFirst is_lead_byte paid b (first b)) where
+    (firsts : (b : ℕ) → IsFirstStep is_lead_byte paid b (first b)) where
   pub lead_codec : ((flat : FlatIndexes) → AreAccepted flat → HasTwoByteRooms (grammar flat) (scalars flat) paid)
       → ((b : ℕ) → is_lead_byte b ≡ true → b < 0x100) → IsLeadCodec grammar is_lead_byte first scalars
   lead_codec rooms bytes =

@@ -11,9 +11,9 @@ ghost use Rattle.legacy_encoder_engine.specs.UnitTurns.{PutsUnits};
 
 use crate::ahead_codes::AheadCodes;
 use crate::drive::put_two;
-use legacy_base::{ReadingLoop, Source};
+use legacy_base::Source;
 use legacy_tables::RangePart;
-use legacy_text::{Next, TextCursor};
+use legacy_text::{Next, ReadingLoop, TextCursor};
 
 /// Writes the bytes of ten code units from the place `start` on, and returns the place after them.
 ///

@@ -4,7 +4,7 @@ use Rattle.std.{proofs.lemmas.Bool.Decides.nat_tests, specs.{Prelude.if◌then�
 use Rattle.legacy_base.specs.{ShiftJis.{shift_jis_front, shift_jis_pair, is_shift_jis_lead, shift_jis_scalars, shift_jis_pointer}, Grammar.shift_jis}
 use Rattle.{legacy_base.specs.Fronts.{Front, reads, malformed}, legacy_tables.{specs.Unicode.{is_katakana_byte, katakana_of}, proofs.Accepted.jis0208-below}}
 use Rattle.legacy_decoder_engine.specs.{Steps.{Step, hold, finish}, StepUnits.{units, IsWidth, IsNarrowIndex}}
-use Rattle.legacy_decoder_engine.{specs.LeadCodecs.IsLeadCodec, proofs.TwoByteMeets.{IsFirst, ascii, other, IsTwoByte, step_front, first_test, front_test}}
+use Rattle.legacy_decoder_engine.{specs.LeadCodecs.IsLeadCodec, proofs.TwoByteMeets.{IsFirstStep, ascii, other, IsTwoByte, step_front, first_test, front_test}}
 use Rattle.legacy_decoder_engine.proofs.{Widths.narrow_idx_units, SettledSteps.{one_test, one_option}, TwoByteCosts.katakana_below}
 use Rattle.legacy_decoder_engine.proofs.TwoByteShown.{HasTwoByteRooms, lead_codec}
 
@@ -20,14 +20,14 @@ shift_jis_first b =
 abbrev pub shift_jis_pair_scalars : List ℕ → ℕ → ℕ → List ℕ
 shift_jis_pair_scalars jis0208 lead trail = option_map_or (shift_jis_scalars jis0208) (shift_jis_pointer lead trail) []
 
-single : (b c : ℕ) → is_ascii b ≡ false → is_shift_jis_lead b ≡ false → c < 0x1_0000 → IsFirst is_shift_jis_lead 6 b (finish (reads 1 (c ∷ [])))
+single : (b c : ℕ) → is_ascii b ≡ false → is_shift_jis_lead b ≡ false → c < 0x1_0000 → IsFirstStep is_shift_jis_lead 6 b (finish (reads 1 (c ∷ [])))
 single b c past lead below = other c refl past lead below (omega arith)
 
-own : (b : ℕ) (t : Bool) → is_ascii b ≡ t → (t || b == 0x80) ≡ true → IsFirst is_shift_jis_lead 6 b (finish (reads 1 (b ∷ [])))
+own : (b : ℕ) (t : Bool) → is_ascii b ≡ t → (t || b == 0x80) ≡ true → IsFirstStep is_shift_jis_lead 6 b (finish (reads 1 (b ∷ [])))
 own b true a e = ascii refl a (grind (arith, nat_tests)) (omega arith)
 own b false a e = let at = eqb-true b 0x80 e in single b b a (rw at refl) (omega arith)
 
-first_is : (b : ℕ) → IsFirst is_shift_jis_lead 6 b (shift_jis_first b)
+first_is : (b : ℕ) → IsFirstStep is_shift_jis_lead 6 b (shift_jis_first b)
 first_is b =
     first_test is_shift_jis_lead 6 b (is_ascii b || b == 0x80) _ _ (own b (is_ascii b) refl) (λ a. first_test is_shift_jis_lead 6 b (is_katakana_byte b) _ _
     (λ k. let below = katakana_below b k in single b (katakana_of b) (grind (arith, nat_tests)) (grind (arith, nat_tests)) (omega arith))

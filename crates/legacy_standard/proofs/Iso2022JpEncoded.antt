@@ -8,7 +8,7 @@ use Rattle.legacy_base.proofs.Iso2022JpEncoding.{text_events, text_events-here, 
 use Rattle.legacy_tables.specs.Pointers.{euc_jp_pointer_of, minus_as_hyphen}
 use Rattle.legacy_standard.specs.{TextQueue.{TextItem, scalar, TextHandled, bytes, returns, restores}, Iso2022JpEncoder.{Iso2022JpEncoderState, ascii}}
 use Rattle.legacy_standard.specs.{Iso2022JpEncoder.{roman, jis0208, set_scalar, at_pointer, at_set, iso_2022_jp_encodes}, EncoderLaw.{HasRows, HasFolds}}
-use Rattle.legacy_standard.proofs.TextTurns.{IsEncodedBy, Writes, by_code, steady, ends, end_bytes, gives}
+use Rattle.legacy_standard.proofs.TextTurns.{IsEncodedBy, WritesText, by_code, steady, ends, end_bytes, gives}
 use Rattle.legacy_base.specs.Encoders as codecs
 
 -- the handler's state for a mode
@@ -34,7 +34,7 @@ module _ (index katakana_index : List ℕ) where
   events mode text = text_events index katakana_index mode text true
 
   abbrev Gives : EncoderMode → List ℕ → Type 0
-  Gives mode text = Writes handler (state_of mode) text (events mode text)
+  Gives mode text = WritesText handler (state_of mode) text (events mode text)
 
   abbrev Goes : List ℕ → Type 0
   Goes more = (mode : EncoderMode) → Gives mode more
@@ -56,7 +56,7 @@ module _ (index katakana_index : List ℕ) where
 
   -- the scalar c, or d in its place, in the mode of c
   at_home : (mode : EncoderMode) (c d : ℕ) (more : List ℕ) → home mode c ≡ mode → handler (state_of mode) (scalar d) ≡ here mode c → Gives mode more →
-      Writes handler (state_of mode) (d ∷ more) (events mode (c ∷ more))
+      WritesText handler (state_of mode) (d ∷ more) (events mode (c ∷ more))
   at_home mode c d more is does h = rw (text_events-here index katakana_index mode c is more true) (gives _ (code c) [] does h)
 
   -- a scalar in any mode

@@ -201,7 +201,7 @@ module _ (jis0208 : List ℕ) where
   own-handler : (m : Mode) (l : ℕ) (flag : Bool) (b : ℕ) → (b == esc) ≡ false → is_lead m b ≡ false →
       iso_2022_jp_handler jis0208 (at_rest m l flag) (byte b) ≡ returns (code_point_or_error (own (iso_2022_jp_front jis0208 m b []))) (at_rest m l false)
   unfolding iso_2022_jp_handler iso_2022_jp_front
-  own-handler m l flag b plain h = grind (arith, nat_tests)
+  own-handler m l flag b unescaped h = grind (arith, nat_tests)
 
   -- in a mode each error is for one byte
   own-extent : (m : Mode) (l : ℕ) (item : Item) → length_and_after (state_of m) l item ≡ (1, 0)
@@ -210,35 +210,35 @@ module _ (jis0208 : List ℕ) where
   -- a form of one byte
   one_byte : (m : Mode) (l : ℕ) (flag : Bool) (pos b : ℕ) (more : List ℕ) → (b == esc) ≡ false → Below (length more) → is_lead m b ≡ false →
       Decodes m l flag pos (b ∷ more)
-  one_byte m l flag pos b more plain below h =
-      rw (one-outs m flag pos b more _ plain (own-front m b (first_part more) h))
-      (returned m l pos 1 _ (below.decodes _ l _ _ _ (omega arith)) (own-handler m l flag b plain h) refl (own-extent m l (byte b)) refl)
+  one_byte m l flag pos b more unescaped below h =
+      rw (one-outs m flag pos b more _ unescaped (own-front m b (first_part more) h))
+      (returned m l pos 1 _ (below.decodes _ l _ _ _ (omega arith)) (own-handler m l flag b unescaped h) refl (own-extent m l (byte b)) refl)
 
   -- the byte after a lead byte
   behind_lead_byte : (flag : Bool) (pos b : ℕ) (more : List ℕ) → (b == esc) ≡ false → is_in_range 0x21 0x7E b ≡ true → Below (length more) →
       Gives jis0208 (behind_lead b) 1 (pos + 1) more (again flag pos (b ∷ more) ++ events iso.two_byte pos (b ∷ more))
   unfolding iso_2022_jp_handler iso_2022_jp_front
-  behind_lead_byte flag pos b [] plain lead below =
-      rw (one-outs iso.two_byte flag pos b [] None plain refl)
+  behind_lead_byte flag pos b [] unescaped lead below =
+      rw (one-outs iso.two_byte flag pos b [] None unescaped refl)
       (out-error_at_end 0 (below.decodes _ b _ _ _ (omega arith)) refl (omega arith) (omega arith) refl (omega arith))
-  behind_lead_byte flag pos b (t ∷ rest) plain lead below = elim (cases_eq t esc) [
+  behind_lead_byte flag pos b (t ∷ rest) unescaped lead below = elim (cases_eq t esc) [
     | inl is ↦
         let shorter : Below (length rest) = record { decodes = λ m l flag pos bytes h. below.decodes m l flag pos bytes (omega arith) } in
-        rw (one-outs iso.two_byte flag pos b (t ∷ rest) None plain (rw is refl), is)
+        rw (one-outs iso.two_byte flag pos b (t ∷ rest) None unescaped (rw is refl), is)
         (out-error 1 [] (behind_escape_byte iso.two_byte b false (pos + 1) rest shorter) refl (omega arith) (omega arith) refl (omega arith))
     | inr other ↦
-        let plain_t = ne_eqb t esc other in
+        let unescaped_t = ne_eqb t esc other in
         let o : Option ℕ = cond (is_in_range 0x21 0x7E t) (idx jis0208 ((b - 0x21) * 94 + (t - 0x21))) None in
-        rw (two-outs iso.two_byte flag pos b t rest o plain plain_t (grind arith))
-        (returned iso.two_byte b pos 2 o (below.decodes _ b _ _ _ (omega arith)) (grind arith) refl (rw plain_t refl) (omega arith))
+        rw (two-outs iso.two_byte flag pos b t rest o unescaped unescaped_t (grind arith))
+        (returned iso.two_byte b pos 2 o (below.decodes _ b _ _ _ (omega arith)) (grind arith) refl (rw unescaped_t refl) (omega arith))
   ]
 
   lead_byte : (m : Mode) (l : ℕ) (flag : Bool) (pos b : ℕ) (more : List ℕ) → (b == esc) ≡ false → Below (length more) → is_lead m b ≡ true →
       Decodes m l flag pos (b ∷ more)
   unfolding iso_2022_jp_handler
-  lead_byte iso.two_byte l flag pos b more plain below h =
-      out-continue (behind_lead_byte flag pos b more plain h below) (rw (plain, h) refl) (omega arith) refl
-  lead_byte _ l flag pos b more plain below h = absurd (false≢true h)
+  lead_byte iso.two_byte l flag pos b more unescaped below h =
+      out-continue (behind_lead_byte flag pos b more unescaped h below) (rw (unescaped, h) refl) (omega arith) refl
+  lead_byte _ l flag pos b more unescaped below h = absurd (false≢true h)
 
   -- ---- whole lists
 
@@ -251,10 +251,10 @@ module _ (jis0208 : List ℕ) where
   first m l flag pos b more below = elim (cases_eq b esc) [
     | inl is ↦ rw is (out-continue (behind_escape_byte m l flag pos more below) (grind arith) (omega arith) refl)
     | inr other ↦
-        let plain = ne_eqb b esc other in
+        let unescaped = ne_eqb b esc other in
         elim (cases_Bool (is_lead m b)) [
-          | inl h ↦ lead_byte m l flag pos b more plain below h
-          | inr h ↦ one_byte m l flag pos b more plain below h
+          | inl h ↦ lead_byte m l flag pos b more unescaped below h
+          | inr h ↦ one_byte m l flag pos b more unescaped below h
         ]
   ]
 

@@ -11,11 +11,11 @@ use Rattle.legacy_standard.specs.TextQueue.{TextOutcome, by_scalar, Encodes}
 use Rattle.legacy_standard.specs.{SingleByteEncoder.single_byte_encodes, UserDefinedEncoder.user_defined_encodes, EucKrEncoder.euc_kr_encodes}
 use Rattle.legacy_standard.specs.{Big5Encoder.big5_encodes, ShiftJisEncoder.shift_jis_encodes, EucJpEncoder.euc_jp_encodes}
 use Rattle.legacy_standard.specs.{Gb18030Encoder.gb18030_encodes, EncoderLaw.{HasRows, AreAcceptedRanges, HasRangePointers}}
-use Rattle.legacy_standard.proofs.{RangePointers.ranged_pointer, TextTurns.{IsEncodedBy, Writes, by_code, steady, ends, gives}}
+use Rattle.legacy_standard.proofs.{RangePointers.ranged_pointer, TextTurns.{IsEncodedBy, WritesText, by_code, steady, ends, gives}}
 use Rattle.legacy_base.specs.Encoders as codecs
 
 module _ (outcome : ℕ → TextOutcome) (code : ℕ → Option (List ℕ)) (is : (c : ℕ) → IsScalar c → outcome c ≡ by_code c (code c)) where
-  writes : (text : List ℕ) → AreScalars text → Writes (by_scalar outcome) tt text (plain_events code text)
+  writes : (text : List ℕ) → AreScalars text → WritesText (by_scalar outcome) tt text (plain_events code text)
   unfolding plain_events
   writes [] all = ends refl
   writes (c ∷ text) all =

@@ -8,7 +8,7 @@ use Rattle.legacy_tables.proofs.{Pointers.range-fixed, RangePointers.{wide-point
 use Rattle.legacy_standard.specs.{RangesPointer.{offset_pointer, ranges_pointer}, EncoderLaw.AreAcceptedRanges}
 
 -- the range of a place is the last that begins at or before c, and gives it the pointer p
-record IsTaken (ranges : List (ℕ × ℕ)) (c p place : ℕ) : Type 0 where
+record IsTakenRange (ranges : List (ℕ × ℕ)) (c p place : ℕ) : Type 0 where
   within : place < length ranges
   reached : (get_or ranges place (0, 0)).1 ≤ c
   ahead : (k : ℕ) → place < k → k < length ranges → c < (get_or ranges k (0, 0)).1
@@ -17,7 +17,7 @@ record IsTaken (ranges : List (ℕ × ℕ)) (c p place : ℕ) : Type 0 where
 -- all ranges begin after c, or one is taken for it
 abbrev Chosen : List (ℕ × ℕ) → ℕ → Option ℕ → Type 0
 Chosen ranges c None = (k : ℕ) → k < length ranges → c < (get_or ranges k (0, 0)).1
-Chosen ranges c (Some p) = (place : ℕ) × IsTaken ranges c p place
+Chosen ranges c (Some p) = (place : ℕ) × IsTakenRange ranges c p place
 
 chosen : (ranges : List (ℕ × ℕ)) (c : ℕ) → Chosen ranges c (offset_pointer ranges c)
 chosen [] c = λ k h. absurd (omega arith)

@@ -12,26 +12,26 @@ by_code c None = error_with c
 by_code c (Some bs) = bytes bs
 
 -- within some number of turns, and within any greater number, the events are these
-pub record Writes {S : Type 0} (handler : S → TextItem → TextHandled S) (s : S) (queue : List ℕ) (events : List EncodeEvent) : Type 0 where
+pub record WritesText {S : Type 0} (handler : S → TextItem → TextHandled S) (s : S) (queue : List ℕ) (events : List EncodeEvent) : Type 0 where
   pub turns : ℕ
   pub proceeds : (more : ℕ) → process handler (turns + more) s queue ≡ Some events
 
 module _ {S : Type 0} {handler : S → TextItem → TextHandled S} where
-  pub steady : {s : S} {queue : List ℕ} {events : List EncodeEvent} → Writes handler s queue events → Encodes handler s queue events
+  pub steady : {s : S} {queue : List ℕ} {events : List EncodeEvent} → WritesText handler s queue events → Encodes handler s queue events
   steady w = (w.turns, w.proceeds)
 
-  pub ends : {s t : S} → handler s end_of_queue ≡ returns finished t → Writes handler s [] []
+  pub ends : {s t : S} → handler s end_of_queue ≡ returns finished t → WritesText handler s [] []
   unfolding process
   ends e = record { turns = 1; proceeds = λ more. rw (one-add, e) refl }
 
-  pub end_bytes : {s t : S} (bs : List ℕ) {es : List EncodeEvent} → handler s end_of_queue ≡ returns (bytes bs) t → Writes handler t [] es →
-      Writes handler s [] (map Byte bs ++ es)
+  pub end_bytes : {s t : S} (bs : List ℕ) {es : List EncodeEvent} → handler s end_of_queue ≡ returns (bytes bs) t → WritesText handler t [] es →
+      WritesText handler s [] (map Byte bs ++ es)
   unfolding process
   end_bytes bs e h = record { turns = suc h.turns; proceeds = λ more. rw (suc-add, e, h.proceeds more) refl }
 
   -- the handler returns bytes or an error, and restores scalar values
   pub gives : {s t : S} {c : ℕ} (d : ℕ) (o : Option (List ℕ)) (again : List ℕ) {rest : List ℕ} {es : List EncodeEvent} →
-      handler s (scalar c) ≡ restores again (by_code d o) t → Writes handler t (again ++ rest) es → Writes handler s (c ∷ rest) (code_events d o ++ es)
+      handler s (scalar c) ≡ restores again (by_code d o) t → WritesText handler t (again ++ rest) es → WritesText handler s (c ∷ rest) (code_events d o ++ es)
   unfolding process
   gives d None again e h = record { turns = suc h.turns; proceeds = λ more. rw (suc-add, e, h.proceeds more) refl }
   gives d (Some bs) again e h = record { turns = suc h.turns; proceeds = λ more. rw (suc-add, e, h.proceeds more) refl }

@@ -16,7 +16,7 @@ use Rattle.legacy_streams.specs.Recoding.{RecodesFront}
 
 -- `offset` bytes of the piece were decoded. The lines of their events were written, except `pending`, which are the
 -- last.
-pub record IsUnderWay (before : DecoderState) (piece : List ℕ) (last : Bool) (total : ℕ) (now : DecoderState) (offset : ℕ)
+pub record IsPieceUnderWay (before : DecoderState) (piece : List ℕ) (last : Bool) (total : ℕ) (now : DecoderState) (offset : ℕ)
     (pending : List ℕ) (old new : Option (List ℕ)) : Type 0 where
   pub within : offset ≤ length piece
   pub passed : ℕ
@@ -35,7 +35,7 @@ unfolding input_events
 input_events-scalars t h cs = ap (placed h) (shift-scalars t cs) ∙ placed-scalars h cs
 
 pub piece_start : (before : DecoderState) (piece : List ℕ) (last : Bool) (total : ℕ) (pending : List ℕ) (old : Option (List ℕ))
-    → pending ≡ [] → IsUnderWay before piece last total before 0 pending old old
+    → pending ≡ [] → IsPieceUnderWay before piece last total before 0 pending old old
 unfolding input_events placed
 piece_start before piece last total pending old e = record {
   within = omega arith;
@@ -72,21 +72,21 @@ module _ (before now : DecoderState) (total : ℕ) (old mid new : Option (List �
   lines_front_join = record { join = λ passed xs ys e a b. rw (lines-append before now total passed xs ys e) (front_after mid _ a b) }
 
 module _ {before : DecoderState} {piece : List ℕ} {last : Bool} {total : ℕ} {now : DecoderState} {offset : ℕ} {pending : List ℕ}
-    {old mid : Option (List ℕ)} (u : IsUnderWay before piece last total now offset pending old mid) where
+    {old mid : Option (List ℕ)} (u : IsPieceUnderWay before piece last total now offset pending old mid) where
   -- if only a front of the pending lines is written, the piece was decoded in part
   pub piece_front : (new : Option (List ℕ)) (count : ℕ) → Appends mid new (take count pending) → RecodesFront before piece last total now old new
   piece_front new count w = grind (arith, front_after, front_of)
 
   -- writing `sent` leaves the pending lines after it
   pub piece_sent : {kept : List ℕ} {new : Option (List ℕ)} (sent : List ℕ) → Appends mid new sent → pending ≡ sent ++ kept
-      → IsUnderWay before piece last total now offset kept old new
+      → IsPieceUnderWay before piece last total now offset kept old new
   piece_sent sent w e = grind (arith, append_assoc, Appends-trans)
 
   -- events more, with their lines
   more_events : (count : ℕ) → offset + count ≤ length piece → {passed : ℕ} {after : DecoderState} {given made : List DecodeEvent}
       → Progress last now (drop offset piece) passed after (drop count (drop offset piece)) given
       → input_events total (length before.held) (shift u.passed given) ≡ made → {more : List ℕ} → more ≡ pending ++ event_lines made
-      → IsUnderWay before piece last total after (offset + count) more old mid
+      → IsPieceUnderWay before piece last total after (offset + count) more old mid
   more_events count within {passed} {given = given} {made} way is e = record {
     within = within;
     passed = u.passed + passed;
@@ -112,7 +112,7 @@ module _ {before : DecoderState} {piece : List ℕ} {last : Bool} {total : ℕ} 
     given_is : input_events total (length before.held) (shift u.passed given) ≡ map Scalar scalars ++ reported_events (total + offset + read) answer
     given_is = grind (arith, shift-append, shift-scalars, input_events-append, input_events-scalars, malformed_is)
 
-    pub piece_step : IsUnderWay before piece last total after (offset + read) more old mid
+    pub piece_step : IsPieceUnderWay before piece last total after (offset + read) more old mid
     piece_step =
         let within : offset + read ≤ length piece = let r = c.within in let v = u.within in omega (arith, length-drop offset piece) in
         more_events read within (at_less _ last (end_report-last last answer _) _ _ _ _ _ _ c.progress) given_is w
@@ -141,14 +141,14 @@ module _ {before : DecoderState} {piece : List ℕ} {last : Bool} {total : ℕ} 
 
 -- the call, as the function that makes it says it
 module _ {before : DecoderState} {piece : List ℕ} {last : Bool} {total : ℕ} {now : DecoderState} {offset : ℕ} {pending : List ℕ}
-    {old mid : Option (List ℕ)} (u : IsUnderWay before piece last total now offset pending old mid) {unread : List ℕ} (rest : unread ≡ drop offset piece)
+    {old mid : Option (List ℕ)} (u : IsPieceUnderWay before piece last total now offset pending old mid) {unread : List ℕ} (rest : unread ≡ drop offset piece)
     {after : DecoderState} {answer : DecoderResult} {read : ℕ} {more : List ℕ}
     (call : (given : List ℕ) × DecoderCall Utf16 now unread last 1024 after answer read given
     × (more ≡ pending ++ event_lines (map Scalar given ++ reported_events (total + offset + read) answer))) where
   call_of_rest : DecoderCall Utf16 now (drop offset piece) last 1024 after answer read call.0
   call_of_rest = rw rest at call.1
 
-  pub call_step : IsUnderWay before piece last total after (offset + read) more old mid
+  pub call_step : IsPieceUnderWay before piece last total after (offset + read) more old mid
   call_step = piece_step u call_of_rest call.2
 
   pub call_end : (new : Option (List ℕ)) → answer ≡ InputEmpty → Appends mid new more → RecodesPiece before piece last total after old new
@@ -193,10 +193,10 @@ malformed_way last state (b ∷ bytes) (suc count) few malformed_byte =
 
 -- Lines are written, so that room is made, and then those of bytes that are malformed one by one are added.
 pub piece_ahead : (count : ℕ) {before : DecoderState} {piece : List ℕ} {last : Bool} {total : ℕ} {now : DecoderState} {offset : ℕ}
-    {pending kept more unread : List ℕ} {old mid new : Option (List ℕ)} → IsUnderWay before piece last total now offset pending old mid
+    {pending kept more unread : List ℕ} {old mid new : Option (List ℕ)} → IsPieceUnderWay before piece last total now offset pending old mid
     → (sent : List ℕ) × Appends mid new sent × (pending ≡ sent ++ kept) → unread ≡ drop offset piece → count ≤ length unread
     → ((k : ℕ) → k < count → IsMalformedByte now (get_or unread k 0)) → more ≡ kept ++ event_lines (malformed_events (total + offset) count)
-    → IsUnderWay before piece last total now (offset + count) more old new
+    → IsPieceUnderWay before piece last total now (offset + count) more old new
 piece_ahead count {before} {piece} {last} {total} {now} {offset} u sent e few malformed_byte w =
     let s = piece_sent u sent.0 sent.1 sent.2 in
     let bound : count ≤ length (drop offset piece) = rw e at few in
