@@ -94,3 +94,14 @@ module _ (limit : ℕ) (small : limit < 65536) (lead trail : ℕ → ℕ) where
 
 pub entry_is : (e : ℕ) → e ≢ 0 → option_to_list (entry_scalar e) ≡ e ∷ []
 entry_is e some = grind (arith, nat_tests)
+
+pub lane_is : (f : ℕ → ℕ) (k : ℕ) → k < 8 → get_or (f 0 ∷ f 1 ∷ f 2 ∷ f 3 ∷ f 4 ∷ f 5 ∷ f 6 ∷ f 7 ∷ []) k 0 ≡ f k
+lane_is f zero h = refl
+lane_is f (suc zero) h = refl
+lane_is f (suc (suc zero)) h = refl
+lane_is f (suc (suc (suc zero))) h = refl
+lane_is f (suc (suc (suc (suc zero)))) h = refl
+lane_is f (suc (suc (suc (suc (suc zero))))) h = refl
+lane_is f (suc (suc (suc (suc (suc (suc zero)))))) h = refl
+lane_is f (suc (suc (suc (suc (suc (suc (suc zero))))))) h = refl
+lane_is f (suc (suc (suc (suc (suc (suc (suc (suc k)))))))) h = absurd (omega arith)

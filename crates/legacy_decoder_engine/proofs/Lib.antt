@@ -4,6 +4,7 @@ pub mod AheadInCalls
 pub mod Feeding
 pub mod FrontMoves
 pub mod WrittenReads
+pub mod Rests
 pub mod JoinedReads
 pub mod YieldedForms
 pub mod LeadHeld

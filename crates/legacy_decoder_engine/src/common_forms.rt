@@ -64,7 +64,6 @@ fn fitting(bytes: usize, units: usize) -> usize
 /// Returns the number of bytes read, and whether it read `most` forms. The input has bytes for `most` forms, and the
 /// output has room for them and three more code units.
 #[inline(always)]
-#[tactic(auto, using(crate::proofs::WrittenReads::one_by_one))]
 fn read_turns<F: FrontForms, T: Destination>(
     forms: &F,
     src: &[u8],
@@ -135,7 +134,6 @@ pub(crate) fn read_four<F: FrontForms, T: Destination>(
 // Four at a time: the compiler unrolls a loop of that size, so each place has its own branches, and the processor
 // predicts each of them by its own history.
 #[inline(always)]
-#[tactic(auto, using(crate::proofs::JoinedReads::turn_by_turn))]
 pub fn read_forms<F: FrontForms, T: Destination>(
     forms: &F,
     src: &[u8],

@@ -84,7 +84,6 @@ fn begins_malformed<D: DecoderMoves>(decoder: &D, src: &[u8]) -> bool
 /// Returns the number of bytes read, and whether the byte after them is known to be malformed.
 // Malformed bytes often follow one another. None of them costs a test for a block.
 #[inline(always)]
-#[tactic(auto, using(crate::proofs::WrittenReads::no_bytes))]
 fn read_ahead<D: DecoderMoves, T: Destination>(
     decoder: &mut D,
     src: &[u8],

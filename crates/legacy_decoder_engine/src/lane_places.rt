@@ -13,7 +13,6 @@ use std::simd::prelude::*;
 /// They are exact up to the end of the rows of the leads from `lead` on.
 // No lead is tested. The product of another byte wraps to a number past the rows.
 #[inline(always)]
-#[tactic(auto, using(crate::proofs::LanePlaces::leads_are))]
 pub fn lead_places(codes: u16x8, lead: u16, width: u16) -> u16x8
     requires lead { lead < 0x100 }
     requires width { width < 0x100 }
@@ -30,7 +29,6 @@ pub fn lead_places(codes: u16x8, lead: u16, width: u16) -> u16x8
 /// They are exact up to FF00.
 // The difference of a lower byte wraps to a number past that.
 #[inline(always)]
-#[tactic(auto, using(crate::proofs::LanePlaces::lates_are))]
 pub fn late_places(codes: u16x8, first: u16) -> u16x8
     requires { first < 0x100 }
     ensures { (limit : ℕ) → limit ≤ 0xFF00 → ArePlaces limit (late_place_of first) codes result }

@@ -19,7 +19,6 @@ const ALL_BUT_LAST: u64 = 0x7FFF_FFFF_FFFF_FFFF;
 // In a row of bytes past ASCII every second one starts a form: one subtraction carries through all rows at once, and
 // gives the parity of each. The bits are checked after it, so the proof needs no facts about carries.
 #[inline(always)]
-#[tactic(auto, using(crate::proofs::Picking::asked, crate::proofs::Picking::lowest_set))]
 pub fn form_starts(past: u64) -> Option<u64>
     ensures { IfSome result (λ starts. AreStarts past starts) }
 {
@@ -87,7 +86,6 @@ pub fn pick(block: &[u8], starts: u64, codes: &mut [u16], count: usize) -> usize
 /// Returns the number of bytes of the forms that end in the first `limit` bytes, given the starts of all forms.
 // A form that starts at the last of these bytes may have another byte after them.
 #[inline(always)]
-#[tactic(auto, using(crate::proofs::Picking::whole_end))]
 fn whole_forms(past: u64, starts: u64, limit: usize) -> usize
     requires some { 0 < limit }
     requires most { limit ≤ 64 }
@@ -141,7 +139,6 @@ pub fn pick_forms(
 // Half as many as `begins_many` asks for are enough. Eight bytes after the block are read too, because the codes of its
 // last eight bytes are picked from sixteen.
 #[inline(always)]
-#[tactic(auto, using(crate::proofs::Picking::front_chunk))]
 fn pick_block<C: LaneCodec>(
     block: &[u8],
     limit: usize,

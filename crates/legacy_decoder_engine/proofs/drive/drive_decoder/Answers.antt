@@ -1,6 +1,6 @@
 use Rattle.std.proofs.Common.{◌∙◌, [], ◌∷◌, arith, refl, sym, append-nil, add-zero, length-append}
 use Rattle.{legacy_text.specs.EncodingForm.code_units, legacy_decoder_engine.proofs.CallUnderWay.{going_start, going_release, call_full_release, call_end}}
-use Rattle.legacy_decoder_engine.proofs.AheadInCalls.{read_going, front_going, left_malformed, byte_going, byte_ends}
+use Rattle.legacy_decoder_engine.proofs.{AheadInCalls.{read_going, front_going, left_malformed, byte_going, byte_ends}, Rests.{rest_long, room_kept}}
 use Rattle.legacy_decoder_engine.proofs.drive.drive_decoder.Goals.{then-not-rests+else-not-has_room+in-Some, else-not-rests}
 use Rattle.legacy_decoder_engine.proofs.drive.drive_decoder.Goals as goal
 
@@ -71,3 +71,57 @@ returns-clause-call g c =
     let i = front_going g.T.Destination c.args.dst.now c.loop-decoder.invariant c.read_ahead-count.ensures.read c.hold_back-read.ensures.within
     c.hold_back-read.ensures.holds in
     (i.0, rw (← c.if-read-src.true) (call_end i.1 _ i.3 c.if-read-src.true c.finish.ensures), i.2)
+
+pub overflow_add-read : goal.overflow_add-read
+overflow_add-read g c = omega (arith, c.read_ahead-count.ensures.read.within, rest_long c.args.src.now c.loop-decoder.read)
+
+pub bounds-src-read : goal.bounds-src-read
+bounds-src-read g c = (left_malformed _ _ (c.read_ahead-count.ensures.malformed c.if-is_malformed.true)).0
+
+pub returns-then-is_malformed-clause-room : goal.returns-then-is_malformed-clause-room
+returns-then-is_malformed-clause-room g c =
+    room_kept g.T.Destination c.args.dst.now (read_going g.T.Destination c.args.dst.now c.loop-decoder.invariant c.read_ahead-count.ensures.read)
+
+pub returns-then-is_malformed-clause-loan : goal.returns-then-is_malformed-clause-loan
+returns-then-is_malformed-clause-loan g c =
+    (read_going g.T.Destination c.args.dst.now c.loop-decoder.invariant c.read_ahead-count.ensures.read).4
+
+pub returns-in-Some-read_byte-clause-room : goal.returns-in-Some-read_byte-clause-room
+returns-in-Some-read_byte-clause-room g c =
+    rw c.in-Some-read_byte.ensures.1 (room_kept g.T.Destination c.args.dst.now (front_going g.T.Destination c.args.dst.now c.loop-decoder.invariant
+    c.read_ahead-count.ensures.read c.hold_back-read.ensures.within c.hold_back-read.ensures.holds))
+
+pub returns-in-Some-read_byte-clause-loan : goal.returns-in-Some-read_byte-clause-loan
+returns-in-Some-read_byte-clause-loan g c =
+    rw c.in-Some-read_byte.ensures.1 ((front_going g.T.Destination c.args.dst.now c.loop-decoder.invariant c.read_ahead-count.ensures.read
+    c.hold_back-read.ensures.within c.hold_back-read.ensures.holds).4)
+
+pub returns-clause-room : goal.returns-clause-room
+returns-clause-room g c =
+    room_kept g.T.Destination c.args.dst.now (front_going g.T.Destination c.args.dst.now c.loop-decoder.invariant c.read_ahead-count.ensures.read
+    c.hold_back-read.ensures.within c.hold_back-read.ensures.holds)
+
+pub returns-clause-loan : goal.returns-clause-loan
+returns-clause-loan g c =
+    (front_going g.T.Destination c.args.dst.now c.loop-decoder.invariant c.read_ahead-count.ensures.read c.hold_back-read.ensures.within
+    c.hold_back-read.ensures.holds).4
+
+pub put-requires : goal.put-requires
+put-requires g c =
+    let enough = rw (c.release_room.ensures.units g.T.Destination.form) at (c.has_room.ensures.some c.if-not-has_room.false) in
+    omega (arith, c.in-Some.ensures.fits g.T.Destination.form, enough)
+
+pub slice_bounds-hold_back-count : goal.slice_bounds-hold_back-count
+slice_bounds-hold_back-count g c = omega (arith, c.read_ahead-count.ensures.read.within, rest_long c.args.src.now c.loop-decoder.read)
+
+pub overflow_add-read-in-loop-decoder : goal.overflow_add-read-in-loop-decoder
+overflow_add-read-in-loop-decoder g c =
+    let i = front_going g.T.Destination c.args.dst.now c.loop-decoder.invariant c.read_ahead-count.ensures.read c.hold_back-read.ensures.within
+    c.hold_back-read.ensures.holds in
+    omega (arith, i.1.within)
+
+pub bounds-src-read-in-loop-decoder : goal.bounds-src-read-in-loop-decoder
+bounds-src-read-in-loop-decoder g c =
+    let i = front_going g.T.Destination c.args.dst.now c.loop-decoder.invariant c.read_ahead-count.ensures.read c.hold_back-read.ensures.within
+    c.hold_back-read.ensures.holds in
+    omega (arith, i.1.within)

@@ -1,6 +1,5 @@
-use Rattle.std.proofs.Common.{rules}
 use Rattle.std.proofs.{Common.{arith}, lemmas.List.take_more}
-use Rattle.legacy_decoder_engine.proofs.WrittenReads.{yields_byte}
+use Rattle.legacy_decoder_engine.proofs.WrittenReads.{take_two, yields_byte}
 use Rattle.legacy_decoder_engine.proofs.lane_blocks.form_at.Goals as goal
 
 pub returns-then-byte-lt128 : goal.returns-then-byte-lt128
@@ -12,4 +11,4 @@ pub returns-then-begins_longer : goal.returns-then-begins_longer
 returns-then-begins_longer g c = c.longer_at.ensures
 
 pub returns-in-Pair : goal.returns-in-Pair
-returns-in-Pair g c = search rules
+returns-in-Pair g c = (omega arith, omega arith, rw (take_two c.args.src.now 0 (omega arith)) c.in-Pair.ensures.1)

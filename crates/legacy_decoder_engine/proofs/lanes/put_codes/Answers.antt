@@ -1,5 +1,5 @@
-use Rattle.std.proofs.{Common.{◌≡◌, ◌*◌, ◌+◌, ◌/◌, length, take, arith}, lemmas.List.take_all}
-use Rattle.legacy_decoder_engine.proofs.{LaneUnits.{few_units, scalars_there, next_written}, WrittenReads.all_short}
+use Rattle.std.proofs.{Common.{◌≡◌, ℕ, ◌*◌, ◌+◌, ◌/◌, length, take, refl, arith}, lemmas.List.{take_all, get_or-drop}}
+use Rattle.legacy_decoder_engine.proofs.{LaneUnits.{few_units, scalars_there, next_written}, WrittenReads.{all_short, rest_of, writes_none}}
 use Rattle.legacy_decoder_engine.proofs.lanes.put_codes.Goals as goal
 
 pub put_eight-requires-clause-scalars : goal.put_eight-requires-clause-scalars
@@ -46,3 +46,34 @@ put_eight-requires-clause-room g c = omega arith
 
 pub returns-then-at-most-clause-slack : goal.returns-then-at-most-clause-slack
 returns-then-at-most-clause-slack g c = omega arith
+
+pub returns-then-entries-eq0-clause-writes : goal.returns-then-entries-eq0-clause-writes
+returns-then-entries-eq0-clause-writes g c = record { writes = writes_none g.T.Destination _ _; counted = refl }
+
+pub loop-group-init : goal.loop-group-init
+loop-group-init g c = record {
+  within = omega arith;
+  slack = omega arith;
+  writes = record { writes = writes_none g.T.Destination _ _; counted = refl };
+}
+
+pub units_of-units-requires-clause-within : goal.units_of-units-requires-clause-within
+units_of-units-requires-clause-within g c k h =
+    let at : ℕ = 8 * c.loop-group.group in
+    rw (rest_of c.split_codes.new.places at, get_or-drop at c.split_codes.new.places k 0)
+    (omega (arith, (c.split_codes.ensures (at + k) (omega arith)).1, c.entry_count-entries.ensures.count))
+
+pub returns-then-at-most-clause-writes : goal.returns-then-at-most-clause-writes
+returns-then-at-most-clause-writes g c = c.loop-group.invariant.writes
+
+pub returns-then-at-most-clause-had : goal.returns-then-at-most-clause-had
+returns-then-at-most-clause-had g c = omega arith
+
+pub units_of-units-requires-2-clause-within : goal.units_of-units-requires-2-clause-within
+units_of-units-requires-2-clause-within g c k h =
+    let at : ℕ = 8 * c.loop-group.group in
+    rw (rest_of c.split_codes.new.places at, get_or-drop at c.split_codes.new.places k 0)
+    (omega (arith, (c.split_codes.ensures (at + k) (omega arith)).1, c.entry_count-entries.ensures.count))
+
+pub returns-clause-had : goal.returns-clause-had
+returns-clause-had g c = omega (arith, c.loop-group.invariant.writes.writes.room)

@@ -5,6 +5,9 @@ use Rattle.legacy_decoder_engine.proofs.lane_blocks.LaneBlocksBlockReader.read_b
 pub returns-then-longer-gt0-clause-ahead : goal.returns-then-longer-gt0-clause-ahead
 returns-then-longer-gt0-clause-ahead g c = c.read_longer_blocks-longer.ensures
 
+pub returns-then-longer-gt0-clause-goes_on : goal.returns-then-longer-gt0-clause-goes_on
+returns-then-longer-gt0-clause-goes_on g c = λ e. c.if-longer-gt0.true
+
 pub returns-then-src-at-lt2-clause-ahead : goal.returns-then-src-at-lt2-clause-ahead
 returns-then-src-at-lt2-clause-ahead g c = reads_first (omega arith) c.read_longer_blocks-longer.ensures c.read_lanes-at.ensures
 
