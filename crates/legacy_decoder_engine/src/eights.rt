@@ -8,7 +8,7 @@ ghost use Rattle.legacy_base.specs.States.{new_state};
 ghost use Rattle.legacy_decoder_engine.specs.ReadAhead.{ReadsAhead, Yields};
 
 use crate::lane_codec::LaneCodec;
-use crate::lanes::{are_known, chosen, entries_at, entry_count, kept_and_places, known_count};
+use crate::lanes::{are_known, chosen, entries_at, entry_count, kept_and_places, put_known};
 use crate::read_ahead::SLACK;
 use legacy_base::Destination;
 use legacy_tables::FlatTables;
@@ -64,8 +64,7 @@ fn read_eight<C: LaneCodec, T: Destination>(
     let pairs = pair_count(bytes);
     let units = units_in::<C>(tables, bytes, last);
     if pairs < 8 || !are_known(units) {
-        let few = known_count(units).min(pairs);
-        dst.put_first(units, few);
+        let few = put_known(dst, units, pairs);
         return 2 * few;
     }
     dst.put_eight(units);

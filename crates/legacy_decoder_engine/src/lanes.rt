@@ -3,7 +3,9 @@
 // the destination's place there for each block.
 #![tactic(auto, using(crate::proofs::WrittenReads::no_bytes))]
 
-ghost use Rattle.std.specs.Prelude.{◌≡◌, ◌≢◌, ℕ, ◌+◌, ◌*◌, ◌/◌, ◌<◌, ◌≤◌, true, length, take, get_or, min};
+ghost use Rattle.std.specs.Prelude.{◌≡◌, ◌≢◌, ℕ, ◌+◌, ◌*◌, ◌/◌, ◌<◌, ◌≤◌, ◌++◌, All, true, length, take, get_or, min};
+ghost use Rattle.std.specs.Char.{IsScalar};
+ghost use Rattle.legacy_text.specs.EncodingForm.{all_code_units, total_unit_count};
 ghost use Rattle.legacy_decoder_engine.specs.LaneCodes.{ascii_count, unit_at, ArePairs, AreLanes, AreForms, AreWritten};
 
 use crate::lane_codec::LaneCodec;
@@ -169,6 +171,32 @@ fn units_of<C: LaneCodec>(tables: &FlatTables<'_>, kept: &[u16], places: &[u32])
     chosen(u16x8::from_slice(kept), entries)
 }
 
+/// Returns the number of groups of eight among `most` codes for which `free` code units are enough, with 32 for each.
+#[inline(always)]
+fn group_count(most: usize, free: usize) -> usize
+    ensures most { result ≤ most / 8 }
+    ensures room { 32 * result ≤ free }
+{
+    (most / 8).min(free / 32)
+}
+
+/// Writes the first `most` of eight units, up to one that is 0, and returns their number. At least 32 code units must be free.
+#[inline(always)]
+pub(crate) fn put_known<T: Destination>(dst: &mut T, units: u16x8, most: usize) -> usize
+    requires scalars { All IsScalar units }
+    requires room { 32 ≤ T.room dst.old }
+    ensures most { result ≤ most }
+    ensures eight { result ≤ 8 }
+    ensures known { (k : ℕ) → k < result → get_or units k 0 ≢ 0 }
+    ensures contents { T.contents dst.new ≡ T.contents dst.old ++ all_code_units T.form (take result units) }
+    ensures room { T.room dst.new + total_unit_count T.form (take result units) ≡ T.room dst.old }
+    ensures loan { T.loan dst.new ≡ T.loan dst.old }
+{
+    let few = known_count(units).min(most);
+    dst.put_first(units, few);
+    few
+}
+
 /// Writes the first `most` codes, up to one that is uncommon, and returns the number of codes written.
 ///
 /// Stops before a group of eight if fewer than 32 code units are free. Stores what is kept of the codes over them.
@@ -192,7 +220,7 @@ pub(crate) fn put_codes<C: LaneCodec, T: Destination>(
         return 0;
     }
     split_codes::<C>(codes, places, (most + 7) / 8, (entries - 1) as u16);
-    let groups = (most / 8).min(dst.free() / 32);
+    let groups = group_count(most, dst.free());
     let mut group = 0;
     while group < groups {
         let at = 8 * group;
@@ -208,8 +236,7 @@ pub(crate) fn put_codes<C: LaneCodec, T: Destination>(
         return at;
     }
     let units = units_of::<C>(tables, &codes[at..], &places[at..]);
-    let few = known_count(units).min(most - at);
-    dst.put_first(units, few);
+    let few = put_known(dst, units, most - at);
     at + few
 }
 

@@ -184,7 +184,6 @@ fn copy_sixteen(src: &[u8], at: usize, padded: &mut [u8])
 // Copies of sixteen bytes may overlap. One copy of any number of bytes would be a call, and the compiler turns a loop into
 // such a call.
 #[inline(always)]
-#[tactic(auto, using(crate::proofs::LaneUnits::shorter_front))]
 fn copy_front(src: &[u8], padded: &mut [u8; 72])
     requires some { 16 ≤ length src.now }
     requires most { length src.now ≤ 64 }

@@ -14,7 +14,7 @@ returns-clause-ahead g c =
 pub returns-then-pairs-lt8-clause-ahead : goal.returns-then-pairs-lt8-clause-ahead
 returns-then-pairs-lt8-clause-ahead g c =
     let u = c.units_in-units.ensures in
-    let e = c.put_first.ensures in
-    reads_pairs g.T.Destination _ c.args.src.now c.units_in-units.result c.min-few.result c.requires.block (omega arith) (omega arith) u.small
-    (u.pairs c.min-few.result (omega arith) (λ k h. c.pair_count-pairs.ensures.past k (omega arith)) (λ k h. c.known_count.ensures.known k (omega arith)))
+    let e = c.put_known-few.ensures in
+    reads_pairs g.T.Destination _ c.args.src.now c.units_in-units.result c.put_known-few.result c.requires.block (omega arith) (omega arith) u.small
+    (u.pairs c.put_known-few.result (omega arith) (λ k h. c.pair_count-pairs.ensures.past k (omega arith)) (λ k h. e.known k h))
     e.contents e.room e.loan c.requires.room

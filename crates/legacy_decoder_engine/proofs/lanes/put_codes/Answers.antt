@@ -25,21 +25,26 @@ loop-group-preserved g c =
           (rw all e.contents) (rw all e.room) e.loan);
     }
 
-pub put_first-requires-clause-scalars : goal.put_first-requires-clause-scalars
-put_first-requires-clause-scalars g c =
+pub put_known-few-requires-clause-scalars : goal.put_known-few-requires-clause-scalars
+put_known-few-requires-clause-scalars g c =
     scalars_there _ g.C.LaneCodec.place _ (8 * c.loop-group.group) (8 * ((c.args.most + 7) / 8)) c.args.codes.now c.split_codes.new.codes
     c.split_codes.new.places _ (omega arith) (omega arith) c.split_codes.ensures c.units_of-units-2.ensures.forms
 
 pub returns-clause-writes : goal.returns-clause-writes
 returns-clause-writes g c =
-    let e = c.put_first.ensures in
+    let e = c.put_known-few.ensures in
     next_written _ g.C.LaneCodec.place _ (8 * c.loop-group.group) (8 * ((c.args.most + 7) / 8)) c.args.codes.now c.split_codes.new.codes
-    c.split_codes.new.places _ (omega arith) (omega arith) c.split_codes.ensures c.units_of-units-2.ensures.forms g.T.Destination c.min-few.result
-    (omega arith) c.requires.codes (omega arith) (λ k h. c.known_count.ensures.known k (omega arith)) c.loop-group.invariant.writes
+    c.split_codes.new.places _ (omega arith) (omega arith) c.split_codes.ensures c.units_of-units-2.ensures.forms g.T.Destination c.put_known-few.result
+    (omega arith) c.requires.codes (omega arith) e.known c.loop-group.invariant.writes
     e.contents e.room e.loan
 
 pub returns-clause-slack : goal.returns-clause-slack
-returns-clause-slack g c h = grind (arith, few_units, c.units_of-units-2.type_inv, c.units_of-units-2.ensures.small, c.known_count.ensures.most)
+returns-clause-slack g c h =
+    omega (
+      arith,
+      few_units g.T.Destination.form c.put_known-few.result c.units_of-units-2.result (omega arith) c.units_of-units-2.ensures.small
+          c.put_known-few.ensures.eight,
+    )
 
 pub put_eight-requires-clause-room : goal.put_eight-requires-clause-room
 put_eight-requires-clause-room g c = omega arith
