@@ -1,7 +1,6 @@
 -- The codecs without modes: their rooms are enough for their scalars, and each move writes the code of its scalar.
 use Rattle.std.proofs.Common.{◌/◌, ◌%◌, ◌≡◌, ◌∙◌, ℕ, ◌+◌, ◌-◌, ◌≤◌, ◌<◌, List, [], ◌∷◌, ◌++◌, length, refl, sym, ap, subst, arith, Bool, false, Some}
 use Rattle.std.proofs.{Common.{Option, cond, option_map, ltb}, lemmas.Bool.{cases_lt, lt-ltb, le-ltb}, lemmas.Bool.Decides.nat_tests}
-use Rattle.std.specs.Option.{option_or}
 use Rattle.legacy_text.specs.{EncodingForm.{EncodingForm, Utf8, Utf16, unit_count}, UnitCodes.IsNoSurrogate}
 use Rattle.legacy_base.specs.{Encoders.{Codec, encoder_profile, EncoderState, new_encoder, code, encoded, scalar_room}, EncoderProfile.{EncoderMode, in_ascii}}
 use Rattle.legacy_base.specs.{EncoderProfile.{EncoderProfile, plain_encoder}, EncodeEvents.{code_events, code_length, plain_events}, Lengths.{Formula, number}}
@@ -159,9 +158,6 @@ short_if t a b n p q = grind arith
 
 pub short_map : {A : Type 0} (f : A → List ℕ) (o : Option A) (n : ℕ) → ((p : A) → length (f p) ≤ n) → code_length (option_map f o) ≤ n
 short_map f o n h = grind arith
-
-pub short_or : (a b : Option (List ℕ)) (n : ℕ) → code_length a ≤ n → code_length b ≤ n → code_length (option_or a b) ≤ n
-short_or a b n p q = grind arith
 
 -- the code of a scalar past ASCII
 pub short_past : (c : ℕ) (a b : Option (List ℕ)) (n : ℕ) → 128 ≤ c → code_length b ≤ n → code_length (cond (ltb c 128) a b) ≤ n

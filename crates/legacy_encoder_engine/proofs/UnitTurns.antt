@@ -4,6 +4,8 @@ use Rattle.std.proofs.{Math.Seq.{take-suc, take-append-add}, lemmas.Bool.cases_l
 use Rattle.std.proofs.lemmas.Grind.{common_steps}
 use Rattle.legacy_base.specs.Encoders.{EncoderState, encoder_profile, scalar_room}
 use Rattle.legacy_encoder_engine.specs.{ProfileSuffices.Serves, UnitTurns.{PutsUnits, ReadsUnit, two_bytes}}
+use Rattle.legacy_text.{specs.{EncodingForm.EncodingForm, UnitTurns.TakesUnits}, proofs.CodeUnits.total_unit_count-append}
+use Rattle.legacy_encoder_engine.specs.UnfinishedCall.{EncodesAhead, KeepsOn}
 use Rattle.legacy_encoder_engine.proofs.ReadingAhead.{keeps_then, keeps_move}
 
 -- two bytes were written after the old bytes, and the first `count` of them are kept
@@ -34,3 +36,18 @@ module _ (state : EncoderState) (free : ℕ) where
             rw (new_is ∙ ap (λ l. bytes ++ l) (sym own.bytes), units_are, append_assoc (take k units) (c ∷ []) rest)
             (keeps_then (before.keeps (c ∷ rest)) second);
       })
+
+-- code units were taken from the source, and their bytes are written
+pub encodes_units : {state : EncoderState} {form : EncodingForm} {free passed passed' passed'' start at end : ℕ}
+    {left left' left'' bytes bytes' bytes'' units : List ℕ}
+    → EncodesAhead state form free left passed bytes start left' passed' bytes' at → TakesUnits form left' passed' units left'' passed''
+    → PutsUnits state free units bytes' bytes'' → at ≤ end → end ≤ free → EncodesAhead state form free left passed bytes start left'' passed'' bytes'' end
+encodes_units {state} {form} {free} {left' = left'} {left'' = left''} {bytes' = bytes'} {bytes'' = bytes''} {units = units} before takes puts le fits =
+    let front = takes.front puts.bmp in
+    let second : KeepsOn state free left' bytes' left'' bytes'' = rw front (puts.keeps left'') in
+    record {
+      keeps = keeps_then before.keeps second;
+      start = omega (arith, before.start);
+      end = fits;
+      units = omega (arith, rw front at before.units, takes.passed_is puts.bmp, total_unit_count-append form units left'');
+    }

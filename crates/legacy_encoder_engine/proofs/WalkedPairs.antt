@@ -32,10 +32,10 @@ module _ (codec : Codec) (part : PackedPart) (mark : ℕ → ℕ) (index : List 
   pub walked-right : GoesByPointers → (entries : List ℕ) → length entries ≡ 65536 → IsFilled part mark index entries
       → (c : ℕ) → c < 65536 → Done c → IsRightEntry codec c (slice_index entries c)
   walked-right by entries all filled c h d =
-      let filled_here = filled.each c (omega arith) in grind (arith, filled_here, by.past c d, by.some, by.coded c, by.uncoded c, is_lone)
+      let filled_here = filled.each c (omega arith) in grind (arith, filled_here, by.past c d, by.some, by.coded c, by.uncoded c, no_surrogate)
     where
-      is_lone : (p : ℕ) → pointer_of part index c ≡ Some p → IsNoSurrogate c
-      is_lone p e high = let t = (pointer-taken part index c).chosen p e in let scalar = entry-scalar index by.scalars p in grind (arith, nat_tests)
+      no_surrogate : (p : ℕ) → pointer_of part index c ≡ Some p → IsNoSurrogate c
+      no_surrogate p e high = let t = (pointer-taken part index c).chosen p e in let scalar = entry-scalar index by.scalars p in grind (arith, nat_tests)
 
 -- a list that was filled by a walk for all scalars past ASCII has all pairs after ASCII was looked up
 pub all-past-ascii : {codec : Codec} {part : PackedPart} {mark : ℕ → ℕ} {index : List ℕ} → GoesByPointers codec part mark index (λ c. 0x80 ≤ c)

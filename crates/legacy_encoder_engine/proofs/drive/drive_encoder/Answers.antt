@@ -82,3 +82,42 @@ returns-else-dst-written-lt3-clause-call g c =
     rw c.put_move-written-then-last.ensures.bytes
     (call_finish _ _ _ _ _ _ _ under c.is_pending.ensures.serves (none_left _ (sym c.in_default.is ∙ c.peek.ensures)) c.if-last.true pending _
     (c.finish.ensures pending) (omega (arith, length-take {A = ℕ})))
+
+pub returns-then-dst-written-clause-passed : goal.returns-then-dst-written-clause-passed
+returns-then-dst-written-clause-passed g c = c.read_ahead-written.ensures.units ∙ c.loop-c.invariant.2
+
+pub returns-then-dst-written-lt3-clause-passed : goal.returns-then-dst-written-lt3-clause-passed
+returns-then-dst-written-lt3-clause-passed g c = c.read_ahead-written.ensures.units ∙ c.loop-c.invariant.2
+
+pub returns-else-dst-written-lt3-clause-passed : goal.returns-else-dst-written-lt3-clause-passed
+returns-else-dst-written-lt3-clause-passed g c = c.read_ahead-written.ensures.units ∙ c.loop-c.invariant.2
+
+pub returns-else-is_pending-clause-passed : goal.returns-else-is_pending-clause-passed
+returns-else-is_pending-clause-passed g c = c.read_ahead-written.ensures.units ∙ c.loop-c.invariant.2
+
+pub returns-in-Unmappable-clause-passed : goal.returns-in-Unmappable-clause-passed
+returns-in-Unmappable-clause-passed g c =
+    let a = c.read_ahead-written in
+    let cons = first_cons _ _ c.in-Some.ensures in
+    rw c.advance.ensures.left (omega (
+      arith,
+      rw cons at c.advance.ensures.passed,
+      first_units g.S.Source.form (g.S.Source.left a.new.src) c.in-Some.c cons,
+      a.ensures.units,
+      c.loop-c.invariant.2,
+    ))
+
+pub returns-then-dst-written-clause-written : goal.returns-then-dst-written-clause-written
+returns-then-dst-written-clause-written g c = omega arith
+
+pub returns-in-Unmappable-clause-written : goal.returns-in-Unmappable-clause-written
+returns-in-Unmappable-clause-written g c = omega arith
+
+pub returns-then-dst-written-lt3-clause-written : goal.returns-then-dst-written-lt3-clause-written
+returns-then-dst-written-lt3-clause-written g c = omega arith
+
+pub returns-else-is_pending-clause-written : goal.returns-else-is_pending-clause-written
+returns-else-is_pending-clause-written g c = omega arith
+
+pub put_move-written-requires : goal.put_move-written-requires
+put_move-written-requires g c = omega (arith, c.next-step.ensures.fits, c.room.ensures.bytes)

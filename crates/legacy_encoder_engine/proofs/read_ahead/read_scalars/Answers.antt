@@ -1,5 +1,5 @@
 use Rattle.std.proofs.{Common.arith, lemmas.List.length-take-le}
-use Rattle.legacy_encoder_engine.proofs.ReadingAhead.{encodes_then, encodes_put}
+use Rattle.legacy_encoder_engine.proofs.ReadingAhead.{encodes_none, encodes_then, encodes_put}
 use Rattle.legacy_encoder_engine.proofs.read_ahead.read_scalars.Goals as goal
 
 pub loop-dst-preserved-else-by_tens : goal.loop-dst-preserved-else-by_tens
@@ -19,3 +19,38 @@ loop-dst-preserved-then-has_tens g c =
     c.in-Some.ensures.puts c.pass.ensures.left c.pass.ensures.passed
     (length-take-le _ _ (omega (arith, before.end))) (omega (arith, c.loop-dst-test.true, widest.is)) in
     (encodes_then one c.read_tens-at.ensures (omega arith), c.in-Some.ensures.guess)
+
+pub loop-dst-init : goal.loop-dst-init
+loop-dst-init g c = (encodes_none _ _ _ _ _ _ _ c.requires.start, c.requires.guess)
+
+pub returns-then-at-start-clause-ahead : goal.returns-then-at-start-clause-ahead
+returns-then-at-start-clause-ahead g c = c.loop-dst.invariant.0
+
+pub returns-in_default-clause-ahead : goal.returns-in_default-clause-ahead
+returns-in_default-clause-ahead g c = rw c.in_default.ensures.puts c.loop-dst.invariant.0
+
+pub returns-in_default-read_past_ascii-clause-ahead : goal.returns-in_default-read_past_ascii-clause-ahead
+returns-in_default-read_past_ascii-clause-ahead g c = encodes_then c.loop-dst.invariant.0 c.in_default-read_past_ascii.ensures.ahead (omega arith)
+
+pub loop-dst-preserved-then-goes_on : goal.loop-dst-preserved-then-goes_on
+loop-dst-preserved-then-goes_on g c =
+    let one = encodes_then c.loop-dst.invariant.0 c.in-Some-read_past_ascii.ensures.ahead (omega arith) in
+    (encodes_then one c.read_turns-at.ensures (omega arith), c.in-Some-read_past_ascii.ensures.guess)
+
+pub loop-dst-preserved-else-goes_on : goal.loop-dst-preserved-else-goes_on
+loop-dst-preserved-else-goes_on g c =
+    (encodes_then c.loop-dst.invariant.0 c.in-Some-read_past_ascii.ensures.ahead (omega arith), c.in-Some-read_past_ascii.ensures.guess)
+
+pub loop-dst-preserved : goal.loop-dst-preserved
+loop-dst-preserved g c =
+    let three = c.in-Some-read_past_ascii-2.ensures in
+    (encodes_then c.loop-dst.invariant.0 three.ahead (omega arith), three.guess)
+
+pub returns-in-None-clause-ahead : goal.returns-in-None-clause-ahead
+returns-in-None-clause-ahead g c = encodes_then c.loop-dst.invariant.0 c.in-None.ensures.ahead (omega arith)
+
+pub returns-in-Four-clause-ahead : goal.returns-in-Four-clause-ahead
+returns-in-Four-clause-ahead g c = c.loop-dst.invariant.0
+
+pub returns-clause-ahead : goal.returns-clause-ahead
+returns-clause-ahead g c = c.loop-dst.invariant.0

@@ -1,4 +1,4 @@
-use Rattle.std.proofs.Common.{refl, rules}
+use Rattle.std.proofs.Common.{refl}
 use Rattle.legacy_encoder_engine.specs.declared.moves.EncoderMove.TheVariants.{Two, Four}
 use Rattle.legacy_encoder_engine.proofs.PlainServes.{plain_puts}
 use Rattle.legacy_encoder_engine.proofs.plain.AnyAheadCodes.put_past_ascii.Goals as goal
@@ -21,4 +21,4 @@ returns-clause-puts g c =
     c.put_move.ensures.bytes c.put_move.ensures.end
 
 pub returns-then-not-has_bytes-clause-puts : goal.returns-then-not-has_bytes-clause-puts
-returns-then-not-has_bytes-clause-puts g c = search rules
+returns-then-not-has_bytes-clause-puts g c = refl
