@@ -54,3 +54,12 @@ returns-in-Four-clause-ahead g c = c.loop-dst.invariant.0
 
 pub returns-clause-ahead : goal.returns-clause-ahead
 returns-clause-ahead g c = c.loop-dst.invariant.0
+
+pub put_code-requires-clause-room : goal.put_code-requires-clause-room
+put_code-requires-clause-room g c = omega (arith, c.widest-widest.ensures.is)
+
+pub read_past_ascii-requires-clause-room : goal.read_past_ascii-requires-clause-room
+read_past_ascii-requires-clause-room g c = omega (arith, c.widest-widest.ensures.is)
+
+pub read_past_ascii-requires-in-Three-clause-room : goal.read_past_ascii-requires-in-Three-clause-room
+read_past_ascii-requires-in-Three-clause-room g c = omega (arith, c.widest-widest.ensures.is)
