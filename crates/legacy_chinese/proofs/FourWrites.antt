@@ -1,12 +1,12 @@
 -- Forms whose codes are read eight at a time are written, and an ASCII byte after a sequence.
-use Rattle.std.proofs.Common.{◌≡◌, ◌≢◌, ℕ, zero, suc, ◌+◌, ◌/◌, ◌%◌, ◌<◌, ◌≤◌, cond, ltb, min, List, [], ◌∷◌, ◌++◌, add-zero, ap, append-nil, arith, drop}
+use Rattle.std.proofs.Common.{◌≡◌, ◌≢◌, ℕ, zero, suc, ◌+◌, ◌-◌, ◌/◌, ◌%◌, ◌<◌, ◌≤◌, cond, ltb, min, List, [], ◌∷◌, ◌++◌, add-zero, ap, append-nil, arith, drop}
 use Rattle.std.proofs.{Common.{get_or, length, length-append, refl, subst, sym, take, IsAscii}, Math.Seq.{take-add, take-append_seam}}
-use Rattle.std.proofs.lemmas.List.{take-take, take-append-drop, take_more, get_or-drop, get_or-take, length-drop, length-take, length-take-le}
+use Rattle.std.proofs.lemmas.List.{take-take, take-append-drop, take_all, take_more, get_or-drop, get_or-take, length-drop, length-take, length-take-le}
 use Rattle.std.proofs.lemmas.{Bool.Decides.nat_tests, Simd.get_or-chunk}
 use Rattle.legacy_text.specs.{declared.destination.Destination.Ghosts, EncodingForm.{all_code_units, total_unit_count}}
 use Rattle.{legacy_tables.specs.AcceptedTables.AcceptedIndexes, legacy_base.specs.{Grammar.{Grammar, gb18030}, States.new_state}}
-use Rattle.legacy_decoder_engine.{specs.ReadAhead.{HasAscii, Yields, Writes, ReadsAhead}, proofs.JoinedReads.reads_front}
-use Rattle.legacy_decoder_engine.proofs.WrittenReads.{yields_none, yields_more, yields_byte, writes_ascii, writes_then}
+use Rattle.legacy_decoder_engine.{specs.ReadAhead.{HasAscii, Yields, Writes, ReadsAhead}, proofs.{JoinedReads.reads_front, LaneUnits.few_units}}
+use Rattle.legacy_decoder_engine.proofs.WrittenReads.{yields_none, yields_more, yields_byte, writes_ascii, writes_none, writes_then}
 use Rattle.legacy_chinese.{specs.{FourForms.{four_form, fours_of, IsFour}, Gb18030Shown.ascii}, proofs.{FourPlaces.four_at, FourStarts.fours_append}}
 use lib.Lanes.{chunk}
 
@@ -54,6 +54,43 @@ module _ (tables : AcceptedIndexes) where
       let same : length (take at front) ≡ length (take at back) = grind (arith, length-take-le) in
       rw (take-add at few front, take-add at few back, fours_append (take at front) (take few (drop at front)) (take at back) (take few (drop at back)) same)
       (writes_then T before (record { scalars = take few us; yields = yields; written = contents; room = room-is; loan = loan }))
+
+-- The first forms of some, by their codes, are written. If there are any, four code units were free, and three are free.
+pub record AreWritten {D : Type 0} (T : Ghosts D) (g : Grammar) (front back : List ℕ) (at count : ℕ) (x y : D) : Type 0 where
+  pub within : at ≤ count
+  pub writes : Writes T g (fours_of (take at front) (take at back)) x y
+  pub slack : 0 < at → 3 ≤ T.room y
+  pub had : 0 < at → 4 ≤ T.room x
+
+pub none_written : {D : Type 0} (T : Ghosts D) (grammar : Grammar) (front back : List ℕ) (count : ℕ) (x : D) → AreWritten T grammar front back 0 count x x
+unfolding fours_of
+none_written T grammar front back count x = record { within = omega arith; writes = writes_none T grammar x; slack = λ h. omega (arith, h); had = λ h. omega (arith, h) }
+
+module _ (tables : AcceptedIndexes) {D : Type 0} (T : Ghosts D) (at count free known : ℕ) (front back us : List ℕ) {x y z : D}
+    (before : AreWritten T (g tables) front back at count x y) (below : at < count) (room : count + 8 ≤ length front) (room' : count + 8 ≤ length back)
+    (is-free : free ≡ T.room y) (enough : 35 ≤ free) (long : length us ≡ 8) (small : (k : ℕ) → k < 8 → get_or us k 0 < 65536)
+    (all-known : (k : ℕ) → k < known → get_or us k 0 ≢ 0)
+    (fours : (k : ℕ) → k < 8 → get_or us k 0 ≢ 0 → IsFour tables.flat.ranges (get_or (chunk at 8 front) k 0) (get_or (chunk at 8 back) k 0) (get_or us k 0))
+    (loan : T.loan z ≡ T.loan y) where
+  -- the first units of eight are written
+  pub few_written : (few : ℕ) → few ≡ min known (count - at) → known ≤ 8 → T.contents z ≡ T.contents y ++ all_code_units T.form (take few us)
+      → T.room z + total_unit_count T.form (take few us) ≡ T.room y → AreWritten T (g tables) front back (at + few) count x z
+  few_written few is most contents room-is =
+      let short = few_units T.form few us long small (omega (arith, is, most)) in
+      record {
+        within = omega (arith, is, below);
+        writes = next_written tables T at few front back us (omega (arith, is, most)) (omega (arith, below, room)) (omega (arith, below, room')) long
+            (λ k h. all-known k (omega (arith, h, is))) fours before.writes contents room-is loan;
+        slack = λ h. omega (arith, short, room-is, is-free, enough);
+        had = λ h. omega (arith, before.writes.room, is-free, enough);
+      }
+
+  -- all eight are
+  pub eight_written : (few : ℕ) → few ≡ min known (count - at) → known ≤ 8 → 8 ≤ few → T.contents z ≡ T.contents y ++ all_code_units T.form us
+      → T.room z + total_unit_count T.form us ≡ T.room y → AreWritten T (g tables) front back (at + 8) count x z
+  eight_written few is most whole contents room-is =
+      let all : take 8 us ≡ us = take_all 8 us (omega (arith, long)) in
+      few_written 8 (omega (arith, is, most, whole)) most (rw all contents) (rw all room-is)
 
 -- an ASCII byte after a sequence is written if it is there
 module _ {D : Type 0} (T : Ghosts D) {g : Grammar} {x y z : D} (law : HasAscii g) (src : List ℕ) (at : ℕ) (within : at < length src) where

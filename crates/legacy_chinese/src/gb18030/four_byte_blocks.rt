@@ -142,7 +142,6 @@ impl LaneCodec for Gb18030 {
     /// It reads whole sequences while at least five bytes are left.
     // A single ASCII byte often follows a sequence, as between words, and no processor predicts where.
     #[inline(always)]
-    #[tactic(auto, using(legacy_decoder_engine::proofs::WrittenReads::writes_none, legacy_decoder_engine::proofs::WrittenReads::four_fit))]
     fn read_longer<T: Destination>(
         tables: &FlatTables<'_>,
         guess: &Cell<usize>,

@@ -103,7 +103,6 @@ fn byte_total(front: &[u16], count: usize) -> usize
 /// It stops at one whose scalar is not in the part of the ranges, and if fewer than 35 code units are free.
 // Eight at a time, and then the last few. The lists have room for eight codes after the last form.
 #[inline(always)]
-#[tactic(auto, using(legacy_decoder_engine::proofs::WrittenReads::writes_none), unfolding(crate::specs::FourForms::fours_of))]
 fn put_fours<T: Destination>(
     tables: &FlatTables<'_>,
     part: RangePart,

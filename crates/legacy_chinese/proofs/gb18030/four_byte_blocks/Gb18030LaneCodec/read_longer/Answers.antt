@@ -1,31 +1,55 @@
-use Rattle.std.proofs.Common.{◌+◌, get_or, arith}
-use Rattle.legacy_decoder_engine.proofs.{JoinedReads.reads_front, WrittenReads.{yields_byte, writes_one, writes_four, four_fit}}
-use Rattle.{legacy_text.proofs.CodeUnits.code_units_ascii, legacy_chinese.{specs.Gb18030Shown.ascii, proofs.{FourWrites.writes_behind, FourPlaces.four_at}}}
+use Rattle.legacy_chinese.proofs.LongerReads.{has_room, has_unit, four_read, none_read, one_read, reads}
 use Rattle.legacy_chinese.proofs.gb18030.four_byte_blocks.Gb18030LaneCodec.read_longer.Goals as goal
+
+pub loop-at-init : goal.loop-at-init
+loop-at-init g c = record {
+  read = none_read c.args.tables.now c.free.result c.saturating_sub.result c.free.ensures c.saturating_sub.ensures c.min-most.ensures;
+  part = c.part_at-part.ensures.part;
+}
+
+pub put-requires : goal.put-requires
+put-requires g c = has_room c.args.tables.now c.loop-at.invariant.read c.loop-at-test.true c.from.result
 
 pub returns-then-src-at-lt128 : goal.returns-then-src-at-lt128
 returns-then-src-at-lt128 g c =
-    let yields = yields_byte (ascii c.args.tables.now) (get_or c.args.src.now c.loop-at.at 0) c.from.result in
-    let fits = four_fit g.T.Destination.form c.from.result 4 (omega arith) in
-    grind (arith, reads_front, writes_one, yields)
+    let tables = c.args.tables.now in
+    let e = c.put.ensures in
+    reads tables (one_read tables c.from.result c.loop-at.invariant.read c.loop-at-test.true e.contents e.room e.loan c.if-byte-lt128.true c.from.ensures)
 
 pub loop-at-preserved-else-src-at-lt128 : goal.loop-at-preserved-else-src-at-lt128
 loop-at-preserved-else-src-at-lt128 g c =
-    let yields = yields_byte (ascii c.args.tables.now) (get_or c.args.src.now c.loop-at.at 0) c.from.result in
-    grind (arith, writes_one, yields, code_units_ascii)
+    let i = c.loop-at.invariant in
+    let e = c.put.ensures in
+    record {
+      read = one_read c.args.tables.now c.from.result i.read c.loop-at-test.true e.contents e.room e.loan c.if-byte-lt128.true c.from.ensures;
+      part = i.part;
+    }
+
+pub scalar_and_part-requires-clause-part : goal.scalar_and_part-requires-clause-part
+scalar_and_part-requires-clause-part g c = c.loop-at.invariant.part
+
+pub returns-in_default : goal.returns-in_default
+returns-in_default g c = reads c.args.tables.now c.loop-at.invariant.read
+
+pub put-requires-else-byte-lt128 : goal.put-requires-else-byte-lt128
+put-requires-else-byte-lt128 g c = has_room c.args.tables.now c.loop-at.invariant.read c.loop-at-test.true c.in-Some.scalar
+
+pub put_ascii-at-requires : goal.put_ascii-at-requires
+put_ascii-at-requires g c =
+    let e = c.put-else-byte-lt128.ensures in
+    has_unit c.args.tables.now c.in-Some.scalar c.loop-at.invariant.read c.loop-at-test.true e.contents e.room e.loan
 
 pub loop-at-preserved : goal.loop-at-preserved
 loop-at-preserved g c =
-    let T = g.T.Destination in
-    let src = c.args.src.now in
-    let at = c.loop-at.at in
-    let tables = c.args.tables.now in
-    let i = c.loop-at.invariant in
     let e = c.put-else-byte-lt128.ensures in
     let p = c.put_ascii-at.ensures in
-    let yields = four_at tables c.ranges-ranges.result.list.now c.four_pointer-pointer.result (get_or src at 0) (get_or src (at + 1) 0) (get_or src (at + 2) 0)
-    (get_or src (at + 3) 0) c.in-Some.scalar c.ranges-ranges.ensures c.four_pointer-pointer.ensures.place c.in-Some.ensures.0 in
-    let fits = four_fit T.form c.in-Some.scalar 4 (omega arith) in
-    let four = writes_four T src at c.in-Some.scalar (omega arith) i.4 yields e.contents e.room e.loan in
-    let more = writes_behind T (ascii tables) src (at + 4) (omega arith) c.put_ascii-at.result p.read four p.ascii p.contents p.room p.loan in
-    grind (arith, more)
+    let ranges = c.ranges-ranges in
+    let pointer = c.four_pointer-pointer in
+    record {
+      read = four_read c.args.tables.now c.in-Some.scalar c.loop-at.invariant.read c.loop-at-test.true e.contents e.room e.loan ranges.result.list.now
+          pointer.result c.put_ascii-at.result ranges.ensures pointer.ensures.place c.in-Some.ensures.0 p.read p.ascii p.contents p.room p.loan;
+      part = c.in-Some.ensures.1;
+    }
+
+pub returns : goal.returns
+returns g c = reads c.args.tables.now c.loop-at.invariant.read
