@@ -4,3 +4,5 @@ pub mod Latin1Fronts
 pub mod LongestRuns
 pub mod SingleByteShown
 pub mod SingleByteAhead
+pub mod SinglyRead
+pub mod MostlyRead

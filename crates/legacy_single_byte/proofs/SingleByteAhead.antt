@@ -14,6 +14,12 @@ use Rattle.legacy_text.{specs.ByteUnits.AreByteScalars, proofs.Ascii.ascii_front
 small : (x : ℕ) → x < 0x80 → IsScalar x
 small x h = search rules
 
+-- bytes of the first 64 that are ASCII
+pub ascii_there : (source : List ℕ) (at n m : ℕ) → at + n ≤ 64 → n ≤ m → ((k : ℕ) → k < m → at + k < 64 → get_or source (at + k) 0 < 128)
+    → IsAscii (take n (take (length source - at) (drop at source)))
+ascii_there source at n m few most ascii =
+    rw (rest_of source at) (ascii_front (drop at source) n (λ k h. rw (get_or-drop at source k 0) (ascii k (omega arith) (omega arith))))
+
 module _ (table : AcceptedTable) where
   -- the scalar at a place is at most U+FFFF
   pub place_below : (p c : ℕ) → Some c ≡ idx table.entries p → (c < 0x1_0000) × IsScalar c
@@ -37,8 +43,7 @@ module _ (table : AcceptedTable) where
       T.contents new ≡ T.contents mid ++ take n (take (length source - at) (drop at source)) → T.room new + n ≡ T.room mid → T.loan new ≡ T.loan mid →
       Writes T (single_byte table.entries) (take (at + n) source) old new
   ascii_next T source at n m {old} {mid} {new} few long most before ascii contents room loan =
-      let front : IsAscii (take n (take (length source - at) (drop at source))) =
-      rw (rest_of source at) (ascii_front (drop at source) n (λ k h. rw (get_or-drop at source k 0) (ascii k (omega arith) (omega arith)))) in
+      let front = ascii_there source at n m few most ascii in
       let law : HasAscii (single_byte table.entries) = has_ascii (shown table) (λ b. refl) (λ b h. let a = ascii_is b h in rw a refl) in
       let size : length (take n (take (length source - at) (drop at source))) ≡ n = grind (arith, rest_of, length-drop, length-take-le) in
       writes_next T source at n before (writes_ascii T _ mid new _ law front contents (omega (arith, size)) loan)

@@ -80,7 +80,7 @@ pub(super) fn check_run(
 }
 
 /// The end of the scalar values among which runs are sought.
-// The letters of the single-byte encodings are below it. Above it are lines and boxes, which are rare
+// The letters of the single-byte encodings are below it. Above it are lines and boxes, which are uncommon
 // in text, and of which KOI8-R has a longer run.
 const LETTERS_END: usize = 0x2000;
 
