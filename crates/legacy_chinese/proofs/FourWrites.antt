@@ -64,7 +64,12 @@ pub record AreWritten {D : Type 0} (T : Ghosts D) (g : Grammar) (front back : Li
 
 pub none_written : {D : Type 0} (T : Ghosts D) (grammar : Grammar) (front back : List ℕ) (count : ℕ) (x : D) → AreWritten T grammar front back 0 count x x
 unfolding fours_of
-none_written T grammar front back count x = record { within = omega arith; writes = writes_none T grammar x; slack = λ h. omega (arith, h); had = λ h. omega (arith, h) }
+none_written T grammar front back count x = record {
+  within = omega arith;
+  writes = writes_none T grammar x;
+  slack = λ h. omega (arith, h);
+  had = λ h. omega (arith, h);
+}
 
 module _ (tables : AcceptedIndexes) {D : Type 0} (T : Ghosts D) (at count free known : ℕ) (front back us : List ℕ) {x y z : D}
     (before : AreWritten T (g tables) front back at count x y) (below : at < count) (room : count + 8 ≤ length front) (room' : count + 8 ≤ length back)
@@ -94,12 +99,12 @@ module _ (tables : AcceptedIndexes) {D : Type 0} (T : Ghosts D) (at count free k
 
 -- an ASCII byte after a sequence is written if it is there
 module _ {D : Type 0} (T : Ghosts D) {g : Grammar} {x y z : D} (law : HasAscii g) (src : List ℕ) (at : ℕ) (within : at < length src) where
-  pub writes_behind : (n : ℕ) → n ≤ 1 → Writes T g (take at src) x y → IsAscii (take n (get_or src at 0 ∷ [])) →
+  pub writes_after : (n : ℕ) → n ≤ 1 → Writes T g (take at src) x y → IsAscii (take n (get_or src at 0 ∷ [])) →
       T.contents z ≡ T.contents y ++ take n (get_or src at 0 ∷ []) → T.room z + n ≡ T.room y → T.loan z ≡ T.loan y → Writes T g (take (at + n) src) x z
-  writes_behind (suc zero) few a ascii contents room loan =
+  writes_after (suc zero) few a ascii contents room loan =
       let one = writes_ascii T g y z (get_or src at 0 ∷ []) law ascii contents room loan in
       subst (λ l. Writes T g l x z) (sym (take_more src at 0 within)) (writes_then T a one)
-  writes_behind n few a ascii contents room loan = grind (arith, add-zero, append-nil)
+  writes_after n few a ascii contents room loan = grind (arith, add-zero, append-nil)
 
 -- where bytes were read, forms were
 some_forms : (n : ℕ) (fs bs : List ℕ) → 0 < length (fours_of (take n fs) (take n bs)) → 0 < n

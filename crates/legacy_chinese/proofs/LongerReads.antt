@@ -4,7 +4,7 @@ use Rattle.legacy_text.{specs.{declared.destination.Destination.Ghosts, Encoding
 use Rattle.{legacy_tables.specs.{AcceptedTables.AcceptedIndexes, Indexes.range}, legacy_base.specs.{Grammar.{Grammar, gb18030}, States.new_state}}
 use Rattle.legacy_decoder_engine.{specs.ReadAhead.{Writes, ReadsAhead}, proofs.JoinedReads.reads_front}
 use Rattle.legacy_decoder_engine.proofs.WrittenReads.{four_fit, writes_none, writes_one, writes_four, yields_byte}
-use Rattle.legacy_chinese.{specs.{FourForms.four_place, Gb18030Shown.ascii}, proofs.{FourPlaces.four_at, FourWrites.writes_behind}}
+use Rattle.legacy_chinese.{specs.{FourForms.four_place, Gb18030Shown.ascii}, proofs.{FourPlaces.four_at, FourWrites.writes_after}}
 
 module _ (tables : AcceptedIndexes) where
   abbrev grammar : Grammar
@@ -66,5 +66,5 @@ module _ (tables : AcceptedIndexes) where
             there = are.there;
             fits = are.fits;
             left = omega (arith, four_fit T.form c 4 (omega arith), room, room', are.left);
-            writes = writes_behind T (ascii tables) src (at + 4) (omega (arith, more, are.there)) n few four is_ascii contents' room' loan';
+            writes = writes_after T (ascii tables) src (at + 4) (omega (arith, more, are.there)) n few four is_ascii contents' room' loan';
           }

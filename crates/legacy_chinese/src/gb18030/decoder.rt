@@ -106,7 +106,7 @@ fn read_fourth(
 }
 
 /// Returns what a byte leads to after held-back bytes, and what is held back after it.
-// A first byte, and a trail that gives a scalar, are read without this call: other bytes are rare, but for malformed ones.
+// A first byte, and a trail that gives a scalar, are read without this call: other bytes are uncommon, but for malformed ones.
 #[inline(never)]
 fn read_next(tables: &Tables, guess: &Cell<usize>, held: Held, byte: u8) -> (Fed, Held)
     requires { rests (gb18030 tables.now.flat.gb18030 tables.now.flat.ranges) (held_bytes held) ≡ true }

@@ -214,9 +214,15 @@ impl PlainEncoder for Gb18030Encoder<'_> {
     fn read_codes<S: Source>(&self, src: &mut S, dst: &mut [u8], start: usize) -> usize {
         match self.tables.flat() {
             Some(tables) => {
-                read_by::<FlatTables<'_>, S>(tables, self.extended_range, src, dst, start)
+                read_unlisted_by::<FlatTables<'_>, S>(tables, self.extended_range, src, dst, start)
             }
-            None => read_by::<Tables<'_>, S>(self.tables, self.extended_range, src, dst, start),
+            None => read_unlisted_by::<Tables<'_>, S>(
+                self.tables,
+                self.extended_range,
+                src,
+                dst,
+                start,
+            ),
         }
     }
 }
@@ -252,7 +258,7 @@ impl<V: EncoderTables, const EXTENDED: bool, const LISTED: bool> PlainCodes
 /// Reads ahead in GB18030 or GBK by one kind of tables, and returns the place after the bytes.
 // Each has its own loop. One loop for both would test for four bytes at each character.
 #[inline(always)]
-fn read_by<V: EncoderTables, S: Source>(
+fn read_unlisted_by<V: EncoderTables, S: Source>(
     tables: &V,
     extended_range: bool,
     src: &mut S,

@@ -3,6 +3,9 @@ use Rattle.{legacy_text.specs.PastAscii.ArePast, legacy_decoder_engine.proofs.{P
 use Rattle.legacy_chinese.{specs.FourForms.{fours_of, form_at}, proofs.FourStarts.{block_picked, picked}}
 use Rattle.legacy_chinese.proofs.gb18030.four_picks.pick_block.Goals as goal
 
+pub whole_fours-end-requires : goal.whole_fours-end-requires
+whole_fours-end-requires c = c.in-Some.ensures
+
 pub returns-clause-forms : goal.returns-clause-forms
 returns-clause-forms c =
     let block = c.args.block.now in

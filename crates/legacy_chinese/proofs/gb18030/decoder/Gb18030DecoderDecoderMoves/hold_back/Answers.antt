@@ -16,4 +16,4 @@ loop-at-preserved g c =
     let room : read_room form (gb18030_state c.loop-at.self) byte ≤ g.T.Destination.room c.args.dst.now =
     omega (arith, reads_wide tables form held byte, c.free.ensures, c.wide.ensures, c.if-free-wide.false) in
     let more = holds_more form _ _ _ _ (take at src) byte c.loop-at.invariant.holds fed room in
-    grind (arith, take_more src at 0, more)
+    record { within = omega (arith, c.loop-at-test.true); holds = rw (take_more src at 0 c.loop-at-test.true) more }

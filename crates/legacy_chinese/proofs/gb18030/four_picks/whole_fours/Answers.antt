@@ -1,0 +1,24 @@
+use Rattle.std.proofs.Common.{arith, refl}
+use Rattle.legacy_chinese.proofs.FourStarts.{whole_end}
+use Rattle.legacy_chinese.proofs.gb18030.four_picks.whole_fours.Goals as goal
+
+pub overflow_cast-result : goal.overflow_cast-result
+overflow_cast-result c =
+    let w = whole_end c.args.past c.args.starts _ (omega arith) c.requires refl in
+    omega (arith, w.0)
+
+pub overflow_add-result : goal.overflow_add-result
+overflow_add-result c =
+    let w = whole_end c.args.past c.args.starts _ (omega arith) c.requires refl in
+    omega (arith, w.0)
+
+pub returns-clause-most : goal.returns-clause-most
+returns-clause-most c =
+    let w = whole_end c.args.past c.args.starts _ (omega arith) c.requires refl in
+    omega (arith, w.0)
+
+pub returns-clause-some : goal.returns-clause-some
+returns-clause-some c = omega arith
+
+pub returns-clause-end : goal.returns-clause-end
+returns-clause-end c = (whole_end c.args.past c.args.starts _ (omega arith) c.requires refl).1
