@@ -2,7 +2,8 @@
 use Rattle.std.proofs.Common.{◌≡◌, ◌≢◌, ℕ, ◌+◌, ◌-◌, ◌<◌, ◌≤◌, List, ◌++◌, arith, drop, get_or, length, min, take, IsAscii}
 use Rattle.legacy_text.specs.{declared.destination.Destination.Ghosts, EncodingForm.code_units, PastAscii.ArePastFrom}
 use Rattle.{legacy_base.specs.{Grammar.{Grammar, single_byte}, States.new_state}, legacy_tables.specs.AcceptedTables.AcceptedTable}
-use Rattle.legacy_decoder_engine.{specs.ReadAhead.{IsSingle, Writes, ReadsAhead}, proofs.{JoinedReads.reads_front, WrittenReads.{short, writes_none, writes_one}}}
+use Rattle.legacy_decoder_engine.{specs.ReadAhead.{IsSingle, Writes, ReadsAhead}, proofs.JoinedReads.reads_front}
+use Rattle.legacy_decoder_engine.proofs.WrittenReads.{short, writes_none, writes_one}
 use Rattle.legacy_single_byte.proofs.SingleByteAhead.{ascii_next, ascii_there}
 
 module _ (table : AcceptedTable) where
@@ -29,10 +30,17 @@ module _ (table : AcceptedTable) where
   }
 
   module _ {D : Type 0} {T : Ghosts D} {src : List ℕ} {most end at past : ℕ} {x y : D} (are : AreMostly T src most end at past x y)
-      (had : 70 ≤ T.room x) (source : 64 < length src) (n front : ℕ) (is : n ≡ min front (end - at)) (ascii : (k : ℕ) → k < front → at + k < 64 → get_or src (at + k) 0 < 128) where
+      (had : 70 ≤ T.room x) (source : 64 < length src) (n front : ℕ) (is : n ≡ min front (end - at))
+      (ascii : (k : ℕ) → k < front → at + k < 64 → get_or src (at + k) 0 < 128) where
     -- the bytes that are stored as they are
     pub stored_ascii : IsAscii (take n (take (length src - at) (drop at src)))
     stored_ascii = ascii_there src at n front (omega (arith, is, are.within, are.is_end)) (omega (arith, is)) ascii
+
+    -- the byte after them is past ASCII
+    pub past_there : (front < 64 → at + front < 64 → 128 ≤ get_or src (at + front) 0) → at + n ≢ end → 128 ≤ get_or src (at + n) 0
+    past_there stops more =
+        let all : n ≡ front = omega (arith, is, are.within, more) in
+        rw all (stops (omega (arith, is, are.within, are.is_end, more)) (omega (arith, is, are.within, are.is_end, more)))
 
     module _ {z : D} (contents : T.contents z ≡ T.contents y ++ take n (take (length src - at) (drop at src))) (room : T.room z + n ≡ T.room y)
         (loan : T.loan z ≡ T.loan y) where

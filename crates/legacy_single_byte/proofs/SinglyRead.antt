@@ -19,7 +19,8 @@ module _ {D : Type 0} {T : Ghosts D} {g : Grammar} {src : List ℕ} {most at : �
     (there : most ≤ length src) (enough : 0 < most → 3 * most + 3 ≤ T.room x) where
   pub reads_singly : ReadsAhead T (new_state g) src at x y
   reads_singly =
-      reads_front (omega (arith, are.within, there)) are.writes (λ h. omega (arith, h, are.within, are.room, enough)) (λ h. omega (arith, h, are.within, enough))
+      reads_front (omega (arith, are.within, there)) are.writes (λ h. omega (arith, h, are.within, are.room, enough))
+      (λ h. omega (arith, h, are.within, enough))
 
   module _ (below : at < most) (c : ℕ) (single : IsSingle g (get_or src at 0) c) where
     pub room_singly : length (code_units T.form c) ≤ T.room y

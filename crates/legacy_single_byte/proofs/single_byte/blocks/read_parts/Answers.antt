@@ -7,3 +7,6 @@ loop-at-preserved g c = (omega (arith, c.loop-at.invariant.0, c.read_part-read.e
 
 pub returns-then-not-goes_on-clause-ahead : goal.returns-then-not-goes_on-clause-ahead
 returns-then-not-goes_on-clause-ahead g c = reads_more c.loop-at.invariant.1 c.read_part-read.ensures.ahead
+
+pub read_part-read-requires-clause-room : goal.read_part-read-requires-clause-room
+read_part-read-requires-clause-room g c = omega (arith, c.free.ensures, c.if-free.true)

@@ -1,6 +1,7 @@
 use Rattle.std.proofs.{Common.{◌≡◌, ◌∙◌, ◌<◌, ◌^◌, ℕ, List, ap, arith, get_or, length, take}, lemmas.List.{get_or-map, get_or-take, length-map, length-take-le}}
 use Rattle.legacy_text.{specs.ByteUnits.scalars_of, proofs.ByteUnits.one_each}
-use Rattle.legacy_single_byte.proofs.{SingleByteAhead.{past_of, reads_entries}, MostlyRead.{next_mostly, none_mostly, reads_mostly, reads_more_mostly, room_left, stored_ascii}}
+use Rattle.legacy_single_byte.proofs.SingleByteAhead.{past_of, reads_entries}
+use Rattle.legacy_single_byte.proofs.MostlyRead.{next_mostly, none_mostly, past_there, reads_mostly, reads_more_mostly, room_left, stored_ascii}
 use Rattle.legacy_single_byte.proofs.single_byte.blocks.MostlyAsciiParts.read_part.Goals as goal
 
 pub returns-then-narrow-eq1-clause-ahead : goal.returns-then-narrow-eq1-clause-ahead
@@ -44,7 +45,8 @@ returns-then-at-end-clause-ahead g c =
     let n = c.min-count in
     let ascii = c.ascii_front.ensures.ascii c.args.src.now c.loop-at.at i.bits in
     let b = c.put_block.ensures in
-    rw c.ended-then-at-end.ensures.read (reads_mostly table i c.requires.room c.requires.source n.result c.ascii_front.result n.ensures ascii b.contents b.room b.loan)
+    rw c.ended-then-at-end.ensures.read
+    (reads_mostly table i c.requires.room c.requires.source n.result c.ascii_front.result n.ensures ascii b.contents b.room b.loan)
 
 pub returns-in-None-clause-ahead : goal.returns-in-None-clause-ahead
 returns-in-None-clause-ahead g c =
@@ -56,7 +58,12 @@ returns-in-None-clause-ahead g c =
     reads_mostly table i c.requires.room c.requires.source n.result c.ascii_front.result n.ensures ascii b.contents b.room b.loan
 
 pub utf8_entry-requires : goal.utf8_entry-requires
-utf8_entry-requires g c = grind (arith, c.ascii_front.ensures.stops c.args.src.now c.loop-at.at c.loop-at.invariant.bits)
+utf8_entry-requires g c =
+    let i = c.loop-at.invariant in
+    let n = c.min-count in
+    let front = c.ascii_front.ensures in
+    past_there c.args.self.now.scalars.now.table.now i c.requires.room c.requires.source n.result c.ascii_front.result n.ensures
+    (front.ascii c.args.src.now c.loop-at.at i.bits) (front.stops c.args.src.now c.loop-at.at i.bits) c.if-at-end.false
 
 pub put_entry-requires-clause-room : goal.put_entry-requires-clause-room
 put_entry-requires-clause-room g c =
