@@ -2,7 +2,8 @@
 use Rattle.std.proofs.Common.{rules, ◌≡◌, ℕ, zero, suc, ◌+◌, ◌-◌, ◌*◌, ◌<◌, ◌≤◌, List, ◌++◌, Bool, length, take, drop, get_or, sym, arith, refl}
 use Rattle.std.proofs.lemmas.{Bool.Decides.nat_tests, List.{Elements.All-get_or, take_more, length-take-le, length-drop, get_or-take, get_or-drop, take_all}}
 use Rattle.std.specs.{Prelude.IsAscii, Char.IsScalar}
-use Rattle.legacy_text.{specs.{declared.destination.Destination.Ghosts, EncodingForm.{code_units, all_code_units, total_unit_count}}, proofs.Ascii.ascii_front}
+use Rattle.legacy_text.{specs.EncodingForm.{bmp_room, code_units, all_code_units, total_unit_count}, proofs.Ascii.ascii_front}
+use Rattle.legacy_text.specs.declared.destination.Destination.{Ghosts}
 use Rattle.{legacy_tables.specs.Unicode.IsByte, legacy_base.specs.{Grammar.utf16, Utf16.unit_of, States.new_state}}
 use Rattle.legacy_decoder_engine.{specs.ReadAhead.{Yields, IsPair, Writes, ReadsAhead}, proofs.{YieldedForms.pair_yields, JoinedReads.reads_written}}
 use Rattle.legacy_decoder_engine.proofs.WrittenReads.{yields_none, yields_more, take_two, writes_two, rest_of, writes_next, all_code_units_ascii, all_short}
@@ -107,6 +108,40 @@ writes_unit T be source at c bytes within before scalar is contents room loan =
     let place : 2 * (at + 1) ≡ 2 * at + 2 = omega arith in
     let yields = unit_pair be _ _ c (bytes (2 * at)) (bytes (2 * at + 1)) is (rw is scalar) in
     rw place (writes_two T source (2 * at) c within before yields.1 contents room loan)
+
+-- ---- sixteen units, each as one code unit
+
+-- The first units are written, each as one code unit.
+pub record UnitsWritten {D : Type 0} (T : Ghosts D) (be : Bool) (source : List ℕ) (at : ℕ) (old new : D) : Type 0 where
+  pub within : at ≤ 16
+  pub room : T.room old ≤ T.room new + at
+  pub writes : Writes T (utf16 be) (take (2 * at) source) old new
+
+pub no_units : {D : Type 0} (T : Ghosts D) (be : Bool) (source : List ℕ) (old : D) → UnitsWritten T be source 0 old old
+no_units T be source old = record { within = omega arith; room = omega arith; writes = writes_none T (utf16 be) old }
+
+module _ {D : Type 0} {T : Ghosts D} {be : Bool} {source : List ℕ} {at : ℕ} {old mid : D} (before : UnitsWritten T be source at old mid)
+    (long : 32 ≤ length source) (enough : 19 ≤ T.room old) where
+  -- all sixteen are read
+  pub sixteen_read : 16 ≤ at → ReadsAhead T (new_state (utf16 be)) source 32 old mid
+  sixteen_read all =
+      let bytes : 2 * at ≡ 32 = omega (arith, all, before.within) in
+      reads_written long (rw bytes at before.writes) (omega (arith, before.room, before.within, enough)) (omega (arith, enough))
+
+  module _ (form : bmp_room T.form ≡ 1) (below : at < 16) (bytes : (k : ℕ) → IsByte (get_or source k 0)) (c : ℕ) (is : c ≡ unit_at be source at) where
+    one_only : length (code_units T.form c) ≡ 1
+    one_only = one_unit T.form c form (rw is (unit_below be _ _ (bytes (2 * at)) (bytes (2 * at + 1))))
+
+    pub unit_fits : length (code_units T.form c) ≤ T.room mid
+    unit_fits = omega (arith, one_only, before.room, enough, below)
+
+    pub unit_more : {new : D} → IsScalar c → T.contents new ≡ T.contents mid ++ code_units T.form c → T.room new + length (code_units T.form c) ≡ T.room mid
+        → T.loan new ≡ T.loan mid → UnitsWritten T be source (at + 1) old new
+    unit_more scalar contents room loan = record {
+      within = omega (arith, below);
+      room = omega (arith, one_only, before.room, room);
+      writes = writes_unit T be source at c bytes (omega (arith, below, long)) before.writes (rw is at scalar) is contents room loan;
+    }
 
 -- the lemmas for the functions that read blocks
 pub ruleset steps = (reads_none, reads_block, writes_none, writes_unit, three_fit, short, unit_pair, one_unit, All-get_or)
