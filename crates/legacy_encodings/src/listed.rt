@@ -1,14 +1,18 @@
 //! Encoders of an encoding that is chosen when the program runs, with a list of its pairs.
 ghost use Rattle.std.specs.Prelude.{◌≡◌, ◌<◌, ◌≤◌, ◌⊎◌, length, false, true, MatchOption};
-ghost use Rattle.legacy_base.specs.Encoders.{new_encoder};
+ghost use Rattle.std.specs.Prelude.{◌+◌, take};
+ghost use Rattle.legacy_text.specs.EncodingForm.{Utf8, Utf16, total_unit_count};
+ghost use Rattle.legacy_base.specs.Encoders.{new_encoder, encoder_answer};
+ghost use Rattle.legacy_base.specs.EncoderCalls.{EncoderCall};
 ghost use Rattle.legacy_encodings.specs.Lists.{has_pairs};
 
 use crate::coders::AnyEncoder;
 use crate::tasks::EncoderTask;
 use legacy_codecs::{
-    Big5Encoder, CachedEncoder, CachedIso2022JpEncoder, EncoderResult, EncodesPairs, EucJpEncoder,
-    EucKrEncoder, Gb18030Encoder, PAIR_ROOM, RawEncoder, ShiftJisEncoder, Source,
+    Big5Encoder, CachedEncoder, CachedIso2022JpEncoder, EncoderResult, EucJpEncoder, EucKrEncoder,
+    Gb18030Encoder, PAIR_ROOM, RawEncoder, ShiftJisEncoder, Source, Tables,
 };
+use legacy_encoder_engine::pair_encoder::{FillsPairs, PairEncoder};
 
 /// An encoder of any encoding of pairs, with a list of its pairs in memory that the caller lends.
 #[derive(Drop)]
@@ -27,18 +31,96 @@ pub enum ListedEncoder<'a, 'b> {
     EucKr(CachedEncoder<'b, EucKrEncoder<'a>>),
 }
 
-/// Evaluates an expression with the encoder that a `ListedEncoder` has.
+/// Evaluates an expression with the encoder that a `ListedEncoder` has, and another with an encoder of ASCII and pairs.
 macro_rules! match_listed {
-    ($any:expr, $coder:ident => $value:expr) => {
+    ($any:expr, $coder:ident => $value:expr, $by_pairs:expr) => {
         match $any {
             ListedEncoder::Gb18030($coder) => $value,
-            ListedEncoder::Big5($coder) => $value,
-            ListedEncoder::EucJp($coder) => $value,
+            ListedEncoder::Big5($coder) => $by_pairs,
+            ListedEncoder::EucJp($coder) => $by_pairs,
             ListedEncoder::Iso2022Jp($coder) => $value,
-            ListedEncoder::ShiftJis($coder) => $value,
-            ListedEncoder::EucKr($coder) => $value,
+            ListedEncoder::ShiftJis($coder) => $by_pairs,
+            ListedEncoder::EucKr($coder) => $by_pairs,
         }
     };
+}
+
+/// An encoder of ASCII and pairs, with a list of its pairs.
+type ListedPairs<'a, 'b, C> = CachedEncoder<'b, PairEncoder<'a, C, Tables<'a>>>;
+
+// The functions over `ListedPairs` are generic over the codec, so that what these types meet is
+// proved once, and not for each of the four codecs.
+
+/// Calls an encoder of ASCII and pairs.
+#[inline(always)]
+fn step_pairs<C: FillsPairs, S: Source>(
+    coder: &mut ListedPairs<'_, '_, C>,
+    src: &mut S,
+    dst: &mut [u8],
+    last: bool,
+) -> (EncoderResult, usize)
+    ensures call { EncoderCall (new_encoder (C.codec coder.old.encoder.now.tables.now.flat))
+        (S.left src.old) last (length dst.old)
+        (new_encoder (C.codec coder.new.encoder.now.tables.now.flat)) result.0 (S.left src.new)
+        (take result.1 dst.new) }
+    ensures written { result.1 ≤ length dst.new }
+    ensures passed { S.passed src.new + total_unit_count S.form (S.left src.new)
+        ≡ S.passed src.old + total_unit_count S.form (S.left src.old) }
+{
+    coder.step(src, dst, last)
+}
+
+/// Does a task with an encoder of ASCII and pairs.
+#[inline(always)]
+fn lend_pairs<C: FillsPairs, T: EncoderTask>(
+    coder: &mut ListedPairs<'_, '_, C>,
+    task: &T,
+    output: &mut [u8],
+) -> usize
+    ensures { T.gives task.now (new_encoder (C.codec coder.old.encoder.now.tables.now.flat))
+        (new_encoder (C.codec coder.new.encoder.now.tables.now.flat)) output.old output.new result }
+{
+    task.run(coder, output)
+}
+
+/// Returns the answer of an encoder of ASCII and pairs to the query for UTF-16.
+#[inline(always)]
+#[tactic(auto, using(legacy_encoder_engine::proofs::PairAnswers::from_utf16))]
+fn pairs_from_utf16<C: FillsPairs>(
+    coder: &ListedPairs<'_, '_, C>,
+    u16_length: usize,
+) -> Option<usize>
+    ensures { result ≡ encoder_answer Utf16
+        (new_encoder (C.codec coder.now.encoder.now.tables.now.flat)) u16_length }
+{
+    let _ = coder;
+    u16_length.checked_mul(2)
+}
+
+/// Returns the answer of an encoder of ASCII and pairs to the query for UTF-8.
+#[inline(always)]
+#[tactic(auto, using(legacy_encoder_engine::proofs::PairAnswers::from_utf8))]
+fn pairs_from_utf8<C: FillsPairs>(
+    coder: &ListedPairs<'_, '_, C>,
+    byte_length: usize,
+) -> Option<usize>
+    ensures { result ≡ encoder_answer Utf8
+        (new_encoder (C.codec coder.now.encoder.now.tables.now.flat)) byte_length }
+{
+    let _ = coder;
+    byte_length.checked_add(1)
+}
+
+/// Returns an encoder of ASCII and pairs with a list of its pairs in the room.
+fn list_pairs<'a, 'b, C: FillsPairs>(
+    encoder: &'b PairEncoder<'a, C, Tables<'a>>,
+    room: &'b mut [u16],
+) -> ListedPairs<'a, 'b, C>
+    requires { 65536 ≤ length room.old }
+    ensures { new_encoder (C.codec result.encoder.now.tables.now.flat)
+        ≡ new_encoder (C.codec encoder.now.tables.now.flat) }
+{
+    CachedEncoder::new(encoder, room).unwrap()
 }
 
 impl<'a, 'b> RawEncoder for ListedEncoder<'a, 'b> {
@@ -59,15 +141,17 @@ impl<'a, 'b> RawEncoder for ListedEncoder<'a, 'b> {
         dst: &mut [u8],
         last: bool,
     ) -> (EncoderResult, usize) {
-        match_listed!(self, coder => coder.step(src, dst, last))
+        match_listed!(self, coder => coder.step(src, dst, last), step_pairs(coder, src, dst, last))
     }
 
     fn max_buffer_length_from_utf16_without_replacement(&self, u16_length: usize) -> Option<usize> {
-        match_listed!(self, coder => coder.max_buffer_length_from_utf16_without_replacement(u16_length))
+        match_listed!(self, coder => coder.max_buffer_length_from_utf16_without_replacement(u16_length),
+            pairs_from_utf16(coder, u16_length))
     }
 
     fn max_buffer_length_from_utf8_without_replacement(&self, byte_length: usize) -> Option<usize> {
-        match_listed!(self, coder => coder.max_buffer_length_from_utf8_without_replacement(byte_length))
+        match_listed!(self, coder => coder.max_buffer_length_from_utf8_without_replacement(byte_length),
+            pairs_from_utf8(coder, byte_length))
     }
 }
 
@@ -87,14 +171,14 @@ impl<'a, 'b> ListedEncoder<'a, 'b> {
             return None;
         }
         let listed = match encoder {
-            AnyEncoder::Gb18030(coder) => ListedEncoder::Gb18030(with_list(coder, room)),
-            AnyEncoder::Big5(coder) => ListedEncoder::Big5(with_list(coder, room)),
-            AnyEncoder::EucJp(coder) => ListedEncoder::EucJp(with_list(coder, room)),
+            AnyEncoder::Gb18030(coder) => ListedEncoder::Gb18030(list_gb18030(coder, room)),
+            AnyEncoder::Big5(coder) => ListedEncoder::Big5(list_pairs(coder, room)),
+            AnyEncoder::EucJp(coder) => ListedEncoder::EucJp(list_pairs(coder, room)),
             AnyEncoder::Iso2022Jp(coder) => {
                 ListedEncoder::Iso2022Jp(CachedIso2022JpEncoder::new(coder, room)?)
             }
-            AnyEncoder::ShiftJis(coder) => ListedEncoder::ShiftJis(with_list(coder, room)),
-            AnyEncoder::EucKr(coder) => ListedEncoder::EucKr(with_list(coder, room)),
+            AnyEncoder::ShiftJis(coder) => ListedEncoder::ShiftJis(list_pairs(coder, room)),
+            AnyEncoder::EucKr(coder) => ListedEncoder::EucKr(list_pairs(coder, room)),
             AnyEncoder::SingleByte(_) | AnyEncoder::UserDefined(_) => return None,
         };
         Some(listed)
@@ -108,14 +192,18 @@ impl<'a, 'b> ListedEncoder<'a, 'b> {
         ensures { T.gives task.now (⟦<ListedEncoder<'static, 'static> as RawEncoder>⟧.state self.old)
             (⟦<ListedEncoder<'static, 'static> as RawEncoder>⟧.state self.new) output.old output.new result }
     {
-        match_listed!(self, coder => task.run(coder, output))
+        match_listed!(self, coder => task.run(coder, output), lend_pairs(coder, task, output))
     }
 }
 
-/// Returns an encoder that writes what `encoder` writes, with a list of its pairs in the room.
-fn with_list<'b, E: EncodesPairs>(encoder: &'b E, room: &'b mut [u16]) -> CachedEncoder<'b, E>
+/// Returns an encoder of GBK and gb18030 with a list of its pairs in the room.
+fn list_gb18030<'a, 'b>(
+    encoder: &'b Gb18030Encoder<'a>,
+    room: &'b mut [u16],
+) -> CachedEncoder<'b, Gb18030Encoder<'a>>
     requires { 65536 ≤ length room.old }
-    ensures { new_encoder (E.codec result.encoder.now) ≡ E.state encoder.now }
+    ensures { ⟦<CachedEncoder<'static, Gb18030Encoder<'static>> as RawEncoder>⟧.state result
+        ≡ ⟦<Gb18030Encoder<'static> as RawEncoder>⟧.state encoder.now }
 {
     CachedEncoder::new(encoder, room).unwrap()
 }
@@ -126,6 +214,6 @@ pub fn has_pairs(encoder: &AnyEncoder) -> bool
 {
     !matches!(
         encoder,
-        AnyEncoder::SingleByte(_) | AnyEncoder::UserDefined(_)
+        AnyEncoder::UserDefined(_) | AnyEncoder::SingleByte(_)
     )
 }
