@@ -28,3 +28,15 @@ pub returns-clause-table : goal.returns-clause-table
 returns-clause-table c =
     let file = single_byte_file c.args.text.now _ c.in_ok-read.ensures.line _ _ c.in_ok-read.ensures.table _ refl in
     (c.in_ok-table.table.entries, rw c.in_ok-table.ensures file, c.in_ok-table.table.accepted)
+
+pub returns-in_err-read-clause-indexes : goal.returns-in_err-read-clause-indexes
+returns-in_err-read-clause-indexes c = refl
+
+pub returns-in_err-table-clause-indexes : goal.returns-in_err-table-clause-indexes
+returns-in_err-table-clause-indexes c = refl
+
+pub returns-in-Ok-clause-indexes : goal.returns-in-Ok-clause-indexes
+returns-in-Ok-clause-indexes c = refl
+
+pub returns-clause-indexes : goal.returns-clause-indexes
+returns-clause-indexes c = refl
