@@ -3,6 +3,7 @@ ghost use Rattle.std.specs.Prelude.{◌≡◌, ◌↔◌, ℕ, ◌+◌, ◌-◌,
 ghost use Rattle.legacy_base.specs.declared.results.DecodeEvent.TheVariants.{Scalar};
 ghost use Rattle.legacy_text.specs.EncodingForm.{Utf8, Utf16};
 ghost use Rattle.legacy_base.specs.Calls.{DecoderCall};
+ghost use Rattle.legacy_base.specs.States.{DecoderState};
 ghost use Rattle.legacy_codecs.specs.Pieces.{contents_of, place_before, IsTooLong};
 ghost use Rattle.legacy_codecs.specs.RunResults.{RunDecodes};
 ghost use Rattle.legacy_codecs.specs.Runs.{IsRun};
@@ -124,6 +125,17 @@ fn run_calls<D: RawDecoder, F: OutputForm>(
     }
 }
 
+/// Returns the pieces, or one empty piece if there are none.
+fn some_pieces<'a>(pieces: &'a [&'a [u8]]) -> &'a [&'a [u8]]
+    ensures some { 0 < length result.now }
+    ensures total { sum_by length (contents_of result.now)
+        ≡ sum_by length (contents_of pieces.now) }
+    ensures place { (state : DecoderState) → place_before state (contents_of result.now)
+        ≡ place_before state (contents_of pieces.now) }
+{
+    if pieces.is_empty() { &[&[]] } else { pieces }
+}
+
 /// Allocates the memory of a run and makes it.
 fn decode_run<D: RawDecoder, F: OutputForm>(
     alloc: Global,
@@ -144,9 +156,7 @@ fn decode_run<D: RawDecoder, F: OutputForm>(
         return Err(RunError::Memory);
     };
     let buffer = buffer.as_mut_slice();
-    if pieces.is_empty() {
-        return Ok(run_calls::<D, F>(decoder, &[&[]], lengths, events, buffer));
-    }
+    let pieces = some_pieces(pieces);
     Ok(run_calls::<D, F>(decoder, pieces, lengths, events, buffer))
 }
 
