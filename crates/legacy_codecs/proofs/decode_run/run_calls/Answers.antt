@@ -10,6 +10,27 @@ use Rattle.legacy_codecs.proofs.decode_run.run_calls.Goals as goal
 pub loop-calls-init : goal.loop-calls-init
 loop-calls-init g c = let none = c.args.events.ok.0 ∙ ap length c.requires.empty in grind (arith, place_at-first, length-map, running_start)
 
+pub unread_of-unread-requires-clause-inside : goal.unread_of-unread-requires-clause-inside
+unread_of-unread-requires-clause-inside g c = c.loop-calls.invariant.inside
+
+pub unread_of-unread-requires-clause-within : goal.unread_of-unread-requires-clause-within
+unread_of-unread-requires-clause-within g c = c.loop-calls.invariant.within
+
+pub is_last-last-requires : goal.is_last-last-requires
+is_last-last-requires g c = let inside = c.loop-calls.invariant.inside in omega arith
+
+pub call_once-answer-requires-clause-buffer : goal.call_once-answer-requires-clause-buffer
+call_once-answer-requires-clause-buffer g c = c.loop-calls.invariant.buffer c.loop-calls.calls 0 c.loop-calls-test.true
+
+pub call_once-answer-requires-clause-room : goal.call_once-answer-requires-clause-room
+call_once-answer-requires-clause-room g c =
+    let step = room_step c.args.lengths.now c.loop-calls.calls c.loop-calls-test.true in omega (arith, c.loop-calls.invariant.room)
+
+pub push_within-requires : goal.push_within-requires
+push_within-requires g c =
+    let step = room_step c.args.lengths.now c.loop-calls.calls c.loop-calls-test.true in
+    omega (arith, c.loop-calls.invariant.room, c.call_once-answer.ensures.len, c.call_once-answer.ensures.capacity)
+
 pub overflow_add-total : goal.overflow_add-total
 overflow_add-total g c = grind (arith, pieces-length)
 

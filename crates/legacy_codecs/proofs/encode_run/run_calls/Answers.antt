@@ -17,6 +17,27 @@ loop-calls-init g c =
       inside = omega arith;
     }
 
+pub is_last-last-requires : goal.is_last-last-requires
+is_last-last-requires g c = c.loop-calls.invariant.inside
+
+pub slice_bounds-output-end : goal.slice_bounds-output-end
+slice_bounds-output-end g c = c.loop-calls.invariant.output c.loop-calls.calls 0 c.loop-calls-test.true
+
+pub call_once-requires : goal.call_once-requires
+call_once-requires g c =
+    let step = room_step c.args.lengths.now c.loop-calls.calls c.loop-calls-test.true in
+    let small = c.loop-calls.invariant.output c.loop-calls.calls 0 c.loop-calls-test.true in
+    omega (arith, c.loop-calls.invariant.room, length-take (get_or c.args.lengths.now c.loop-calls.calls 0) c.loop-calls.output)
+
+pub bounds-pieces-index : goal.bounds-pieces-index
+bounds-pieces-index g c =
+    let pieces = c.args.pieces.now in
+    let texts = map g.T.Text.scalars pieces in
+    let last = c.is_last-last.ensures ∙ same_end g.T.Piece.units g.T.Text.scalars pieces (c.loop-calls.index + 1) in
+    let more = not_last texts c.loop-calls.index (sym (sym c.if-last.false ∙ last)) in
+    let same : length texts ≡ length pieces = simp length-map in
+    omega (arith, more, same)
+
 pub returns-then-last : goal.returns-then-last
 returns-then-last g c =
     let pieces = c.args.pieces.now in
