@@ -6,6 +6,42 @@ use Rattle.legacy_streams.proofs.encode.encode_text.Goals as goal
 pub pieces-init : goal.pieces-init
 pieces-init g c = record { so_far = input_start _ _ _; short = omega arith; empty = c.new-encoded.ensures; long = refl; small = omega arith }
 
+pub returns-in_default-clause-ok : goal.returns-in_default-clause-ok
+returns-in_default-clause-ok g c = tt
+
+pub returns-in_default-clause-write : goal.returns-in_default-clause-write
+returns-in_default-clause-write g c e = cc
+
+pub returns-in-Ok-clause-read : goal.returns-in-Ok-clause-read
+returns-in-Ok-clause-read g c e = cc
+
+pub returns-in-Ok-clause-write : goal.returns-in-Ok-clause-write
+returns-in-Ok-clause-write g c e = cc
+
+pub returns-in-Err-clause-ok : goal.returns-in-Err-clause-ok
+returns-in-Err-clause-ok g c = tt
+
+pub returns-in-Err-clause-read : goal.returns-in-Err-clause-read
+returns-in-Err-clause-read g c e = cc
+
+pub returns-in_default-push_piece-clause-ok : goal.returns-in_default-push_piece-clause-ok
+returns-in_default-push_piece-clause-ok g c = tt
+
+pub returns-in_default-push_piece-clause-read : goal.returns-in_default-push_piece-clause-read
+returns-in_default-push_piece-clause-read g c e = cc
+
+pub returns-in_default-write_to-clause-ok : goal.returns-in_default-write_to-clause-ok
+returns-in_default-write_to-clause-ok g c = tt
+
+pub returns-in_default-write_to-clause-read : goal.returns-in_default-write_to-clause-read
+returns-in_default-write_to-clause-read g c e = cc
+
+pub read_after-requires : goal.read_after-requires
+read_after-requires g c = omega (arith, c.pieces.invariant.short, c.pieces.invariant.long)
+
+pub push_piece-requires : goal.push_piece-requires
+push_piece-requires g c = c.pieces.invariant.empty
+
 pub returns-in-Ok-clause-ok : goal.returns-in-Ok-clause-ok
 returns-in-Ok-clause-ok g c =
     let none = read_end _ _ _ _ _ _ c.pieces.invariant.short c.pieces.invariant.long c.if-count-eq0.true c.in-Some.ensures.bytes in

@@ -10,6 +10,25 @@ some_invalid n e = omega (arith, eqb-false n 0 e)
 pub chunks-init : goal.chunks-init
 chunks-init g c = piece_start _ c.args.piece.now _ c.requires
 
+pub rest_of-requires : goal.rest_of-requires
+rest_of-requires g c = c.chunks.invariant.within
+
+pub returns-in_default-clause-err : goal.returns-in_default-clause-err
+returns-in_default-clause-err g c = tt
+
+pub returns-in_err-push_text-clause-piece : goal.returns-in_err-push_text-clause-piece
+returns-in_err-push_text-clause-piece g c = rw (err_from_is_err_and c.from_residual.result c.from_residual.ensures.1).1 tt
+
+pub returns-then-is_empty-clause-err : goal.returns-then-is_empty-clause-err
+returns-then-is_empty-clause-err g c = tt
+
+pub returns-then-is_held-clause-err : goal.returns-then-is_held-clause-err
+returns-then-is_held-clause-err g c = tt
+
+pub returns-in_err-push_text-2-clause-piece : goal.returns-in_err-push_text-2-clause-piece
+returns-in_err-push_text-2-clause-piece g c =
+    rw (err_from_is_err_and c.from_residual-in_err-push_text-2.result c.from_residual-in_err-push_text-2.ensures.1).1 tt
+
 pub returns-in_default-clause-piece : goal.returns-in_default-clause-piece
 returns-in_default-clause-piece g c = piece_end c.chunks.invariant (rw c.rest_of.ensures at c.in_default.ensures)
 
