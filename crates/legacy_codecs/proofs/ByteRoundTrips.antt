@@ -51,8 +51,8 @@ bytes-by : (front : ℕ → List ℕ → Front) (code : ℕ → Option (List ℕ
     → cut front 0 0 (b ∷ bytes) ≡ map Scalar text → plain_events code text ≡ map Byte (b ∷ bytes)
 unfolding plain_events
 bytes-by front code b bytes [] later (inl own) e = let here = sym (cut-scalar front b own.0 bytes own.1) ∙ e in cc
-bytes-by front code b bytes [] later (inr bad) e = let here = sym (cut-malformed front b bytes bad) ∙ e in cc
-bytes-by front code b bytes (c ∷ text) later (inr bad) e = let here = sym (cut-malformed front b bytes bad) ∙ e in cc
+bytes-by front code b bytes [] later (inr is_malformed) e = let here = sym (cut-malformed front b bytes is_malformed) ∙ e in cc
+bytes-by front code b bytes (c ∷ text) later (inr is_malformed) e = let here = sym (cut-malformed front b bytes is_malformed) ∙ e in cc
 bytes-by front code b bytes (c ∷ text) later (inl own) e =
     let here = sym (cut-scalar front b own.0 bytes own.1) ∙ e in
     let same : own.0 ≡ c = cc in

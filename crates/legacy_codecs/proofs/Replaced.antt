@@ -37,9 +37,10 @@ length-shift k [] = refl
 length-shift k (e ∷ es) = ap suc (length-shift k es)
 
 -- after a call that reports a malformed sequence fewer events are left
-pub fault_less : {form : EncodingForm} {now : DecoderState} {rest : List ℕ} {last : Bool} {free : ℕ} {after : DecoderState} {a b count : ℕ} {scalars : List ℕ} →
+pub malformed_less : {form : EncodingForm} {now : DecoderState} {rest : List ℕ} {last : Bool} {free : ℕ} {after : DecoderState} {a b count : ℕ}
+    {scalars : List ℕ} →
     DecoderCall form now rest last free after (Malformed a b) count scalars →
     length (events_of after.grammar (after.held ++ drop count rest)) < length (events_of now.grammar (now.held ++ rest))
-fault_less c =
+malformed_less c =
     let x = simp (append-nil, length-append, length-shift) at (ap length (c.progress.events [] (λ _. inl refl))) in
     omega (arith, x)

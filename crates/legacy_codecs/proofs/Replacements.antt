@@ -12,7 +12,7 @@ use Rattle.legacy_text.specs.EncodingForm.{EncodingForm, code_units, all_code_un
 use Rattle.legacy_text.proofs.CodeUnits.{encode_3, all_code_units-append}
 use Rattle.legacy_base.proofs.{Enough.room-answer, Progress.{stay, at_less, after_that}}
 use Rattle.legacy_codecs.specs.Replacing.{replaced_scalars, has_malformed, replacing_query, may_replace_end, ReplacingDecoderCall}
-use Rattle.legacy_codecs.proofs.Replaced.{replaced-append, replaced-shift, replaced-of_scalars, fault_less}
+use Rattle.legacy_codecs.proofs.Replaced.{replaced-append, replaced-shift, replaced-of_scalars, malformed_less}
 use Rattle.legacy_codecs.proofs.Replaced.{has_malformed-append, has_malformed-shift, has_malformed-of_scalars}
 use Rattle.legacy_codecs.specs.declared.results.CoderResult.{CoderResult}
 use Rattle.legacy_codecs.specs.declared.results.CoderResult.TheVariants as coder
@@ -70,13 +70,13 @@ query_form-is : (form : EncodingForm) → query_form (replacing_query form) ≡ 
 query_form-is form = grind arith
 
 -- after a malformed sequence U+FFFD has room
-fault_least : (form : EncodingForm) (g : Grammar) (b : Bool) → bmp_room form ≤ cond b (release_room_in form g) (full_room_in form g)
-fault_least form g b = grind arith
+malformed_least : (form : EncodingForm) (g : Grammar) (b : Bool) → bmp_room form ≤ cond b (release_room_in form g) (full_room_in form g)
+malformed_least form g b = grind arith
 
 pub replacement_fits : {form : EncodingForm} {before : DecoderState} {source : List ℕ} {last : Bool} {free : ℕ} {after : DecoderState} {a b read : ℕ}
     {scalars : List ℕ} →
     DecoderCall form before source last free after (Malformed a b) read scalars → total_unit_count form scalars + length (code_units form 0xFFFD) ≤ free
-replacement_fits {form} {before} {read = read} c = grind (arith, fault_least, nat_eq, replacement_count)
+replacement_fits {form} {before} {read = read} c = grind (arith, malformed_least, nat_eq, replacement_count)
 
 -- ---- calls in progress
 
@@ -229,7 +229,7 @@ module _ {form : EncodingForm} {before : DecoderState} {source : List ℕ} {last
 
       pub replaces_less : length (events_of after.grammar (after.held ++ drop (read + count) source)) < length
           (events_of now.grammar (now.held ++ drop read source))
-      replaces_less = rw (← drop-drop count read source) (fault_less c)
+      replaces_less = rw (← drop-drop count read source) (malformed_less c)
 
     -- ---- the end
 

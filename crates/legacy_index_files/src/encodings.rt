@@ -134,6 +134,13 @@ pub const ENCODINGS: [Encoding; 39] = [
     Encoding::UserDefined,
 ];
 
+/// Checks whether the encoding has this name.
+fn has_name(encoding: &Encoding, name: &str) -> bool
+    ensures { result ≡ bytes_eq (encoding_name encoding.now) name.now }
+{
+    encoding.name() == name
+}
+
 /// Returns the first encoding with this name.
 fn first_named(name: &str) -> Option<Encoding>
     ensures { result ≡ find (λ e. bytes_eq (encoding_name e) name.now) ENCODINGS }
@@ -141,7 +148,7 @@ fn first_named(name: &str) -> Option<Encoding>
     ENCODINGS
         .iter()
         .copied()
-        .find(|encoding| encoding.name() == name)
+        .find(|encoding| has_name(encoding, name))
 }
 
 impl Encoding {

@@ -1,7 +1,7 @@
 use Rattle.std.proofs.Common.{◌∙◌, ◌++◌, ◌∷◌, [], arith, ap}
 use Rattle.legacy_codecs.specs.declared.malformed.MalformedSequence.{MalformedSequence}
 use Rattle.legacy_base.proofs.Enough.{room-answer}
-use Rattle.legacy_codecs.proofs.{MalformedSequences.{finds_start, finds_step, finds_stop, sequence_is}, Replaced.fault_less}
+use Rattle.legacy_codecs.proofs.{MalformedSequences.{finds_start, finds_step, finds_stop, sequence_is}, Replaced.malformed_less}
 use Rattle.legacy_codecs.proofs.malformed.malformed_sequences.Goals as goal
 
 pub calls-init : goal.calls-init
@@ -23,7 +23,7 @@ pub calls-smaller : goal.calls-smaller
 calls-smaller g c =
     let call = c.decode_to_utf8_raw-answer.ensures.call in
     let one = rw (c.as_mut_slice.ensures.len, c.in-Malformed.is) at call.1 in
-    rw c.rest_of-rest.ensures (fault_less one)
+    rw c.rest_of-rest.ensures (malformed_less one)
 
 pub calls-preserved : goal.calls-preserved
 calls-preserved g c =
