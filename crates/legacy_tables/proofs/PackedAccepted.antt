@@ -9,10 +9,11 @@ use Rattle.legacy_tables.specs.{declared.tables.packed.PackedPart.PackedPart, Un
 use Rattle.legacy_tables.specs.{TableChecks.{entry_fault, entries_fault, index_fault, table_fault, AreAccepted}, PointerRuns.{run_at, run_end, runs_scalar}}
 use Rattle.legacy_tables.specs.{PointerRuns.{run_fault, runs_list}, Tables.index_list}
 use Rattle.legacy_tables.specs.Packed.{part_fault, differs_at, run_difference, runs_fault, all_runs_fault}
-use Rattle.legacy_tables.specs.{Packed.{all_orders_fault, packed_lists, ArePackedTables}, PackedTables.{lists_of_runs, AreRunsOf, AnswerPointersOf}}
+use Rattle.legacy_tables.specs.{Packed.{all_orders_fault, packed_lists, ArePackedTables}, PackedTables.{lists_of_runs, AreRunsOf, AreRunsInOrder}}
+use Rattle.legacy_tables.specs.{PackedTables.{AreOrdersOf, AnswerPointersOf}, Packed.{pointers_fault, order_fault, order_difference}, Orders.IsOrder}
 use Rattle.legacy_tables.specs.{declared.tables.packed_checks.CheckedRuns.CheckedRuns, declared.tables.order_checks.CheckedOrders.CheckedOrders}
 use Rattle.legacy_tables.proofs.Accepted.{parts, or_none, entry_at, index-scalars, big5-scalars, narrow_index}
-use Rattle.legacy_tables.proofs.{FirstPlaces.find-none-at, Orders.order-same, PackedRuns.{no_run, are_in_order}}
+use Rattle.legacy_tables.proofs.{FirstPlaces.find-none-at, Orders.{order-same, order-rises, order-lookup, order-answers}, PackedRuns.{no_run, are_in_order}}
 use Rattle.legacy_tables.proofs.PackedRuns.{scalar-none, outside-behind, runs_end-within, runs_list-length, runs_list-entry}
 use Rattle.legacy_tables.specs.declared.tables.IndexName.TheVariants as names
 use Rattle.legacy_tables.specs.declared.tables.packed.PackedPart.TheVariants as parts
@@ -88,7 +89,32 @@ module _ (part : PackedPart) (name : IndexName) (limit : ℕ) (runs : List Run) 
         (no_entries_fault name 0 (runs_list runs) (λ k h. rw (same_entry k) (entry_at name 0 index flat.1 k)));
   }
 
+-- an order without a fault is one of the list of runs too
+order-of_runs : (part : PackedPart) (list index order : List ℕ) → ((p : ℕ) → get_or list p 0 ≡ get_or index p 0)
+    → pointers_fault part index order ≡ None → IsOrder part list order
+order-of_runs part list index order same none =
+    let p = part-none part (order_fault part index order) (order_difference part index order) none in
+    let lookup = order-lookup part index order p.0 in
+    order-same part list index order same
+    (record { rises = order-rises part index order p.0; answers = order-answers part index order _ lookup p.1 })
+
 -- ---- all parts
+
+-- runs without a fault are in order
+pub runs-in_order : (flat : FlatIndexes) (packed : Packed) → all_runs_fault flat packed ≡ None → AreRunsInOrder packed
+unfolding all_runs_fault
+runs-in_order flat packed none =
+    let a = or_none (runs_fault parts.Big5 19782 packed.big5.now flat.big5) _ none in
+    let b = or_none (runs_fault parts.EucKr 23940 packed.euc_kr.now flat.euc_kr) _ a.1 in
+    let c = or_none (runs_fault parts.Jis0208 11280 packed.jis0208.now flat.jis0208) _ b.1 in
+    let d = or_none (runs_fault parts.Jis0212 8836 packed.jis0212.now flat.jis0212) _ c.1 in
+    record {
+      big5 = (part-none parts.Big5 (run_fault 19782 packed.big5.now) _ a.0).0;
+      euc_kr = (part-none parts.EucKr (run_fault 23940 packed.euc_kr.now) _ b.0).0;
+      jis0208 = (part-none parts.Jis0208 (run_fault 11280 packed.jis0208.now) _ c.0).0;
+      jis0212 = (part-none parts.Jis0212 (run_fault 8836 packed.jis0212.now) _ d.0).0;
+      gb18030 = (part-none parts.Gb18030 (run_fault 23940 packed.gb18030.now) _ d.1).0;
+    }
 
 record AllAgree (flat : FlatIndexes) (packed : Packed) : Type 0 where
   big5 : Agree names.Big5 19782 packed.big5.now flat.big5
@@ -131,16 +157,22 @@ module _ (flat : FlatIndexes) (packed : Packed) (accepted : AreAccepted flat) (n
           let a = all_agree in
           grind (arith, a.big5.same p, a.euc_kr.same p, a.jis0208.same p, a.jis0212.same p, a.gb18030.same p)
 
-  -- the orders give the same pointers in the lists of runs as in the flat indexes
-  pub orders-same : (orders : CheckedOrders) → AnswerPointersOf orders flat → AnswerPointersOf orders (packed_lists flat packed)
-  orders-same orders are =
-      let a = all_agree in
+  -- orders that passed the check give the same pointers in the lists of runs as in the flat indexes
+  pub orders-answer : (orders : CheckedOrders) → AreOrdersOf orders packed → all_orders_fault flat packed ≡ None
+      → AnswerPointersOf orders (packed_lists flat packed)
+  unfolding all_orders_fault
+  orders-answer orders are ordered =
+      let s = all_agree in
+      let a = or_none (pointers_fault parts.Big5Order flat.big5 packed.big5_order.now) _ ordered in
+      let b = or_none (pointers_fault parts.EucKrOrder flat.euc_kr packed.euc_kr_order.now) _ a.1 in
+      let c = or_none (pointers_fault parts.ShiftJisOrder flat.jis0208 packed.shift_jis_order.now) _ b.1 in
+      let d = or_none (pointers_fault parts.EucJpOrder flat.jis0208 packed.euc_jp_order.now) _ c.1 in
       record {
-        big5 = order-same parts.Big5Order _ flat.big5 orders.big5.now a.big5.same are.big5;
-        euc_kr = order-same parts.EucKrOrder _ flat.euc_kr orders.euc_kr.now a.euc_kr.same are.euc_kr;
-        shift_jis = order-same parts.ShiftJisOrder _ flat.jis0208 orders.shift_jis.now a.jis0208.same are.shift_jis;
-        euc_jp = order-same parts.EucJpOrder _ flat.jis0208 orders.euc_jp.now a.jis0208.same are.euc_jp;
-        gb18030 = order-same parts.Gb18030Order _ flat.gb18030 orders.gb18030.now a.gb18030.same are.gb18030;
+        big5 = rw are.big5 (order-of_runs parts.Big5Order _ flat.big5 _ s.big5.same a.0);
+        euc_kr = rw are.euc_kr (order-of_runs parts.EucKrOrder _ flat.euc_kr _ s.euc_kr.same b.0);
+        shift_jis = rw are.shift_jis (order-of_runs parts.ShiftJisOrder _ flat.jis0208 _ s.jis0208.same c.0);
+        euc_jp = rw are.euc_jp (order-of_runs parts.EucJpOrder _ flat.jis0208 _ s.jis0208.same d.0);
+        gb18030 = rw are.gb18030 (order-of_runs parts.Gb18030Order _ flat.gb18030 _ s.gb18030.same d.1);
       }
 
 -- the lists of packed tables

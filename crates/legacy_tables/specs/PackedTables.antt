@@ -1,5 +1,5 @@
 -- The runs and orders of packed tables.
-use Rattle.std.specs.Prelude.{◌≡◌, ℕ, List, Option, true}
+use Rattle.std.specs.Prelude.{◌≡◌, ℕ, List, Option, None, true}
 use Rattle.legacy_tables.specs.declared.tables.packed.Packed.{Packed}
 use Rattle.legacy_tables.specs.declared.tables.packed.PackedPart.TheVariants as parts
 use Rattle.legacy_tables.specs.declared.tables.packed_checks.CheckedRuns.{CheckedRuns}
@@ -9,7 +9,7 @@ use Rattle.legacy_tables.specs.declared.tables.packed.PackedPart.{PackedPart}
 use Rattle.legacy_tables.specs.Indexes.{FlatIndexes}
 use Rattle.legacy_tables.specs.Packed.{pointer_of, takes_last}
 use Rattle.legacy_tables.specs.Orders.{IsOrder}
-use Rattle.legacy_tables.specs.PointerRuns.{runs_list}
+use Rattle.legacy_tables.specs.PointerRuns.{run_fault, runs_list}
 use Rattle.legacy_tables.specs.AcceptedTables.{flat_lists}
 
 -- packed tables as flat lists
@@ -26,6 +26,22 @@ pub record AreRunsOf (runs : CheckedRuns) (packed : Packed) : Type 0 where
   pub jis0208 : runs.jis0208.runs.now ≡ packed.jis0208.now
   pub jis0212 : runs.jis0212.runs.now ≡ packed.jis0212.now
   pub gb18030 : runs.gb18030.runs.now ≡ packed.gb18030.now
+
+-- the runs of packed indexes are in order
+pub record AreRunsInOrder (packed : Packed) : Type 0 where
+  pub big5 : run_fault 19782 packed.big5.now ≡ None
+  pub euc_kr : run_fault 23940 packed.euc_kr.now ≡ None
+  pub jis0208 : run_fault 11280 packed.jis0208.now ≡ None
+  pub jis0212 : run_fault 8836 packed.jis0212.now ≡ None
+  pub gb18030 : run_fault 23940 packed.gb18030.now ≡ None
+
+-- the orders are those of packed indexes
+pub record AreOrdersOf (orders : CheckedOrders) (packed : Packed) : Type 0 where
+  pub big5 : orders.big5.now ≡ packed.big5_order.now
+  pub euc_kr : orders.euc_kr.now ≡ packed.euc_kr_order.now
+  pub shift_jis : orders.shift_jis.now ≡ packed.shift_jis_order.now
+  pub euc_jp : orders.euc_jp.now ≡ packed.euc_jp_order.now
+  pub gb18030 : orders.gb18030.now ≡ packed.gb18030_order.now
 
 -- the orders give the pointers that the codecs use in flat indexes
 pub record AnswerPointersOf (orders : CheckedOrders) (flat : FlatIndexes) : Type 0 where

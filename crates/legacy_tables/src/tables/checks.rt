@@ -1,11 +1,12 @@
 //! The checks of indexes. Each returns the first fault that it finds.
 ghost use Rattle.std.specs.Prelude.{◌≡◌, ℕ, ◌+◌, ◌<◌, length, drop};
 ghost use Rattle.std.specs.Prelude.{MatchResult, Some, None, nat_le, ◌&&◌};
+ghost use Rattle.std.specs.Option.{option_or};
 ghost use Rattle.legacy_tables.specs.TableChecks.{is_narrow_entry, is_entry, must_be_empty};
 ghost use Rattle.legacy_tables.specs.TableChecks.{entry_fault, index_fault, katakana_fault};
 ghost use Rattle.legacy_tables.specs.TableChecks.{entries_fault, follows_range, range_order_fault};
 ghost use Rattle.legacy_tables.specs.TableChecks.{next_pointer, has_range_scalars, range_value_fault};
-ghost use Rattle.legacy_tables.specs.TableChecks.{table_fault};
+ghost use Rattle.legacy_tables.specs.TableChecks.{rows_fault, table_fault};
 ghost use Rattle.legacy_tables.specs.Tables.{flat_indexes};
 
 use super::limits::{
@@ -160,6 +161,20 @@ pub(super) fn check_range_scalars(ranges: &[(u16, u16)]) -> Result<(), TableErro
     Ok(())
 }
 
+/// Checks the katakana index, the ranges and the private-use rows, and returns the first fault.
+fn check_short_lists(indexes: &Indexes<'_>) -> Result<(), TableError>
+    ensures { let flat = flat_indexes indexes.now in
+        let found = option_or (katakana_fault flat.katakana)
+            (option_or (range_order_fault 0 None flat.ranges)
+            (option_or (range_value_fault 0 flat.ranges) (rows_fault 0 None flat.gb18030_pua))) in
+        MatchResult result (λ _. found ≡ None) (λ fault. found ≡ Some fault) }
+{
+    check_katakana(indexes.katakana)?;
+    check_range_order(indexes.ranges)?;
+    check_range_scalars(indexes.ranges)?;
+    check_rows(indexes.gb18030_pua)
+}
+
 /// Checks indexes in the order of the fields, and returns the first fault.
 #[tactic(auto, unfolding(crate::specs::TableChecks::table_fault))]
 pub(super) fn check_indexes(indexes: &Indexes<'_>) -> Result<(), TableError>
@@ -171,8 +186,5 @@ pub(super) fn check_indexes(indexes: &Indexes<'_>) -> Result<(), TableError>
     check_index(IndexName::Jis0208, JIS0208_POINTERS, &indexes.jis0208)?;
     check_index(IndexName::Jis0212, JIS0212_POINTERS, &indexes.jis0212)?;
     check_index(IndexName::Gb18030, GB18030_POINTERS, &indexes.gb18030)?;
-    check_katakana(indexes.katakana)?;
-    check_range_order(indexes.ranges)?;
-    check_range_scalars(indexes.ranges)?;
-    check_rows(indexes.gb18030_pua)
+    check_short_lists(indexes)
 }

@@ -5,10 +5,10 @@ ghost use Rattle.legacy_tables.specs.declared.tables.packed.PackedPart.{PackedPa
 ghost use Rattle.legacy_tables.specs.Packed.{is_pointer_in_order, order_fault, is_lacking};
 ghost use Rattle.legacy_tables.specs.Packed.{order_difference, pointers_fault, pointer_of};
 ghost use Rattle.legacy_tables.specs.Packed.{all_orders_fault, may_use, takes_last};
-ghost use Rattle.legacy_tables.specs.PackedTables.{AnswerPointersOf, AreLastPointers};
+ghost use Rattle.legacy_tables.specs.PackedTables.{AreOrdersOf, AreLastPointers};
 ghost use Rattle.legacy_tables.specs.Tables.{flat_indexes};
 ghost use Rattle.legacy_tables.specs.PointerSets.{HasOnly};
-ghost use Rattle.legacy_tables.specs.Orders.{IsLookup, IsOrder, RisesBy, order_pointer};
+ghost use Rattle.legacy_tables.specs.Orders.{IsLookup, RisesBy, order_pointer};
 
 use super::entries::Entry;
 use super::limits::{
@@ -203,9 +203,7 @@ fn first_difference<E: Entry>(part: PackedPart, index: &[E], order: &[u16]) -> O
 /// Checks that an order is in order, and has the pointer that the codec uses for each scalar.
 fn check_order<E: Entry>(part: PackedPart, order: &[u16], index: &[E]) -> Result<(), TableError>
     ensures { let found = pointers_fault part (E.numbers index.now) order.now in
-        MatchResult result
-        (λ _. IsOrder part (E.numbers index.now) order.now × (found ≡ None))
-        (λ fault. found ≡ Some fault) }
+        MatchResult result (λ _. found ≡ None) (λ fault. found ≡ Some fault) }
 {
     if let Some(at) = first_out_of_order(part, &index, order) {
         return Err(TableError::PackedOrder(part, at));
@@ -226,16 +224,26 @@ pub(super) struct CheckedOrders<'a> {
     pub(super) gb18030: &'a [u16],
 }
 
-/// Returns the orders of the five codecs, or the first fault of an order.
+impl<'a> CheckedOrders<'a> {
+    /// Returns the orders of packed indexes.
+    pub(super) fn of(packed: &Packed<'a>) -> CheckedOrders<'a>
+        ensures { AreOrdersOf result packed.now }
+    {
+        CheckedOrders {
+            big5: packed.big5_order,
+            euc_kr: packed.euc_kr_order,
+            shift_jis: packed.shift_jis_order,
+            euc_jp: packed.euc_jp_order,
+            gb18030: packed.gb18030_order,
+        }
+    }
+}
+
+/// Checks the orders of the five codecs, and returns the first fault.
 #[tactic(auto, using(crate::proofs::TableLoops::fault_steps), unfolding(crate::specs::Packed::all_orders_fault))]
-pub(super) fn all_orders_of<'a>(
-    indexes: &Indexes<'_>,
-    packed: &Packed<'a>,
-) -> Result<CheckedOrders<'a>, TableError>
+pub(super) fn check_all_orders(indexes: &Indexes<'_>, packed: &Packed<'_>) -> Result<(), TableError>
     ensures { let found = all_orders_fault (flat_indexes indexes.now) packed.now in
-        MatchResult result
-        (λ o. AnswerPointersOf o (flat_indexes indexes.now) × (found ≡ None))
-        (λ fault. found ≡ Some fault) }
+        MatchResult result (λ _. found ≡ None) (λ fault. found ≡ Some fault) }
 {
     check_order(PackedPart::Big5Order, packed.big5_order, indexes.big5)?;
     check_order(PackedPart::EucKrOrder, packed.euc_kr_order, indexes.euc_kr)?;
@@ -249,12 +257,5 @@ pub(super) fn all_orders_of<'a>(
         PackedPart::Gb18030Order,
         packed.gb18030_order,
         indexes.gb18030,
-    )?;
-    Ok(CheckedOrders {
-        big5: packed.big5_order,
-        euc_kr: packed.euc_kr_order,
-        shift_jis: packed.shift_jis_order,
-        euc_jp: packed.euc_jp_order,
-        gb18030: packed.gb18030_order,
-    })
+    )
 }

@@ -4,7 +4,7 @@ ghost use Rattle.std.specs.Prelude.{Some, None};
 ghost use Rattle.std.specs.Option.{option_eq};
 ghost use Rattle.legacy_tables.specs.Indexes.{idx};
 ghost use Rattle.legacy_tables.specs.Packed.{run_difference, runs_fault, all_runs_fault};
-ghost use Rattle.legacy_tables.specs.PackedTables.{AreRunsOf};
+ghost use Rattle.legacy_tables.specs.PackedTables.{AreRunsInOrder, AreRunsOf};
 ghost use Rattle.legacy_tables.specs.Tables.{flat_indexes};
 
 use super::limits::{
@@ -56,25 +56,23 @@ fn first_difference<N: Numbers, const POINTERS: usize>(
     None
 }
 
-/// Returns the runs, or their first fault: they are out of order, or differ from the flat index.
-pub(super) fn runs_of<'a, N: Numbers, const POINTERS: usize>(
+/// Checks that runs are in order, and do not differ from the flat index.
+fn check_runs<N: Numbers, const POINTERS: usize>(
     part: PackedPart,
-    runs: &'a [Run],
+    runs: &[Run],
     index: &N,
-) -> Result<PointerRuns<'a, POINTERS>, TableError>
+) -> Result<(), TableError>
     requires { POINTERS ≤ 23940 }
     ensures { let found = runs_fault part POINTERS runs.now (N.numbers index.now) in
-        MatchResult result
-        (λ r. (r.runs.now ≡ runs.now) × (found ≡ None))
-        (λ fault. found ≡ Some fault) }
+        MatchResult result (λ _. found ≡ None) (λ fault. found ≡ Some fault) }
 {
     if let Some(at) = first_out_of_order(POINTERS, runs) {
         return Err(TableError::PackedOrder(part, at));
     }
-    let checked = PointerRuns::new(runs);
+    let checked = PointerRuns::<POINTERS>::new(runs);
     match first_difference(POINTERS, &checked, index) {
         Some(at) => Err(TableError::PackedDiffers(part, at)),
-        None => Ok(checked),
+        None => Ok(()),
     }
 }
 
@@ -88,27 +86,31 @@ pub(super) struct CheckedRuns<'a> {
     pub(super) gb18030: PointerRuns<'a, GB18030_POINTERS>,
 }
 
-/// Returns the runs of the five indexes, or their first fault.
+impl<'a> CheckedRuns<'a> {
+    /// Returns the runs of packed indexes that passed the check.
+    pub(super) fn of(packed: &Packed<'a>) -> CheckedRuns<'a>
+        requires { AreRunsInOrder packed.now }
+        ensures { AreRunsOf result packed.now }
+    {
+        CheckedRuns {
+            big5: PointerRuns::new(packed.big5),
+            euc_kr: PointerRuns::new(packed.euc_kr),
+            jis0208: PointerRuns::new(packed.jis0208),
+            jis0212: PointerRuns::new(packed.jis0212),
+            gb18030: PointerRuns::new(packed.gb18030),
+        }
+    }
+}
+
+/// Checks the runs of the five indexes, and returns the first fault.
 #[tactic(auto, using(crate::proofs::TableLoops::fault_steps), unfolding(crate::specs::Packed::all_runs_fault))]
-pub(super) fn all_runs_of<'a>(
-    indexes: &Indexes<'_>,
-    packed: &Packed<'a>,
-) -> Result<CheckedRuns<'a>, TableError>
+pub(super) fn check_all_runs(indexes: &Indexes<'_>, packed: &Packed<'_>) -> Result<(), TableError>
     ensures { let found = all_runs_fault (flat_indexes indexes.now) packed.now in
-        MatchResult result
-        (λ r. AreRunsOf r packed.now × (found ≡ None))
-        (λ fault. found ≡ Some fault) }
+        MatchResult result (λ _. found ≡ None) (λ fault. found ≡ Some fault) }
 {
-    let big5 = runs_of(PackedPart::Big5, packed.big5, &indexes.big5)?;
-    let euc_kr = runs_of(PackedPart::EucKr, packed.euc_kr, &indexes.euc_kr)?;
-    let jis0208 = runs_of(PackedPart::Jis0208, packed.jis0208, &indexes.jis0208)?;
-    let jis0212 = runs_of(PackedPart::Jis0212, packed.jis0212, &indexes.jis0212)?;
-    let gb18030 = runs_of(PackedPart::Gb18030, packed.gb18030, &indexes.gb18030)?;
-    Ok(CheckedRuns {
-        big5,
-        euc_kr,
-        jis0208,
-        jis0212,
-        gb18030,
-    })
+    check_runs::<_, BIG5_POINTERS>(PackedPart::Big5, packed.big5, &indexes.big5)?;
+    check_runs::<_, EUC_KR_POINTERS>(PackedPart::EucKr, packed.euc_kr, &indexes.euc_kr)?;
+    check_runs::<_, JIS0208_POINTERS>(PackedPart::Jis0208, packed.jis0208, &indexes.jis0208)?;
+    check_runs::<_, JIS0212_POINTERS>(PackedPart::Jis0212, packed.jis0212, &indexes.jis0212)?;
+    check_runs::<_, GB18030_POINTERS>(PackedPart::Gb18030, packed.gb18030, &indexes.gb18030)
 }

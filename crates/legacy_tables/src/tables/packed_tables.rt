@@ -1,14 +1,16 @@
 //! Tables in the form of runs and orders.
-ghost use Rattle.std.specs.Prelude.{◌≡◌, MatchResult, Some};
+ghost use Rattle.std.specs.Prelude.{◌≡◌, MatchResult, Some, None};
+ghost use Rattle.legacy_tables.specs.Tables.{flat_indexes};
+ghost use Rattle.legacy_tables.specs.Packed.{packed_fault};
 ghost use Rattle.legacy_tables.specs.TableChecks.{AreAccepted};
 ghost use Rattle.legacy_tables.specs.PackedTables.{lists_of_runs, AnswerPointersOf};
 
 use super::checks::check_indexes;
 use super::numbers::number_at;
 use super::order::pointer_in_order;
-use super::order_checks::{CheckedOrders, all_orders_of};
+use super::order_checks::{CheckedOrders, check_all_orders};
 use super::packed::Packed;
-use super::packed_checks::{CheckedRuns, all_runs_of};
+use super::packed_checks::{CheckedRuns, check_all_runs};
 use super::private_use::row_bytes;
 use super::unpacking::unpack;
 use super::walks::walk;
@@ -50,10 +52,21 @@ impl<'a> Model for PackedTables<'a> {
     } };
 }
 
+/// Checks the flat indexes, then the runs, and then the orders, and returns the first fault.
+#[tactic(auto, using(crate::proofs::TableLoops::fault_steps))]
+fn check_packed(indexes: &Indexes<'_>, packed: &Packed<'_>) -> Result<(), TableError>
+    ensures { let found = packed_fault (flat_indexes indexes.now) packed.now in
+        MatchResult result (λ _. found ≡ None) (λ fault. found ≡ Some fault) }
+{
+    check_indexes(indexes)?;
+    check_all_runs(indexes, packed)?;
+    check_all_orders(indexes, packed)
+}
+
 impl<'a> PackedTables<'a> {
-    ghost use Rattle.legacy_tables.specs.Tables.{flat_indexes, index_list, is_narrow_index};
+    ghost use Rattle.legacy_tables.specs.Tables.{index_list, is_narrow_index};
     ghost use Rattle.std.specs.Prelude.{◌<◌, ◌≤◌, length, slice_index, true, MatchOption};
-    ghost use Rattle.legacy_tables.specs.Packed.{packed_fault, ArePackedTables};
+    ghost use Rattle.legacy_tables.specs.Packed.{ArePackedTables};
 
     /// Returns what `Tables::packed_of` does.
     pub(super) fn new(
@@ -64,12 +77,10 @@ impl<'a> PackedTables<'a> {
             (λ tables. ArePackedTables (flat_indexes indexes.now) packed.now tables.flat)
             (λ fault. packed_fault (flat_indexes indexes.now) packed.now ≡ Some fault) }
     {
-        check_indexes(indexes)?;
-        let runs = all_runs_of(indexes, packed)?;
-        let orders = all_orders_of(indexes, packed)?;
+        check_packed(indexes, packed)?;
         Ok(PackedTables {
-            runs,
-            orders,
+            runs: CheckedRuns::of(packed),
+            orders: CheckedOrders::of(packed),
             katakana: indexes.katakana,
             ranges: indexes.ranges,
             gb18030_pua: indexes.gb18030_pua,
