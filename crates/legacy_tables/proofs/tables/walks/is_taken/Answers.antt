@@ -3,3 +3,6 @@ use Rattle.legacy_tables.proofs.tables.walks.is_taken.Goals as goal
 
 pub returns-then-free : goal.returns-then-free
 returns-then-free c = grind (arith, common_steps)
+
+pub returns-else-free : goal.returns-else-free
+returns-else-free c = grind (arith, common_steps)
