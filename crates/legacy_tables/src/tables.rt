@@ -32,6 +32,7 @@ pub use private_use::GB18030_2022_PUA;
 pub use ranges::{RangePart, Ranges};
 use std::fmt;
 use std::marker::Model;
+use thiserror::Error;
 use unpacking::unpack;
 pub use walks::Marks;
 use walks::{shortened, walk};
@@ -57,6 +58,7 @@ pub enum IndexName {
 
 impl IndexName {
     /// Returns the name of the index for messages.
+    // In `fmt`, each name would be a separate path through the call.
     fn word(self) -> &'static str {
         match self {
             IndexName::Big5 => "big5",
@@ -78,135 +80,52 @@ impl fmt::Display for IndexName {
 }
 
 /// The reason why indexes or a single-byte table are refused.
-#[derive(Debug, Drop, PartialEq, Eq)]
+#[derive(Debug, Drop, PartialEq, Eq, Error)]
 pub enum TableError {
     /// The index has more entries than pointers.
+    #[error("index {0} is too long")]
     TooLong(IndexName),
     /// The entry is not 0, and is not a scalar that the index may contain.
+    #[error("index {0} has a bad entry at {1}")]
     BadEntry(IndexName, usize),
     /// The entry is not 0, though the decoder does not look it up.
+    #[error("index {0} must be empty at {1}")]
     NotEmpty(IndexName, usize),
     /// The katakana index has neither 0 nor 63 entries.
+    #[error("index katakana must have 0 or 63 entries")]
     KatakanaLength,
     /// The range at the place starts past the last pointer, or too low for the range before it.
+    #[error("ranges are out of order at {0}")]
     RangeOrder(usize),
     /// The range at the place has a scalar below U+0080, past U+FFFF, or a surrogate.
+    #[error("range {0} has a bad scalar")]
     RangeValue(usize),
     /// The scalar of the private-use row at the place is not above that of the row before.
+    #[error("private-use row {0} is out of order")]
     PuaOrder(usize),
     /// The scalar of the private-use row at the place is outside U+E000 to U+F8FF, or is U+E5E5.
+    #[error("private-use row {0} has a bad scalar")]
     PuaScalar(usize),
     /// The bytes of the private-use row at the place are no lead and trail of GB18030.
     ///
     /// The lead is outside 81 to FE, or the trail is outside 40 to 7E and 80 to FE.
+    #[error("private-use row {0} has bad bytes")]
     PuaBytes(usize),
     /// The run or the pointer at the place of the packed part is not in order.
+    #[error("packed {0} is out of order at {1}")]
     PackedOrder(PackedPart, usize),
     /// The packed part and the flat index give different results for the pointer.
     ///
     /// A run may contain U+0000 or the number of a surrogate, which no flat index gives.
+    #[error("packed {0} differs at {1}")]
     PackedDiffers(PackedPart, usize),
     /// The entry at the place is not 0, and is not a scalar that a single-byte table may contain.
+    #[error("single-byte entry {0} is bad")]
     BadByteEntry(usize),
     /// The entry at the place is not 0, and is equal to an earlier entry.
+    #[error("single-byte entry {0} is repeated")]
     Repeated(usize),
 }
-
-impl TableError {
-    /// Returns the first words of the message.
-    fn subject(&self) -> &'static str {
-        match self {
-            TableError::TooLong(_)
-            | TableError::BadEntry(_, _)
-            | TableError::NotEmpty(_, _)
-            | TableError::KatakanaLength => "index ",
-            TableError::RangeOrder(_) => "ranges",
-            TableError::RangeValue(_) => "range ",
-            TableError::PuaOrder(_) | TableError::PuaScalar(_) | TableError::PuaBytes(_) => {
-                "private-use row "
-            }
-            TableError::PackedOrder(_, _) | TableError::PackedDiffers(_, _) => "packed ",
-            TableError::BadByteEntry(_) | TableError::Repeated(_) => "single-byte entry ",
-        }
-    }
-
-    /// Returns the name of the index or of the packed part, or no text.
-    fn name(&self) -> &'static str {
-        match self {
-            TableError::TooLong(name)
-            | TableError::BadEntry(name, _)
-            | TableError::NotEmpty(name, _) => name.word(),
-            TableError::KatakanaLength => IndexName::Katakana.word(),
-            TableError::PackedOrder(part, _) | TableError::PackedDiffers(part, _) => part.word(),
-            _ => "",
-        }
-    }
-
-    /// Returns the place that the message names before the fault.
-    fn place_before(&self) -> Option<usize> {
-        match self {
-            TableError::RangeValue(place)
-            | TableError::PuaOrder(place)
-            | TableError::PuaScalar(place)
-            | TableError::PuaBytes(place)
-            | TableError::BadByteEntry(place)
-            | TableError::Repeated(place) => Some(*place),
-            _ => None,
-        }
-    }
-
-    /// Returns the words for the fault.
-    fn fault(&self) -> &'static str {
-        match self {
-            TableError::TooLong(_) => " is too long",
-            TableError::BadEntry(_, _) => " has a bad entry at ",
-            TableError::NotEmpty(_, _) => " must be empty at ",
-            TableError::KatakanaLength => " must have 0 or 63 entries",
-            TableError::RangeOrder(_) => " are out of order at ",
-            TableError::RangeValue(_) | TableError::PuaScalar(_) => " has a bad scalar",
-            TableError::PuaOrder(_) => " is out of order",
-            TableError::PuaBytes(_) => " has bad bytes",
-            TableError::PackedOrder(_, _) => " is out of order at ",
-            TableError::PackedDiffers(_, _) => " differs at ",
-            TableError::BadByteEntry(_) => " is bad",
-            TableError::Repeated(_) => " is repeated",
-        }
-    }
-
-    /// Returns the place that the message names after the fault.
-    fn place_after(&self) -> Option<usize> {
-        match self {
-            TableError::BadEntry(_, place)
-            | TableError::NotEmpty(_, place)
-            | TableError::RangeOrder(place)
-            | TableError::PackedOrder(_, place)
-            | TableError::PackedDiffers(_, place) => Some(*place),
-            _ => None,
-        }
-    }
-}
-
-/// Writes a place, if there is one.
-fn write_place<W: fmt::Write>(place: Option<usize>, f: &mut fmt::Formatter<W>) -> fmt::Result {
-    match place {
-        Some(place) => write!(f, "{place}"),
-        None => Ok(()),
-    }
-}
-
-/// Writes the reason as a message.
-// A `write!` for each reason would be thirteen paths through its calls.
-impl fmt::Display for TableError {
-    fn fmt<W: fmt::Write>(&self, f: &mut fmt::Formatter<W>) -> fmt::Result {
-        f.write_str(self.subject())?;
-        f.write_str(self.name())?;
-        write_place(self.place_before(), f)?;
-        f.write_str(self.fault())?;
-        write_place(self.place_after(), f)
-    }
-}
-
-impl std::error::Error for TableError {}
 
 /// Flat indexes, not checked yet.
 ///
