@@ -85,7 +85,6 @@ fn lend_pairs<C: FillsPairs, T: EncoderTask>(
 
 /// Returns the answer of an encoder of ASCII and pairs to the query for UTF-16.
 #[inline(always)]
-#[tactic(auto, using(legacy_encoder_engine::proofs::PairAnswers::from_utf16))]
 fn pairs_from_utf16<C: FillsPairs>(
     coder: &ListedPairs<'_, '_, C>,
     u16_length: usize,
@@ -93,13 +92,11 @@ fn pairs_from_utf16<C: FillsPairs>(
     ensures { result ≡ encoder_answer Utf16
         (new_encoder (C.codec coder.now.encoder.now.tables.now.flat)) u16_length }
 {
-    let _ = coder;
-    u16_length.checked_mul(2)
+    coder.max_buffer_length_from_utf16_without_replacement(u16_length)
 }
 
 /// Returns the answer of an encoder of ASCII and pairs to the query for UTF-8.
 #[inline(always)]
-#[tactic(auto, using(legacy_encoder_engine::proofs::PairAnswers::from_utf8))]
 fn pairs_from_utf8<C: FillsPairs>(
     coder: &ListedPairs<'_, '_, C>,
     byte_length: usize,
@@ -107,8 +104,7 @@ fn pairs_from_utf8<C: FillsPairs>(
     ensures { result ≡ encoder_answer Utf8
         (new_encoder (C.codec coder.now.encoder.now.tables.now.flat)) byte_length }
 {
-    let _ = coder;
-    byte_length.checked_add(1)
+    coder.max_buffer_length_from_utf8_without_replacement(byte_length)
 }
 
 /// Returns an encoder of ASCII and pairs with a list of its pairs in the room.
