@@ -165,8 +165,8 @@ pub(super) fn check_range_scalars(ranges: &[(u16, u16)]) -> Result<(), TableErro
 fn check_short_lists(indexes: &Indexes<'_>) -> Result<(), TableError>
     ensures { let flat = flat_indexes indexes.now in
         let found = option_or (katakana_fault flat.katakana)
-            (option_or (range_order_fault 0 None flat.ranges)
-            (option_or (range_value_fault 0 flat.ranges) (rows_fault 0 None flat.gb18030_pua))) in
+        (option_or (range_order_fault 0 None flat.ranges)
+        (option_or (range_value_fault 0 flat.ranges) (rows_fault 0 None flat.gb18030_pua))) in
         MatchResult result (λ _. found ≡ None) (λ fault. found ≡ Some fault) }
 {
     check_katakana(indexes.katakana)?;
