@@ -24,6 +24,3 @@ calls-preserved g c =
 
 pub returns-in-InputEmpty-clause-end : goal.returns-in-InputEmpty-clause-end
 returns-in-InputEmpty-clause-end g c = (c.encode_replacing_utf8-answer.ensures.call.input_empty c.in-InputEmpty.is).1 (search rules)
-
-pub returns-in-InputEmpty-clause-codec : goal.returns-in-InputEmpty-clause-codec
-returns-in-InputEmpty-clause-codec g c = c.encode_replacing_utf8-answer.ensures.call.codec ∙ c.calls.invariant.3
