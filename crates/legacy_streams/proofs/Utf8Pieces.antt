@@ -135,45 +135,45 @@ cut_character c n is some less =
     ]
 
 -- a malformed sequence remains one, whatever follows
-error_len_longer : (bad more : List ℕ) (k : ℕ) → utf8_error_len bad ≡ Some k → utf8_error_len (bad ++ more) ≡ Some k
+error_len_longer : (malformed more : List ℕ) (k : ℕ) → utf8_error_len malformed ≡ Some k → utf8_error_len (malformed ++ more) ≡ Some k
 unfolding utf8_error_len
 error_len_longer [] more k e = cc
 error_len_longer (a ∷ []) more k e = grind (arith, nat_tests)
 error_len_longer (a ∷ b ∷ []) more k e = grind (arith, nat_tests)
 error_len_longer (a ∷ b ∷ d ∷ []) more k e = grind (arith, nat_tests)
-error_len_longer (a ∷ b ∷ d ∷ c ∷ bad) more k e = grind (arith, nat_tests)
+error_len_longer (a ∷ b ∷ d ∷ c ∷ malformed) more k e = grind (arith, nat_tests)
 
 -- no text begins with a malformed sequence
-malformed_longer : (bad more : List ℕ) (k : ℕ) → IsValidUpTo bad 0 → utf8_error_len bad ≡ Some k → IsValidUpTo (bad ++ more) 0
-malformed_longer bad more k valid e =
+malformed_longer : (malformed more : List ℕ) (k : ℕ) → IsValidUpTo malformed 0 → utf8_error_len malformed ≡ Some k → IsValidUpTo (malformed ++ more) 0
+malformed_longer malformed more k valid e =
     let some = valid.short in
-    record { short = omega (arith, length-append bad more); front = ([], (refl, refl)); longest = λ m above w. none m above w.0 w.1.0 w.1.1 }
+    record { short = omega (arith, length-append malformed more); front = ([], (refl, refl)); longest = λ m above w. none m above w.0 w.1.0 w.1.1 }
   where
-    none : (m : ℕ) → 0 < m → (cs : List ℕ) → scalars cs ≡ true → encode_utf8_all cs ≡ take m (bad ++ more) → ⊥
+    none : (m : ℕ) → 0 < m → (cs : List ℕ) → scalars cs ≡ true → encode_utf8_all cs ≡ take m (malformed ++ more) → ⊥
     none m above [] all spells =
         let some = valid.short in
         let long = ap length spells in
-        omega (arith, long, length-take m (bad ++ more), length-append bad more)
+        omega (arith, long, length-take m (malformed ++ more), length-append malformed more)
     none m above (c ∷ cs) all spells =
         let first = encode_utf8 c in
         let width = length first in
         let both : (scalar c ≡ true) × (scalars cs ≡ true) = and_parts (scalar c) (scalars cs) all in
         let pos : 0 < width = (omega (arith, (len_utf8_bounds c).0, length-encode c)) in
-        let total = ap length spells ∙ length-take m (bad ++ more) in
+        let total = ap length spells ∙ length-take m (malformed ++ more) in
         let within : width ≤ m = omega (arith, total, length-append first (encode_utf8_all cs)) in
-        let is : take width (bad ++ more) ≡ first =
-        sym (take-take width m (bad ++ more) within) ∙ ap (take width) (sym spells) ∙ take_at first (encode_utf8_all cs) _ refl in
+        let is : take width (malformed ++ more) ≡ first =
+        sym (take-take width m (malformed ++ more) within) ∙ ap (take width) (sym spells) ∙ take_at first (encode_utf8_all cs) _ refl in
         ⊎_elim
-        (λ (cut : length bad < width).
-        let front : bad ≡ take (length bad) first =
-        sym (take_at bad more _ refl) ∙ sym (take-take (length bad) width (bad ++ more) (omega arith)) ∙ ap (take (length bad)) is in
+        (λ (cut : length malformed < width).
+        let front : malformed ≡ take (length malformed) first =
+        sym (take_at malformed more _ refl) ∙ sym (take-take (length malformed) width (malformed ++ more) (omega arith)) ∙ ap (take (length malformed)) is in
         let some = valid.short in
-        let none = ap utf8_error_len front ∙ cut_character c (length bad) both.0 some cut in
+        let none = ap utf8_error_len front ∙ cut_character c (length malformed) both.0 some cut in
         let no = sym none ∙ e in cc)
-        (λ (fits : width ≤ length bad).
-        let front : take width bad ≡ first = sym (take-append-le width bad more fits) ∙ is in
+        (λ (fits : width ≤ length malformed).
+        let front : take width malformed ≡ first = sym (take-append-le width malformed more fits) ∙ is in
         valid.longest width pos (subst IsUtf8 (sym front) (IsUtf8-encode c both.0)))
-        (cases_lt (length bad) width)
+        (cases_lt (length malformed) width)
 
 -- no text begins after the longest text
 pub behind_text : (bs : List ℕ) (n : ℕ) → IsValidUpTo bs n → IsValidUpTo (drop n bs) 0
@@ -189,16 +189,16 @@ lossy_past_none bs valid =
     let len = utf8_valid_len-IsValidUpTo bs 0 valid in
     rw (len, zero-add (utf8_invalid_len bs)) at (utf8_lossy_step bs (omega (arith, valid.short, len)))
 
-text_past_malformed : (bad more : List ℕ) (k : ℕ) → IsValidUpTo bad 0 → utf8_error_len bad ≡ Some k → k ≤ length bad →
-    lossy_text (bad ++ more) ≡ 0xFFFD ∷ lossy_text (drop k bad ++ more)
+text_past_malformed : (malformed more : List ℕ) (k : ℕ) → IsValidUpTo malformed 0 → utf8_error_len malformed ≡ Some k → k ≤ length malformed →
+    lossy_text (malformed ++ more) ≡ 0xFFFD ∷ lossy_text (drop k malformed ++ more)
 unfolding lossy_text
-text_past_malformed bad more k valid e within =
+text_past_malformed malformed more k valid e within =
     grind (arith, error_len_longer, drop-append-le, lossy_past_none, malformed_longer, chars-append replacement_bytes, replacement_utf8, replacement_chars)
 
 -- what the end of the input leaves of a character is malformed
-pub text_of_cut : (bad : List ℕ) → IsValidUpTo bad 0 → utf8_error_len bad ≡ None → lossy_text bad ≡ 0xFFFD ∷ []
+pub text_of_cut : (malformed : List ℕ) → IsValidUpTo malformed 0 → utf8_error_len malformed ≡ None → lossy_text malformed ≡ 0xFFFD ∷ []
 unfolding lossy_text
-text_of_cut bad valid e = grind (arith, drop_all, utf8_lossy_empty, lossy_past_none, append-nil, replacement_chars)
+text_of_cut malformed valid e = grind (arith, drop_all, utf8_lossy_empty, lossy_past_none, append-nil, replacement_chars)
 
 pub text_of_none : lossy_text [] ≡ []
 unfolding lossy_text

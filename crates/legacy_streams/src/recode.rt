@@ -48,7 +48,6 @@ fn push_events(lines: &mut LineBuffer, units: &[u16], answer: DecoderResult, rea
 ///
 /// `total` bytes of the input come before them. Returns the call's result and the number of bytes
 /// read. The contents of `batch` are lost.
-#[tactic(auto, using(crate::proofs::FourDigitLines::scalars_of_units))]
 fn lines_of_one_call<D: RawDecoder>(
     decoder: &mut D,
     unread: &[u8],
