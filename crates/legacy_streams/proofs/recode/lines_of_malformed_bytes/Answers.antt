@@ -1,4 +1,4 @@
-use Rattle.std.proofs.Common.{arith, sym, subst, length-take}
+use Rattle.std.proofs.Common.{arith, subst, length-take}
 use Rattle.std.proofs.lemmas.List.{get_or-take}
 use Rattle.legacy_base.specs.Calls.{IsMalformedByte}
 use Rattle.legacy_streams.proofs.recode.lines_of_malformed_bytes.Goals as goal
