@@ -1,7 +1,7 @@
 -- Laws of the words of the command line.
-use Rattle.std.proofs.Math.Seq.{take_all}
-use Rattle.std.proofs.Common.{◌≡◌, ap, ℕ, ◌-◌, take, drop, IsTrue, ◌≤◌, ◌<◌, List, [], ◌∷◌, length, length-drop, refl, arith}
-use Rattle.std.proofs.Common.{Option, Some, Bool, true, false, ◌&&◌}
+use Rattle.std.proofs.{Math.Seq.take_all, lemmas.Bool.and_parts}
+use Rattle.std.proofs.Common.{◌≡◌, ap, ℕ, ◌-◌, take, drop, IsTrue, ◌≤◌, ◌<◌, List, [], ◌∷◌, length, refl, arith}
+use Rattle.std.proofs.Common.{Option, Some, false}
 use Rattle.std.specs.Borrow.{Bor}
 use Rattle.legacy_tables.specs.Indexes.{FlatIndexes}
 use Rattle.legacy_index_files.specs.declared.codec.Codec.{Codec}
@@ -13,23 +13,16 @@ one_word [] h k = absurd (omega arith)
 one_word (w ∷ []) h k = refl
 one_word (v ∷ w ∷ words) h k = absurd (omega arith)
 
--- the words after the first INDEX and FILE
-pub later_words : (words : List (Bor (List ℕ))) → 2 ≤ length words → take (length words - 2) (drop 2 words) ≡ drop 2 words
-later_words words h = take_all _ _ (omega (arith, length-drop 2 words))
-
-second_true : (a b : Bool) → IsTrue (a && b) → IsTrue b
-second_true true b h = h
-second_true false b h = cc
-
+-- the words after the first INDEX and FILE are such words too
 pub later_indexes : (words : List (Bor (List ℕ))) → 2 ≤ length words → IsTrue (are_indexes (texts_of words)) → IsTrue (are_indexes (texts_of (drop 2 words)))
 later_indexes [] h k = absurd (omega arith)
 later_indexes (w ∷ []) h k = absurd (omega arith)
-later_indexes (v ∷ w ∷ words) h k = second_true _ _ k
+later_indexes (v ∷ w ∷ words) h k = (and_parts _ _ k).1
 
 -- the words after CODEC
-pub words_behind_codec : (words : List (Bor (List ℕ))) → texts_of (take (length words - 1) (drop 1 words)) ≡ drop 1 (texts_of words)
-words_behind_codec [] = refl
-words_behind_codec (w ∷ words) = ap texts_of (take_all _ words (omega arith))
+pub words_after_codec : (words : List (Bor (List ℕ))) → texts_of (take (length words - 1) (drop 1 words)) ≡ drop 1 (texts_of words)
+words_after_codec [] = refl
+words_after_codec (w ∷ words) = ap texts_of (take_all _ words (omega arith))
 
 -- what is done by the words after CODEC is done by the words
 pub works_with : {State : Type 0} {coder_of : Codec → FlatIndexes → Option (List ℕ) → Option State} {Work : State → Type 0} (asked : Option Codec)
@@ -38,4 +31,4 @@ pub works_with : {State : Type 0} {coder_of : Codec → FlatIndexes → Option (
     → WorksByTexts coder_of codec (text_given (texts_of (take (length words - 1) (drop 1 words))) files) Work
     → WorksWith coder_of asked (texts_of words) files Work
 works_with asked codec words files named well_formed by =
-    record { codec = codec; named = named; well_formed = rw (words_behind_codec words) at well_formed; by = rw (words_behind_codec words) at by }
+    record { codec = codec; named = named; well_formed = rw (words_after_codec words) at well_formed; by = rw (words_after_codec words) at by }
