@@ -3,3 +3,4 @@ pub mod CommandLine
 pub mod GivenFiles
 pub mod ReadingIndexes
 pub mod Stopping
+pub mod HostLists

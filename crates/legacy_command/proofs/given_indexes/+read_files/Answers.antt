@@ -1,4 +1,4 @@
-use Rattle.std.proofs.{Common.{rules, Err, inl, inr, ap, refl}, lemmas.{List.take_rest, Result.err_from_is_err_and}}
+use Rattle.std.proofs.{Common.{arith, rules, Err, inl, inr, ap, refl}, lemmas.{Grind.common_steps, List.take_rest, Result.err_from_is_err_and}}
 use Rattle.legacy_command.proofs.{CommandLine.later_indexes, GivenFiles.{few_words, few_well_formed, one_more}}
 use Rattle.legacy_index_files.specs.declared.index_file.EncoderIndex.TheVariants.{Of}
 use Rattle.legacy_index_files.proofs.WellFormed.{well_formed_ok}
@@ -47,3 +47,12 @@ returns-in-Err-Line-clause-fault t c =
 
 pub returns-in-Err-Memory-clause-fault : goal.returns-in-Err-Memory-clause-fault
 returns-in-Err-Memory-clause-fault t c = inl refl
+
+pub returns-in_default-split_first-clause-texts : goal.returns-in_default-split_first-clause-texts
+returns-in_default-split_first-clause-texts t c = tt
+
+pub returns-in_default-split_first-clause-well_formed : goal.returns-in_default-split_first-clause-well_formed
+returns-in_default-split_first-clause-well_formed t c = tt
+
+pub returns-in_default-split_first-clause-fault : goal.returns-in_default-split_first-clause-fault
+returns-in_default-split_first-clause-fault t c = grind (arith, common_steps)
