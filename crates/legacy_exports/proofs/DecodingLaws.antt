@@ -2,7 +2,7 @@
 use Rattle.std.proofs.Common.{◌≡◌, ◌∙◌, ℕ, ◌+◌, ◌-◌, ◌≤◌, ◌<◌, List, [], ◌∷◌, ◌++◌, length, drop, take, refl, sym, ap, arith}
 use Rattle.std.proofs.Common.{◌≢◌, ◌⊎◌, Bool, true, false, ◌||◌, IsTrue, inl, inr, subst}
 use Rattle.std.proofs.Common.{map, append-nil, append_assoc, length-append, length-drop, length-take}
-use Rattle.std.proofs.{Common.nat_eq, lemmas.Bool.Decides.nat_tests, Math.Bool.{or-true}, Math.Seq.drop-nil, lemmas.List.Folds.drop_split}
+use Rattle.std.proofs.{Common.nat_eq, lemmas.Bool.{cases_Bool, Decides.nat_tests}, Math.Bool.{or-true}, Math.Seq.drop-nil, lemmas.List.Folds.drop_split}
 use Rattle.std.proofs.lemmas.List.{drop-drop, drop-append-le, drop_all, nil_from_length}
 use Rattle.legacy_base.specs.declared.results.DecodeEvent.{DecodeEvent}
 use Rattle.legacy_base.specs.declared.results.DecodeEvent.TheVariants.{Scalar, Bad}
@@ -39,19 +39,12 @@ replacing_decodes c = record {
   text = c.text;
 }
 
--- nothing is left of a source that was read
-all_read : (source : List ℕ) (read : ℕ) → read ≡ length source → drop read source ≡ []
-all_read source read e = drop_all read source (omega (arith, e))
-
-true_or_false : (b : Bool) → IsTrue b ⊎ (b ≡ false)
-true_or_false b = grind arith
-
 -- it found a malformed sequence, or has room for the bytes held back
 replacing_held : {form : EncodingForm} {before : DecoderState} {source : List ℕ} {last : Bool} {free : ℕ} {after : DecoderState} {answer : CoderResult}
     {read : ℕ} {written : List ℕ} {found : Bool} (c : ReplacingDecoderCall form before source last free after answer read written found) →
     0 < read → after.held ≢ [] → IsTrue (has_malformed c.out) ⊎ (full_room_in form before.grammar ≤ free - length written)
 replacing_held c some held =
-    elim (true_or_false (has_malformed c.out)) [ inl found ↦ inl found | inr none ↦ inr (c.room_held some (c.found_is ∙ none) held) ]
+    elim (cases_Bool (has_malformed c.out)) [ inl found ↦ inl found | inr none ↦ inr (c.room_held some (c.found_is ∙ none) held) ]
 
 pub replacing_call : {form : EncodingForm} {before : DecoderState} {source : List ℕ} {last : Bool} {free : ℕ} {after : DecoderState} (answer : CoderResult)
     {read : ℕ} {written : List ℕ} {found : Bool} →
@@ -61,7 +54,7 @@ replacing_call {source = source} coder.InputEmpty {read} c =
     let e = c.input_empty refl in
     record {
       decodes = replacing_decodes c;
-      ends = (all_read source read e.0, e.1, e.2);
+      ends = (drop_all read source (omega (arith, e.0)), e.1, e.2);
       replaced = λ f. cc;
       room_held = replacing_held c;
     }
@@ -124,7 +117,7 @@ module _ {form : EncodingForm} {before : DecoderState} {source : List ℕ} {last
       let all = c.input_empty refl in
       record {
         decodes = raw_decodes units (quiet form scalars units e) c;
-        ends = (all_read source read all.0, all.1, all.2);
+        ends = (drop_all read source (omega (arith, all.0)), all.1, all.2);
         replaced = λ f. cc;
         room_held = λ some held. inr (rw e (c.room_held some held));
       }
