@@ -1,5 +1,5 @@
 -- The state of the ISO-2022-JP encoder between two calls, and its moves.
-use Rattle.std.specs.Prelude.{◌≡◌, ◌<◌, ℕ, List, [], ◌∷◌, length, slice_index, false}
+use Rattle.std.specs.Prelude.{◌≡◌, ◌<◌, ◌≤◌, ℕ, List, [], ◌∷◌, slice_index, false}
 use Rattle.legacy_tables.specs.AcceptedTables.{AcceptedIndexes}
 use Rattle.legacy_base.specs.Iso2022Jp.{iso_2022_jp_code, iso_2022_jp_reported, is_mode_control, mode_behind}
 use Rattle.legacy_base.specs.EncoderProfile.{EncoderMode, in_ascii, in_roman, in_two_byte}
@@ -45,9 +45,9 @@ pub record Asks (jis0208 katakana_index : List ℕ) (mode : Mode) (c : ℕ) (new
   pub mode_is : mode_behind jis0208 katakana_index (mode_of mode) (c ∷ []) ≡ mode_of new
   pub code_is : IsCode (iso_2022_jp_code jis0208 katakana_index c) (iso_2022_jp_reported c) move
 
--- none of the bytes is a control that would switch modes
-abbrev pub HasNoControl : List ℕ → Type 0
-HasNoControl bytes = (k : ℕ) → k < length bytes → is_mode_control (slice_index bytes k) ≡ false
+-- none of the bytes from the place `first` to before the place `end` is a control that would switch modes
+abbrev pub HasNoControl : List ℕ → ℕ → ℕ → Type 0
+HasNoControl bytes first end = (k : ℕ) → first ≤ k → k < end → is_mode_control (slice_index bytes k) ≡ false
 
 -- in ASCII mode the scalar c is written as this byte, which is c
 abbrev pub IsOwnByte : ℕ → ℕ → Type 0
