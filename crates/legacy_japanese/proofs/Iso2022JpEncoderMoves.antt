@@ -1,21 +1,20 @@
 -- The length formulas of the ISO-2022-JP encoder are enough for its scalars and escapes. Its moves, by its tables and by a list of pairs.
-use Rattle.std.proofs.Common.{◌≡◌, ◌∙◌, ℕ, ◌+◌, ◌≤◌, List, arith, Bool, true, false, [], ◌∷◌, ◌++◌, refl, sym, ap, IsTrue}
-use Rattle.std.proofs.{Common.{map, ◌⊎◌, ◌/◌, ◌%◌}, lemmas.Bool.Decides.nat_tests}
-use Rattle.legacy_text.specs.EncodingForm.{EncodingForm, Utf8}
+use Rattle.std.proofs.Common.{◌≡◌, ◌∙◌, ℕ, ◌+◌, ◌≤◌, ◌/◌, ◌%◌, List, arith, Bool, true, false, [], ◌∷◌, ◌++◌, refl, sym, ap, IsTrue, Some, map, ◌⊎◌}
+use Rattle.{std.proofs.lemmas.Bool.Decides.nat_tests, legacy_tables.specs.Indexes.FlatIndexes}
+use Rattle.legacy_text.specs.{EncodingForm.{EncodingForm, Utf8}, UnitCodes.IsNoSurrogate}
 use Rattle.legacy_base.specs.Iso2022Jp.{iso_2022_jp_encoder, iso_2022_jp_code, is_two_byte_scalar, is_roman_scalar, escape_between, iso_2022_jp_reported}
-use Rattle.legacy_base.specs.{Iso2022Jp.mode_behind, EncodeEvents.{code_events}, EncoderProfile.{EncoderProfile, EncoderMode}}
-use Rattle.legacy_base.specs.{EncoderProfile.{in_ascii, in_two_byte}, declared.results.EncodeEvent.EncodeEvent, Beginnings.BeginsWith}
+use Rattle.legacy_base.specs.{Iso2022Jp.{mode_behind, escape_to}, EncodeEvents.{code_events}, EncoderProfile.{EncoderProfile, EncoderMode, in_ascii, in_two_byte}}
+use Rattle.legacy_base.specs.{declared.results.EncodeEvent.EncodeEvent, Beginnings.BeginsWith}
 use Rattle.legacy_base.{specs.Encoders.{encoder_profile, iso_2022_jp, is_pending}, proofs.SameUnits.some_unit}
 use Rattle.legacy_base.proofs.Iso2022JpEncoding.{code-short, text_events, text_events-here, text_events-escape, text_events-end, text_events-open, mode_for}
 use Rattle.legacy_base.proofs.Iso2022JpEncoding.{mode_by, mode_for-by, mode_for-twice, code_by}
-use Rattle.legacy_encoder_engine.specs.{Moves.{differs, Moves, Finishes, IsCode}, ProfileSuffices.{Serves, mode_room}}
-use Rattle.legacy_encoder_engine.specs.{UnfinishedCall.ReadsByte, UnitTurns.ReadsUnit}
+use Rattle.legacy_encoder_engine.specs.{Moves.{differs, is_escape, move_bytes, Moves, Finishes}, ProfileSuffices.{Serves, mode_room}}
+use Rattle.legacy_encoder_engine.specs.{UnfinishedCall.ReadsByte, UnitTurns.{ReadsUnit, two_bytes}}
 use Rattle.legacy_encoder_engine.specs.declared.moves.EncoderMove.{EncoderMove, TheVariants.{One, Two}}
 use Rattle.legacy_encoder_engine.proofs.PlainServes.{two_units, differs-same, here_moves}
-use Rattle.legacy_japanese.specs.{declared.iso_2022_jp.encoder.Mode.Mode, Iso2022JpPairs.IsPairOf, Iso2022JpEncoder.{mode_of, state_in}}
-use Rattle.legacy_japanese.specs.Iso2022JpEncoder.{escape_move, Asks, IsOwnByte}
+use Rattle.legacy_japanese.specs.declared.iso_2022_jp.encoder.Mode.{Mode, TheVariants.{Ascii, TwoByte}}
+use Rattle.legacy_japanese.specs.Iso2022JpEncoder.{mode_of, state_in, Asks, IsOwnByte}
 use Rattle.legacy_base.specs.declared.results.EncodeEvent.TheVariants as events
-use Rattle.legacy_japanese.specs.declared.iso_2022_jp.encoder.Mode.TheVariants as modes
 
 module _ (jis0208 katakana_index : List ℕ) where
   abbrev encoder : EncoderProfile
@@ -35,7 +34,7 @@ module _ (jis0208 katakana_index : List ℕ) where
 
 -- ---- modes
 
-pub other_mode : (mode new : Mode) → (mode ≡ new → ⊥) → mode_of mode ≡ mode_of new → ⊥
+other_mode : (mode new : Mode) → (mode ≡ new → ⊥) → mode_of mode ≡ mode_of new → ⊥
 other_mode mode new n e = grind arith
 
 module _ (jis0208 katakana_index : List ℕ) where
@@ -61,24 +60,6 @@ module _ (jis0208 katakana_index : List ℕ) where
     rises = λ form m n h. grind arith;
   }
 
-  -- ---- the moves
-
-  module _ (mode : Mode) (c : ℕ) where
-    -- the current mode encodes the scalar
-    pub reads : mode_for jis0208 katakana_index (mode_of mode) c ≡ mode_of mode
-        → (move : EncoderMove) → IsCode (iso_2022_jp_code jis0208 katakana_index c) (iso_2022_jp_reported c) move
-        → Moves (state_in jis0208 katakana_index mode) c (state_in jis0208 katakana_index mode) move
-    reads stays = here_moves (state_in jis0208 katakana_index mode) (iso_2022_jp_reported c) c (record {
-      law = text_events-here jis0208 katakana_index (mode_of mode) c stays;
-      fits = omega (arith, code-short jis0208 katakana_index c);
-      asks = rw stays (differs-same (mode_of mode));
-    })
-
-    -- the scalar needs another mode
-    pub escapes : (new : Mode) → mode_for jis0208 katakana_index (mode_of mode) c ≡ mode_of new → (mode_of mode ≡ mode_of new → ⊥)
-        → Moves (state_in jis0208 katakana_index mode) c (state_in jis0208 katakana_index new) (escape_move new)
-    escapes new e n = grind (arith, text_events-escape)
-
   -- ---- the end
 
   -- the bytes of a scalar do not begin with the escape byte
@@ -97,37 +78,49 @@ module _ (jis0208 katakana_index : List ℕ) where
   escape_first mode other is [] ended h = grind (arith, text_events-open, text_events-end)
   escape_first mode other is (c ∷ more) ended h = grind (arith, text_events-here, text_events-escape, no_escape)
 
-  pub finishes : (mode : Mode) → is_pending (state_in jis0208 katakana_index mode) ≡ true
-      → Finishes (state_in jis0208 katakana_index mode) (state_in jis0208 katakana_index modes.Ascii)
-  finishes mode h = grind (arith, escape_first)
-
-  -- ---- the mode and move of a scalar
-
-  -- a scalar that needs the mode of the encoder is read there
-  pub stays : {mode new : Mode} {c : ℕ} {move : EncoderMove} → Asks jis0208 katakana_index mode c new move → mode ≡ new
-      → Moves (state_in jis0208 katakana_index mode) c (state_in jis0208 katakana_index mode) move
-  stays {mode} {new} {c} {move} asks same = reads mode c (asks.mode_is ∙ ap mode_of (sym same)) move asks.code_is
-
+  -- a test that the code computes
   pub ruleset asked_steps = (nat_tests, mode_for-by, code_by)
 
-  -- ---- ASCII in ASCII mode
+-- ---- the moves
 
-  pub own_byte : (c byte : ℕ) → IsOwnByte c byte → ReadsByte (state_in jis0208 katakana_index modes.Ascii) 2 c byte
-  own_byte c byte is =
-      record { fits = omega arith; moves = rw is.0 (reads modes.Ascii c (grind (arith, asked_steps)) (One c) (grind (arith, asked_steps))) }
+module _ (flat : FlatIndexes) where
+  pub finishes : (mode : Mode) → is_pending (state_in flat mode) ≡ true → Finishes (state_in flat mode) (state_in flat Ascii)
+  finishes mode h = grind (arith, escape_first)
 
-  -- ---- a pair that is in the list
+  module _ (mode new : Mode) (c : ℕ) (move : EncoderMove) where
+    -- the scalar is read in the mode that it needs
+    pub stays : Asks flat mode c new move → mode ≡ new → Moves (state_in flat mode) c (state_in flat mode) move
+    stays asks same =
+        let here : mode_for flat.jis0208 flat.katakana (mode_of mode) c ≡ mode_of mode = asks.mode_is ∙ ap mode_of (sym same) in
+        here_moves (state_in flat mode) (iso_2022_jp_reported c) c (record {
+          law = text_events-here flat.jis0208 flat.katakana (mode_of mode) c here;
+          fits = omega (arith, code-short flat.jis0208 flat.katakana c);
+          asks = rw here (differs-same (mode_of mode));
+        }) move asks.code_is
 
-  module _ (c both : ℕ) (is : IsPairOf jis0208 katakana_index c both) where
-    pair_mode : (mode : EncoderMode) → mode_for jis0208 katakana_index mode c ≡ in_two_byte
+    -- an escape goes to another mode
+    pub escapes : (own : EncoderMove) → Asks flat mode c new own → (mode ≡ new → ⊥) → is_escape move ≡ true → move_bytes move ≡ escape_to (mode_of new)
+        → Moves (state_in flat mode) c (state_in flat new) move
+    escapes own asks n e bytes = grind (arith, text_events-escape, other_mode, asks.mode_is)
+
+  -- ASCII in ASCII mode
+  pub own_byte : (c byte : ℕ) → IsOwnByte c byte → ReadsByte (state_in flat Ascii) 2 c byte
+  own_byte c byte is = record {
+    fits = omega arith;
+    moves = rw is.0 (stays Ascii Ascii c (One c) (record { mode_is = grind (arith, asked_steps); code_is = grind (arith, asked_steps) }) refl);
+  }
+
+  -- a pair that is in the list
+  module _ (c both : ℕ) (is : IsNoSurrogate c × (iso_2022_jp_code flat.jis0208 flat.katakana c ≡ Some (two_bytes both))) where
+    pair_mode : (mode : EncoderMode) → mode_for flat.jis0208 flat.katakana mode c ≡ in_two_byte
     unfolding mode_behind
-    pair_mode mode = rw is.pair refl
+    pair_mode mode = rw is.1 refl
 
-    pub asks_listed : (mode : Mode) → Asks jis0208 katakana_index mode c modes.TwoByte (Two (both % 256) (both / 256))
-    asks_listed mode = record { mode_is = pair_mode _; code_is = is.pair }
+    pub asks_listed : (mode : Mode) → Asks flat mode c TwoByte (Two (both % 256) (both / 256))
+    asks_listed mode = record { mode_is = pair_mode _; code_is = is.1 }
 
-    pub moves_listed : Moves (state_in jis0208 katakana_index modes.TwoByte) c (state_in jis0208 katakana_index modes.TwoByte) (Two (both % 256) (both / 256))
-    moves_listed = reads modes.TwoByte c (pair_mode in_two_byte) (Two (both % 256) (both / 256)) is.pair
+    pub moves_listed : Moves (state_in flat TwoByte) c (state_in flat TwoByte) (Two (both % 256) (both / 256))
+    moves_listed = stays TwoByte TwoByte c (Two (both % 256) (both / 256)) (asks_listed TwoByte) refl
 
-    pub reads_listed : ReadsUnit (state_in jis0208 katakana_index modes.TwoByte) c both 2
-    reads_listed = record { bmp = is.bmp; move = Two (both % 256) (both / 256); moves = moves_listed; reads = refl; silent = refl; bytes = refl }
+    pub reads_listed : ReadsUnit (state_in flat TwoByte) c both 2
+    reads_listed = record { bmp = is.0; move = Two (both % 256) (both / 256); moves = moves_listed; reads = refl; silent = refl; bytes = refl }

@@ -8,7 +8,7 @@ use Rattle.legacy_base.specs.{EucJp.{euc_jp_code, euc_jp_bytes}, ShiftJis.{shift
 use Rattle.legacy_base.specs.Encoders.{Codec, euc_jp, shift_jis, iso_2022_jp}
 use Rattle.legacy_encoder_engine.{proofs.{WalkedPairs.{GoesByPointers, by-pairs, halves, walked-right}, CachedPairs.all-right}, specs.CachedPairs.AreAllPairsOf}
 use Rattle.legacy_encoder_engine.specs.CachedPairs.{IsRightEntry}
-use Rattle.legacy_japanese.specs.{Iso2022JpPairs.{IsListedEntry, iso_2022_jp_mark, iso_2022_jp_mark-some}, ByPointer.GoesByPointer, EucJpCodes.euc_jp_mark}
+use Rattle.legacy_japanese.specs.{Iso2022JpEncoder.{IsListedEntry, iso_2022_jp_mark, iso_2022_jp_mark-some}, ByPointer.GoesByPointer, EucJpCodes.euc_jp_mark}
 use Rattle.legacy_japanese.specs.{EucJpCodes.euc_jp_mark-some, ShiftJisCodes.{shift_jis_mark, shift_jis_mark-some}}
 
 -- a list that was filled by pointers has all pairs after the other scalars were looked up
@@ -45,7 +45,7 @@ module _ (flat : FlatIndexes) (accepted : AreAccepted flat) where
 
   -- so the list is right for the scalars of the walk
   pub walked-listed : (pairs : List ℕ) → length pairs ≡ 65536 → IsFilled EucJpOrder iso_2022_jp_mark flat.jis0208 pairs
-      → (c : ℕ) → c < 65536 → GoesByPointer c → IsListedEntry flat.jis0208 flat.katakana c (slice_index pairs c)
+      → (c : ℕ) → c < 65536 → GoesByPointer c → IsListedEntry flat c (slice_index pairs c)
   walked-listed pairs all filled c h d = λ n.
       let told = (walked-right _ _ _ _ _ iso-2022-jp-by-pointers pairs all filled c h d).told n in
-      record { bmp = told.0; pair = told.1.past (grind (arith, d.ascii)) }
+      (told.0, told.1.past (grind (arith, d.ascii)))

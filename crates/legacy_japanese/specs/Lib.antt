@@ -8,7 +8,6 @@ pub mod Iso2022JpMachine
 pub mod Iso2022JpDecoder
 pub mod Iso2022JpAhead
 pub mod Iso2022JpEncoder
-pub mod Iso2022JpPairs
 pub mod ShiftJisCodes
 pub mod ShiftJisPlaces
 pub mod ShiftJisShown

@@ -1,14 +1,11 @@
-//! The codes of ISO-2022-JP's encoder in ASCII mode, which it copies by blocks.
+//! ASCII in ISO-2022-JP's ASCII mode, which its encoder copies by blocks.
 ghost use Rattle.std.specs.Prelude.{◌≡◌, ◌+◌, ◌≤◌, length, false};
 ghost use Rattle.legacy_base.specs.Iso2022Jp.{is_mode_control};
 ghost use Rattle.legacy_encoder_engine.specs.UnfinishedCall.{EncodesBy};
-ghost use Rattle.legacy_japanese.specs.Iso2022JpEncoder.{HasNoControl, ascii_state};
+ghost use Rattle.legacy_japanese.specs.Iso2022JpEncoder.{HasNoControl, state_in};
+ghost use Rattle.legacy_japanese.specs.declared.iso_2022_jp.encoder.Mode.TheVariants.{Ascii};
 
 use legacy_base::Tables;
-use legacy_encoder_engine::ahead_codes::AheadCodes;
-use legacy_encoder_engine::drive::put_move;
-use legacy_encoder_engine::moves::EncoderMove;
-use legacy_tables::RangePart;
 use legacy_text::TextCursor;
 
 /// Checks whether the scalar is a control that would switch modes, which has no bytes.
@@ -44,64 +41,46 @@ fn has_control(bytes: &[u8], first: usize, end: usize) -> bool
 /// The most bytes that are copied before they are tested.
 const PIECE: usize = 256;
 
-/// The codes of ASCII mode, with the tables of the encoder.
-#[derive(Drop)]
-pub struct AsciiCodes<'a> {
-    pub tables: &'a Tables<'a>,
+/// Reads at most `PIECE` scalars of ASCII, and returns the place after them. If a control is found among them, it reads nothing.
+// It reads by a copy of the cursor, which is dropped if a control was copied.
+#[inline(always)]
+fn copy_piece<S: TextCursor>(tables: &Tables, src: &mut S, dst: &mut [u8], start: usize) -> usize
+    requires { start + 15 ≤ length dst.old }
+    ensures { EncodesBy S.TextCursor (state_in tables.now.flat Ascii) src.old dst.old start src.new
+        dst.new result }
+{
+    let _ = tables;
+    let limit = (dst.len() - 15).min(start + PIECE);
+    let mut own = *src;
+    let end = start + own.copy_ascii(&mut dst[..limit], start);
+    if has_control(dst, start, end) {
+        return start;
+    }
+    *src = own;
+    end
 }
 
-impl AsciiCodes<'_> {
-    /// Reads at most `PIECE` scalars of ASCII, and returns the place after them. If a control is found among them, it reads nothing.
-    // It reads by a copy of the cursor, which is dropped if a control was copied.
-    #[inline(always)]
-    fn copy_piece<S: TextCursor>(&self, src: &mut S, dst: &mut [u8], start: usize) -> usize
-        requires { start + 15 ≤ length dst.old }
-        ensures { EncodesBy S.TextCursor (ascii_state self.now.tables.now) src.old dst.old start
-            src.new dst.new result }
-    {
-        let limit = (dst.len() - 15).min(start + PIECE);
-        let mut own = *src;
-        let end = start + own.copy_ascii(&mut dst[..limit], start);
-        if has_control(dst, start, end) {
-            return start;
+/// Reads ASCII in ASCII mode, and returns the place after its bytes.
+// Pieces are short, so little is copied without use, however many controls there are.
+#[inline(always)]
+#[tactic(auto, using(legacy_encoder_engine::proofs::ReadingAhead::turns))]
+pub fn copy_ascii<S: TextCursor>(
+    tables: &Tables,
+    src: &mut S,
+    dst: &mut [u8],
+    start: usize,
+) -> usize
+    requires { start ≤ length dst.old }
+    ensures { EncodesBy S.TextCursor (state_in tables.now.flat Ascii) src.old dst.old start src.new
+        dst.new result }
+{
+    let mut at = start;
+    while dst.len() - at >= 31 {
+        let end = copy_piece(tables, src, dst, at);
+        if end - at < PIECE {
+            return end;
         }
-        *src = own;
-        end
+        at = end;
     }
-}
-
-impl AheadCodes for AsciiCodes<'_> {
-    ghost state = { λ codes. ascii_state codes.tables.now };
-
-    ghost room = { 3 };
-
-    #[inline(always)]
-    #[tactic(auto, using(crate::proofs::Iso2022JpEncoderMoves::serves))]
-    fn widest(&self) -> usize {
-        3
-    }
-
-    #[inline(always)]
-    fn put_code(&self, _part: &mut RangePart, dst: &mut [u8], at: usize, c: char) -> Option<usize> {
-        let scalar = c as u32;
-        if scalar >= 0x80 || is_control(scalar) {
-            return None;
-        }
-        Some(put_move(dst, at, EncoderMove::One(scalar as u8)))
-    }
-
-    // Pieces are short, so little is copied without use, however many controls there are.
-    #[inline(always)]
-    #[tactic(auto, using(legacy_encoder_engine::proofs::ReadingAhead::encodes_then))]
-    fn read_blocks<S: TextCursor>(&self, src: &mut S, dst: &mut [u8], at: usize) -> usize {
-        let mut end = at;
-        while dst.len() - end >= 31 {
-            let after = self.copy_piece(src, dst, end);
-            if after - end < PIECE {
-                return after;
-            }
-            end = after;
-        }
-        end
-    }
+    at
 }

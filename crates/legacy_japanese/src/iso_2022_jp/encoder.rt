@@ -1,17 +1,19 @@
 //! The encoder of ISO-2022-JP.
-ghost use Rattle.std.specs.Prelude.{◌≡◌, ◌==◌, ◌||◌, ◌<◌, ℕ, List, IfSome};
-ghost use Rattle.legacy_base.specs.{Encoders.{iso_2022_jp, is_pending, new_encoder}, Iso2022Jp.{iso_2022_jp_pointer_of, roman_or_ascii}};
-ghost use Rattle.legacy_encoder_engine.specs.Moves.{Moves};
-ghost use Rattle.legacy_japanese.specs.Iso2022JpEncoder.{Asks, escape_move, iso_2022_jp_encoder_state, mode_of, state_in};
+ghost use Rattle.std.specs.Prelude.{◌≡◌, ◌==◌, ◌||◌, ◌<◌, ◌≤◌, length, true, IfSome};
+ghost use Rattle.legacy_tables.specs.Indexes.{FlatIndexes};
+ghost use Rattle.legacy_base.specs.{Encoders.{iso_2022_jp, is_pending, new_encoder}, Iso2022Jp.{escape_to, iso_2022_jp_pointer_of, roman_or_ascii}};
+ghost use Rattle.legacy_encoder_engine.specs.{Moves.{is_escape, move_bytes}, UnfinishedCall.EncodesFrom};
+ghost use Rattle.legacy_japanese.specs.Iso2022JpEncoder.{Asks, mode_of, state_in};
 
 use crate::folded_scalars::minus_as_hyphen;
-use crate::iso_2022_jp::ascii::{AsciiCodes, is_control};
+use crate::iso_2022_jp::ascii::{copy_ascii, is_control};
 use legacy_base::{EncoderStep, IndexName, RawEncoder, Source, Tables};
 use legacy_encoder_engine::ahead_codes::AheadCodes;
 use legacy_encoder_engine::drive::{drive_encoder, put_move};
 use legacy_encoder_engine::moves::{EncoderMove, EncoderMoves};
 use legacy_encoder_engine::read_ahead::read_common;
 use legacy_tables::{EncoderTables, RangePart};
+use legacy_text::TextCursor;
 
 /// The mode of the encoder: how the next bytes are read.
 #[derive(Clone, Copy, PartialEq, Eq)]
@@ -35,8 +37,9 @@ impl Mode {
 
     /// Returns the escape to the mode.
     #[inline]
-    pub fn escape(self) -> EncoderMove
-        ensures { result ≡ escape_move self }
+    fn escape(self) -> EncoderMove
+        ensures escapes { is_escape result ≡ true }
+        ensures bytes { move_bytes result ≡ escape_to (mode_of self) }
     {
         match self {
             Mode::Ascii => EncoderMove::TO_ASCII,
@@ -44,6 +47,104 @@ impl Mode {
             Mode::TwoByte => EncoderMove::Escape(0x24, 0x42),
         }
     }
+}
+
+/// How the encoder finds pairs.
+pub trait FindsPairs {
+    /// The indexes of the pairs.
+    ghost flat: { Self → FlatIndexes };
+
+    /// Returns the mode that a scalar needs after this one, and the move that reads it there.
+    fn asked(&self, mode: Mode, c: char) -> (Mode, EncoderMove)
+        ensures { Asks (flat self.now) mode c result.0 result.1 };
+
+    /// Reads scalars ahead in this mode, as `EncoderMoves::read_ahead` does.
+    fn read_in<S: Source>(&self, mode: Mode, src: &mut S, dst: &mut [u8], at: usize) -> usize
+        requires { at ≤ length dst.old }
+        ensures { EncodesFrom S.Source (state_in (flat self.now) mode) src.old dst.old at src.new
+            dst.new result };
+}
+
+/// The encoder of ISO-2022-JP, by one way to find pairs.
+#[derive(Clone, Copy)]
+pub struct EncoderBy<P> {
+    pub(crate) pairs: P,
+    pub(crate) mode: Mode,
+}
+
+impl<P: FindsPairs> EncoderBy<P> {
+    /// Checks whether the end of the text would write an escape, because the mode is not ASCII.
+    ///
+    /// The escape has three bytes. Nothing changes.
+    pub fn has_pending_state(&self) -> bool
+        ensures { result ≡ is_pending (state_in (P.flat self.now.pairs) self.now.mode) }
+    {
+        match self.mode {
+            Mode::Ascii => false,
+            Mode::Roman | Mode::TwoByte => true,
+        }
+    }
+}
+
+impl<P: FindsPairs> EncoderMoves for EncoderBy<P> {
+    ghost state = { λ encoder. state_in (P.flat encoder.pairs) encoder.mode };
+
+    #[inline]
+    #[tactic(auto, using(crate::proofs::Iso2022JpEncoderMoves::serves))]
+    fn room(&self, _c: char) -> usize {
+        3
+    }
+
+    // If the encoder is not in the mode that the scalar needs, it goes there by an escape.
+    #[inline]
+    fn next(&mut self, c: char) -> EncoderMove {
+        let (mode, own) = self.pairs.asked(self.mode, c);
+        if self.mode == mode {
+            return own;
+        }
+        self.mode = mode;
+        mode.escape()
+    }
+
+    #[inline]
+    #[tactic(auto, using(crate::proofs::Iso2022JpEncoderMoves::serves))]
+    fn is_pending(&self) -> bool {
+        self.has_pending_state()
+    }
+
+    #[inline]
+    fn finish(&mut self) {
+        self.mode = Mode::Ascii;
+    }
+
+    #[inline]
+    fn read_ahead<S: Source>(&self, src: &mut S, dst: &mut [u8], at: usize) -> usize {
+        self.pairs.read_in(self.mode, src, dst, at)
+    }
+}
+
+impl<P: FindsPairs> RawEncoder for EncoderBy<P> {
+    ghost state = { λ encoder. state_in (P.flat encoder.pairs) encoder.mode };
+
+    fn step<S: Source>(&mut self, src: &mut S, dst: &mut [u8], last: bool) -> EncoderStep {
+        drive_encoder(self, src, dst, last)
+    }
+
+    fn max_buffer_length_from_utf16_without_replacement(&self, u16_length: usize) -> Option<usize> {
+        let scalars = 3usize.checked_add(u16_length.checked_mul(4)?)?;
+        scalars.checked_add(u16_length.checked_add(1)? / 2)
+    }
+
+    #[tactic(auto, using(std::proofs::lemmas::Grind::common_steps))]
+    fn max_buffer_length_from_utf8_without_replacement(&self, byte_length: usize) -> Option<usize> {
+        3usize.checked_add(byte_length.checked_mul(3)?)
+    }
+}
+
+/// Pairs that are looked up in tables, which are flat or packed.
+#[derive(Clone, Copy)]
+pub struct TablePairs<'a> {
+    pub(crate) tables: &'a Tables<'a>,
 }
 
 /// Returns the pointer of a scalar past ASCII, or `None` if it has no pair.
@@ -62,52 +163,51 @@ fn pointer(tables: &Tables<'_>, c: char) -> Option<usize>
     tables.euc_jp_pointer(minus_as_hyphen(c))
 }
 
-/// Returns the mode that a scalar needs after this one, and the move that reads it there.
-#[inline]
-#[tactic(auto, using(crate::proofs::Iso2022JpEncoderMoves::asked_steps))]
-pub fn asked(tables: &Tables<'_>, mode: Mode, c: char) -> (Mode, EncoderMove)
-    ensures { Asks tables.now.flat.jis0208 tables.now.flat.katakana mode c result.0 result.1 }
-{
-    let scalar = c as u32;
-    let settled = mode.settled();
-    if is_control(scalar) {
-        return (settled, EncoderMove::Unmappable('\u{FFFD}'));
-    }
-    if scalar < 0x80 {
-        // In Roman mode these two bytes are other scalars.
-        if scalar == 0x5C || scalar == 0x7E {
-            return (Mode::Ascii, EncoderMove::One(scalar as u8));
-        }
-        return (settled, EncoderMove::One(scalar as u8));
-    }
-    if scalar == 0xA5 {
-        return (Mode::Roman, EncoderMove::One(0x5C));
-    }
-    if scalar == 0x203E {
-        return (Mode::Roman, EncoderMove::One(0x7E));
-    }
-    match pointer(tables, c) {
-        Some(p) => (
-            Mode::TwoByte,
-            EncoderMove::Two((p / 94 + 0x21) as u8, (p % 94 + 0x21) as u8),
-        ),
-        None => (settled, EncoderMove::Unmappable(c)),
-    }
-}
+impl FindsPairs for TablePairs<'_> {
+    ghost flat = { λ pairs. pairs.tables.now.flat };
 
-/// Returns the move at a scalar that needs the mode `target`, in which `own` reads it.
-///
-/// If the encoder is not in that mode, it goes there by an escape.
-#[inline(always)]
-pub fn go_to(mode: &mut Mode, target: Mode, own: EncoderMove) -> EncoderMove
-    ensures { (jis0208 katakana : List ℕ) (c : ℕ) → Asks jis0208 katakana mode.old c target own →
-        Moves (state_in jis0208 katakana mode.old) c (state_in jis0208 katakana mode.new) result }
-{
-    if *mode == target {
-        return own;
+    #[inline]
+    #[tactic(auto, using(crate::proofs::Iso2022JpEncoderMoves::asked_steps))]
+    fn asked(&self, mode: Mode, c: char) -> (Mode, EncoderMove) {
+        let scalar = c as u32;
+        let settled = mode.settled();
+        if is_control(scalar) {
+            return (settled, EncoderMove::Unmappable('\u{FFFD}'));
+        }
+        if scalar < 0x80 {
+            // In Roman mode these two bytes are other scalars.
+            if scalar == 0x5C || scalar == 0x7E {
+                return (Mode::Ascii, EncoderMove::One(scalar as u8));
+            }
+            return (settled, EncoderMove::One(scalar as u8));
+        }
+        if scalar == 0xA5 {
+            return (Mode::Roman, EncoderMove::One(0x5C));
+        }
+        if scalar == 0x203E {
+            return (Mode::Roman, EncoderMove::One(0x7E));
+        }
+        match pointer(self.tables, c) {
+            Some(p) => (
+                Mode::TwoByte,
+                EncoderMove::Two((p / 94 + 0x21) as u8, (p % 94 + 0x21) as u8),
+            ),
+            None => (settled, EncoderMove::Unmappable(c)),
+        }
     }
-    *mode = target;
-    target.escape()
+
+    // The mode is known in each of the two loops.
+    #[inline]
+    fn read_in<S: Source>(&self, mode: Mode, src: &mut S, dst: &mut [u8], at: usize) -> usize {
+        let pairs = *self;
+        match mode {
+            Mode::Ascii => {
+                let mode = Mode::Ascii;
+                read_common(&EncoderBy { pairs, mode }, src, dst, at)
+            }
+            Mode::Roman | Mode::TwoByte => read_common(&EncoderBy { pairs, mode }, src, dst, at),
+        }
+    }
 }
 
 /// The encoder of ISO-2022-JP (Encoding Standard, "ISO-2022-JP encoder").
@@ -121,79 +221,26 @@ pub fn go_to(mode: &mut Mode, target: Mode, own: EncoderMove) -> EncoderMove
 /// the lead and the trail of its first pointer below 8836. The minus sign U+2212 is encoded as
 /// U+FF0D, and half-width katakana as their entries in index katakana. All other scalars are
 /// unmappable. U+000E, U+000F and U+001B are unmappable too, and are reported as U+FFFD.
-#[derive(Clone, Copy)]
-pub struct Iso2022JpEncoder<'a> {
-    pub(crate) tables: &'a Tables<'a>,
-    pub(crate) mode: Mode,
-}
+pub type Iso2022JpEncoder<'a> = EncoderBy<TablePairs<'a>>;
 
-impl<'a> Iso2022JpEncoder<'a> {
+impl<'a> EncoderBy<TablePairs<'a>> {
     /// Returns an encoder before its first scalar, in ASCII mode.
     ///
     /// It looks scalars up in index jis0208 of the tables, and the half-width katakana U+FF61 to
     /// U+FF9F by their entries in index katakana.
     pub fn new(tables: &'a Tables<'a>) -> Iso2022JpEncoder<'a>
-        ensures { iso_2022_jp_encoder_state result
+        ensures { state_in result.pairs.tables.now.flat result.mode
             ≡ new_encoder (iso_2022_jp tables.now.flat.jis0208 tables.now.flat.katakana) }
     {
-        Iso2022JpEncoder {
-            tables,
+        EncoderBy {
+            pairs: TablePairs { tables },
             mode: Mode::Ascii,
         }
     }
-
-    /// Checks whether the end of the text would write an escape, because the mode is not ASCII.
-    ///
-    /// The escape has three bytes. Nothing changes.
-    pub fn has_pending_state(&self) -> bool
-        ensures { result ≡ is_pending (iso_2022_jp_encoder_state self.now) }
-    {
-        match self.mode {
-            Mode::Ascii => false,
-            Mode::Roman | Mode::TwoByte => true,
-        }
-    }
 }
 
-impl EncoderMoves for Iso2022JpEncoder<'_> {
-    ghost state = { iso_2022_jp_encoder_state };
-
-    #[inline]
-    #[tactic(auto, using(crate::proofs::Iso2022JpEncoderMoves::serves))]
-    fn room(&self, _c: char) -> usize {
-        3
-    }
-
-    #[inline]
-    #[tactic(auto, using(std::proofs::lemmas::Grind::common_steps))]
-    fn next(&mut self, c: char) -> EncoderMove {
-        let (mode, own) = asked(self.tables, self.mode, c);
-        go_to(&mut self.mode, mode, own)
-    }
-
-    #[inline]
-    #[tactic(auto, using(crate::proofs::Iso2022JpEncoderMoves::serves))]
-    fn is_pending(&self) -> bool {
-        self.has_pending_state()
-    }
-
-    #[inline]
-    fn finish(&mut self) {
-        self.mode = Mode::Ascii;
-    }
-
-    #[inline]
-    fn read_ahead<S: Source>(&self, src: &mut S, dst: &mut [u8], at: usize) -> usize {
-        let tables = self.tables;
-        match self.mode {
-            Mode::Ascii => read_common(&AsciiCodes { tables }, src, dst, at),
-            Mode::Roman | Mode::TwoByte => read_common(self, src, dst, at),
-        }
-    }
-}
-
-impl AheadCodes for Iso2022JpEncoder<'_> {
-    ghost state = { iso_2022_jp_encoder_state };
+impl AheadCodes for EncoderBy<TablePairs<'_>> {
+    ghost state = { λ encoder. state_in encoder.pairs.tables.now.flat encoder.mode };
 
     ghost room = { 3 };
 
@@ -205,28 +252,26 @@ impl AheadCodes for Iso2022JpEncoder<'_> {
 
     #[inline(always)]
     fn put_code(&self, _part: &mut RangePart, dst: &mut [u8], at: usize, c: char) -> Option<usize> {
-        let (mode, own) = asked(self.tables, self.mode, c);
+        if let Mode::Ascii = self.mode {
+            let scalar = c as u32;
+            if scalar >= 0x80 || is_control(scalar) {
+                return None;
+            }
+            return Some(put_move(dst, at, EncoderMove::One(scalar as u8)));
+        }
+        let (mode, own) = self.pairs.asked(self.mode, c);
         if self.mode != mode || !own.has_bytes() {
             return None;
         }
         Some(put_move(dst, at, own))
     }
-}
 
-impl RawEncoder for Iso2022JpEncoder<'_> {
-    ghost state = { iso_2022_jp_encoder_state };
-
-    fn step<S: Source>(&mut self, src: &mut S, dst: &mut [u8], last: bool) -> EncoderStep {
-        drive_encoder(self, src, dst, last)
-    }
-
-    fn max_buffer_length_from_utf16_without_replacement(&self, u16_length: usize) -> Option<usize> {
-        let scalars = 3usize.checked_add(u16_length.checked_mul(4)?)?;
-        scalars.checked_add(u16_length.checked_add(1)? / 2)
-    }
-
-    #[tactic(auto, using(std::proofs::lemmas::Grind::common_steps))]
-    fn max_buffer_length_from_utf8_without_replacement(&self, byte_length: usize) -> Option<usize> {
-        3usize.checked_add(byte_length.checked_mul(3)?)
+    #[inline(always)]
+    #[tactic(auto, using(legacy_encoder_engine::proofs::ReadingAhead::encodes_none))]
+    fn read_blocks<S: TextCursor>(&self, src: &mut S, dst: &mut [u8], at: usize) -> usize {
+        match self.mode {
+            Mode::Ascii => copy_ascii(self.pairs.tables, src, dst, at),
+            Mode::Roman | Mode::TwoByte => at,
+        }
     }
 }

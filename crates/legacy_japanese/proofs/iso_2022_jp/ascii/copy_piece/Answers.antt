@@ -3,7 +3,7 @@ use Rattle.std.proofs.lemmas.{List.{length-take-le, take-take, take-append-le, g
 use Rattle.legacy_encoder_engine.proofs.ReadingAhead.{ascii_count, encodes_codes, encodes_none}
 use Rattle.legacy_japanese.{proofs.Iso2022JpEncoderMoves.{serves, own_byte}, specs.Iso2022JpEncoder.{HasNoControl, IsOwnByte}}
 use Rattle.legacy_text.specs.UnitCodes.{WritesCodes}
-use Rattle.legacy_japanese.proofs.iso_2022_jp.ascii.AsciiCodes.copy_piece.Goals as goal
+use Rattle.legacy_japanese.proofs.iso_2022_jp.ascii.copy_piece.Goals as goal
 
 -- n scalars were copied from the place `start` to before the place `limit`
 module _ (start n limit : ℕ) (dst new left : List ℕ) (from : start ≤ limit) (within : limit ≤ length dst) (fits : start + n ≤ length new)
@@ -37,7 +37,7 @@ returns-then-has_control g c = grind (arith, front_same, encodes_none)
 
 pub returns : goal.returns
 returns g c =
-    let flat = c.args.self.now.tables.now.flat in
+    let flat = c.args.tables.now.flat in
     let form = g.S.TextCursor.form in
     let e = c.copy_ascii.ensures in
     let dst = c.args.dst.now in
@@ -52,6 +52,6 @@ returns g c =
     let free : start + n + 2 ≤ length dst = grind (arith, fits, c.min-limit.ensures, c.copy_ascii.auto.dst, length-take-le limit dst within) in
     let units = e.passed ∙ ap (λ k. g.S.TextCursor.passed c.args.src.now + k) (sym (ascii_count form left n e.read e.ascii)) in
     rw (copied start n limit dst new left from within fits e.bytes)
-    (encodes_codes form (length dst) 2 (serves flat.jis0208 flat.katakana) (own_byte flat.jis0208 flat.katakana) _ e.read e.left units
+    (encodes_codes form (length dst) 2 (serves flat.jis0208 flat.katakana) (own_byte flat) _ e.read e.left units
     (own_bytes start n limit dst new left from within fits e.bytes e.read e.ascii (c.has_control.ensures c.if-has_control.false))
     (length-take-le start dst (omega arith)) free)

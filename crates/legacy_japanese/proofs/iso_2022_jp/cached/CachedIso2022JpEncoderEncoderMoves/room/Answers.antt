@@ -1,5 +1,0 @@
-use Rattle.std.proofs.Common.{rules}
-use Rattle.legacy_japanese.proofs.iso_2022_jp.cached.CachedIso2022JpEncoderEncoderMoves.room.Goals as goal
-
-pub returns-clause-bytes : goal.returns-clause-bytes
-returns-clause-bytes c = search rules

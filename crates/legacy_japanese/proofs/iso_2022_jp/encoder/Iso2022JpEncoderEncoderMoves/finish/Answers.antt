@@ -1,5 +1,0 @@
-use Rattle.legacy_japanese.proofs.Iso2022JpEncoderMoves.{finishes}
-use Rattle.legacy_japanese.proofs.iso_2022_jp.encoder.Iso2022JpEncoderEncoderMoves.finish.Goals as goal
-
-pub returns : goal.returns
-returns c = finishes _ _ c.args.self.now.mode

@@ -1,5 +1,0 @@
-use Rattle.std.proofs.Common.{rules}
-use Rattle.legacy_japanese.proofs.iso_2022_jp.encoder.Iso2022JpEncoderRawEncoder.max_buffer_length_from_utf8_without_replacement.Goals as goal
-
-pub returns : goal.returns
-returns c = search rules
