@@ -1,15 +1,15 @@
 -- The length formulas of the ISO-2022-JP encoder are enough for its scalars and escapes. Its moves, by its tables and by a list of pairs.
-use Rattle.std.proofs.Common.{◌≡◌, ◌∙◌, ℕ, ◌+◌, ◌≤◌, ◌/◌, ◌%◌, List, arith, Bool, true, false, [], ◌∷◌, ◌++◌, refl, sym, ap, IsTrue, Some, map, ◌⊎◌}
+use Rattle.std.proofs.Common.{◌≡◌, ◌∙◌, ℕ, ◌+◌, ◌<◌, ◌≤◌, ◌/◌, ◌%◌, List, arith, Bool, true, false, [], ◌∷◌, ◌++◌, length, refl, sym, IsTrue, Some, map, ◌⊎◌}
 use Rattle.{std.proofs.lemmas.Bool.Decides.nat_tests, legacy_tables.specs.Indexes.FlatIndexes}
 use Rattle.legacy_text.specs.{EncodingForm.{EncodingForm, Utf8}, UnitCodes.IsNoSurrogate}
 use Rattle.legacy_base.specs.Iso2022Jp.{iso_2022_jp_encoder, iso_2022_jp_code, is_two_byte_scalar, is_roman_scalar, escape_between, iso_2022_jp_reported}
-use Rattle.legacy_base.specs.{Iso2022Jp.{mode_behind, escape_to}, EncodeEvents.{code_events}, EncoderProfile.{EncoderProfile, EncoderMode, in_ascii, in_two_byte}}
+use Rattle.legacy_base.specs.{Iso2022Jp.{is_mode_control, mode_behind, escape_to}, EncodeEvents.{code_events}, EncoderProfile.{EncoderProfile, EncoderMode, in_ascii, in_two_byte}}
 use Rattle.legacy_base.specs.{declared.results.EncodeEvent.EncodeEvent, Beginnings.BeginsWith}
 use Rattle.legacy_base.{specs.Encoders.{encoder_profile, iso_2022_jp, is_pending}, proofs.SameUnits.some_unit}
 use Rattle.legacy_base.proofs.Iso2022JpEncoding.{code-short, text_events, text_events-here, text_events-escape, text_events-end, text_events-open, mode_for}
 use Rattle.legacy_base.proofs.Iso2022JpEncoding.{mode_by, mode_for-by, mode_for-twice, code_by}
-use Rattle.legacy_encoder_engine.specs.{Moves.{differs, is_escape, move_bytes, Moves, Finishes}, ProfileSuffices.{Serves, mode_room}}
-use Rattle.legacy_encoder_engine.specs.{UnfinishedCall.ReadsByte, UnitTurns.{ReadsUnit, two_bytes}}
+use Rattle.legacy_encoder_engine.specs.{Moves.{differs, is_escape, move_bytes, move_report, Moves, Finishes}, ProfileSuffices.{Serves, mode_room}}
+use Rattle.legacy_encoder_engine.specs.{UnfinishedCall.{PutsCode, ReadsByte}, UnitTurns.{ReadsUnit, two_bytes}}
 use Rattle.legacy_encoder_engine.specs.declared.moves.EncoderMove.{EncoderMove, TheVariants.{One, Two}}
 use Rattle.legacy_encoder_engine.proofs.PlainServes.{two_units, differs-same, here_moves}
 use Rattle.legacy_japanese.specs.declared.iso_2022_jp.encoder.Mode.{Mode, TheVariants.{Ascii, TwoByte}}
@@ -23,19 +23,16 @@ module _ (jis0208 katakana_index : List ℕ) where
   -- ---- on numbers: a scalar of u code units, t more after it, and `own` bytes for the scalar
 
   -- an escape to the mode that the scalar needs, and then the scalar's bytes
-  low_by : (pair keeps romans : Bool) (mode : EncoderMode) (form : EncodingForm) (t u own : ℕ) → differs mode (mode_by pair keeps romans mode) ≡ true
+  escape_by : (pair keeps romans : Bool) (mode : EncoderMode) (form : EncodingForm) (t u own : ℕ) → differs mode (mode_by pair keeps romans mode) ≡ true
       → own ≤ 2 → (pair ≡ false → own ≤ 1) → 1 ≤ u → (form ≡ Utf8 → pair ≡ true → 2 ≤ u) → (form ≡ Utf8 → romans ≡ true → 2 ≤ u)
-      → mode_room encoder form (mode_by pair keeps romans mode) t + (3 + own) ≤ mode_room encoder form mode (u + t)
-  low_by pair keeps romans mode form t u own e o n p q r = grind arith
-
-  enough_by : (pair keeps romans : Bool) (mode : EncoderMode) (form : EncodingForm) (t u : ℕ) → differs mode (mode_by pair keeps romans mode) ≡ true → 1 ≤ u
-      → (form ≡ Utf8 → pair ≡ true → 2 ≤ u) → (form ≡ Utf8 → romans ≡ true → 2 ≤ u) → 6 ≤ mode_room encoder form mode (u + t)
-  enough_by pair keeps romans mode form t u e p q r = grind arith
+      → (mode_room encoder form (mode_by pair keeps romans mode) t + (3 + own) ≤ mode_room encoder form mode (u + t))
+      × (6 ≤ mode_room encoder form mode (u + t))
+  escape_by pair keeps romans mode form t u own e o n p q r = grind arith
 
 -- ---- modes
 
-other_mode : (mode new : Mode) → (mode ≡ new → ⊥) → mode_of mode ≡ mode_of new → ⊥
-other_mode mode new n e = grind arith
+same_mode : (mode new : EncoderMode) → differs mode new ≡ false → mode ≡ new
+same_mode mode new e = grind arith
 
 module _ (jis0208 katakana_index : List ℕ) where
   -- no scalar of two-byte or Roman mode is ASCII
@@ -53,8 +50,8 @@ module _ (jis0208 katakana_index : List ℕ) where
     settled = λ mode c. rw (mode_for-twice jis0208 katakana_index mode c) (differs-same (mode_for jis0208 katakana_index mode c));
     low = λ mode c form t. grind (arith, code-short, some_unit);
     enough = λ mode c form t. grind (arith, some_unit);
-    escape_low = λ mode c n form t. grind (arith, mode_for-by, code-short, low_by, some_unit, two_units, pair_past, roman_past);
-    escape_enough = λ mode c n form t. grind (arith, enough_by, mode_for-by, some_unit, two_units, pair_past, roman_past);
+    escape_low = λ mode c n form t. grind (arith, mode_for-by, code-short, escape_by, some_unit, two_units, pair_past, roman_past);
+    escape_enough = λ mode c n form t. grind (arith, mode_for-by, code-short, escape_by, some_unit, two_units, pair_past, roman_past);
     end = λ mode form. grind arith;
     escapes = λ mode e. grind arith;
     rises = λ form m n h. grind arith;
@@ -89,19 +86,26 @@ module _ (flat : FlatIndexes) where
 
   module _ (mode new : Mode) (c : ℕ) (move : EncoderMove) where
     -- the scalar is read in the mode that it needs
-    pub stays : Asks flat mode c new move → mode ≡ new → Moves (state_in flat mode) c (state_in flat mode) move
+    pub stays : Asks flat mode c new move → differs (mode_of mode) (mode_of new) ≡ false → Moves (state_in flat mode) c (state_in flat mode) move
     stays asks same =
-        let here : mode_for flat.jis0208 flat.katakana (mode_of mode) c ≡ mode_of mode = asks.mode_is ∙ ap mode_of (sym same) in
+        let here : mode_for flat.jis0208 flat.katakana (mode_of mode) c ≡ mode_of mode = asks.mode_is ∙ sym (same_mode _ _ same) in
         here_moves (state_in flat mode) (iso_2022_jp_reported c) c (record {
           law = text_events-here flat.jis0208 flat.katakana (mode_of mode) c here;
           fits = omega (arith, code-short flat.jis0208 flat.katakana c);
           asks = rw here (differs-same (mode_of mode));
         }) move asks.code_is
 
+    pub fits : Asks flat mode c new move → differs (mode_of mode) (mode_of new) ≡ false → length (move_bytes move) ≤ 3
+    fits asks same = let moves = stays asks same in omega (arith, moves.fits)
+
+    pub puts : Asks flat mode c new move → differs (mode_of mode) (mode_of new) ≡ false → is_escape move ≡ false → move_report move ≡ []
+        → {old bytes : List ℕ} {at end : ℕ} → bytes ≡ old ++ move_bytes move → end ≡ at + length (move_bytes move) → PutsCode (state_in flat mode) c old at bytes end
+    puts asks same reads silent bytes ends = record { move = move; moves = stays asks same; reads = reads; silent = silent; bytes = bytes; ends = ends }
+
     -- an escape goes to another mode
-    pub escapes : (own : EncoderMove) → Asks flat mode c new own → (mode ≡ new → ⊥) → is_escape move ≡ true → move_bytes move ≡ escape_to (mode_of new)
-        → Moves (state_in flat mode) c (state_in flat new) move
-    escapes own asks n e bytes = grind (arith, text_events-escape, other_mode, asks.mode_is)
+    pub escapes : (own : EncoderMove) → Asks flat mode c new own → differs (mode_of mode) (mode_of new) ≡ true → is_escape move ≡ true
+        → move_bytes move ≡ escape_to (mode_of new) → Moves (state_in flat mode) c (state_in flat new) move
+    escapes own asks e is bytes = grind (arith, text_events-escape, differs-same, asks.mode_is)
 
   -- ASCII in ASCII mode
   pub own_byte : (c byte : ℕ) → IsOwnByte c byte → ReadsByte (state_in flat Ascii) 2 c byte
@@ -109,6 +113,13 @@ module _ (flat : FlatIndexes) where
     fits = omega arith;
     moves = rw is.0 (stays Ascii Ascii c (One c) (record { mode_is = grind (arith, asked_steps); code_is = grind (arith, asked_steps) }) refl);
   }
+
+  pub puts_ascii : (mode : Mode) (c : ℕ) → mode ≡ Ascii → c < 128 → is_mode_control c ≡ false → (old bytes : List ℕ) (at : ℕ) → bytes ≡ old ++ c ∷ []
+      → PutsCode (state_in flat mode) c old at bytes (at + 1)
+  puts_ascii mode c here low free old bytes at is =
+      let own = own_byte c c (refl, low, free) in record { move = One c; moves = rw here own.moves; reads = refl; silent = refl; bytes = is; ends = refl }
+
+  pub ruleset put_steps = (fits, puts, puts_ascii)
 
   -- a pair that is in the list
   module _ (c both : ℕ) (is : IsNoSurrogate c × (iso_2022_jp_code flat.jis0208 flat.katakana c ≡ Some (two_bytes both))) where
@@ -119,8 +130,12 @@ module _ (flat : FlatIndexes) where
     pub asks_listed : (mode : Mode) → Asks flat mode c TwoByte (Two (both % 256) (both / 256))
     asks_listed mode = record { mode_is = pair_mode _; code_is = is.1 }
 
-    pub moves_listed : Moves (state_in flat TwoByte) c (state_in flat TwoByte) (Two (both % 256) (both / 256))
+    moves_listed : Moves (state_in flat TwoByte) c (state_in flat TwoByte) (Two (both % 256) (both / 256))
     moves_listed = stays TwoByte TwoByte c (Two (both % 256) (both / 256)) (asks_listed TwoByte) refl
+
+    pub puts_listed : (old bytes : List ℕ) (at : ℕ) → bytes ≡ old ++ two_bytes both → PutsCode (state_in flat TwoByte) c old at bytes (at + 2)
+    puts_listed old bytes at is =
+        record { move = Two (both % 256) (both / 256); moves = moves_listed; reads = refl; silent = refl; bytes = is; ends = refl }
 
     pub reads_listed : ReadsUnit (state_in flat TwoByte) c both 2
     reads_listed = record { bmp = is.0; move = Two (both % 256) (both / 256); moves = moves_listed; reads = refl; silent = refl; bytes = refl }

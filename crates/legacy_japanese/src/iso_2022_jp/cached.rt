@@ -106,6 +106,7 @@ impl AheadCodes for ListedPairs<'_, '_> {
     }
 
     #[inline(always)]
+    #[tactic(auto, using(crate::proofs::Iso2022JpEncoderMoves::puts_listed))]
     fn put_code(&self, _part: &mut RangePart, dst: &mut [u8], at: usize, c: char) -> Option<usize> {
         let entry = self.entry_of(c);
         if entry == 0 {

@@ -2,7 +2,7 @@
 ghost use Rattle.std.specs.Prelude.{◌≡◌, ◌==◌, ◌||◌, ◌<◌, ◌≤◌, length, true, IfSome};
 ghost use Rattle.legacy_tables.specs.Indexes.{FlatIndexes};
 ghost use Rattle.legacy_base.specs.{Encoders.{iso_2022_jp, is_pending, new_encoder}, Iso2022Jp.{escape_to, iso_2022_jp_pointer_of, roman_or_ascii}};
-ghost use Rattle.legacy_encoder_engine.specs.{Moves.{is_escape, move_bytes}, UnfinishedCall.EncodesFrom};
+ghost use Rattle.legacy_encoder_engine.specs.{Moves.{differs, is_escape, move_bytes}, UnfinishedCall.EncodesFrom};
 ghost use Rattle.legacy_japanese.specs.Iso2022JpEncoder.{Asks, mode_of, state_in};
 
 use crate::folded_scalars::minus_as_hyphen;
@@ -16,7 +16,7 @@ use legacy_tables::{EncoderTables, RangePart};
 use legacy_text::TextCursor;
 
 /// The mode of the encoder: how the next bytes are read.
-#[derive(Clone, Copy, PartialEq, Eq)]
+#[derive(Clone, Copy)]
 pub enum Mode {
     Ascii,
     Roman,
@@ -33,6 +33,14 @@ impl Mode {
             Mode::Roman => Mode::Roman,
             Mode::Ascii | Mode::TwoByte => Mode::Ascii,
         }
+    }
+
+    /// Checks whether this is another mode.
+    #[inline]
+    fn differs(self, other: Mode) -> bool
+        ensures { result ≡ differs (mode_of self) (mode_of other) }
+    {
+        self as u8 != other as u8
     }
 
     /// Returns the escape to the mode.
@@ -79,10 +87,7 @@ impl<P: FindsPairs> EncoderBy<P> {
     pub fn has_pending_state(&self) -> bool
         ensures { result ≡ is_pending (state_in (P.flat self.now.pairs) self.now.mode) }
     {
-        match self.mode {
-            Mode::Ascii => false,
-            Mode::Roman | Mode::TwoByte => true,
-        }
+        !matches!(self.mode, Mode::Ascii)
     }
 }
 
@@ -99,7 +104,7 @@ impl<P: FindsPairs> EncoderMoves for EncoderBy<P> {
     #[inline]
     fn next(&mut self, c: char) -> EncoderMove {
         let (mode, own) = self.pairs.asked(self.mode, c);
-        if self.mode == mode {
+        if !self.mode.differs(mode) {
             return own;
         }
         self.mode = mode;
@@ -251,6 +256,7 @@ impl AheadCodes for EncoderBy<TablePairs<'_>> {
     }
 
     #[inline(always)]
+    #[tactic(auto, using(crate::proofs::Iso2022JpEncoderMoves::put_steps))]
     fn put_code(&self, _part: &mut RangePart, dst: &mut [u8], at: usize, c: char) -> Option<usize> {
         if let Mode::Ascii = self.mode {
             let scalar = c as u32;
@@ -260,7 +266,7 @@ impl AheadCodes for EncoderBy<TablePairs<'_>> {
             return Some(put_move(dst, at, EncoderMove::One(scalar as u8)));
         }
         let (mode, own) = self.pairs.asked(self.mode, c);
-        if self.mode != mode || !own.has_bytes() {
+        if self.mode.differs(mode) || !own.has_bytes() {
             return None;
         }
         Some(put_move(dst, at, own))
