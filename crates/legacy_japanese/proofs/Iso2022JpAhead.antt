@@ -8,7 +8,7 @@ use Rattle.legacy_text.specs.declared.destination.Destination.{Ghosts}
 use Rattle.legacy_base.specs.{Iso2022Jp.{ascii, two_byte, iso_2022_jp_front, esc}, Grammar.{iso_2022_jp, events_of}, States.DecoderState}
 use Rattle.legacy_base.proofs.{Iso2022JpFronts.{step_one, step_two}, Iso2022JpParts.no_escape, Shifts.{shift-append, shift-shift, shift-scalars}}
 use Rattle.legacy_tables.{specs.{AcceptedTables.AcceptedIndexes, Indexes.idx}, proofs.Accepted.length-jis0208}
-use Rattle.legacy_japanese.specs.declared.iso_2022_jp.steps.{Mode.{TheVariants.Ascii, Mode}, Escape.Escape}
+use Rattle.legacy_japanese.specs.declared.iso_2022_jp.bytes.{Mode.{TheVariants.Ascii, Mode}, Escape.Escape}
 use Rattle.legacy_japanese.specs.Iso2022JpAhead.{IsAsciiText, begun_state, HasEscape, jis_place}
 use Rattle.legacy_japanese.specs.Iso2022JpMachine.{mode_meaning, mode_of, second_of, third_of}
 use Rattle.legacy_japanese.proofs.{Iso2022JpRooms.{entry_narrow, one_fits, room-falls, times_one, same_rooms}, Iso2022JpStep.{events_in, escape_alone}}
@@ -123,7 +123,8 @@ module _ {D : Type 0} {T : Ghosts D} where
       let behind = rw (bytes_after_escape S read has.within some) at text.writes.yields in
       let yields : YieldsTo (iso_2022_jp jis0208 (mode_meaning mode)) (iso_2022_jp jis0208 (mode_meaning (mode_of e))) (take (3 + read) S) text.writes.scalars =
       rw (escape_bytes e S read has some) (escape_yields jis0208 mode e _ _ _ has.alone behind) in
-      let both : ReadsTo T (begun_state jis0208 mode) (begun_state jis0208 (mode_of e)) S (3 + read) mid new = grind (arith, same_rooms, length-drop, yields, text) in
+      let both : ReadsTo T (begun_state jis0208 mode) (begun_state jis0208 (mode_of e)) S (3 + read) mid new =
+      grind (arith, same_rooms, length-drop, yields, text) in
       rw is (reads_then front both)
 
   -- text, after which nothing was read

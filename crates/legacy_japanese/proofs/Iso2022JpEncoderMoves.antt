@@ -3,7 +3,8 @@ use Rattle.std.proofs.Common.{◌≡◌, ◌∙◌, ℕ, ◌+◌, ◌<◌, ◌�
 use Rattle.{std.proofs.lemmas.Bool.Decides.nat_tests, legacy_tables.specs.Indexes.FlatIndexes}
 use Rattle.legacy_text.specs.{EncodingForm.{EncodingForm, Utf8}, UnitCodes.IsNoSurrogate}
 use Rattle.legacy_base.specs.Iso2022Jp.{iso_2022_jp_encoder, iso_2022_jp_code, is_two_byte_scalar, is_roman_scalar, escape_between, iso_2022_jp_reported}
-use Rattle.legacy_base.specs.{Iso2022Jp.{is_mode_control, mode_behind, escape_to}, EncodeEvents.{code_events}, EncoderProfile.{EncoderProfile, EncoderMode, in_ascii, in_two_byte}}
+use Rattle.legacy_base.specs.{Iso2022Jp.{is_mode_control, mode_behind, escape_to}, EncodeEvents.{code_events}}
+use Rattle.legacy_base.specs.EncoderProfile.{EncoderProfile, EncoderMode, in_ascii, in_two_byte}
 use Rattle.legacy_base.specs.{declared.results.EncodeEvent.EncodeEvent, Beginnings.BeginsWith}
 use Rattle.legacy_base.{specs.Encoders.{encoder_profile, iso_2022_jp, is_pending}, proofs.SameUnits.some_unit}
 use Rattle.legacy_base.proofs.Iso2022JpEncoding.{code-short, text_events, text_events-here, text_events-escape, text_events-end, text_events-open, mode_for}
@@ -99,7 +100,8 @@ module _ (flat : FlatIndexes) where
     fits asks same = let moves = stays asks same in omega (arith, moves.fits)
 
     pub puts : Asks flat mode c new move → differs (mode_of mode) (mode_of new) ≡ false → is_escape move ≡ false → move_report move ≡ []
-        → {old bytes : List ℕ} {at end : ℕ} → bytes ≡ old ++ move_bytes move → end ≡ at + length (move_bytes move) → PutsCode (state_in flat mode) c old at bytes end
+        → {old bytes : List ℕ} {at end : ℕ} → bytes ≡ old ++ move_bytes move → end ≡ at + length (move_bytes move)
+        → PutsCode (state_in flat mode) c old at bytes end
     puts asks same reads silent bytes ends = record { move = move; moves = stays asks same; reads = reads; silent = silent; bytes = bytes; ends = ends }
 
     -- an escape goes to another mode

@@ -8,8 +8,8 @@ use Rattle.{legacy_base.specs.declared.results.DecodeEvent.{DecodeEvent, TheVari
 use Rattle.legacy_japanese.proofs.Iso2022JpRooms.{same_rooms, room-falls, replacement_fits, times_one, held_allowed, held_rests, single_narrow}
 use Rattle.legacy_japanese.proofs.Iso2022JpStep.{MeetsEnd, ended, escape_alone, escaped, events_in, in_range_plain, second_kept}
 use Rattle.legacy_japanese.specs.Iso2022JpMachine.{mode_meaning, bytes_held, finish, is_held, is_resting, mode_of, second_of, single, state_in, third_of}
-use Rattle.legacy_japanese.specs.{Iso2022JpMachine.weight_of, declared.iso_2022_jp.steps.{Escape.Escape, Held.{Held, TheVariants.{Byte, Begun}}, Mode.Mode}}
-use Rattle.legacy_japanese.specs.declared.iso_2022_jp.steps.{Mode.TheVariants.TwoByte, Start.TheVariants.{Nothing, EscapeByte, Dollar, Paren}}
+use Rattle.legacy_japanese.specs.{Iso2022JpMachine.weight_of, declared.iso_2022_jp.bytes.{Escape.Escape, Held.{Held, TheVariants.{Byte, Begun}}, Mode.Mode}}
+use Rattle.legacy_japanese.specs.declared.iso_2022_jp.bytes.{Mode.TheVariants.TwoByte, Start.TheVariants.{Nothing, EscapeByte, Dollar, Paren}}
 use Rattle.legacy_text.proofs.CodeUnits.{length-code_units-bmp}
 use Rattle.legacy_base.specs.Iso2022Jp as iso
 

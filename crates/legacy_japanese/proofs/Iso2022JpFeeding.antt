@@ -7,8 +7,8 @@ use Rattle.{legacy_decoder_engine.specs.declared.moves.Fed.{TheVariants.{Nothing
 use Rattle.legacy_japanese.proofs.Iso2022JpRooms.{read_room-is, one_fits, room-falls, replacement_fits, times_one, held_allowed, held_rests, same_rooms}
 use Rattle.legacy_japanese.proofs.{Iso2022JpRooms.{single_narrow, entry_narrow}, Iso2022JpStep.{done, step_events, IsStep, read_step}}
 use Rattle.legacy_japanese.specs.Iso2022JpMachine.{mode_meaning, bytes_held, is_held, malformed, read, second_of, third_of, state_in}
-use Rattle.legacy_japanese.specs.declared.iso_2022_jp.steps.{Start.TheVariants.{Nothing, EscapeByte, Dollar, Paren}, Held.TheVariants.Begun, Escape.Escape}
-use Rattle.legacy_japanese.specs.{declared.iso_2022_jp.steps.{Start.Start, Mode.Mode, Held.Held}, Iso2022JpAhead.{begun_state, BeginsEscape}}
+use Rattle.legacy_japanese.specs.declared.iso_2022_jp.bytes.{Start.TheVariants.{Nothing, EscapeByte, Dollar, Paren}, Held.TheVariants.Begun, Escape.Escape}
+use Rattle.legacy_japanese.specs.{declared.iso_2022_jp.bytes.{Start.Start, Mode.Mode, Held.Held}, Iso2022JpAhead.{begun_state, BeginsEscape}}
 use Rattle.legacy_text.specs.EncodingForm.{total_unit_count, EncodingForm, bmp_room}
 
 -- at most one scalar, which is not above U+FFFF

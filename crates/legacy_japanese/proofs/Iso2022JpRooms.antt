@@ -6,7 +6,7 @@ use Rattle.legacy_base.specs.{DecoderActs.room_needed, Lengths.{LengthQuery, que
 use Rattle.legacy_base.{specs.States.{rests, is_empty, may_hold}, proofs.Iso2022JpFronts.step_end}
 use Rattle.legacy_text.{specs.EncodingForm.{EncodingForm, bmp_room, code_units, total_unit_count}, proofs.CodeUnits.length-code_units-bmp}
 use Rattle.legacy_decoder_engine.{specs.Moves.{IsCovered, SameRooms, read_room}, proofs.RoomMoves.no_short_room}
-use Rattle.legacy_japanese.specs.declared.iso_2022_jp.steps.{Mode.Mode, Start.TheVariants.Nothing, Held.{Held, TheVariants.Begun}}
+use Rattle.legacy_japanese.specs.declared.iso_2022_jp.bytes.{Mode.Mode, Start.TheVariants.Nothing, Held.{Held, TheVariants.Begun}}
 use Rattle.legacy_japanese.specs.Iso2022JpMachine.{mode_meaning, bytes_held, is_held, is_resting, single, state_in, weight_of}
 
 -- ---- the held-back bytes

@@ -5,8 +5,8 @@ use Rattle.legacy_base.specs.{Beginnings.BeginsWith, Events.shift, Iso2022Jp.{is
 use Rattle.legacy_base.{specs.declared.results.DecodeEvent.{DecodeEvent, TheVariants.{Scalar, Bad}}, proofs.Iso2022JpParts.no_escape}
 use Rattle.legacy_base.proofs.{Iso2022JpFronts.{step_one, step_two, step_no_escape, step_escape}, Shifts.{shift-append, shift-shift, shift-zero}}
 use Rattle.legacy_decoder_engine.specs.{Moves.{fed_scalars, fed_malformed, unread_byte, FedHolds}, declared.moves.Fed.Fed}
-use Rattle.legacy_japanese.specs.declared.iso_2022_jp.steps.{Mode.{Mode, TheVariants.TwoByte}, Escape.Escape, Start.{TheVariants.{Nothing, EscapeByte}, Start}}
-use Rattle.legacy_japanese.specs.declared.iso_2022_jp.steps.Held.{Held, TheVariants.{Begun, Byte}}
+use Rattle.legacy_japanese.specs.declared.iso_2022_jp.bytes.{Mode.{Mode, TheVariants.TwoByte}, Escape.Escape, Start.{TheVariants.{Nothing, EscapeByte}, Start}}
+use Rattle.legacy_japanese.specs.declared.iso_2022_jp.bytes.Held.{Held, TheVariants.{Begun, Byte}}
 use Rattle.legacy_japanese.specs.Iso2022JpMachine.{mode_meaning, bytes_held, is_held, is_resting, mode_of, read, read_in_mode, state_in, weight_of, read_start}
 use Rattle.legacy_japanese.specs.Iso2022JpMachine.{read_trail, second_of, start_bytes, third_of}
 

@@ -1,6 +1,6 @@
 -- What the ISO-2022-JP decoder reads ahead.
 use Rattle.std.specs.{Prelude.{None, ◌≡◌, ◌≢◌, ℕ, ◌<◌, ◌≤◌, ◌-◌, ◌*◌, if◌then◌else◌, List, [], ◌∷◌, length, take, get_or}, Int.is_in_range}
-use Rattle.legacy_japanese.specs.declared.iso_2022_jp.steps.{Start.TheVariants.Nothing, Held.TheVariants.Begun, Escape.Escape, Mode.Mode}
+use Rattle.legacy_japanese.specs.declared.iso_2022_jp.bytes.{Start.TheVariants.Nothing, Held.TheVariants.Begun, Escape.Escape, Mode.Mode}
 use Rattle.{legacy_japanese.specs.Iso2022JpMachine.{second_of, third_of, state_in}, legacy_text.specs.declared.destination.Destination.Ghosts}
 use Rattle.{legacy_decoder_engine.specs.ReadAhead.ReadsTo, legacy_base.specs.{States.DecoderState, Iso2022Jp.esc}}
 

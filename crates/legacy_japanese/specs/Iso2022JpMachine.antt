@@ -4,9 +4,9 @@ use Rattle.std.specs.Prelude.{ℕ, ◌+◌, ◌-◌, ◌*◌, Bool, true, false,
 use Rattle.std.specs.{Int.is_in_range, Char.is_ascii}
 use Rattle.legacy_base.specs.{Grammar.iso_2022_jp, Iso2022Jp.esc, States.{DecoderState, is_iso_2022_jp_byte, is_two_byte_mode}}
 use Rattle.{legacy_decoder_engine.specs.declared.moves.Fed.{Fed, TheVariants.{Nothing as Kept, One, MalformedSequence}}, legacy_tables.specs.Indexes.idx}
-use Rattle.legacy_japanese.specs.declared.iso_2022_jp.steps.{Escape.{Escape, TheVariants.{ToAscii, ToRoman, ToKatakana, ToJis1978, ToJis1983}}, Held.Held}
-use Rattle.legacy_japanese.specs.declared.iso_2022_jp.steps.{Held.TheVariants.{Byte, Begun}, Mode.{Mode, TheVariants.{Ascii, Roman, Katakana, TwoByte}}}
-use Rattle.legacy_japanese.specs.declared.iso_2022_jp.steps.Start.{Start, TheVariants.{Nothing, EscapeByte, Dollar, Paren}}
+use Rattle.legacy_japanese.specs.declared.iso_2022_jp.bytes.{Escape.{Escape, TheVariants.{ToAscii, ToRoman, ToKatakana, ToJis1978, ToJis1983}}, Held.Held}
+use Rattle.legacy_japanese.specs.declared.iso_2022_jp.bytes.{Held.TheVariants.{Byte, Begun}, Mode.{Mode, TheVariants.{Ascii, Roman, Katakana, TwoByte}}}
+use Rattle.legacy_japanese.specs.declared.iso_2022_jp.bytes.Start.{Start, TheVariants.{Nothing, EscapeByte, Dollar, Paren}}
 use Rattle.legacy_base.specs.Iso2022Jp as iso
 
 -- the mode of the grammar

@@ -2,8 +2,8 @@
 ghost use Rattle.std.specs.Prelude.{◌≡◌, true};
 ghost use Rattle.{legacy_base.specs.{Grammar.iso_2022_jp, Iso2022Jp.ascii, States.{is_neutral, new_state}}, legacy_japanese.specs.Iso2022JpMachine.is_held};
 
+use super::bytes::{Held, Mode, NOTHING, Start, finish, read, single_scalar};
 use super::read_ahead::{front_escape, read_modes};
-use super::steps::{Held, Mode, NOTHING, Start, finish, read, single_scalar};
 use legacy_base::{DecoderStep, Destination, RawDecoder, Tables};
 use legacy_decoder_engine::drive::drive_decoder;
 use legacy_decoder_engine::moves::{DecoderMoves, Fed, Room};

@@ -6,8 +6,8 @@ ghost use Rattle.std.specs.Prelude.{◌≡◌, ◌≤◌, All, IfSome, take, tru
 ghost use Rattle.{legacy_base.specs.{Grammar.iso_2022_jp, Iso2022Jp.two_byte, States.new_state}, legacy_decoder_engine.specs.ReadAhead.{ReadsAhead, ReadsInto}};
 ghost use Rattle.legacy_japanese.specs.Iso2022JpAhead.{BeginsEscape, HasEscape, IsAsciiText, ReadsModes};
 
+use super::bytes::{DOLLAR, ESCAPE, Escape, Mode, PAREN, Start, completed};
 use super::places::{LEADS, TRAILS};
-use super::steps::{DOLLAR, ESCAPE, Escape, Mode, PAREN, Start, completed};
 use legacy_base::{Destination, IndexName, Tables, Utf8Destination};
 use legacy_decoder_engine::common_forms::{CommonForm, FrontForms, read_forms};
 use legacy_decoder_engine::places::pair_pointer;
@@ -80,7 +80,7 @@ fn is_ascii_text(byte: u8) -> bool
 }
 
 /// Returns a number of bytes of ASCII text at the front of a block, up to the first byte past ASCII or control from 0E to 1F.
-// The other bytes of ASCII are among these. The rest of these are rare.
+// The other bytes of ASCII are among these. The rest of these are uncommon.
 #[inline(always)]
 fn ascii_text_count(block: u8x64) -> usize
     ensures most { result ≤ 64 }

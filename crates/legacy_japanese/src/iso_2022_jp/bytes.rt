@@ -1,9 +1,9 @@
-//! The steps of an ISO-2022-JP decoder (Encoding Standard, "ISO-2022-JP decoder").
+//! What an ISO-2022-JP decoder holds back, and how it reads byte by byte (Encoding Standard, "ISO-2022-JP decoder").
 //!
-//! A step gives the mode and the held-back bytes after a byte, or at the end of the input.
+//! `read` gives the mode and the held-back bytes after a byte, and `finish` those at the end of the input.
 ghost use Rattle.std.specs.Prelude.{◌≡◌, ◌≤◌, ◌↔◌, IsTrue, None, length, true};
 ghost use Rattle.legacy_japanese.specs.Iso2022JpMachine.{start_bytes, bytes_held, is_held, is_resting, weight_of};
-ghost use Rattle.legacy_japanese.specs.declared.iso_2022_jp.steps.{Mode.TheVariants.Ascii, Start.TheVariants.Nothing, Held.TheVariants.Begun};
+ghost use Rattle.legacy_japanese.specs.declared.iso_2022_jp.bytes.{Mode.TheVariants.Ascii, Start.TheVariants.Nothing, Held.TheVariants.Begun};
 ghost use Rattle.legacy_japanese.specs.Iso2022JpMachine as machine;
 
 use legacy_base::{IndexName, Tables};
