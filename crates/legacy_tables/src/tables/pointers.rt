@@ -1,6 +1,6 @@
 //! Look-ups of the pointer that an encoder uses for a scalar.
 ghost use Rattle.std.specs.Prelude.{◌≡◌, ◌≢◌, ℕ, ◌+◌, ◌<◌, ◌≤◌, ◌&&◌, nat_le, nat_lt, length};
-ghost use Rattle.std.specs.Prelude.{Some, None, IfSome, true, slice_index, slice_index_or};
+ghost use Rattle.std.specs.Prelude.{Some, None, slice_index, slice_index_or};
 ghost use Rattle.legacy_tables.specs.Pointers.{every_pointer, first_pointer, last_pointer};
 ghost use Rattle.legacy_tables.specs.Pointers.{big5_pointer_of, takes_last_big5_pointer};
 ghost use Rattle.legacy_tables.specs.Pointers.{shift_jis_pointer_of, euc_jp_pointer_of};

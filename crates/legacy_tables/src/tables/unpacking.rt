@@ -1,5 +1,5 @@
 //! Writes flat indexes into memory that the caller lends.
-ghost use Rattle.std.specs.Prelude.{◌≡◌, ℕ, ◌+◌, ◌<◌, ◌≤◌, List, length, slice_index, slice_set, MatchOption};
+ghost use Rattle.std.specs.Prelude.{◌≡◌, ℕ, ◌+◌, ◌<◌, ◌≤◌, length, slice_index, MatchOption};
 
 use super::entries::Entry;
 use super::numbers::{Numbers, Row};

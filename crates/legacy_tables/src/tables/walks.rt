@@ -2,7 +2,6 @@
 //!
 //! One pass over the index finds the pointers of all scalars, without a search.
 ghost use Rattle.std.specs.Prelude.{◌≡◌, ◌≢◌, ℕ, ◌==◌, ◌+◌, ◌<◌, ◌≤◌, List, length, slice_index};
-ghost use Rattle.legacy_tables.specs.Packed.{may_use, takes_last};
 ghost use Rattle.legacy_tables.specs.Walks.{is_preferred, marked_then};
 ghost use Rattle.legacy_tables.specs.Walks.{IsFilledBelow, IsFilled};
 
