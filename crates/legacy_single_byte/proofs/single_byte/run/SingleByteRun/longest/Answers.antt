@@ -1,5 +1,6 @@
 use Rattle.std.proofs.Common.{arith}
-use Rattle.legacy_single_byte.proofs.{LongestRuns.{kept, none_longer, not_refused, replaced}, single_byte.run.SingleByteRun.longest.Goals.{then-run-best, else-run-best}}
+use Rattle.legacy_single_byte.proofs.LongestRuns.{kept, none_longer, not_refused, replaced}
+use Rattle.legacy_single_byte.proofs.single_byte.run.SingleByteRun.longest.Goals.{then-run-best, else-run-best}
 use Rattle.legacy_single_byte.proofs.single_byte.run.SingleByteRun.longest.Goals as goal
 
 pub loop-place-preserved : goal.loop-place-preserved
