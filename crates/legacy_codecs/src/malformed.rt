@@ -42,7 +42,7 @@ fn sequence_at(read: usize, length: u8, back: u8) -> MalformedSequence
 ///
 /// After an error take a new decoder.
 ///
-/// `docs/USING.md` has an example, `faults_of_message`.
+/// `docs/USING.md` has an example, `malformed_in_message`.
 pub fn malformed_sequences<D: RawDecoder>(
     alloc: Global,
     decoder: &mut D,

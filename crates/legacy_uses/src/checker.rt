@@ -2,7 +2,7 @@
 ghost use Rattle.std.specs.Prelude.{MatchResult};
 ghost use Rattle.legacy_uses.specs.Mail.{IsChecked, IsMailError};
 
-use crate::mail::faults_of_message;
+use crate::mail::malformed_in_message;
 use legacy_encodings::{Coders, RegistryError};
 use std::alloc::Global;
 
@@ -17,6 +17,6 @@ pub fn is_well_formed(
         (λ is_so. IsChecked coders.now name.now input.now is_so)
         (λ error. IsMailError coders.now name.now input.now error) }
 {
-    let found = faults_of_message(alloc, coders, name, input)?;
+    let found = malformed_in_message(alloc, coders, name, input)?;
     Ok(found.is_empty())
 }

@@ -7,7 +7,7 @@ use legacy_encodings::{Coders, RegistryError};
 use std::alloc::Global;
 
 /// Finds every malformed sequence of a message in the encoding of the name, with its place.
-pub fn faults_of_message(
+pub fn malformed_in_message(
     alloc: Global,
     coders: &Coders,
     name: &str,

@@ -11,7 +11,7 @@ use legacy_index_files::{Encoding, FileIndex};
 use legacy_uses::browser::show_piece;
 use legacy_uses::checker::is_well_formed;
 use legacy_uses::code_pages::{TwoFiles, decode_by_file, decode_two};
-use legacy_uses::mail::faults_of_message;
+use legacy_uses::mail::malformed_in_message;
 use legacy_uses::transcoder::transcode_file;
 use std::alloc::Global;
 use std::process::Abort;
@@ -324,7 +324,7 @@ fn a_page_grows_by_its_pieces(rt: HostRuntime) {
 
 /// Returns the number of malformed sequences in a message, and whether it is well-formed.
 fn places(alloc: Global, coders: &Coders, message: &[u8]) -> Option<(usize, bool)> {
-    let found = faults_of_message(alloc, coders, "EUC-KR", message).ok()?;
+    let found = malformed_in_message(alloc, coders, "EUC-KR", message).ok()?;
     let is_so = is_well_formed(alloc, coders, "EUC-KR", message).ok()?;
     Some((found.len(), is_so))
 }
