@@ -17,7 +17,7 @@ use Rattle.legacy_base.proofs.Progress.{stay, at_less, behind, after_that}
 use Rattle.legacy_codecs.specs.Replacing.{replaced_scalars, has_malformed, may_replace_end, ReplacingDecoderCall}
 use Rattle.legacy_codecs.specs.declared.results.CoderResult.{CoderResult}
 use Rattle.legacy_codecs.proofs.Replaced.{replaced-append, replaced-shift, replaced-of_scalars, has_malformed-append, has_malformed-shift, length-shift}
-use Rattle.legacy_codecs.proofs.Replacements.{reported_scalars, replacement_count}
+use Rattle.legacy_codecs.proofs.Replacements.{reported_scalars, replacement_count, replacement_fits}
 use Rattle.legacy_codecs.specs.declared.results.CoderResult.TheVariants as coder
 use Rattle.legacy_exports.specs.Decoding.{DecoderKind, raw_calls, replacing_calls, end_of, Decodes, DecodingCall, DecodesSource, HadFullRoom}
 use Rattle.legacy_exports.specs.Decoding.{EndsMalformed, FoundMalformed, HadReport, HadMalformed}
@@ -145,6 +145,11 @@ module _ {form : EncodingForm} {before : DecoderState} {source : List ℕ} {last
         replaced = λ _. reported;
         room_held = λ _ _. inl reported;
       }
+
+  -- U+FFFD has room after a malformed sequence
+  pub raw_roomless : {a b : ℕ} → units ≡ all_code_units form scalars → DecoderCall form before source last free after (Malformed a b) read scalars →
+      free < length units + bmp_room form → ⊥
+  raw_roomless e c lacks = let fits = replacement_fits c in omega (arith, fits, ap length e, replacement_count form, lacks)
 
 -- ---- calls one after another
 

@@ -1,5 +1,5 @@
 -- Calls of an encoder, one after another.
-use Rattle.std.proofs.Common.{◌≡◌, ◌∙◌, ℕ, ◌-◌, ◌≤◌, List, [], ◌∷◌, ◌++◌, length, map, refl, sym, ap, arith}
+use Rattle.std.proofs.Common.{◌≡◌, ◌∙◌, ℕ, ◌-◌, ◌<◌, ◌≤◌, List, [], ◌∷◌, ◌++◌, length, map, refl, sym, ap, subst, arith}
 use Rattle.std.proofs.Common.{append-nil, append_assoc, length-append, Bool, true, false, IsTrue, inl, inr}
 use Rattle.std.proofs.lemmas.List.Concat.{flat_map-append}
 use Rattle.legacy_base.specs.declared.results.EncodeEvent.{EncodeEvent}
@@ -133,6 +133,38 @@ module _ {kind : Replacement} {ended : Bool} {before : EncoderState} {text : Lis
         bytes-append kind r.out c.out ∙ ap (λ l. l ++ bytes_of_events kind c.out) (r.bytes ∙ append-nil written) ∙ ap (λ l. written ++ l) c.bytes
         ∙ sym (append_assoc written bytes lost);
   }
+
+-- ---- what is left
+
+some_events : (kind : Replacement) (out : List EncodeEvent) → 1 ≤ length (bytes_of_events kind out) → 1 ≤ length out
+some_events kind [] h = h
+some_events kind (x ∷ out) h = omega arith
+
+-- fewer events are left after something was replaced
+pub fewer_events : {kind : Replacement} {last : Bool} {now : EncoderState} {piece : List ℕ} {free : ℕ} {after : EncoderState} {left bytes : List ℕ}
+    (later : List ℕ) → EncodingCall kind now piece last free after Replaced left bytes →
+    length (encoded after (left ++ later) true) < length (encoded now (piece ++ later) true)
+fewer_events {kind} {after = after} {left} {bytes} later c =
+    let e = c.encodes in
+    let rest = encoded after (left ++ later) true in
+    let long = ap length (e.gives later true (λ f. no_end f)) ∙ length-append e.out rest in
+    let some = some_events kind e.out (omega (arith, ap length e.bytes, length-append bytes c.lost, c.ends.0)) in
+    omega (arith, long, some)
+
+-- no more events are left after a piece was read
+pub no_more_events : {kind : Replacement} {now : EncoderState} {piece : List ℕ} {free : ℕ} {after : EncoderState} {left bytes : List ℕ}
+    (later : List ℕ) → EncodingCall kind now piece false free after Read left bytes → (next : List ℕ) → later ≡ next →
+    length (encoded after next true) ≤ length (encoded now (piece ++ later) true)
+no_more_events {now = now} {piece} {after = after} later c next n =
+    let e = c.encodes in
+    let gives = rw c.ends.0.0 at (e.gives later true (λ f. no_end f)) in
+    let long = ap length gives ∙ length-append e.out (encoded after later true) in
+    subst (λ l. length (encoded after l true) ≤ length (encoded now (piece ++ later) true)) n (omega (arith, long))
+
+-- the text is shorter after a piece was cut off
+pub shorter : (later first rest : List ℕ) → later ≡ first ++ rest → (first ≡ [] → later ≡ []) → (later ≡ [] → IsTrue false) → length rest < length later
+shorter later [] rest e some over = no_end (over (some refl))
+shorter later (x ∷ first) rest e some over = omega (arith, ap length e, length-append (x ∷ first) rest)
 
 -- ---- the end of a conversion
 
