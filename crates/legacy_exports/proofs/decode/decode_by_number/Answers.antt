@@ -5,10 +5,10 @@ pub returns-clause-units : goal.returns-clause-units
 returns-clause-units g c = c.decode_over.ensures.units
 
 pub returns-clause-text : goal.returns-clause-text
-returns-clause-text g c = search rules
+returns-clause-text g c = search rules depth 4
 
 pub returns-clause-unchanged : goal.returns-clause-unchanged
 returns-clause-unchanged g c = c.decode_over.ensures.unchanged
 
 pub returns-clause-taken : goal.returns-clause-taken
-returns-clause-taken g c = search rules
+returns-clause-taken g c = search rules depth 4
