@@ -106,7 +106,6 @@ fn check_and_encode<'a, R: Read, W: Write>(
 }
 
 /// Reads the files of the indexes that the words name, checks them, and encodes the input by the codec.
-#[tactic(auto, using(crate::proofs::ReadingIndexes::done_by_texts, crate::proofs::ReadingIndexes::stops_by_texts))]
 fn read_and_encode<'a, R: Read, W: Write>(
     alloc: Global,
     codec: Codec,

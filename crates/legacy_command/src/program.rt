@@ -142,7 +142,6 @@ fn check_and_recode<'a, R: Read, W: Write>(
 }
 
 /// Reads the files of the indexes that the words name, checks them, and recodes the input by the codec.
-#[tactic(auto, using(crate::proofs::ReadingIndexes::done_by_texts, crate::proofs::ReadingIndexes::stops_by_texts))]
 fn read_and_recode<'a, R: Read, W: Write>(
     alloc: Global,
     kind: OutputKind,
