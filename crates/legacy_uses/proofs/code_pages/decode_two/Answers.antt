@@ -53,3 +53,6 @@ pub returns-clause-western : goal.returns-clause-western
 returns-clause-western c =
     let read = rw (c.new-registry.ensures.single_bytes, ← c.in_ok-coders.ensures.1) at c.in_ok-read_single_byte.ensures.table in
     windows_1252_by_file _ _ _ _ read _ c.in_ok-western_text.ensures
+
+pub returns-clause-fault : goal.returns-clause-fault
+returns-clause-fault c = tt
