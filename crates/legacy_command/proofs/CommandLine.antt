@@ -1,11 +1,11 @@
 -- Laws of the words of the command line.
 use Rattle.std.proofs.{Math.Seq.take_all, lemmas.Bool.and_parts}
 use Rattle.std.proofs.Common.{◌≡◌, ap, ℕ, ◌-◌, take, drop, IsTrue, ◌≤◌, ◌<◌, List, [], ◌∷◌, length, refl, arith}
-use Rattle.std.proofs.Common.{Option, Some, false}
+use Rattle.std.proofs.Common.{Option, None, Some, false}
 use Rattle.std.specs.Borrow.{Bor}
 use Rattle.legacy_tables.specs.Indexes.{FlatIndexes}
 use Rattle.legacy_index_files.specs.declared.codec.Codec.{Codec}
-use Rattle.legacy_command.specs.{Words.{texts_of, are_indexes}, IndexTexts.{text_given, AreWellFormed}, Program.{WorksByTexts, WorksWith}}
+use Rattle.legacy_command.specs.{Words.{texts_of, are_indexes}, IndexTexts.{text_given, AreWellFormed}, Program.{WorksByTexts, WorksWith, with_encoder}}
 
 -- an INDEX without a FILE is not allowed
 pub one_word : (words : List (Bor (List ℕ))) → 1 ≤ length words → length words < 2 → false ≡ are_indexes (texts_of words)
@@ -23,6 +23,11 @@ later_indexes (v ∷ w ∷ words) h k = (and_parts _ _ k).1
 pub words_after_codec : (words : List (Bor (List ℕ))) → texts_of (take (length words - 1) (drop 1 words)) ≡ drop 1 (texts_of words)
 words_after_codec [] = refl
 words_after_codec (w ∷ words) = ap texts_of (take_all _ words (omega arith))
+
+-- a codec that is asked for because it has an encoder has one
+pub has_its_encoder : (asked : Option Codec) (codec : Codec) → with_encoder asked ≡ Some codec → with_encoder (Some codec) ≡ Some codec
+has_its_encoder None codec e = cc
+has_its_encoder (Some known) codec e = grind arith
 
 -- what is done by the words after CODEC is done by the words
 pub works_with : {State : Type 0} {coder_of : Codec → FlatIndexes → Option (List ℕ) → Option State} {Work : State → Type 0} (asked : Option Codec)
