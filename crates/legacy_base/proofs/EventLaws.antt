@@ -19,8 +19,8 @@ module _ (Q : Type 0) where
   pub none_of : (size : ℕ) → AreOf size []
   none_of size = All-nil (IsEventOf size Q)
 
-  pub bad_of : (size n : ℕ) → 1 ≤ n → n ≤ 4 → n ≤ size → AreOf size (Bad 0 n ∷ [])
-  bad_of size n some few within = All-cons (IsEventOf size Q) (Bad 0 n) [] (some, few, omega (arith, within)) (none_of size)
+  pub one_malformed : (size n : ℕ) → 1 ≤ n → n ≤ 4 → n ≤ size → AreOf size (Bad 0 n ∷ [])
+  one_malformed size n some few within = All-cons (IsEventOf size Q) (Bad 0 n) [] (some, few, omega (arith, within)) (none_of size)
 
   -- the same for the bytes after the first k
   further : (k size whole : ℕ) → k + size ≤ whole → (events : List DecodeEvent) → AreOf size events → AreOf whole (shift k events)
@@ -41,7 +41,7 @@ module _ (Q : Type 0) where
 
   front_of : (size : ℕ) (f : Front) → IsFrontOf size Q f → AreOf size (front_events 0 f)
   front_of size (reads n scalars) i = scalars_of size scalars i.scalars
-  front_of size (malformed n) i = bad_of size n i.some i.short i.within
+  front_of size (malformed n) i = one_malformed size n i.some i.short i.within
 
   -- the events of a front, and then those of the bytes after it
   front_and : (size : ℕ) (f : Front) (behind : ℕ) (events : List DecodeEvent) → IsFrontOf size Q f → front_length f + behind ≤ size → AreOf behind events
@@ -103,7 +103,7 @@ module _ (Q : Type 0) where
           by_mode (Some next) e =
               let t = is_some (part_mode rest) in
               let bare : AreOf size (cond t (Bad 0 3 ∷ []) []) =
-              cond_both t (Bad 0 3 ∷ []) [] (AreOf size) (λ _. bad_of size 3 (omega arith) (omega arith) (omega arith)) (λ _. none_of size) in
+              cond_both t (Bad 0 3 ∷ []) [] (AreOf size) (λ _. one_malformed size 3 (omega arith) (omega arith) (omega arith)) (λ _. none_of size) in
               rw (step_escape jis0208 mode next a b rest e)
               (All-append (IsEventOf size Q) (cond t (Bad 0 3 ∷ []) []) (shift 3 (iso_2022_jp_events jis0208 next rest)) bare
               (further 3 (length rest) size (omega arith) (iso_2022_jp_events jis0208 next rest) (below next rest (omega arith))))

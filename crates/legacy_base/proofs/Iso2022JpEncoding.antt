@@ -1,6 +1,6 @@
 -- The events of a text in ISO-2022-JP, scalar by scalar: the escape to the scalar's mode, its own bytes, and then the
 -- rest of the text from that mode.
-use Rattle.std.proofs.{lemmas.Bool.Decides.nat_tests, Common.{◌≡◌, ◌∙◌, ◌==◌, ℕ, ◌+◌, ◌≤◌, List, [], ◌∷◌, ◌++◌, map, refl, ap, arith, append_assoc, Bool}}
+use Rattle.std.proofs.{lemmas.Bool.Decides.nat_tests, Common.{◌≡◌, ◌∙◌, ◌==◌, ℕ, ◌≤◌, List, [], ◌∷◌, ◌++◌, map, refl, ap, arith, append_assoc, Bool}}
 use Rattle.std.proofs.Common.{true, false, Some, None, cond, option_map, if◌then◌else◌}
 use Rattle.std.specs.Char.{is_ascii}
 use Rattle.legacy_base.specs.{declared.results.EncodeEvent.EncodeEvent, declared.results.EncodeEvent.TheVariants.Byte, EncodeEvents.{code_events, code_length}}

@@ -1,12 +1,9 @@
 -- How `Progress` of two consecutive steps combines into one.
 use Rattle.std.proofs.{lemmas.Bool.Decides.nat_tests, Common.{◌≡◌, ◌∙◌, ℕ, ◌+◌, List, [], ◌++◌, drop, refl, sym, ap, arith, append_assoc, length-append, Bool}}
-use Rattle.std.proofs.{Common.{false, IsTrue, inl, inr}, lemmas.List.{drop-drop, drop-append-le}}
+use Rattle.std.proofs.{Common.{false, IsTrue, inl, inr}, lemmas.Bool.false≢true, lemmas.List.{drop-drop, drop-append-le}}
 use Rattle.legacy_base.specs.{declared.results.DecodeEvent.DecodeEvent, declared.results.DecoderResult.DecoderResult, Events.shift, Grammar.events_of}
 use Rattle.legacy_base.specs.{States.DecoderState, Beginnings.BeginsWith, Calls.{Progress, may_report_end}}
 use Rattle.legacy_base.proofs.{Beginnings.{begins_sooner, begins_later, begins_back}, Shifts.{shift-append, shift-zero, shift-shift}}
-
-no_end : {A : Type 0} → IsTrue false → A
-no_end f = cc
 
 -- a decoder that does nothing makes progress by 0 bytes
 pub stay : (ended : Bool) (s : DecoderState) (source : List ℕ) → Progress ended s source 0 s source []
@@ -20,7 +17,7 @@ at_less a b i s xs n t ys out h = record { counts = h.counts; rest = h.rest; cod
 -- progress without the exception implies progress with it
 pub at_last : (ended : Bool) (s : DecoderState) (xs : List ℕ) (n : ℕ) (t : DecoderState) (ys : List ℕ) (out : List DecodeEvent) →
     Progress false s xs n t ys out → Progress ended s xs n t ys out
-at_last ended s xs n t ys out h = at_less false ended no_end s xs n t ys out h
+at_last ended s xs n t ys out h = at_less false ended (λ f. absurd (false≢true f)) s xs n t ys out h
 
 -- a report at the end is made on a last call, with nothing unread
 pub end_report-last : (last : Bool) (answer : DecoderResult) (left : List ℕ) → IsTrue (may_report_end last answer left) → IsTrue last
@@ -29,7 +26,7 @@ end_report-last last answer left h = grind arith
 -- the same progress if more source follows
 pub behind : (s : DecoderState) (xs : List ℕ) (n : ℕ) (t : DecoderState) (ys : List ℕ) (out : List DecodeEvent) (zs : List ℕ) →
     Progress false s xs n t ys out → Progress false s (xs ++ zs) n t (ys ++ zs) out
-behind s xs n t ys out zs h = grind (arith, nat_tests, length-append, append_assoc, drop-append-le, no_end)
+behind s xs n t ys out zs h = grind (arith, nat_tests, length-append, append_assoc, drop-append-le, false≢true)
 
 -- a list of events that begins with `one` and then `two` begins with `two` after `one`
 behind_first : (m : ℕ) (one two items : List DecodeEvent) → BeginsWith (one ++ shift m items) (one ++ shift m two) → BeginsWith items two

@@ -1,6 +1,6 @@
 -- Codes that decode to one scalar whatever bytes follow, and texts of such codes.
-use Rattle.std.proofs.{lemmas.Bool.Decides.nat_tests, Common.{◌≡◌, ℕ, ◌<◌, List, [], ◌∷◌, ◌++◌, drop, length, map, filter, Option, Some, None, is_some, Bool}}
-use Rattle.std.proofs.{Common.{false, refl, ap, ap₂, arith}, lemmas.Bool.or_parts}
+use Rattle.std.proofs.{lemmas.Bool.Decides.nat_tests, Common.{◌≡◌, ℕ, ◌<◌, List, [], ◌∷◌, ◌++◌, length, map, filter, Option, Some, None, is_some, Bool}}
+use Rattle.std.proofs.{Common.{false, refl, ap, ap₂, arith}, lemmas.Bool.or_parts, lemmas.List.drop_at}
 use Rattle.std.specs.List.{list_any}
 use Rattle.legacy_base.specs.{declared.results.DecodeEvent.TheVariants.Scalar}
 use Rattle.legacy_base.specs.{declared.results.EncodeEvent.EncodeEvent, declared.results.EncodeEvent.TheVariants.Byte, Events.shift, Fronts.{Front, reads, cut}}
@@ -17,14 +17,10 @@ pub record Decodes (front : ℕ → List ℕ → Front) (bytes : List ℕ) (c : 
   pub some : 0 < length bytes
   pub gives : (more : List ℕ) → HasFront front (bytes ++ more) (reads (length bytes) (c ∷ []))
 
-dropped : (bytes more : List ℕ) → drop (length bytes) (bytes ++ more) ≡ more
-dropped [] more = refl
-dropped (b ∷ bytes) more = dropped bytes more
-
 -- the events of the code at the beginning of a list, and then those of the bytes after it
 cut-code : (front : ℕ → List ℕ → Front) (bytes more : List ℕ) (c : ℕ) → Decodes front bytes c
     → cut front 0 0 (bytes ++ more) ≡ Scalar c ∷ shift (length bytes) (cut front 0 0 more)
-cut-code front bytes more c h = grind (arith, nat_tests, cut-front, dropped)
+cut-code front bytes more c h = grind (arith, nat_tests, cut-front, drop_at bytes more (length bytes) refl)
 
 -- ---- the bytes of events
 

@@ -11,7 +11,7 @@ use Rattle.legacy_base.specs.{Utf16.utf16_events, Grammar.{single_byte, user_def
 use Rattle.legacy_base.specs.Grammar.{euc_jp, gb18030, iso_2022_jp}
 use Rattle.legacy_base.specs.{Grammar.events_of, Laws.{IsFrontOf, IsOfAcceptedTables, HasSoundEvents}}
 use Rattle.legacy_base.proofs.FrontLaws.{front_of-malformed, single_byte_front-of, user_defined_front-of, lead_front-of, big5_front-of, shift_jis_front-of}
-use Rattle.legacy_base.proofs.{FrontLaws.{euc_jp_front-of, gb18030_front-of}, EventLaws.{none_of, bad_of, cut_sound, iso_2022_jp_sound}}
+use Rattle.legacy_base.proofs.{FrontLaws.{euc_jp_front-of, gb18030_front-of}, EventLaws.{none_of, one_malformed, cut_sound, iso_2022_jp_sound}}
 use Rattle.legacy_miscellaneous.specs.Utf16Fronts.{single_unit_front, unit_front, utf16_front}
 use Rattle.legacy_miscellaneous.proofs.{Utf16Cut.utf16_cut, Utf16Held.unit_below}
 
@@ -67,7 +67,7 @@ sound_events user_defined bytes =
 sound_events (replacement true) bytes = none_of (IsOfAcceptedTables (replacement true) × AreBytes bytes) (length bytes)
 sound_events (replacement false) [] = none_of (IsOfAcceptedTables (replacement false) × AreBytes []) 0
 sound_events (replacement false) (b ∷ bytes) =
-    bad_of (IsOfAcceptedTables (replacement false) × AreBytes (b ∷ bytes)) (length (b ∷ bytes)) 1 (omega arith) (omega arith) (omega arith)
+    one_malformed (IsOfAcceptedTables (replacement false) × AreBytes (b ∷ bytes)) (length (b ∷ bytes)) 1 (omega arith) (omega arith) (omega arith)
 sound_events (utf16 be) bytes =
     let Q = IsOfAcceptedTables (utf16 be) × AreBytes bytes in
     rw (utf16_cut be 0 bytes) (cut_sound Q (utf16_front be) (λ b rest are. utf16_front-of {Q = Q} be b rest are) bytes (λ q. q.1))

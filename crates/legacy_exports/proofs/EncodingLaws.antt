@@ -1,6 +1,7 @@
 -- Calls of an encoder, one after another.
 use Rattle.std.proofs.Common.{◌≡◌, ◌∙◌, ℕ, ◌-◌, ◌<◌, ◌≤◌, List, [], ◌∷◌, ◌++◌, length, map, refl, sym, ap, subst, arith}
 use Rattle.std.proofs.Common.{append-nil, append_assoc, length-append, Bool, true, false, IsTrue, inl, inr}
+use Rattle.std.proofs.lemmas.Bool.{false≢true}
 use Rattle.std.proofs.lemmas.List.Concat.{flat_map-append}
 use Rattle.legacy_base.specs.declared.results.EncodeEvent.{EncodeEvent}
 use Rattle.legacy_base.specs.declared.results.EncodeEvent.TheVariants.{Byte}
@@ -104,9 +105,6 @@ module _ {before : EncoderState} {text : List ℕ} {last : Bool} {free : ℕ} {a
 
 -- ---- calls one after another
 
-no_end : {A : Type 0} → IsTrue false → A
-no_end f = cc
-
 module _ {kind : Replacement} {ended : Bool} {before : EncoderState} {text : List ℕ} {now : EncoderState} {piece later written : List ℕ}
     (r : EncodesTo kind false before text now (piece ++ later) written []) {after : EncoderState} {left bytes lost : List ℕ}
     (c : EncodesTo kind ended now piece after left bytes lost) (none : IsTrue ended → later ≡ []) where
@@ -122,7 +120,8 @@ module _ {kind : Replacement} {ended : Bool} {before : EncoderState} {text : Lis
         let all = encoded before (text ++ more) end in
         let behind = encoded now (piece ++ (later ++ more)) end in
         let last = encoded after (left ++ (later ++ more)) end in
-        let first : all ≡ r.out ++ behind = r.gives more end (λ f. no_end f) ∙ ap (λ l. r.out ++ encoded now l end) (append_assoc piece later more) in
+        let first : all ≡ r.out ++ behind = r.gives more end (λ f. absurd (false≢true f))
+        ∙ ap (λ l. r.out ++ encoded now l end) (append_assoc piece later more) in
         let second : behind ≡ c.out ++ last = c.gives (later ++ more) end (λ e. elim (h e) [
           | inl n ↦ inl (rw (none e) n.0, n.1)
           | inr g ↦ inr (begins_later r.out c.out behind (rw first at g))
@@ -180,11 +179,11 @@ module _ {kind : Replacement} {before : EncoderState} {text : List ℕ} {now : E
   -- the calls go on with the next piece, or in this one
   pub after_piece : EncodingCall kind now unread false free after Read left bytes → (next : List ℕ) → later ≡ next →
       EncodesTo kind false before text after next all []
-  after_piece c next n = let ends = c.ends in let made = encodes_more r c.encodes (λ f. no_end f) in rw (e, ← n) (rw (ends.0.0, ends.1) at made)
+  after_piece c next n = let ends = c.ends in let made = encodes_more r c.encodes (λ f. absurd (false≢true f)) in rw (e, ← n) (rw (ends.0.0, ends.1) at made)
 
   pub after_replaced : {last : Bool} → EncodingCall kind now unread last free after Replaced left bytes →
       EncodesTo kind false before text after (left ++ later) all []
-  after_replaced c = let ends = c.ends in let made = encodes_more r c.encodes (λ f. no_end f) in rw e (rw ends.1 at made)
+  after_replaced c = let ends = c.ends in let made = encodes_more r c.encodes (λ f. absurd (false≢true f)) in rw e (rw ends.1 at made)
 
   -- the end of a conversion
   pub text_encoded : (total : ℕ) → EncodingCall kind now unread true free after Read left bytes → later ≡ [] → EncodesText kind text total before after all
