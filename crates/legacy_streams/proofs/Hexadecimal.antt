@@ -1,6 +1,6 @@
 -- The hexadecimal digits of a scalar, as the code computes them.
-use Rattle.std.proofs.Common.{◌≡◌, ℕ, zero, suc, ◌/◌, ◌%◌, ◌≤◌, ◌<◌, List, [], ◌∷◌, refl, arith, true}
-use Rattle.std.proofs.lemmas.Bool.Decides.{nat_tests}
+use Rattle.std.proofs.Common.{◌≡◌, ℕ, zero, suc, ◌/◌, ◌%◌, ◌≤◌, ◌<◌, List, [], ◌∷◌, refl, arith, true, ⊎_elim}
+use Rattle.std.proofs.lemmas.{Bool.cases_lt, Bool.Decides.nat_tests}
 use Rattle.std.specs.Fmt.{digits, digits_onto, digit_glyph}
 use Rattle.legacy_streams.specs.Lines.{hexadecimal}
 
@@ -35,9 +35,38 @@ last_four n = glyph (n / 0x1000) ∷ glyph (n / 0x100) ∷ glyph (n / 0x10) ∷ 
 zero_glyph : (n : ℕ) → n ≡ 0 → glyph n ≡ 48
 zero_glyph n e = rw e refl
 
-pub hexadecimal_4 : (n : ℕ) → n < 0x1_0000 → hexadecimal n ≡ last_four n
+-- of a number with fewer digits, the first of the last four are `0`
+hexadecimal_1 : (n : ℕ) → n < 0x10 → hexadecimal n ≡ last_four n
 unfolding hexadecimal
-hexadecimal_4 n h = grind (arith, digits_are 0 n, digits_are 1 n, digits_are 2 n, digits_are 3 n, zero_glyph)
+hexadecimal_1 n h =
+    let third = zero_glyph (n / 0x10) (omega arith) in
+    let second = zero_glyph (n / 0x100) (omega arith) in
+    let first = zero_glyph (n / 0x1000) (omega arith) in
+    rw (digits_are 0 n (omega arith) h, third, second, first) refl
+
+hexadecimal_2 : (n : ℕ) → 0x10 ≤ n → n < 0x100 → hexadecimal n ≡ last_four n
+unfolding hexadecimal
+hexadecimal_2 n l h =
+    let second = zero_glyph (n / 0x100) (omega arith) in
+    let first = zero_glyph (n / 0x1000) (omega arith) in
+    rw (digits_are 1 n (omega arith) (l, omega arith), second, first) refl
+
+hexadecimal_3 : (n : ℕ) → 0x100 ≤ n → n < 0x1000 → hexadecimal n ≡ last_four n
+unfolding hexadecimal
+hexadecimal_3 n l h =
+    let third : n / 0x10 / 0x10 ≡ n / 0x100 = omega arith in
+    let first = zero_glyph (n / 0x1000) (omega arith) in
+    rw (digits_are 2 n (omega arith) (omega arith, (omega arith, omega arith)), third, first) refl
+
+hexadecimal_exact : (n : ℕ) → 0x1000 ≤ n → n < 0x1_0000 → hexadecimal n ≡ last_four n
+unfolding hexadecimal
+hexadecimal_exact n l h = grind (arith, digits_are 3 n)
+
+pub hexadecimal_4 : (n : ℕ) → n < 0x1_0000 → hexadecimal n ≡ last_four n
+hexadecimal_4 n h =
+    ⊎_elim (hexadecimal_1 n)
+    (λ l. ⊎_elim (hexadecimal_2 n l) (λ m. ⊎_elim (hexadecimal_3 n m) (λ k. hexadecimal_exact n k h) (cases_lt n 0x1000)) (cases_lt n 0x100))
+    (cases_lt n 0x10)
 
 pub hexadecimal_5 : (n : ℕ) → 0x1_0000 ≤ n → n < 0x10_0000 → hexadecimal n ≡ glyph (n / 0x1_0000) ∷ last_four n
 unfolding hexadecimal

@@ -322,7 +322,6 @@ impl LineBuffer {
     }
 
     /// Appends the decimal digits of the number.
-    #[tactic(auto, using(crate::proofs::EventLines::decimal_lengths))]
     fn push_decimal(&mut self, number: usize)
         requires { length (decimal number) ≤ line_room self.old }
         ensures text { line_bytes self.new ≡ line_bytes self.old ++ decimal number }

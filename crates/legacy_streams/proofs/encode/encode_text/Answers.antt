@@ -1,10 +1,17 @@
-use Rattle.std.proofs.{Common.{◌≡◌, ◌+◌, length, take, arith, refl}, lemmas.List.length-take-le}
+use Rattle.std.proofs.{Common.{◌≡◌, ◌∙◌, ◌+◌, ◌^◌, ◌<◌, length, take, arith, refl}, lemmas.List.length-take-le}
 use Rattle.legacy_streams.proofs.EncodingUnderWay.{input_start, input_step, input_partly, input_end, input_end_partly}
 use Rattle.legacy_streams.proofs.EncodingUnderWay.{piece_near, piece_unwritten, piece_written, read_end}
 use Rattle.legacy_streams.proofs.encode.encode_text.Goals as goal
 
+-- nothing is held, and nothing was read
+none_held : 0 < 4
+none_held = omega arith
+
+none_read : 0 < 2 ^ 64
+none_read = omega arith
+
 pub pieces-init : goal.pieces-init
-pieces-init g c = record { so_far = input_start _ _ _; short = omega arith; empty = c.new-encoded.ensures; long = refl; small = omega arith }
+pieces-init g c = record { so_far = input_start _ _ _; short = none_held; empty = c.new-encoded.ensures; long = refl; small = none_read }
 
 pub returns-in_default-clause-ok : goal.returns-in_default-clause-ok
 returns-in_default-clause-ok g c = tt
@@ -75,6 +82,6 @@ pieces-preserved g c =
       so_far = input_step c.pieces.invariant.so_far read.bytes.0 read.bytes.1 _ (rw read.bytes.2 at piece) (rw (← read.bytes.2, long) c.keep_end.ensures);
       short = piece.short;
       empty = c.in-Ok-write_to.ensures.empty;
-      long = omega arith;
-      small = omega arith;
+      long = c.keep_end.auto.buffer ∙ c.read_after.auto.buffer ∙ c.pieces.invariant.long;
+      small = read.count.1;
     }

@@ -26,3 +26,6 @@ returns-in_err-write_whole-clause-err g c =
     let call = rw c.rest_of-unread.ensures at c.decode_replacing_utf8-answer.ensures.call in
     let w = c.in_err-write_whole.ensures.err in
     rw (err_from_is_err_and c.from_residual.result c.from_residual.ensures.1).1 (text_front c.calls.invariant call _ w.0 w.1)
+
+pub returns-in_err-write_whole-clause-piece : goal.returns-in_err-write_whole-clause-piece
+returns-in_err-write_whole-clause-piece g c = rw (err_from_is_err_and c.from_residual.result c.from_residual.ensures.1).1 tt
