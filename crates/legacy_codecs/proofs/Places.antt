@@ -1,6 +1,7 @@
 -- The place of a run, and the numbers that its driver computes.
-use Rattle.std.proofs.Common.{◌≡◌, ◌∙◌, ℕ, zero, suc, ◌+◌, ◌-◌, ◌≤◌, ◌<◌, List, [], ◌∷◌, length, drop, get_or, map, Bool, false, IsTrue, leb, inl, inr}
-use Rattle.std.proofs.{Common.{refl, sym, arith, drop-cons, add-one}, lemmas.Bool.{true≢false, false≢true, cases_lt, le-leb, lt-leb}, lemmas.Grind.common_steps}
+use Rattle.std.proofs.Common.{◌≡◌, ◌∙◌, ℕ, zero, suc, ◌+◌, ◌-◌, ◌≤◌, ◌<◌, List, [], ◌∷◌, ◌++◌, length, take, drop, get_or, map}
+use Rattle.std.proofs.Common.{Bool, false, IsTrue, leb, inl, inr, refl, sym, arith, drop-cons, add-one, length-append, length-drop, length-take}
+use Rattle.std.proofs.{lemmas.Bool.{true≢false, false≢true, cases_lt, le-leb, lt-leb}, lemmas.Grind.common_steps}
 use Rattle.std.proofs.{lemmas.List.Sums.sum_by-cons, Math.ListN.drop_of_length-le}
 use Rattle.std.specs.Prelude.{slice_index_or, sum_by, sum}
 use Rattle.legacy_codecs.specs.Pieces.{RunPlace, is_none, place_before, place_behind, piece_count, AreAmple}
@@ -72,3 +73,33 @@ not_last pieces index e = grind (arith, cases_lt, drop_of_length-le, true≢fals
 pub room_step : (xs : List ℕ) (i : ℕ) → i < length xs →
     sum (drop i xs) + length (drop i xs) ≡ get_or xs i 0 + 1 + (sum (drop (i + 1) xs) + length (drop (i + 1) xs))
 room_step xs i h = grind (arith, common_steps)
+
+-- ---- a list of events with room for a call and for all calls after it
+
+module _ (len capacity total next rest : ℕ) (room : len + total ≤ capacity) (step : total ≡ next + 1 + rest) where
+  -- there is room for the events of the call, and for its report
+  pub room_now : (free : ℕ) → free ≡ next → len + (free + 1) ≤ capacity
+  room_now free e = omega arith
+
+  pub room_written : len + next ≤ capacity
+  room_written = omega arith
+
+  module _ (after capacity_after : ℕ) (grown : capacity ≤ capacity_after) where
+    -- after the call there is room for the events of the calls after it
+    pub room_later : (free : ℕ) → free ≡ next → after ≤ len + (free + 1) → after + rest ≤ capacity_after
+    room_later free e made = omega arith
+
+    module _ (made : after ≤ len + next) where
+      pub room_kept : after + rest ≤ capacity_after
+      room_kept = omega arith
+
+      -- and before it for the report
+      pub room_report : after < capacity_after
+      room_report = omega arith
+
+      pub room_reported : (last capacity_last : ℕ) → last ≡ after + 1 → capacity_after ≤ capacity_last → last + rest ≤ capacity_last
+      room_reported last capacity_last one more = omega arith
+
+-- an output of which a front was lent is as long as before
+pub front_put_back : (n : ℕ) (old new : List ℕ) → length new ≡ length (take n old) → length (new ++ drop n old) ≡ length old
+front_put_back n old new e = omega (arith, e, length-append new (drop n old), length-take n old, length-drop n old)

@@ -3,6 +3,7 @@ use Rattle.std.proofs.{lemmas.Option.slice_get-get_or, lemmas.List.length-map}
 use Rattle.std.specs.Prelude.{slice_index_or}
 use Rattle.legacy_codecs.specs.Pieces.{contents_of}
 use Rattle.legacy_codecs.proofs.{Places.{place_before-state, pieces-length, place_at-first, place_at-next, not_last, room_step}, RunSteps.running_start}
+use Rattle.legacy_codecs.proofs.Places.{room_written, room_kept, room_report, room_reported}
 use Rattle.legacy_codecs.proofs.{RunSteps.{running_call, is_run, place_at-more}, decode_run.run_calls.Goals.{in-InputEmpty+else-last, in-OutputFull}}
 use Rattle.legacy_codecs.proofs.decode_run.run_calls.Goals.{in-Malformed}
 use Rattle.legacy_codecs.proofs.decode_run.run_calls.Goals as goal
@@ -24,12 +25,12 @@ call_once-answer-requires-clause-buffer g c = c.loop-calls.invariant.buffer c.lo
 
 pub call_once-answer-requires-clause-room : goal.call_once-answer-requires-clause-room
 call_once-answer-requires-clause-room g c =
-    let step = room_step c.args.lengths.now c.loop-calls.calls c.loop-calls-test.true in omega (arith, c.loop-calls.invariant.room)
+    room_written _ _ _ _ _ c.loop-calls.invariant.room (room_step c.args.lengths.now c.loop-calls.calls c.loop-calls-test.true)
 
 pub push_within-requires : goal.push_within-requires
 push_within-requires g c =
     let step = room_step c.args.lengths.now c.loop-calls.calls c.loop-calls-test.true in
-    omega (arith, c.loop-calls.invariant.room, c.call_once-answer.ensures.len, c.call_once-answer.ensures.capacity)
+    room_report _ _ _ _ _ c.loop-calls.invariant.room step _ _ c.call_once-answer.ensures.capacity c.call_once-answer.ensures.len
 
 pub overflow_add-total : goal.overflow_add-total
 overflow_add-total g c = grind (arith, pieces-length)
@@ -64,6 +65,7 @@ loop-calls-preserved g c =
     let given = slice_get-get_or c.args.lengths.now c.loop-calls.calls 0 c.loop-calls-test.true in
     let step = room_step c.args.lengths.now c.loop-calls.calls c.loop-calls-test.true in
     let unread_length = ap length unread in
+    let room = room_kept _ _ _ _ _ i.room step _ _ c.call_once-answer.ensures.capacity c.call_once-answer.ensures.len in
     elim c.match-answer.branch [
       | in-InputEmpty+else-last w ↦
           let goes = sym w.if-last.false ∙ last in
@@ -71,8 +73,8 @@ loop-calls-preserved g c =
           let same : length pieces ≡ length c.args.pieces.now = simp length-map in
           rw (w.events-is, w.index-is, w.offset-is) record {
             running = running_call i.running given call.1 unread last w.in-InputEmpty.is (call.2 ∙ sym (append-nil _)) goes (place_at-next pieces _ index more);
-            room = omega arith;
-            buffer = λ k d h. let b = i.buffer k d h in omega arith;
+            room = room;
+            buffer = λ k d h. rw c.call_once-answer.auto.buffer (i.buffer k d h);
             inside = omega (arith, more, same);
             within = omega arith;
           }
@@ -80,8 +82,8 @@ loop-calls-preserved g c =
           rw (w.events-is, w.index-is, w.offset-is) record {
             running =
                 running_call i.running given call.1 unread last w.in-OutputFull.is (call.2 ∙ sym (append-nil _)) refl (place_at-more pieces _ index offset _);
-            room = omega arith;
-            buffer = λ k d h. let b = i.buffer k d h in omega arith;
+            room = room;
+            buffer = λ k d h. rw c.call_once-answer.auto.buffer (i.buffer k d h);
             inside = i.inside;
             within = omega (arith, i.within, length-drop offset (slice_index_or pieces index []));
           }
@@ -90,9 +92,24 @@ loop-calls-preserved g c =
             running =
                 running_call i.running given call.1 unread last w.in-Malformed.is
                 (w.push_within.ensures.items ∙ (rw (w.malformed_event.ensures, call.2) refl)) refl (place_at-more pieces _ index offset _);
-            room = omega arith;
-            buffer = λ k d h. let b = i.buffer k d h in omega arith;
+            room =
+                room_reported _ _ _ _ _ i.room step _ _ c.call_once-answer.ensures.capacity c.call_once-answer.ensures.len _ _
+                w.push_within.ensures.len w.push_within.ensures.capacity;
+            buffer = λ k d h. rw c.call_once-answer.auto.buffer (i.buffer k d h);
             inside = i.inside;
             within = omega (arith, i.within, length-drop offset (slice_index_or pieces index []));
           }
     ]
+
+pub overflow_add-result : goal.overflow_add-result
+overflow_add-result g c = omega (arith, c.loop-calls-test.true)
+
+pub bounds-lengths-calls : goal.bounds-lengths-calls
+bounds-lengths-calls g c = c.loop-calls-test.true
+
+pub overflow_add-index : goal.overflow_add-index
+overflow_add-index g c =
+    let pieces = contents_of c.args.pieces.now in
+    let more = not_last pieces c.loop-calls.index (sym (sym c.if-last.false ∙ c.is_last-last.ensures)) in
+    let same : length pieces ≡ length c.args.pieces.now = simp length-map in
+    omega (arith, more, same)

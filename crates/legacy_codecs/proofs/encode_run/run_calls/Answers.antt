@@ -1,8 +1,9 @@
 use Rattle.std.proofs.Common.{◌≡◌, ◌+◌, ◌≤◌, ◌++◌, [], drop, get_or, length, map, All, refl, arith, ap, sym}
-use Rattle.std.proofs.{Common.{◌∙◌, length-append, length-drop, length-take}, lemmas.Bool.true≢false, lemmas.List.length-map}
+use Rattle.std.proofs.{Common.◌∙◌, lemmas.Bool.true≢false, lemmas.List.{length-map, length-take-le}}
 use Rattle.std.proofs.lemmas.List.{get_or-map}
 use Rattle.legacy_codecs.specs.{Pieces.place_before, EncodeRuns.EncodeReaches.begun}
-use Rattle.legacy_codecs.proofs.{Places.{place_before-state, place_at-begin, place_at-next, same_end, not_last, room_step}, EncodeRunEvents.reaches_call}
+use Rattle.legacy_codecs.proofs.Places.{place_before-state, place_at-begin, place_at-next, same_end, not_last, room_step, room_now, room_later, front_put_back}
+use Rattle.legacy_codecs.proofs.EncodeRunEvents.{reaches_call}
 use Rattle.legacy_codecs.proofs.encode_run.run_calls.Goals.{then-call_once+else-last, else-call_once}
 use Rattle.legacy_codecs.proofs.encode_run.run_calls.Goals as goal
 
@@ -27,7 +28,7 @@ pub call_once-requires : goal.call_once-requires
 call_once-requires g c =
     let step = room_step c.args.lengths.now c.loop-calls.calls c.loop-calls-test.true in
     let small = c.loop-calls.invariant.output c.loop-calls.calls 0 c.loop-calls-test.true in
-    omega (arith, c.loop-calls.invariant.room, length-take (get_or c.args.lengths.now c.loop-calls.calls 0) c.loop-calls.output)
+    room_now _ _ _ _ _ c.loop-calls.invariant.room step _ (length-take-le _ c.loop-calls.output small)
 
 pub bounds-pieces-index : goal.bounds-pieces-index
 bounds-pieces-index g c =
@@ -73,11 +74,10 @@ loop-calls-preserved g c =
     let step = room_step c.args.lengths.now c.loop-calls.calls c.loop-calls-test.true in
     let small = i.output c.loop-calls.calls 0 c.loop-calls-test.true in
     let next = get_or c.args.lengths.now c.loop-calls.calls 0 in
-    let taken = length-take next c.loop-calls.output in
-    let behind = length-drop next c.loop-calls.output in
-    let both = length-append c.call_once.new.output (drop next c.loop-calls.output) in
+    let same_room = front_put_back next c.loop-calls.output c.call_once.new.output c.call_once.auto.output in
     let output : All (λ n. n ≤ length (c.call_once.new.output ++ drop next c.loop-calls.output)) c.args.lengths.now =
-    λ k d h. let b = i.output k d h in omega arith in
+    λ k d h. rw same_room (i.output k d h) in
+    let room = room_later _ _ _ _ _ i.room step _ _ c.call_once.ensures.capacity _ (length-take-le _ c.loop-calls.output small) c.call_once.ensures.len in
     elim c.if-call_once.branch [
       | then-call_once+else-last w ↦
           let goes = sym w.if-last.false ∙ last in
@@ -91,7 +91,7 @@ loop-calls-preserved g c =
             reaches =
                 reaches_call c.loop-calls.output i.reaches c.loop-calls-test.true i.output call.2 last emptied call.4 goes
                 (place_at-next texts after index more);
-            room = omega arith;
+            room = room;
             output = output;
             inside = omega (arith, more, same);
           }
@@ -99,8 +99,23 @@ loop-calls-preserved g c =
           let going = sym w.if-call_once.false ∙ call.3 in
           rw (w.index-is, w.unread-is) record {
             reaches = reaches_call c.loop-calls.output i.reaches c.loop-calls-test.true i.output call.2 last going call.4 refl refl;
-            room = omega arith;
+            room = room;
             output = output;
             inside = i.inside;
           }
     ]
+
+pub overflow_add-result : goal.overflow_add-result
+overflow_add-result g c = omega (arith, c.loop-calls-test.true)
+
+pub bounds-lengths-calls : goal.bounds-lengths-calls
+bounds-lengths-calls g c = c.loop-calls-test.true
+
+pub overflow_add-index : goal.overflow_add-index
+overflow_add-index g c =
+    let pieces = c.args.pieces.now in
+    let texts = map g.T.Text.scalars pieces in
+    let last = c.is_last-last.ensures ∙ same_end g.T.Piece.units g.T.Text.scalars pieces (c.loop-calls.index + 1) in
+    let more = not_last texts c.loop-calls.index (sym (sym c.if-last.false ∙ last)) in
+    let same : length texts ≡ length pieces = simp length-map in
+    omega (arith, more, same)
