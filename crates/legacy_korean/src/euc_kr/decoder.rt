@@ -121,8 +121,7 @@ impl LeadCodec for EucKr {
 
     fn utf8_length_without_replacement(byte_length: usize, held: usize) -> Option<usize> {
         let weighted = byte_length.checked_add(held)?;
-        let half = weighted.checked_add(1)? / 2;
-        weighted.checked_add(half)?.checked_add(2)
+        weighted.checked_add(weighted.div_ceil(2))?.checked_add(2)
     }
 
     fn utf8_length(byte_length: usize, held: usize) -> Option<usize> {

@@ -1,4 +1,4 @@
-use Rattle.std.proofs.{lemmas.Bool.Decides.nat_tests, Common.{◌-◌, arith}}
+use Rattle.std.proofs.{lemmas.Bool.Decides.nat_tests, Common.{◌-◌, ◌<◌, arith}}
 use Rattle.legacy_tables.proofs.PackedRuns.{scalar-had, none-has}
 use Rattle.legacy_tables.proofs.tables.pointer_runs.PointerRuns.scalar.Goals as goal
 
@@ -16,4 +16,5 @@ returns-then-at-from g c =
 pub returns : goal.returns
 returns g c =
     let n = c.started_count-count.result - 1 in
+    let within : c.args.pointer - c.from.result < c.from-2.result = c.if-at-from.false in
     grind (arith, nat_tests, scalar-had c.args.self.now.runs.now c.args.self.now.ordered c.args.pointer n, c.started_count-count.ensures.started n)
