@@ -2,4 +2,4 @@ use Rattle.std.proofs.Common.{rules}
 use Rattle.legacy_miscellaneous.proofs.replacement.decoder.ReplacementDecoderRawDecoder.step.Goals as goal
 
 pub returns-clause-call : goal.returns-clause-call
-returns-clause-call g c = search rules
+returns-clause-call g c = search rules depth 1

@@ -1,5 +1,4 @@
-use Rattle.std.proofs.Common.{rules}
 use Rattle.legacy_miscellaneous.proofs.user_defined.encoder.UserDefinedEncoderRawEncoder.step.Goals as goal
 
 pub returns-clause-call : goal.returns-clause-call
-returns-clause-call g c = search rules
+returns-clause-call g c = c.drive_encoder.ensures.call

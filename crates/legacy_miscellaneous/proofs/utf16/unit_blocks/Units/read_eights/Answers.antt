@@ -1,5 +1,5 @@
-use Rattle.std.proofs.Common.{rules}
 use Rattle.std.{proofs.{Common.{◌<◌, arith}, lemmas.List.Elements.All-from_get_or}, specs.Char.IsScalar}
+use Rattle.legacy_decoder_engine.proofs.JoinedReads.{reads_written}
 use Rattle.legacy_miscellaneous.proofs.Utf16Ahead.{below_scalar, eight_more, short_eight}
 use Rattle.legacy_miscellaneous.proofs.utf16.unit_blocks.Units.read_eights.Goals.{then-is_short, else-is_short+else-has_surrogate}
 use Rattle.legacy_miscellaneous.proofs.utf16.unit_blocks.Units.read_eights.Goals as goal
@@ -29,4 +29,7 @@ loop-group-preserved g c =
     ]
 
 pub returns-then-has_surrogate : goal.returns-then-has_surrogate
-returns-then-has_surrogate g c = search rules
+returns-then-has_surrogate g c =
+    let before = c.loop-group.invariant in
+    let few = c.loop-group-test.true in
+    reads_written (omega (arith, c.requires.source, few)) before.writes (omega (arith, before.room, c.requires.room, few)) (omega (arith, c.requires.room, few))
