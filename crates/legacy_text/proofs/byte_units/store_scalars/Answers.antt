@@ -1,6 +1,6 @@
 use Rattle.std.proofs.{Common.{arith, ◌∙◌, ap, w64, take, append-nil, ◌+◌}, lemmas.{Bool.Decides.nat_tests, Simd.get_or-chunk}}
 use Rattle.std.{proofs.lemmas.List.take-set-le, specs.Int.trailing_zeros}
-use Rattle.legacy_text.proofs.ByteUnits.{stored_ascii, stored_next, store_steps}
+use Rattle.legacy_text.proofs.ByteUnits.{before_lowest, stored_ascii, stored_have, stored_next, stored_scalars}
 use Rattle.legacy_text.proofs.byte_units.store_scalars.Goals as goal
 
 pub loop-past-init : goal.loop-past-init
@@ -21,7 +21,13 @@ loop-past-preserved c =
     }
 
 pub returns-then-entry-eq0-clause-have : goal.returns-then-entry-eq0-clause-have
-returns-then-entry-eq0-clause-have c = grind (arith, store_steps)
+returns-then-entry-eq0-clause-have c =
+    let l = c.loop-past in
+    stored_have c.args.entries.now c.args.bytes.now c.args.dst.now l.dst c.args.at _ l.invariant.front (omega arith) (omega arith)
+    (λ i h. l.invariant.stored i (omega (arith, h)) (before_lowest l.past i (omega (arith, h)) (omega arith)))
 
 pub returns-then-entry-eq0-clause-stored : goal.returns-then-entry-eq0-clause-stored
-returns-then-entry-eq0-clause-stored c = grind (arith, store_steps)
+returns-then-entry-eq0-clause-stored c =
+    let l = c.loop-past in
+    stored_scalars c.args.entries.now c.args.bytes.now c.args.dst.now l.dst c.args.at _ l.invariant.front (omega arith) (omega arith)
+    (λ i h. l.invariant.stored i (omega (arith, h)) (before_lowest l.past i (omega (arith, h)) (omega arith)))
