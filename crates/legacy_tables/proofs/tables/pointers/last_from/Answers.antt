@@ -1,6 +1,5 @@
 use Rattle.std.proofs.Common.{arith}
 use Rattle.legacy_tables.proofs.Pointers.{last-from, none-from}
-use Rattle.legacy_tables.specs.Pointers.{last_pointer}
 use Rattle.legacy_tables.proofs.tables.pointers.last_from.Goals as goal
 
 pub returns-then-number-entry : goal.returns-then-number-entry
