@@ -96,8 +96,9 @@ fn encoders_of_pairs_follow_their_rows(rt: HostRuntime) {
 
 #[test]
 fn encoders_of_bytes_follow_their_rows(rt: HostRuntime) {
-    follow_rows(&rt, &[SingleByte], WITH_RUN, single_byte::encoder::GREEK);
-    follow_rows(&rt, &[SingleByte], WITHOUT_RUN, single_byte::encoder::GREEK);
+    for flat in [WITH_RUN, WITHOUT_RUN] {
+        follow_rows(&rt, &[SingleByte], flat, single_byte::encoder::GREEK);
+    }
     follow_rows(&rt, &[SingleByte], RUN_ALONE, WITHOUT_SCALARS);
     follow_rows(&rt, &[UserDefined], EMPTY, user_defined::encoder::ROWS);
 }
