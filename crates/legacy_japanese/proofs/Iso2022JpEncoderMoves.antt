@@ -2,8 +2,8 @@
 use Rattle.std.proofs.Common.{◌≡◌, ◌∙◌, ℕ, ◌+◌, ◌<◌, ◌≤◌, ◌/◌, ◌%◌, List, arith, Bool, true, false, [], ◌∷◌, ◌++◌, length, refl, sym, IsTrue, Some, map, ◌⊎◌}
 use Rattle.{std.proofs.lemmas.Bool.Decides.nat_tests, legacy_tables.specs.Indexes.FlatIndexes}
 use Rattle.legacy_text.specs.{EncodingForm.{EncodingForm, Utf8}, UnitCodes.IsNoSurrogate}
-use Rattle.legacy_base.specs.Iso2022Jp.{iso_2022_jp_encoder, iso_2022_jp_code, is_two_byte_scalar, is_roman_scalar, escape_between, iso_2022_jp_reported}
-use Rattle.legacy_base.specs.{Iso2022Jp.{is_mode_control, mode_behind, escape_to}, EncodeEvents.{code_events}}
+use Rattle.legacy_base.specs.Iso2022Jp.{iso_2022_jp_encoder, iso_2022_jp_code, is_two_byte_scalar, is_roman_scalar, escape_to, iso_2022_jp_reported}
+use Rattle.legacy_base.specs.{Iso2022Jp.{is_mode_control, mode_behind}, EncodeEvents.{code_events}}
 use Rattle.legacy_base.specs.EncoderProfile.{EncoderProfile, EncoderMode, in_ascii, in_two_byte}
 use Rattle.legacy_base.specs.{declared.results.EncodeEvent.EncodeEvent, Beginnings.BeginsWith}
 use Rattle.legacy_base.{specs.Encoders.{encoder_profile, iso_2022_jp, is_pending}, proofs.SameUnits.some_unit}
@@ -14,7 +14,7 @@ use Rattle.legacy_encoder_engine.specs.{UnfinishedCall.{PutsCode, ReadsByte}, Un
 use Rattle.legacy_encoder_engine.specs.declared.moves.EncoderMove.{EncoderMove, TheVariants.{One, Two}}
 use Rattle.legacy_encoder_engine.proofs.PlainServes.{two_units, differs-same, here_moves}
 use Rattle.legacy_japanese.specs.declared.iso_2022_jp.encoder.Mode.{Mode, TheVariants.{Ascii, TwoByte}}
-use Rattle.legacy_japanese.specs.Iso2022JpEncoder.{mode_of, state_in, Asks, IsOwnByte}
+use Rattle.legacy_japanese.specs.Iso2022JpEncoder.{mode_of, state_in, Asks}
 use Rattle.legacy_base.specs.declared.results.EncodeEvent.TheVariants as events
 
 module _ (jis0208 katakana_index : List ℕ) where
@@ -30,12 +30,6 @@ module _ (jis0208 katakana_index : List ℕ) where
       × (6 ≤ mode_room encoder form mode (u + t))
   escape_by pair keeps romans mode form t u own e o n p q r = grind arith
 
--- ---- modes
-
-same_mode : (mode new : EncoderMode) → differs mode new ≡ false → mode ≡ new
-same_mode mode new e = grind arith
-
-module _ (jis0208 katakana_index : List ℕ) where
   -- no scalar of two-byte or Roman mode is ASCII
   pair_past : (c : ℕ) → is_two_byte_scalar jis0208 katakana_index c ≡ true → 128 ≤ c
   pair_past c e = grind (arith, nat_tests, code_by)
@@ -65,16 +59,12 @@ module _ (jis0208 katakana_index : List ℕ) where
   unfolding iso_2022_jp_code
   no_escape c r more rest e = grind (arith, nat_tests)
 
-  -- the escape to ASCII mode
-  abbrev to_ascii : List EncodeEvent
-  to_ascii = map events.Byte (0x1B ∷ 0x28 ∷ 0x42 ∷ [])
-
-  -- an escape to ASCII comes at the end, or before a text that begins with it; the rest is encoded from ASCII mode
-  escape_first : (mode : EncoderMode) → (mode ≡ in_ascii → ⊥) → escape_between mode in_ascii ≡ 0x1B ∷ 0x28 ∷ 0x42 ∷ [] → (more : List ℕ) (ended : Bool)
-      → ((more ≡ []) × IsTrue ended) ⊎ BeginsWith (text_events jis0208 katakana_index mode more ended) to_ascii
-      → text_events jis0208 katakana_index mode more ended ≡ to_ascii ++ text_events jis0208 katakana_index in_ascii more ended
-  escape_first mode other is [] ended h = grind (arith, text_events-open, text_events-end)
-  escape_first mode other is (c ∷ more) ended h = grind (arith, text_events-here, text_events-escape, no_escape)
+  -- the escape to ASCII mode comes at the end, or before a text that begins with it; the rest is encoded from ASCII mode
+  escape_first : (mode : EncoderMode) → (mode ≡ in_ascii → ⊥) → (more : List ℕ) (ended : Bool)
+      → ((more ≡ []) × IsTrue ended) ⊎ BeginsWith (text_events jis0208 katakana_index mode more ended) (map events.Byte (escape_to in_ascii))
+      → text_events jis0208 katakana_index mode more ended ≡ map events.Byte (escape_to in_ascii) ++ text_events jis0208 katakana_index in_ascii more ended
+  escape_first mode other [] ended h = grind (arith, text_events-open, text_events-end)
+  escape_first mode other (c ∷ more) ended h = grind (arith, text_events-here, text_events-escape, no_escape)
 
   -- a test that the code computes
   pub ruleset asked_steps = (nat_tests, mode_for-by, code_by)
@@ -88,8 +78,9 @@ module _ (flat : FlatIndexes) where
   module _ (mode new : Mode) (c : ℕ) (move : EncoderMove) where
     -- the scalar is read in the mode that it needs
     pub stays : Asks flat mode c new move → differs (mode_of mode) (mode_of new) ≡ false → Moves (state_in flat mode) c (state_in flat mode) move
-    stays asks same =
-        let here : mode_for flat.jis0208 flat.katakana (mode_of mode) c ≡ mode_of mode = asks.mode_is ∙ sym (same_mode _ _ same) in
+    stays asks e =
+        let same : mode_of mode ≡ mode_of new = grind arith in
+        let here : mode_for flat.jis0208 flat.katakana (mode_of mode) c ≡ mode_of mode = asks.mode_is ∙ sym same in
         here_moves (state_in flat mode) (iso_2022_jp_reported c) c (record {
           law = text_events-here flat.jis0208 flat.katakana (mode_of mode) c here;
           fits = omega (arith, code-short flat.jis0208 flat.katakana c);
@@ -110,34 +101,30 @@ module _ (flat : FlatIndexes) where
     escapes own asks e is bytes = grind (arith, text_events-escape, differs-same, asks.mode_is)
 
   -- ASCII in ASCII mode
-  pub own_byte : (c byte : ℕ) → IsOwnByte c byte → ReadsByte (state_in flat Ascii) 2 c byte
-  own_byte c byte is = record {
-    fits = omega arith;
-    moves = rw is.0 (stays Ascii Ascii c (One c) (record { mode_is = grind (arith, asked_steps); code_is = grind (arith, asked_steps) }) refl);
-  }
+  module _ (c : ℕ) (low : c < 128) (free : is_mode_control c ≡ false) where
+    asks_ascii : Asks flat Ascii c Ascii (One c)
+    asks_ascii = record { mode_is = grind (arith, asked_steps); code_is = grind (arith, asked_steps) }
 
-  pub puts_ascii : (mode : Mode) (c : ℕ) → mode ≡ Ascii → c < 128 → is_mode_control c ≡ false → (old bytes : List ℕ) (at : ℕ) → bytes ≡ old ++ c ∷ []
-      → PutsCode (state_in flat mode) c old at bytes (at + 1)
-  puts_ascii mode c here low free old bytes at is =
-      let own = own_byte c c (refl, low, free) in record { move = One c; moves = rw here own.moves; reads = refl; silent = refl; bytes = is; ends = refl }
+    pub own_byte : ReadsByte (state_in flat Ascii) 2 c c
+    own_byte = record { fits = omega arith; moves = stays Ascii Ascii c (One c) asks_ascii refl }
+
+    pub puts_ascii : (mode : Mode) → mode ≡ Ascii → (old bytes : List ℕ) (at : ℕ) → bytes ≡ old ++ c ∷ [] → PutsCode (state_in flat mode) c old at bytes (at + 1)
+    puts_ascii mode here old bytes at is = rw here (puts Ascii Ascii c (One c) asks_ascii refl refl refl is refl)
 
   pub ruleset put_steps = (fits, puts, puts_ascii)
 
   -- a pair that is in the list
   module _ (c both : ℕ) (is : IsNoSurrogate c × (iso_2022_jp_code flat.jis0208 flat.katakana c ≡ Some (two_bytes both))) where
-    pair_mode : (mode : EncoderMode) → mode_for flat.jis0208 flat.katakana mode c ≡ in_two_byte
+    abbrev pair : EncoderMove
+    pair = Two (both % 256) (both / 256)
+
+    pub asks_listed : (mode : Mode) → Asks flat mode c TwoByte pair
     unfolding mode_behind
-    pair_mode mode = rw is.1 refl
-
-    pub asks_listed : (mode : Mode) → Asks flat mode c TwoByte (Two (both % 256) (both / 256))
-    asks_listed mode = record { mode_is = pair_mode _; code_is = is.1 }
-
-    moves_listed : Moves (state_in flat TwoByte) c (state_in flat TwoByte) (Two (both % 256) (both / 256))
-    moves_listed = stays TwoByte TwoByte c (Two (both % 256) (both / 256)) (asks_listed TwoByte) refl
+    asks_listed mode = record { mode_is = rw is.1 refl; code_is = is.1 }
 
     pub puts_listed : (old bytes : List ℕ) (at : ℕ) → bytes ≡ old ++ two_bytes both → PutsCode (state_in flat TwoByte) c old at bytes (at + 2)
-    puts_listed old bytes at is =
-        record { move = Two (both % 256) (both / 256); moves = moves_listed; reads = refl; silent = refl; bytes = is; ends = refl }
+    puts_listed old bytes at is = puts TwoByte TwoByte c pair (asks_listed TwoByte) refl refl refl is refl
 
     pub reads_listed : ReadsUnit (state_in flat TwoByte) c both 2
-    reads_listed = record { bmp = is.0; move = Two (both % 256) (both / 256); moves = moves_listed; reads = refl; silent = refl; bytes = refl }
+    reads_listed =
+        record { bmp = is.0; move = pair; moves = stays TwoByte TwoByte c pair (asks_listed TwoByte) refl; reads = refl; silent = refl; bytes = refl }

@@ -27,10 +27,6 @@ pub record Asks (flat : FlatIndexes) (mode : Mode) (c : ℕ) (new : Mode) (move 
 abbrev pub HasNoControl : List ℕ → ℕ → ℕ → Type 0
 HasNoControl bytes first end = (k : ℕ) → first ≤ k → k < end → is_mode_control (slice_index bytes k) ≡ false
 
--- in ASCII mode the scalar c is written as this byte, which is c
-abbrev pub IsOwnByte : ℕ → ℕ → Type 0
-IsOwnByte c byte = (byte ≡ c) × (c < 0x80) × (is_mode_control c ≡ false)
-
 -- ---- a list of pairs, each with its lead in the low byte and its trail in the high byte
 
 -- the entry is the pair of the scalar c, or 0
