@@ -33,11 +33,6 @@ HasNoControl bytes first end = (k : ℕ) → first ≤ k → k < end → is_mode
 abbrev pub IsListedEntry : FlatIndexes → ℕ → ℕ → Type 0
 IsListedEntry flat c entry = entry ≢ 0 → IsNoSurrogate c × (iso_2022_jp_code flat.jis0208 flat.katakana c ≡ Some (two_bytes entry))
 
--- the entries of all scalars below U+10000 are such pairs or 0
-pub record ListsPairs (flat : FlatIndexes) (pairs : List ℕ) : Type 0 where
-  pub all : length pairs ≡ 65536
-  pub told : (c : ℕ) → c < 65536 → IsListedEntry flat c (slice_index pairs c)
-
 -- the entry of a pointer
 abbrev pub iso_2022_jp_mark : ℕ → ℕ
 iso_2022_jp_mark p = (p / 94 + 0x21) + 256 * (p % 94 + 0x21)

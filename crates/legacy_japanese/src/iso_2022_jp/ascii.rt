@@ -39,12 +39,19 @@ fn has_control(bytes: &[u8], first: usize, end: usize) -> bool
 }
 
 /// The most bytes that are copied before they are tested.
-const PIECE: usize = 256;
+///
+/// A piece is short, so little is copied without use, however many controls there are.
+pub const PIECE: usize = 256;
 
 /// Reads at most `PIECE` scalars of ASCII, and returns the place after them. If a control is found among them, it reads nothing.
 // It reads by a copy of the cursor, which is dropped if a control was copied.
 #[inline(always)]
-fn copy_piece<S: TextCursor>(tables: &Tables, src: &mut S, dst: &mut [u8], start: usize) -> usize
+pub fn copy_piece<S: TextCursor>(
+    tables: &Tables,
+    src: &mut S,
+    dst: &mut [u8],
+    start: usize,
+) -> usize
     requires { start + 15 ≤ length dst.old }
     ensures { EncodesBy S.TextCursor (state_in tables.now.flat Ascii) src.old dst.old start src.new
         dst.new result }
@@ -58,29 +65,4 @@ fn copy_piece<S: TextCursor>(tables: &Tables, src: &mut S, dst: &mut [u8], start
     }
     *src = own;
     end
-}
-
-/// Reads ASCII in ASCII mode, and returns the place after its bytes.
-// Pieces are short, so little is copied without use, however many controls there are.
-#[inline(always)]
-#[tactic(auto, using(legacy_encoder_engine::proofs::ReadingAhead::turns))]
-pub fn copy_ascii<S: TextCursor>(
-    tables: &Tables,
-    src: &mut S,
-    dst: &mut [u8],
-    start: usize,
-) -> usize
-    requires { start ≤ length dst.old }
-    ensures { EncodesBy S.TextCursor (state_in tables.now.flat Ascii) src.old dst.old start src.new
-        dst.new result }
-{
-    let mut at = start;
-    while dst.len() - at >= 31 {
-        let end = copy_piece(tables, src, dst, at);
-        if end - at < PIECE {
-            return end;
-        }
-        at = end;
-    }
-    at
 }

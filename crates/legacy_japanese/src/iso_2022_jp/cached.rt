@@ -1,6 +1,6 @@
 //! The encoder of ISO-2022-JP that reads pairs from a list, in memory that the caller lends.
-ghost use Rattle.std.specs.Prelude.{◌≡◌, ◌≢◌, ◌<◌, ◌≤◌, length, MatchOption};
-ghost use Rattle.legacy_japanese.specs.Iso2022JpEncoder.{IsListedEntry, ListsPairs, iso_2022_jp_mark, iso_2022_jp_mark-some, state_in};
+ghost use Rattle.std.specs.Prelude.{◌≡◌, ◌≢◌, ◌<◌, ◌≤◌, ℕ, length, slice_index, MatchOption};
+ghost use Rattle.legacy_japanese.specs.Iso2022JpEncoder.{IsListedEntry, iso_2022_jp_mark, iso_2022_jp_mark-some, state_in};
 ghost use Rattle.legacy_japanese.specs.declared.iso_2022_jp.encoder.Mode.TheVariants.{TwoByte};
 
 use crate::asked_scalars::ask_others;
@@ -47,7 +47,9 @@ impl Marks for TablePairs<'_> {
 pub struct ListedPairs<'a, 'b> {
     found: TablePairs<'a>,
     listed: &'b [u16],
-    ghost right: { ListsPairs found.tables.now.flat listed.now },
+    ghost all: { length listed.now ≡ 65536 },
+    ghost told: { (c : ℕ) → c < 65536 →
+        IsListedEntry found.tables.now.flat c (slice_index listed.now c) },
 }
 
 impl ListedPairs<'_, '_> {
@@ -83,13 +85,11 @@ impl FindsPairs for ListedPairs<'_, '_> {
     // The list is copied, so that nothing else refers to it.
     #[inline]
     fn read_in<S: Source>(&self, mode: Mode, src: &mut S, dst: &mut [u8], at: usize) -> usize {
-        match mode {
-            Mode::TwoByte => {
-                let own = *self;
-                read_common(&own, src, dst, at)
-            }
-            Mode::Ascii | Mode::Roman => self.found.read_in(mode, src, dst, at),
+        if let Mode::TwoByte = mode {
+            let own = *self;
+            return read_common(&own, src, dst, at);
         }
+        self.found.read_in(mode, src, dst, at)
     }
 }
 

@@ -1,12 +1,12 @@
 //! The encoder of ISO-2022-JP.
 ghost use Rattle.std.specs.Prelude.{◌≡◌, ◌==◌, ◌||◌, ◌<◌, ◌≤◌, length, true, IfSome};
 ghost use Rattle.legacy_tables.specs.Indexes.{FlatIndexes};
-ghost use Rattle.legacy_base.specs.{Encoders.{iso_2022_jp, is_pending, new_encoder}, Iso2022Jp.{escape_to, iso_2022_jp_pointer_of, roman_or_ascii}};
+ghost use Rattle.legacy_base.specs.{Encoders.{iso_2022_jp, is_pending, new_encoder}, Iso2022Jp.{escape_to, iso_2022_jp_pointer_of}};
 ghost use Rattle.legacy_encoder_engine.specs.{Moves.{differs, is_escape, move_bytes}, UnfinishedCall.EncodesFrom};
 ghost use Rattle.legacy_japanese.specs.Iso2022JpEncoder.{Asks, mode_of, state_in};
 
 use crate::folded_scalars::minus_as_hyphen;
-use crate::iso_2022_jp::ascii::{copy_ascii, is_control};
+use crate::iso_2022_jp::ascii::{PIECE, copy_piece, is_control};
 use legacy_base::{EncoderStep, IndexName, RawEncoder, Source, Tables};
 use legacy_encoder_engine::ahead_codes::AheadCodes;
 use legacy_encoder_engine::drive::{drive_encoder, put_move};
@@ -24,17 +24,6 @@ pub enum Mode {
 }
 
 impl Mode {
-    /// Returns the mode after a scalar that is in both ASCII and Roman mode, or has no bytes.
-    #[inline]
-    fn settled(self) -> Mode
-        ensures { mode_of result ≡ roman_or_ascii (mode_of self) }
-    {
-        match self {
-            Mode::Roman => Mode::Roman,
-            Mode::Ascii | Mode::TwoByte => Mode::Ascii,
-        }
-    }
-
     /// Checks whether this is another mode.
     #[inline]
     fn differs(self, other: Mode) -> bool
@@ -175,7 +164,12 @@ impl FindsPairs for TablePairs<'_> {
     #[tactic(auto, using(crate::proofs::Iso2022JpEncoderMoves::asked_steps))]
     fn asked(&self, mode: Mode, c: char) -> (Mode, EncoderMove) {
         let scalar = c as u32;
-        let settled = mode.settled();
+        // The mode after a scalar that is in both ASCII and Roman mode, or has no bytes.
+        let settled = if let Mode::Roman = mode {
+            mode
+        } else {
+            Mode::Ascii
+        };
         if is_control(scalar) {
             return (settled, EncoderMove::Unmappable('\u{FFFD}'));
         }
@@ -205,13 +199,11 @@ impl FindsPairs for TablePairs<'_> {
     #[inline]
     fn read_in<S: Source>(&self, mode: Mode, src: &mut S, dst: &mut [u8], at: usize) -> usize {
         let pairs = *self;
-        match mode {
-            Mode::Ascii => {
-                let mode = Mode::Ascii;
-                read_common(&EncoderBy { pairs, mode }, src, dst, at)
-            }
-            Mode::Roman | Mode::TwoByte => read_common(&EncoderBy { pairs, mode }, src, dst, at),
+        if let Mode::Ascii = mode {
+            let mode = Mode::Ascii;
+            return read_common(&EncoderBy { pairs, mode }, src, dst, at);
         }
+        read_common(&EncoderBy { pairs, mode }, src, dst, at)
     }
 }
 
@@ -273,11 +265,19 @@ impl AheadCodes for EncoderBy<TablePairs<'_>> {
     }
 
     #[inline(always)]
-    #[tactic(auto, using(legacy_encoder_engine::proofs::ReadingAhead::encodes_none))]
-    fn read_blocks<S: TextCursor>(&self, src: &mut S, dst: &mut [u8], at: usize) -> usize {
-        match self.mode {
-            Mode::Ascii => copy_ascii(self.pairs.tables, src, dst, at),
-            Mode::Roman | Mode::TwoByte => at,
+    #[tactic(auto, using(legacy_encoder_engine::proofs::ReadingAhead::turns))]
+    fn read_blocks<S: TextCursor>(&self, src: &mut S, dst: &mut [u8], start: usize) -> usize {
+        let Mode::Ascii = self.mode else {
+            return start;
+        };
+        let mut at = start;
+        while dst.len() - at >= 31 {
+            let end = copy_piece(self.pairs.tables, src, dst, at);
+            if end - at < PIECE {
+                return end;
+            }
+            at = end;
         }
+        at
     }
 }

@@ -17,7 +17,7 @@ own_bytes flat start n dst new left from read ascii copied none = record {
   each = λ k h.
       let same = get_or-take n left k 0 h in
       let at : slice_index new (start + k) ≡ slice_index left k =
-          cc (same, length-take-le start dst from, get_or-take (start + n) new (start + k) 0 (omega arith), get_or-append-add (take start dst) (take n left) k 0) in
+      cc (same, length-take-le start dst from, get_or-take (start + n) new (start + k) 0 (omega arith), get_or-append-add (take start dst) (take n left) k 0) in
       rw same (own_byte flat (slice_index left k) (rw same at (ascii k)) (rw at at (none (start + k) (omega arith) (omega arith))));
 }
 
