@@ -1,20 +1,17 @@
 -- The length formulas of the ISO-2022-JP encoder are enough for its scalars and escapes. Its moves, by its tables and by a list of pairs.
 use Rattle.std.proofs.Common.{◌≡◌, ◌∙◌, ℕ, ◌+◌, ◌<◌, ◌≤◌, ◌/◌, ◌%◌, List, arith, Bool, true, false, [], ◌∷◌, ◌++◌, length, refl, sym, IsTrue, Some, map, ◌⊎◌}
-use Rattle.{std.proofs.lemmas.Bool.Decides.nat_tests, legacy_tables.specs.Indexes.FlatIndexes}
-use Rattle.legacy_text.specs.{EncodingForm.{EncodingForm, Utf8}, UnitCodes.IsNoSurrogate}
-use Rattle.legacy_base.specs.Iso2022Jp.{iso_2022_jp_encoder, iso_2022_jp_code, is_two_byte_scalar, is_roman_scalar, escape_to, iso_2022_jp_reported}
-use Rattle.legacy_base.specs.{Iso2022Jp.{is_mode_control, mode_behind}, EncodeEvents.{code_events}}
-use Rattle.legacy_base.specs.EncoderProfile.{EncoderProfile, EncoderMode, in_ascii, in_two_byte}
-use Rattle.legacy_base.specs.{declared.results.EncodeEvent.EncodeEvent, Beginnings.BeginsWith}
-use Rattle.legacy_base.{specs.Encoders.{encoder_profile, iso_2022_jp, is_pending}, proofs.SameUnits.some_unit}
+use Rattle.{std.proofs.lemmas.Bool.Decides.nat_tests, legacy_tables.specs.Indexes.FlatIndexes, legacy_text.specs.UnitCodes.IsNoSurrogate}
+use Rattle.{legacy_text.specs.EncodingForm.{EncodingForm, Utf8}, legacy_base.specs.{EncodeEvents.code_events, Beginnings.BeginsWith}}
+use Rattle.legacy_base.specs.{EncoderProfile.{EncoderProfile, EncoderMode, in_ascii}, Encoders.{encoder_profile, iso_2022_jp, is_pending}}
+use Rattle.legacy_base.specs.Iso2022Jp.{iso_2022_jp_encoder, iso_2022_jp_code, iso_2022_jp_reported, is_two_byte_scalar, is_roman_scalar, is_mode_control}
+use Rattle.legacy_base.{specs.{Iso2022Jp.{mode_behind, escape_to}, declared.results.EncodeEvent.EncodeEvent}, proofs.SameUnits.some_unit}
 use Rattle.legacy_base.proofs.Iso2022JpEncoding.{code-short, text_events, text_events-here, text_events-escape, text_events-end, text_events-open, mode_for}
 use Rattle.legacy_base.proofs.Iso2022JpEncoding.{mode_by, mode_for-by, mode_for-twice, code_by}
 use Rattle.legacy_encoder_engine.specs.{Moves.{differs, is_escape, move_bytes, move_report, Moves, Finishes}, ProfileSuffices.{Serves, mode_room}}
 use Rattle.legacy_encoder_engine.specs.{UnfinishedCall.{PutsCode, ReadsByte}, UnitTurns.{ReadsUnit, two_bytes}}
 use Rattle.legacy_encoder_engine.specs.declared.moves.EncoderMove.{EncoderMove, TheVariants.{One, Two}}
 use Rattle.legacy_encoder_engine.proofs.PlainServes.{two_units, differs-same, here_moves}
-use Rattle.legacy_japanese.specs.declared.iso_2022_jp.encoder.Mode.{Mode, TheVariants.{Ascii, TwoByte}}
-use Rattle.legacy_japanese.specs.Iso2022JpEncoder.{mode_of, state_in, Asks}
+use Rattle.legacy_japanese.specs.{declared.iso_2022_jp.encoder.Mode.{Mode, TheVariants.{Ascii, TwoByte}}, Iso2022JpEncoder.{mode_of, state_in, Asks}}
 use Rattle.legacy_base.specs.declared.results.EncodeEvent.TheVariants as events
 
 module _ (jis0208 katakana_index : List ℕ) where

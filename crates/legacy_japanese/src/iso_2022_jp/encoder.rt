@@ -170,28 +170,20 @@ impl FindsPairs for TablePairs<'_> {
         } else {
             Mode::Ascii
         };
-        if is_control(scalar) {
-            return (settled, EncoderMove::Unmappable('\u{FFFD}'));
-        }
-        if scalar < 0x80 {
+        match scalar {
+            _ if is_control(scalar) => (settled, EncoderMove::Unmappable('\u{FFFD}')),
             // In Roman mode these two bytes are other scalars.
-            if scalar == 0x5C || scalar == 0x7E {
-                return (Mode::Ascii, EncoderMove::One(scalar as u8));
-            }
-            return (settled, EncoderMove::One(scalar as u8));
-        }
-        if scalar == 0xA5 {
-            return (Mode::Roman, EncoderMove::One(0x5C));
-        }
-        if scalar == 0x203E {
-            return (Mode::Roman, EncoderMove::One(0x7E));
-        }
-        match pointer(self.tables, c) {
-            Some(p) => (
-                Mode::TwoByte,
-                EncoderMove::Two((p / 94 + 0x21) as u8, (p % 94 + 0x21) as u8),
-            ),
-            None => (settled, EncoderMove::Unmappable(c)),
+            0..0x80 if scalar == 0x5C || scalar == 0x7E => (Mode::Ascii, EncoderMove::One(c as u8)),
+            0..0x80 => (settled, EncoderMove::One(c as u8)),
+            0xA5 => (Mode::Roman, EncoderMove::One(0x5C)),
+            0x203E => (Mode::Roman, EncoderMove::One(0x7E)),
+            _ => match pointer(self.tables, c) {
+                Some(p) => (
+                    Mode::TwoByte,
+                    EncoderMove::Two((p / 94 + 0x21) as u8, (p % 94 + 0x21) as u8),
+                ),
+                None => (settled, EncoderMove::Unmappable(c)),
+            },
         }
     }
 
