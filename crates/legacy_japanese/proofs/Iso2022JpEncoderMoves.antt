@@ -1,5 +1,5 @@
 -- The length formulas of the ISO-2022-JP encoder are enough for its scalars and escapes. Its moves, by its tables and by a list of pairs.
-use Rattle.std.proofs.Common.{◌≡◌, ◌∙◌, ℕ, ◌+◌, ◌<◌, ◌≤◌, ◌/◌, ◌%◌, List, arith, Bool, true, false, [], ◌∷◌, ◌++◌, length, refl, sym, IsTrue, Some, map, ◌⊎◌}
+use Rattle.std.proofs.Common.{◌≡◌, ℕ, ◌+◌, ◌<◌, ◌≤◌, ◌/◌, ◌%◌, List, arith, Bool, true, false, [], ◌∷◌, ◌++◌, length, refl, IsTrue, Some, map, ◌⊎◌}
 use Rattle.{std.proofs.lemmas.Bool.Decides.nat_tests, legacy_tables.specs.Indexes.FlatIndexes, legacy_text.specs.UnitCodes.IsNoSurrogate}
 use Rattle.{legacy_text.specs.EncodingForm.{EncodingForm, Utf8}, legacy_base.specs.{EncodeEvents.code_events, Beginnings.BeginsWith}}
 use Rattle.legacy_base.specs.{EncoderProfile.{EncoderProfile, EncoderMode, in_ascii}, Encoders.{encoder_profile, iso_2022_jp, is_pending}}
@@ -75,9 +75,8 @@ module _ (flat : FlatIndexes) where
   module _ (mode new : Mode) (c : ℕ) (move : EncoderMove) where
     -- the scalar is read in the mode that it needs
     pub stays : Asks flat mode c new move → differs (mode_of mode) (mode_of new) ≡ false → Moves (state_in flat mode) c (state_in flat mode) move
-    stays asks e =
-        let same : mode_of mode ≡ mode_of new = grind arith in
-        let here : mode_for flat.jis0208 flat.katakana (mode_of mode) c ≡ mode_of mode = asks.mode_is ∙ sym same in
+    stays asks same =
+        let here : mode_for flat.jis0208 flat.katakana (mode_of mode) c ≡ mode_of mode = grind (arith, asks.mode_is) in
         here_moves (state_in flat mode) (iso_2022_jp_reported c) c (record {
           law = text_events-here flat.jis0208 flat.katakana (mode_of mode) c here;
           fits = omega (arith, code-short flat.jis0208 flat.katakana c);

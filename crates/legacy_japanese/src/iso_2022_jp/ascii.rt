@@ -1,12 +1,6 @@
-//! ASCII in ISO-2022-JP's ASCII mode, which its encoder copies by blocks.
+//! The controls that would switch ISO-2022-JP's modes, which its encoder does not write.
 ghost use Rattle.std.specs.Prelude.{◌≡◌, ◌+◌, ◌≤◌, length, false};
-ghost use Rattle.legacy_base.specs.Iso2022Jp.{is_mode_control};
-ghost use Rattle.legacy_encoder_engine.specs.UnfinishedCall.{EncodesBy};
-ghost use Rattle.legacy_japanese.specs.Iso2022JpEncoder.{HasNoControl, state_in};
-ghost use Rattle.legacy_japanese.specs.declared.iso_2022_jp.encoder.Mode.TheVariants.{Ascii};
-
-use legacy_base::Tables;
-use legacy_text::TextCursor;
+ghost use Rattle.{legacy_base.specs.Iso2022Jp.is_mode_control, legacy_japanese.specs.Iso2022JpEncoder.HasNoControl};
 
 /// Checks whether the scalar is a control that would switch modes, which has no bytes.
 #[inline]
@@ -21,7 +15,7 @@ pub fn is_control(scalar: u32) -> bool
 /// If it returns false, none of the bytes before `end` is one.
 // There is no branch in a block, so that its sixteen bytes are tested at once.
 #[inline(always)]
-fn has_control(bytes: &[u8], first: usize, end: usize) -> bool
+pub fn has_control(bytes: &[u8], first: usize, end: usize) -> bool
     requires { end + 15 ≤ length bytes.now }
     ensures { result ≡ false → HasNoControl bytes.now first end }
 {
@@ -36,33 +30,4 @@ fn has_control(bytes: &[u8], first: usize, end: usize) -> bool
         at += 16;
     }
     found
-}
-
-/// The most bytes that are copied before they are tested.
-///
-/// A piece is short, so little is copied without use, however many controls there are.
-pub const PIECE: usize = 256;
-
-/// Reads at most `PIECE` scalars of ASCII, and returns the place after them. If a control is found among them, it reads nothing.
-// It reads by a copy of the cursor, which is dropped if a control was copied.
-#[inline(always)]
-pub fn copy_piece<S: TextCursor>(
-    tables: &Tables,
-    src: &mut S,
-    dst: &mut [u8],
-    start: usize,
-) -> usize
-    requires { start + 15 ≤ length dst.old }
-    ensures { EncodesBy S.TextCursor (state_in tables.now.flat Ascii) src.old dst.old start src.new
-        dst.new result }
-{
-    let _ = tables;
-    let limit = (dst.len() - 15).min(start + PIECE);
-    let mut own = *src;
-    let end = start + own.copy_ascii(&mut dst[..limit], start);
-    if has_control(dst, start, end) {
-        return start;
-    }
-    *src = own;
-    end
 }

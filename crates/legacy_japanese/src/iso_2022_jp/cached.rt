@@ -76,10 +76,8 @@ impl FindsPairs for ListedPairs<'_, '_> {
         if entry == 0 {
             return self.found.asked(mode, c);
         }
-        (
-            Mode::TwoByte,
-            EncoderMove::Two((entry % 256) as u8, (entry / 256) as u8),
-        )
+        let pair = EncoderMove::Two((entry % 256) as u8, (entry / 256) as u8);
+        (Mode::TwoByte, pair)
     }
 
     // The list is copied, so that nothing else refers to it.

@@ -1,12 +1,12 @@
 //! The encoder of ISO-2022-JP.
-ghost use Rattle.std.specs.Prelude.{◌≡◌, ◌==◌, ◌||◌, ◌<◌, ◌≤◌, length, true, IfSome};
+ghost use Rattle.std.specs.Prelude.{◌≡◌, ◌==◌, ◌||◌, ◌+◌, ◌<◌, ◌≤◌, length, true, IfSome};
 ghost use Rattle.legacy_tables.specs.Indexes.{FlatIndexes};
 ghost use Rattle.legacy_base.specs.{Encoders.{iso_2022_jp, is_pending, new_encoder}, Iso2022Jp.{escape_to, iso_2022_jp_pointer_of}};
-ghost use Rattle.legacy_encoder_engine.specs.{Moves.{differs, is_escape, move_bytes}, UnfinishedCall.EncodesFrom};
-ghost use Rattle.legacy_japanese.specs.Iso2022JpEncoder.{Asks, mode_of, state_in};
+ghost use Rattle.legacy_encoder_engine.specs.{Moves.{differs, is_escape, move_bytes}, UnfinishedCall.{EncodesBy, EncodesFrom}};
+ghost use Rattle.legacy_japanese.specs.{declared.iso_2022_jp.encoder.Mode.TheVariants.Ascii, Iso2022JpEncoder.{Asks, mode_of, state_in}};
 
 use crate::folded_scalars::minus_as_hyphen;
-use crate::iso_2022_jp::ascii::{PIECE, copy_piece, is_control};
+use crate::iso_2022_jp::ascii::{has_control, is_control};
 use legacy_base::{EncoderStep, IndexName, RawEncoder, Source, Tables};
 use legacy_encoder_engine::ahead_codes::AheadCodes;
 use legacy_encoder_engine::drive::{drive_encoder, put_move};
@@ -14,6 +14,11 @@ use legacy_encoder_engine::moves::{EncoderMove, EncoderMoves};
 use legacy_encoder_engine::read_ahead::read_common;
 use legacy_tables::{EncoderTables, RangePart};
 use legacy_text::TextCursor;
+
+/// The most bytes of ASCII that are copied before they are tested.
+///
+/// They are few, so little is copied without use, however many controls there are.
+const PIECE: usize = 256;
 
 /// The mode of the encoder: how the next bytes are read.
 #[derive(Clone, Copy)]
@@ -226,6 +231,26 @@ impl<'a> EncoderBy<TablePairs<'a>> {
             mode: Mode::Ascii,
         }
     }
+
+    /// Reads at most `PIECE` scalars of ASCII, and returns the place after them.
+    ///
+    /// If a control is found among them, it reads nothing.
+    // It reads by a copy of the cursor, which is dropped if a control was copied.
+    #[inline(always)]
+    fn copy_piece<S: TextCursor>(&self, src: &mut S, dst: &mut [u8], start: usize) -> usize
+        requires { start + 15 ≤ length dst.old }
+        ensures { EncodesBy S.TextCursor (state_in self.now.pairs.tables.now.flat Ascii) src.old
+            dst.old start src.new dst.new result }
+    {
+        let limit = (dst.len() - 15).min(start + PIECE);
+        let mut own = *src;
+        let end = start + own.copy_ascii(&mut dst[..limit], start);
+        if has_control(dst, start, end) {
+            return start;
+        }
+        *src = own;
+        end
+    }
 }
 
 impl AheadCodes for EncoderBy<TablePairs<'_>> {
@@ -264,7 +289,7 @@ impl AheadCodes for EncoderBy<TablePairs<'_>> {
         };
         let mut at = start;
         while dst.len() - at >= 31 {
-            let end = copy_piece(self.pairs.tables, src, dst, at);
+            let end = self.copy_piece(src, dst, at);
             if end - at < PIECE {
                 return end;
             }

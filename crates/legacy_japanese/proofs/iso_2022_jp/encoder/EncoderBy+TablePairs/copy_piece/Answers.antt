@@ -4,7 +4,7 @@ use Rattle.legacy_encoder_engine.{proofs.ReadingAhead.{ascii_count, encodes_code
 use Rattle.legacy_japanese.{proofs.Iso2022JpEncoderMoves.{serves, own_byte}, specs.Iso2022JpEncoder.{HasNoControl, state_in}}
 use Rattle.legacy_japanese.specs.declared.iso_2022_jp.encoder.Mode.TheVariants.{Ascii}
 use Rattle.{legacy_tables.specs.Indexes.FlatIndexes, legacy_text.specs.UnitCodes.WritesCodes}
-use Rattle.legacy_japanese.proofs.iso_2022_jp.ascii.copy_piece.Goals as goal
+use Rattle.legacy_japanese.proofs.iso_2022_jp.encoder.EncoderBy+TablePairs.copy_piece.Goals as goal
 
 -- ASCII without controls, which was copied to the place `start`, is written as itself
 own_bytes : (flat : FlatIndexes) (start n : ℕ) (dst new left : List ℕ) → start ≤ length dst → n ≤ length left → IsAscii (take n left)
@@ -35,7 +35,7 @@ returns-then-has_control g c = grind (arith, front_same, encodes_none)
 
 pub returns : goal.returns
 returns g c =
-    let flat = c.args.tables.now.flat in
+    let flat = c.args.self.now.pairs.tables.now.flat in
     let form = g.S.TextCursor.form in
     let e = c.copy_ascii.ensures in
     let n = c.copy_ascii.result in
