@@ -1,7 +1,7 @@
 //! ISO-2022-JP.
-pub mod ascii;
 pub mod bytes;
 pub mod cached;
+pub mod controls;
 pub mod decoder;
 pub mod encoder;
 pub mod places;

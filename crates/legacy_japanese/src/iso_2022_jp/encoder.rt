@@ -6,7 +6,7 @@ ghost use Rattle.legacy_encoder_engine.specs.{Moves.{differs, is_escape, move_by
 ghost use Rattle.legacy_japanese.specs.{declared.iso_2022_jp.encoder.Mode.TheVariants.Ascii, Iso2022JpEncoder.{Asks, mode_of, state_in}};
 
 use crate::folded_scalars::minus_as_hyphen;
-use crate::iso_2022_jp::ascii::{has_control, is_control};
+use crate::iso_2022_jp::controls::{has_control, is_control};
 use legacy_base::{EncoderStep, IndexName, RawEncoder, Source, Tables};
 use legacy_encoder_engine::ahead_codes::AheadCodes;
 use legacy_encoder_engine::drive::{drive_encoder, put_move};

@@ -1,6 +1,6 @@
 use Rattle.std.proofs.Common.{◌≡◌, ◌+◌, ◌-◌, ◌≤◌, false}
 use Rattle.legacy_japanese.specs.Iso2022JpEncoder.{HasNoControl}
-use Rattle.legacy_japanese.proofs.iso_2022_jp.ascii.has_control.Given as goal
+use Rattle.legacy_japanese.proofs.iso_2022_jp.controls.has_control.Given as goal
 
 -- no control was passed, if none was found
 abbrev pub invariant-loop-at : goal.invariant-loop-at

@@ -1,5 +1,5 @@
 use Rattle.std.proofs.Common.{arith}
-use Rattle.legacy_japanese.proofs.iso_2022_jp.ascii.has_control.Goals as goal
+use Rattle.legacy_japanese.proofs.iso_2022_jp.controls.has_control.Goals as goal
 
 pub loop-k-preserved : goal.loop-k-preserved
 loop-k-preserved c = grind arith
