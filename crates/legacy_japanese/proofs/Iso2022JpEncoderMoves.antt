@@ -104,7 +104,8 @@ module _ (flat : FlatIndexes) where
     pub own_byte : ReadsByte (state_in flat Ascii) 2 c c
     own_byte = record { fits = omega arith; moves = stays Ascii Ascii c (One c) asks_ascii refl }
 
-    pub puts_ascii : (mode : Mode) → mode ≡ Ascii → (old bytes : List ℕ) (at : ℕ) → bytes ≡ old ++ c ∷ [] → PutsCode (state_in flat mode) c old at bytes (at + 1)
+    pub puts_ascii : (mode : Mode) → mode ≡ Ascii → (old bytes : List ℕ) (at : ℕ) → bytes ≡ old ++ c ∷ []
+        → PutsCode (state_in flat mode) c old at bytes (at + 1)
     puts_ascii mode here old bytes at is = rw here (puts Ascii Ascii c (One c) asks_ascii refl refl refl is refl)
 
   pub ruleset put_steps = (fits, puts, puts_ascii)

@@ -40,7 +40,8 @@ returns g c =
     let e = c.copy_ascii.ensures in
     let n = c.copy_ascii.result in
     let limit = c.min-limit.ensures in
-    let written = copied c.args.start n c.min-limit.result c.args.dst.now c.copy_ascii.new.dst _ (grind arith) (grind arith) (omega (arith, e.fits, c.copy_ascii.auto.dst)) e.bytes in
+    let fits : c.args.start + n ≤ length c.copy_ascii.new.dst = omega (arith, e.fits, c.copy_ascii.auto.dst) in
+    let written = copied _ n c.min-limit.result c.args.dst.now _ _ (grind arith) (grind arith) fits e.bytes in
     let units = e.passed ∙ ap (λ k. g.S.TextCursor.passed c.args.src.now + k) (sym (ascii_count form _ n e.read e.ascii)) in
     encodes_codes form (length c.args.dst.now) 2 (serves flat.jis0208 flat.katakana) (λ c byte reads. reads) _ e.read e.left units
     (own_bytes flat c.args.start n c.args.dst.now _ _ (grind arith) e.read e.ascii written (c.has_control.ensures c.if-has_control.false))
