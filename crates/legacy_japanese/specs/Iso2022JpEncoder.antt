@@ -1,5 +1,5 @@
 -- The state of the ISO-2022-JP encoder between two calls, and its moves.
-use Rattle.std.proofs.Common.{◌≡◌, ◌≢◌, ℕ, ◌+◌, ◌*◌, ◌/◌, ◌%◌, ◌<◌, ◌≤◌, List, [], ◌∷◌, length, slice_index, false, Some, arith}
+use Rattle.std.proofs.Common.{◌≡◌, ◌≢◌, ℕ, ◌+◌, ◌*◌, ◌/◌, ◌%◌, ◌<◌, ◌≤◌, List, [], ◌∷◌, slice_index, false, Some, arith}
 use Rattle.{legacy_tables.specs.Indexes.FlatIndexes, legacy_text.specs.UnitCodes.IsNoSurrogate}
 use Rattle.legacy_base.specs.Iso2022Jp.{iso_2022_jp_code, iso_2022_jp_reported, is_mode_control, mode_behind}
 use Rattle.legacy_base.specs.{EncoderProfile.{EncoderMode, in_ascii, in_roman, in_two_byte}, Encoders.{EncoderState, iso_2022_jp}}
