@@ -33,7 +33,7 @@ pub(crate) const WITHOUT_ENTRIES: &[Row] = &[
     ToUtf8(b"\x87\x66", 16, true, Malformed(1, 0), 1, ""),
     ToUtf8(b"\x66", 16, true, InputEmpty, 1, "f"),
     Events(b"\x87\x66", "\u{FFFD}f", &[(0, 1)]),
-    Decoder("80 and FF are malformed by themselves, but not behind a lead"),
+    Decoder("80 and FF are malformed by themselves, but not after a lead"),
     Lone(b"\xFF\x80\xFF\x61\xFF", 3),
     Lone(b"\x61\xFF", 0),
     Lone(b"\x81\xFF", 0),

@@ -10,7 +10,7 @@ use crate::rows::Row::{
 use legacy_base::DecoderResult::{InputEmpty, Malformed, OutputFull};
 
 pub(crate) const WITHOUT_ENTRIES: &[Row] = &[
-    Decoder("an ASCII byte behind 8F and a lead is read again"),
+    Decoder("an ASCII byte after 8F and a lead is read again"),
     ToUtf8(b"\x8F\xA2\x41", 8, true, Malformed(2, 0), 2, ""),
     Neutral(true),
     ToUtf8(b"\x41", 8, true, InputEmpty, 1, "A"),
@@ -28,7 +28,7 @@ pub(crate) const WITHOUT_ENTRIES: &[Row] = &[
     Neutral(false),
     Lengths(0, Some(1), Some(4), Some(3)),
     Utf16Length(usize::MAX, None),
-    Decoder("behind 8E stand A1 to DF, which are U+FF61 to U+FF9F, and behind 8F a lead"),
+    Decoder("after 8E come A1 to DF, which are U+FF61 to U+FF9F, and after 8F a lead"),
     Events(
         b"\x8E\xA1\x8E\xE0\x8F\x41\x8F\x80",
         "\u{FF61}\u{FFFD}\u{FFFD}A\u{FFFD}",
@@ -53,7 +53,7 @@ pub(crate) const WITHOUT_ENTRIES: &[Row] = &[
 ];
 
 pub(crate) const PAIRS: &[Row] = &[
-    Decoder("pairs go by index jis0208, and behind 8F by index jis0212"),
+    Decoder("pairs go by index jis0208, and after 8F by index jis0212"),
     ToUtf16(
         b"\xA1\xA1\xA1\xDD\x8F\xA2\xAF\x8E\xDF",
         8,

@@ -10,7 +10,7 @@ use crate::rows::Row::{
 use legacy_base::DecoderResult::{InputEmpty, Malformed, OutputFull};
 
 pub(crate) const WITHOUT_ENTRIES: &[Row] = &[
-    Decoder("a bad fourth byte gives the second and third back"),
+    Decoder("a fourth byte that does not fit gives the second and third back"),
     ToUtf8(b"\xE3\x32\x9A\x00", 8, true, Malformed(1, 2), 3, ""),
     Neutral(false),
     ToUtf8(b"\x00", 8, true, Malformed(1, 0), 0, "2"),
@@ -21,7 +21,7 @@ pub(crate) const WITHOUT_ENTRIES: &[Row] = &[
         "\u{FFFD}2\u{FFFD}\0",
         &[(0, 1), (2, 1)],
     ),
-    Decoder("the lead behind a digit begins a form"),
+    Decoder("the lead after a digit begins a form"),
     ToUtf8(b"\x81\x30\x82\x40", 8, true, Malformed(1, 2), 3, ""),
     ToUtf8(b"\x40", 8, true, Malformed(1, 0), 0, "0"),
     ToUtf8(b"\x40", 8, true, InputEmpty, 1, "@"),
@@ -111,7 +111,7 @@ pub(crate) const LENGTHS_AND_FORMS: &[Row] = &[
     Events(b"\x80\x81", "\u{20AC}\u{FFFD}", &[(1, 1)]),
     Decoder("four bytes that are no form, and two at the end"),
     Replaced(b"\xE3\x32\x9A\x36\x81\x30", "\u{FFFD}\u{FFFD}"),
-    Decoder("the digits behind a byte that is no lead stay"),
+    Decoder("the digits after a byte that is no lead stay"),
     Replaced(b"\xFF\x32\x9A\x33\0", "\u{FFFD}2\u{FFFD}3\0"),
 ];
 
@@ -132,7 +132,7 @@ pub(crate) const RANGES: &[Row] = &[
     Decoder("forms of four bytes go by the ranges"),
     Events(b"\x81\x30\x81\x30\x94\x39\xDA\x33", "\u{80}\u{1F4A9}", &[]),
     Decoder(
-        "pointers 0, 1 and 36, U+1F4A9, the last scalar, the pointer behind it, and three bytes",
+        "pointers 0, 1 and 36, U+1F4A9, the last scalar, the pointer after it, and three bytes",
     ),
     Events(
         b"\x81\x30\x81\x30\x61\x81\x30\x81\x31\x81\x30\x84\x36\x94\x39\xDA\x33\x62\x63\xE3\x32\x9A\x35\xE3\x32\x9A\x36\x81\x30\x81\x30\x81\x30\x81",

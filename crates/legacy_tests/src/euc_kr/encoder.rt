@@ -61,7 +61,7 @@ const WORDS: &[EncoderRow] = &[
         48,
         b"\x81A \x81A \x81A \x81A \x81A \x81A \x81A \x81A \x81A \x81A \x81A \x81A ",
     ),
-    Encoder("letters alone behind a space"),
+    Encoder("letters alone after a space"),
     FromUtf8(
         " \u{AC02}\u{AC05}\u{AC22}\u{AC25}\u{AC02}\u{AC05}\u{AC22}\u{AC25}\u{AC02}\u{AC05}\u{AC22}\u{AC25}\u{AC02}\u{AC05}\u{AC22}\u{AC25}",
         96,
@@ -71,7 +71,7 @@ const WORDS: &[EncoderRow] = &[
         b" \x81A\x81C\x81N\x81P\x81A\x81C\x81N\x81P\x81A\x81C\x81N\x81P\x81A\x81C\x81N\x81P",
     ),
     Encoder(
-        "what has no bytes, or another number of bytes of UTF-8, among eight scalars behind a space",
+        "what has no bytes, or another number of bytes of UTF-8, among eight scalars after a space",
     ),
     FromUtf8(
         " \u{AC02}\u{AC05}\u{AC22}\u{AC04}\u{AC02}\u{AC05} \u{AC22}\u{AC25}\u{AC02} \u{AC05}\u{AC22}, \u{AC25}\u{AC02}\u{AC05}\u{AC22}. \u{AC02}\u{AC25} x",
@@ -97,7 +97,7 @@ const WORDS: &[EncoderRow] = &[
         24,
         b" \x81A\x81C \x81N\x81P\x81A\x81C",
     ),
-    Encoder("a text that ends within eight scalars, or some bytes behind them"),
+    Encoder("a text that ends within eight scalars, or some bytes after them"),
     FromUtf8(
         " \u{AC02}\u{AC05}\u{AC22} \u{AC02}\u{AC05}\u{AC22} \u{AC02}\u{AC05}\u{AC22} \u{AC02}",
         96,

@@ -43,7 +43,7 @@ pub(crate) const ROWS: &[EncoderRow] = &[
     Encoder("the lengths are one byte for each code unit"),
     Utf8Length(7, Some(7)),
     Utf16Length(usize::MAX, Some(usize::MAX)),
-    Encoder("the scalars before and behind those of the bytes past ASCII"),
+    Encoder("the scalars before and after those of the bytes past ASCII"),
     Replaced(Text::Utf8("\u{F77F}\u{F800}"), b"&#63359;&#63488;"),
     Replaced(Text::Utf16(&[0xF77F, 0xF800]), b"&#63359;&#63488;"),
 ];

@@ -36,12 +36,11 @@ fn is_decoded(alloc: Global, decoder: &mut impl RawDecoder, input: &[u8], text: 
 
 #[test]
 fn a_whole_input_is_decoded(rt: HostRuntime) {
+    let tables = tables_of(&rt);
+    let mut decoder = EucKrDecoder::new(&tables);
     let input = b"a\x81\x41\xFF";
-    assert!(rt; does(&rt, &Task::Whole(input, "a\u{AC02}\u{FFFD}")));
+    assert!(rt; is_decoded(rt.alloc(), &mut decoder, input, "a\u{AC02}\u{FFFD}"));
 }
-
-/// A piece, whether it is the last, and its text.
-type Piece<'a> = (&'a [u8], bool, &'a str);
 
 /// Checks whether the next piece, in a buffer of the queried length, gives these bytes.
 fn piece_gives<D: RawDecoder>(
@@ -62,22 +61,20 @@ fn piece_gives<D: RawDecoder>(
     output.as_slice() == wanted.as_bytes()
 }
 
-/// Checks whether two pieces give their texts.
-fn pieces_give<D: RawDecoder>(
-    alloc: Global,
-    decoder: &mut D,
-    (piece, last, text): Piece,
-    (next, is_end, rest): Piece,
-) -> bool {
-    piece_gives(alloc, decoder, piece, last, text)
-        && piece_gives(alloc, decoder, next, is_end, rest)
-}
-
 #[test]
 fn a_sequence_that_a_piece_cuts_is_whole(rt: HostRuntime) {
-    let first: Piece = (b"a\x81", false, "a");
-    let second: Piece = (b"\x41\x81", true, "\u{AC02}\u{FFFD}");
-    assert!(rt; does(&rt, &Task::Pieces(first, second)));
+    let tables = tables_of(&rt);
+    let mut decoder = EucKrDecoder::new(&tables);
+    let first = piece_gives(rt.alloc(), &mut decoder, b"a\x81", false, "a");
+    assert!(rt; first);
+    let second = piece_gives(
+        rt.alloc(),
+        &mut decoder,
+        b"\x41\x81",
+        true,
+        "\u{AC02}\u{FFFD}",
+    );
+    assert!(rt; second);
 }
 
 /// Checks whether these are the malformed sequences of the input.
@@ -104,8 +101,10 @@ const MALFORMED: &[MalformedSequence] = &[
 
 #[test]
 fn malformed_sequences_have_their_places(rt: HostRuntime) {
+    let tables = tables_of(&rt);
+    let mut decoder = EucKrDecoder::new(&tables);
     let input = b"a\xFF\x81\x41\x81";
-    assert!(rt; does(&rt, &Task::Malformed(input, MALFORMED)));
+    assert!(rt; are_malformed(rt.alloc(), &mut decoder, input, MALFORMED));
 }
 
 /// Checks whether the input is transcoded to these bytes.
@@ -121,8 +120,11 @@ fn is_transcoded(
 
 #[test]
 fn references_stand_for_what_is_lacking(rt: HostRuntime) {
+    let tables = tables_of(&rt);
+    let mut decoder = EucKrDecoder::new(&tables);
+    let mut encoder = UserDefinedEncoder::new();
     let (input, wanted) = (b"a\x81\x41\xFFb", b"a&#44034;&#65533;b");
-    assert!(rt; does(&rt, &Task::Transcoded(input, wanted)));
+    assert!(rt; is_transcoded(rt.alloc(), &mut decoder, &mut encoder, input, wanted));
 }
 
 /// Checks whether the text is encoded to these bytes, with pairs looked up ahead.
@@ -224,36 +226,18 @@ const BOTH: &[Both] = &[
     ("x-user-defined", b"a\x80", "a\u{F780}"),
 ];
 
-/// Returns the registry that was made.
-fn made(rt: &impl Abort, registry: Result<Registry, RegistryError>) -> Registry {
-    registry.expect(rt, "registry")
-}
-
-/// Returns the coders of a registry.
-fn coders_of<'a>(rt: &impl Abort, registry: &'a Registry) -> Coders<'a> {
-    registry.coders().expect(rt, "coders")
-}
-
-/// Asserts that each row goes both ways.
-fn go_both_ways(rt: &(impl AllocGlobal + Abort), coders: &Coders) {
-    for (name, bytes, text) in BOTH {
-        let is_so = goes_both_ways(rt.alloc(), coders, *name, *bytes, *text);
-        holds(rt, *name, is_so);
-    }
-}
-
-/// Asserts that this is the error of decoding no bytes by this name.
-fn is_refused(rt: &(impl AllocGlobal + Abort), coders: &Coders, name: &str, error: RegistryError) {
-    holds(rt, name, refusal(rt.alloc(), coders, name) == Some(error));
-}
-
 #[test]
 fn a_registry_goes_by_names(rt: HostRuntime) {
-    let registry = made(&rt, registry_of(rt.alloc()));
-    let coders = coders_of(&rt, &registry);
-    go_both_ways(&rt, &coders);
-    is_refused(&rt, &coders, "latin", RegistryError::Unknown);
-    is_refused(&rt, &coders, "windows-1251", RegistryError::NoIndex);
+    let registry = registry_of(rt.alloc()).expect(&rt, "registry");
+    let coders = registry.coders().expect(&rt, "coders");
+    for (name, bytes, text) in BOTH {
+        let is_so = goes_both_ways(rt.alloc(), &coders, *name, *bytes, *text);
+        holds(&rt, *name, is_so);
+    }
+    let unknown = refusal(rt.alloc(), &coders, "latin");
+    holds(&rt, "latin", unknown == Some(RegistryError::Unknown));
+    let lacking = refusal(rt.alloc(), &coders, "windows-1251");
+    holds(&rt, "windows-1251", lacking == Some(RegistryError::NoIndex));
 }
 
 #[test]
@@ -301,8 +285,8 @@ fn japanese(alloc: Global) -> Result<Registry, RegistryError> {
 
 #[test]
 fn half_width_katakana_are_written_by_their_file(rt: HostRuntime) {
-    let registry = made(&rt, japanese(rt.alloc()));
-    let coders = coders_of(&rt, &registry);
+    let registry = japanese(rt.alloc()).expect(&rt, "registry");
+    let coders = registry.coders().expect(&rt, "coders");
     let bytes = b"\x1B$B!#\x1B(B&#65378;";
     assert!(rt;
         is_encoded(
@@ -315,72 +299,27 @@ fn half_width_katakana_are_written_by_their_file(rt: HostRuntime) {
     );
 }
 
-/// Checks whether the next piece makes the page this text.
+/// Checks whether the next piece makes the page this one.
 fn page_is(
     decoder: &mut impl RawDecoder,
+    piece: &[u8],
+    last: bool,
     page: &mut Vec<u8>,
-    (piece, last, wanted): Piece,
+    wanted: &[u8],
 ) -> bool {
-    show_piece(decoder, piece, last, page) == Ok(()) && page.as_slice() == wanted.as_bytes()
-}
-
-/// Checks whether each of two pieces makes a page the text beside it.
-fn page_grows(alloc: Global, decoder: &mut impl RawDecoder, first: Piece, second: Piece) -> bool {
-    let mut page = Vec::new(alloc);
-    page_is(decoder, &mut page, first) && page_is(decoder, &mut page, second)
+    show_piece(decoder, piece, last, page) == Ok(()) && page.as_slice() == wanted
 }
 
 #[test]
 fn a_page_grows_by_its_pieces(rt: HostRuntime) {
-    let first: Piece = (b"a\x81", false, "a");
-    let second: Piece = (b"\x41\xFF", true, "a\u{AC02}\u{FFFD}");
-    assert!(rt; does(&rt, &Task::Page(first, second)));
-}
-
-/// A task for a decoder of EUC-KR, and its wanted result.
-#[derive(Drop)]
-enum Task<'a> {
-    /// A whole input, and its text.
-    Whole(&'a [u8], &'a str),
-    /// Two pieces, each with its text.
-    Pieces(Piece<'a>, Piece<'a>),
-    /// Two pieces, each with the text of the page behind it.
-    Page(Piece<'a>, Piece<'a>),
-    /// An input, and its malformed sequences.
-    Malformed(&'a [u8], &'a [MalformedSequence]),
-    /// An input, and its bytes of x-user-defined.
-    Transcoded(&'a [u8], &'a [u8]),
-}
-
-/// Checks whether the decoder does the task.
-fn decoder_does<D: RawDecoder>(alloc: Global, decoder: &mut D, task: &Task) -> bool {
-    match task {
-        Task::Whole(input, text) => is_decoded(alloc, decoder, input, text),
-        Task::Pieces(first, second) => pieces_give(alloc, decoder, *first, *second),
-        Task::Page(first, second) => page_grows(alloc, decoder, *first, *second),
-        Task::Malformed(input, wanted) => are_malformed(alloc, decoder, input, wanted),
-        Task::Transcoded(input, wanted) => {
-            is_transcoded(
-                alloc,
-                decoder,
-                &mut UserDefinedEncoder::new(),
-                input,
-                wanted,
-            )
-        }
-    }
-}
-
-/// Checks whether the decoder over these tables does the task.
-fn does_over(alloc: Global, tables: &Tables, task: &Task) -> bool {
-    let mut decoder = EucKrDecoder::new(tables);
-    decoder_does(alloc, &mut decoder, task)
-}
-
-/// Checks whether a decoder of EUC-KR does the task.
-fn does(rt: &(impl AllocGlobal + Abort), task: &Task) -> bool {
-    let tables = tables_of(rt);
-    does_over(rt.alloc(), &tables, task)
+    let tables = tables_of(&rt);
+    let mut decoder = EucKrDecoder::new(&tables);
+    let mut page = Vec::new(rt.alloc());
+    let first = page_is(&mut decoder, b"a\x81", false, &mut page, b"a");
+    assert!(rt; first);
+    let whole = "a\u{AC02}\u{FFFD}".as_bytes();
+    let last = page_is(&mut decoder, b"\x41\xFF", true, &mut page, whole);
+    assert!(rt; last);
 }
 
 /// Returns the number of malformed sequences in a message, and whether it is well-formed.
@@ -419,33 +358,14 @@ const TRANSCODED: &[Transcoded] = &[
     ("x-user-defined", "UTF-16LE", b"a\x80", b"a\xEF\x9E\x80"),
 ];
 
-/// Asserts that the file of each row is transcoded.
-fn are_transcoded(rt: &(impl AllocGlobal + Abort), coders: &Coders) {
-    for (from, to, bytes, wanted) in TRANSCODED {
-        let is_so = transcodes(rt.alloc(), coders, *from, *to, *bytes, *wanted);
-        holds(rt, *from, is_so);
-    }
-}
-
-/// Asserts the number of malformed sequences in a message, and whether it is well-formed.
-fn has_places(
-    rt: &(impl AllocGlobal + Abort),
-    coders: &Coders,
-    message: &[u8],
-    wanted: (usize, bool),
-) {
-    holds(
-        rt,
-        "places",
-        places(rt.alloc(), coders, message) == Some(wanted),
-    );
-}
-
 #[test]
 fn messages_are_checked_and_files_transcoded(rt: HostRuntime) {
-    let registry = made(&rt, registry_of(rt.alloc()));
-    let coders = coders_of(&rt, &registry);
-    has_places(&rt, &coders, b"a\x81\x41", (0, true));
-    has_places(&rt, &coders, b"a\xFF\x81", (2, false));
-    are_transcoded(&rt, &coders);
+    let registry = registry_of(rt.alloc()).expect(&rt, "registry");
+    let coders = registry.coders().expect(&rt, "coders");
+    assert!(rt; places(rt.alloc(), &coders, b"a\x81\x41") == Some((0, true)));
+    assert!(rt; places(rt.alloc(), &coders, b"a\xFF\x81") == Some((2, false)));
+    for (from, to, bytes, wanted) in TRANSCODED {
+        let is_so = transcodes(rt.alloc(), &coders, *from, *to, *bytes, *wanted);
+        holds(&rt, *from, is_so);
+    }
 }

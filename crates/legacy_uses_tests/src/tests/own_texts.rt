@@ -67,19 +67,27 @@ fn list_is<D: RawDecoder>(
     assert!(rt; (answer, read) == wanted && &output[..written.min(8)] == characters);
 }
 
-/// Decodes bytes into two lists, of which the first ends at a malformed sequence.
-fn are_listed<D: RawDecoder>(rt: &impl Abort, decoder: &mut D) {
-    let bytes = b"a\x81\x41\xFFb".as_slice();
-    let malformed = DecoderResult::Malformed(1, 0);
-    list_is(rt, decoder, (bytes, 8), (malformed, 4), &['a', '\u{AC02}']);
-    let rest = (&bytes[4..], 8);
-    list_is(rt, decoder, rest, (DecoderResult::InputEmpty, 1), &['b']);
-}
-
 #[test]
 fn bytes_are_decoded_to_a_list_of_characters(rt: HostRuntime) {
     let tables = tables_of(&rt);
-    are_listed(&rt, &mut EucKrDecoder::new(&tables));
+    let bytes = b"a\x81\x41\xFFb".as_slice();
+    let malformed = DecoderResult::Malformed(1, 0);
+    let mut decoder = EucKrDecoder::new(&tables);
+    list_is(
+        &rt,
+        &mut decoder,
+        (bytes, 8),
+        (malformed, 4),
+        &['a', '\u{AC02}'],
+    );
+    let rest = (&bytes[4..], 8);
+    list_is(
+        &rt,
+        &mut decoder,
+        rest,
+        (DecoderResult::InputEmpty, 1),
+        &['b'],
+    );
 }
 
 #[test]
