@@ -146,7 +146,7 @@ pub fewer_events : {kind : Replacement} {last : Bool} {now : EncoderState} {piec
 fewer_events {kind} {after = after} {left} {bytes} later c =
     let e = c.encodes in
     let rest = encoded after (left ++ later) true in
-    let long = ap length (e.gives later true (λ f. no_end f)) ∙ length-append e.out rest in
+    let long = ap length (e.gives later true (λ f. absurd (false≢true f))) ∙ length-append e.out rest in
     let some = some_events kind e.out (omega (arith, ap length e.bytes, length-append bytes c.lost, c.ends.0)) in
     omega (arith, long, some)
 
@@ -156,13 +156,13 @@ pub no_more_events : {kind : Replacement} {now : EncoderState} {piece : List ℕ
     length (encoded after next true) ≤ length (encoded now (piece ++ later) true)
 no_more_events {now = now} {piece} {after = after} later c next n =
     let e = c.encodes in
-    let gives = rw c.ends.0.0 at (e.gives later true (λ f. no_end f)) in
+    let gives = rw c.ends.0.0 at (e.gives later true (λ f. absurd (false≢true f))) in
     let long = ap length gives ∙ length-append e.out (encoded after later true) in
     subst (λ l. length (encoded after l true) ≤ length (encoded now (piece ++ later) true)) n (omega (arith, long))
 
 -- the text is shorter after a piece was cut off
 pub shorter : (later first rest : List ℕ) → later ≡ first ++ rest → (first ≡ [] → later ≡ []) → (later ≡ [] → IsTrue false) → length rest < length later
-shorter later [] rest e some over = no_end (over (some refl))
+shorter later [] rest e some over = absurd (false≢true (over (some refl)))
 shorter later (x ∷ first) rest e some over = omega (arith, ap length e, length-append (x ∷ first) rest)
 
 -- ---- the end of a conversion
