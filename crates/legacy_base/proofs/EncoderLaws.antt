@@ -1,6 +1,6 @@
 -- Laws of each encoder's profile: the end of a text, the room that acts need, and monotonic length formulas.
 use Rattle.std.proofs.Common.{◌≡◌, ℕ, ◌-◌, ◌≤◌, List, [], length, map, arith, Option, Bool, true, IsTrue, Some}
-use Rattle.legacy_base.specs.{declared.results.EncodeEvent.TheVariants.Byte, EncodeEvents.plain_events, EncoderProfile.{EncoderProfile, EncoderMode}}
+use Rattle.legacy_base.specs.{declared.{modes.EncoderMode.EncoderMode, results.EncodeEvent.TheVariants.Byte}, EncodeEvents.plain_events, EncoderProfile.EncoderProfile}
 use Rattle.legacy_base.specs.{EncoderProfile.plain_encoder, Encoders.{Codec, single_byte, user_defined, big5, euc_kr, shift_jis, euc_jp, gb18030, gbk}}
 use Rattle.legacy_base.specs.Encoders.{iso_2022_jp, encoder_profile, EncoderState, encoded, end_bytes, encoder_need, encoder_formula, encoder_answer}
 use Rattle.legacy_base.specs.{Encoders.encoder_room, declared.results.EncoderResult.EncoderResult, EncoderCalls.tells_end, Iso2022Jp.iso_2022_jp_encoder}

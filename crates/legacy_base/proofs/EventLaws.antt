@@ -6,7 +6,7 @@ use Rattle.std.proofs.lemmas.List.Elements.{All-head, All-tail, All-drop}
 use Rattle.std.specs.{Prelude.{◌==◌, is_some}, Char.IsScalar}
 use Rattle.legacy_tables.specs.Unicode.{IsByte, AreBytes, AreScalars}
 use Rattle.legacy_base.specs.{declared.results.DecodeEvent.DecodeEvent, declared.results.DecodeEvent.TheVariants.{Scalar, Bad}, Events.{shift_event, shift}}
-use Rattle.legacy_base.specs.{Fronts.{Front, reads, malformed, front_length, front_events, cut}, Iso2022Jp.{Mode, esc, escape_mode, part_mode}}
+use Rattle.legacy_base.specs.{Fronts.{Front, reads, malformed, front_length, front_events, cut}, declared.modes.DecoderMode.DecoderMode, Iso2022Jp.{esc, escape_mode, part_mode}}
 use Rattle.legacy_base.specs.{Iso2022Jp.{iso_2022_jp_front, iso_2022_jp_events}, Laws.{IsFrontOf, IsEventOf}}
 use Rattle.legacy_base.proofs.{Cuts.{cut-nil, cut-front}, FrontLaws.{front_of-malformed, iso_2022_jp_front-of, iso_2022_jp_front-short}}
 use Rattle.legacy_base.proofs.{Iso2022JpParts.first_part, Iso2022JpFronts.{step_end, step_one, step_two, step_escape, step_no_escape}}
@@ -79,9 +79,9 @@ module _ (Q : Type 0) where
     first_shorter [] = omega arith
     first_shorter (b ∷ bytes) = let h = first_shorter bytes in grind arith
 
-    module _ (n : ℕ) (below : (mode : Mode) (bytes : List ℕ) → length bytes ≤ n → AreOf (length bytes) (iso_2022_jp_events jis0208 mode bytes)) where
+    module _ (n : ℕ) (below : (mode : DecoderMode) (bytes : List ℕ) → length bytes ≤ n → AreOf (length bytes) (iso_2022_jp_events jis0208 mode bytes)) where
       -- an escape byte that begins no valid escape
-      single_of : (mode : Mode) (rest : List ℕ) → length rest ≤ n → part_mode (esc ∷ rest) ≡ None →
+      single_of : (mode : DecoderMode) (rest : List ℕ) → length rest ≤ n → part_mode (esc ∷ rest) ≡ None →
           AreOf (length (esc ∷ rest)) (iso_2022_jp_events jis0208 mode (esc ∷ rest))
       single_of mode rest h none =
           rw (step_no_escape jis0208 mode rest none)
@@ -89,7 +89,7 @@ module _ (Q : Type 0) where
           (front_of-malformed {P = Q} (length (esc ∷ rest)) 1 (omega arith) (omega arith) (omega arith)) (omega arith) (below mode rest h))
 
       -- an escape byte and any bytes after it
-      escape_of : (mode : Mode) (rest : List ℕ) → length rest ≤ n → AreOf (length (esc ∷ rest)) (iso_2022_jp_events jis0208 mode (esc ∷ rest))
+      escape_of : (mode : DecoderMode) (rest : List ℕ) → length rest ≤ n → AreOf (length (esc ∷ rest)) (iso_2022_jp_events jis0208 mode (esc ∷ rest))
       unfolding part_mode
       escape_of mode [] h = single_of mode [] h refl
       escape_of mode (a ∷ []) h = single_of mode (a ∷ []) h refl
@@ -98,7 +98,7 @@ module _ (Q : Type 0) where
           size : ℕ
           size = length (esc ∷ a ∷ b ∷ rest)
 
-          by_mode : (o : Option Mode) → escape_mode a b ≡ o → AreOf size (iso_2022_jp_events jis0208 mode (esc ∷ a ∷ b ∷ rest))
+          by_mode : (o : Option DecoderMode) → escape_mode a b ≡ o → AreOf size (iso_2022_jp_events jis0208 mode (esc ∷ a ∷ b ∷ rest))
           by_mode None e = single_of mode (a ∷ b ∷ rest) h e
           by_mode (Some next) e =
               let t = is_some (part_mode rest) in
@@ -109,7 +109,7 @@ module _ (Q : Type 0) where
               (further 3 (length rest) size (omega arith) (iso_2022_jp_events jis0208 next rest) (below next rest (omega arith))))
 
       -- a byte of a body
-      module _ (mode : Mode) (b : ℕ) (unescaped : (b == esc) ≡ false) where
+      module _ (mode : DecoderMode) (b : ℕ) (unescaped : (b == esc) ≡ false) where
         one_of : (rest : List ℕ) (f : Front) → length rest ≤ n → iso_2022_jp_front jis0208 mode b (first_part rest) ≡ f →
             IsFrontOf (suc (length (first_part rest))) Q f → front_length f ≡ 1 → AreOf (length (b ∷ rest)) (iso_2022_jp_events jis0208 mode (b ∷ rest))
         one_of rest f h is i one =
@@ -143,7 +143,7 @@ module _ (Q : Type 0) where
               | inr l ↦ two_of rest f h refl i (omega arith)
             ]
 
-    iso_within : (n : ℕ) (mode : Mode) (bytes : List ℕ) → length bytes ≤ n → AreOf (length bytes) (iso_2022_jp_events jis0208 mode bytes)
+    iso_within : (n : ℕ) (mode : DecoderMode) (bytes : List ℕ) → length bytes ≤ n → AreOf (length bytes) (iso_2022_jp_events jis0208 mode bytes)
     iso_within n mode [] h = rw (step_end jis0208 mode) (none_of 0)
     iso_within zero mode (b ∷ bytes) h = absurd (omega arith)
     iso_within (suc n) mode (b ∷ bytes) h = elim (cases_Bool (b == esc)) [
@@ -151,5 +151,5 @@ module _ (Q : Type 0) where
       | inr e ↦ body_of n (iso_within n) mode b e bytes (omega arith)
     ]
 
-    pub iso_2022_jp_sound : (mode : Mode) (bytes : List ℕ) → AreOf (length bytes) (iso_2022_jp_events jis0208 mode bytes)
+    pub iso_2022_jp_sound : (mode : DecoderMode) (bytes : List ℕ) → AreOf (length bytes) (iso_2022_jp_events jis0208 mode bytes)
     iso_2022_jp_sound mode bytes = iso_within (length bytes) mode bytes (omega arith)

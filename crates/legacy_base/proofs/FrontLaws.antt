@@ -8,8 +8,8 @@ use Rattle.legacy_base.specs.{Fronts.{Front, reads, malformed, front_length, rea
 use Rattle.legacy_base.specs.{SingleByte.single_byte_front, UserDefined.user_defined_front, Big5.{big5_pointer, big5_scalars, big5_pair, big5_front}}
 use Rattle.legacy_base.specs.{LeadForms.{lead_pair, lead_front}, ShiftJis.{is_shift_jis_lead, shift_jis_pointer, shift_jis_scalars, shift_jis_pair}}
 use Rattle.legacy_base.specs.{ShiftJis.shift_jis_front, EucJp.{is_euc_jp_lead, euc_jp_scalars, euc_jp_katakana, euc_jp_third, euc_jp_second, euc_jp_pair}}
-use Rattle.legacy_base.specs.{EucJp.euc_jp_front, Gb18030.{gb18030_scalars, gb18030_fourth, gb18030_third, gb18030_second, gb18030_front}, Iso2022Jp.Mode}
-use Rattle.legacy_base.specs.Iso2022Jp.{ascii, roman, katakana, two_byte, iso_2022_jp_front}
+use Rattle.legacy_base.specs.{EucJp.euc_jp_front, Gb18030.{gb18030_scalars, gb18030_fourth, gb18030_third, gb18030_second, gb18030_front}, Iso2022Jp.iso_2022_jp_front}
+use Rattle.legacy_base.specs.declared.modes.DecoderMode.{DecoderMode, TheVariants.{Ascii, Roman, Katakana, TwoByte}}
 use Rattle.legacy_tables.proofs.Accepted.{idx-all}
 
 -- ---- the scalars of a front
@@ -162,14 +162,14 @@ module _ {P : Type 0} (index : List ℕ) (ranges : List (ℕ × ℕ)) (checked :
 -- ---- ISO-2022-JP
 
 module _ {P : Type 0} (jis0208 : List ℕ) (checked : P → AreScalars jis0208) where
-  pub iso_2022_jp_front-of : (mode : Mode) (b : ℕ) (rest : List ℕ) → IsFrontOf (suc (length rest)) P (iso_2022_jp_front jis0208 mode b rest)
+  pub iso_2022_jp_front-of : (mode : DecoderMode) (b : ℕ) (rest : List ℕ) → IsFrontOf (suc (length rest)) P (iso_2022_jp_front jis0208 mode b rest)
   unfolding iso_2022_jp_front
-  iso_2022_jp_front-of ascii b rest = grind (arith, nat_tests, byte, malformed_one)
-  iso_2022_jp_front-of roman b rest = grind (arith, nat_tests, byte, malformed_one)
-  iso_2022_jp_front-of katakana b rest = grind (arith, nat_tests, byte, malformed_one)
-  iso_2022_jp_front-of two_byte b [] = malformed_one []
-  iso_2022_jp_front-of two_byte b (t ∷ rest) = grind (arith, nat_tests, give-idx jis0208 checked ((b - 0x21) * 94 + (t - 0x21)))
+  iso_2022_jp_front-of Ascii b rest = grind (arith, nat_tests, byte, malformed_one)
+  iso_2022_jp_front-of Roman b rest = grind (arith, nat_tests, byte, malformed_one)
+  iso_2022_jp_front-of Katakana b rest = grind (arith, nat_tests, byte, malformed_one)
+  iso_2022_jp_front-of TwoByte b [] = malformed_one []
+  iso_2022_jp_front-of TwoByte b (t ∷ rest) = grind (arith, nat_tests, give-idx jis0208 checked ((b - 0x21) * 94 + (t - 0x21)))
 
-pub iso_2022_jp_front-short : (jis0208 : List ℕ) (mode : Mode) (b : ℕ) (rest : List ℕ) → front_length (iso_2022_jp_front jis0208 mode b rest) ≤ 2
+pub iso_2022_jp_front-short : (jis0208 : List ℕ) (mode : DecoderMode) (b : ℕ) (rest : List ℕ) → front_length (iso_2022_jp_front jis0208 mode b rest) ≤ 2
 unfolding iso_2022_jp_front
 iso_2022_jp_front-short jis0208 mode b rest = grind arith

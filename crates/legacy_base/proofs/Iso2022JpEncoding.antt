@@ -4,7 +4,7 @@ use Rattle.std.proofs.{lemmas.Bool.Decides.nat_tests, Common.{◌≡◌, ◌∙�
 use Rattle.std.proofs.Common.{true, false, Some, None, cond, option_map, if◌then◌else◌}
 use Rattle.std.specs.Char.{is_ascii}
 use Rattle.legacy_base.specs.{declared.results.EncodeEvent.EncodeEvent, declared.results.EncodeEvent.TheVariants.Byte, EncodeEvents.{code_events, code_length}}
-use Rattle.legacy_base.specs.{EncoderProfile.{EncoderMode, in_ascii, in_roman, in_two_byte}, Iso2022Jp.{is_mode_control, iso_2022_jp_pointer_of}}
+use Rattle.legacy_base.specs.{declared.modes.EncoderMode.{EncoderMode, TheVariants.{Ascii, Roman, TwoByte}}, Iso2022Jp.{is_mode_control, iso_2022_jp_pointer_of}}
 use Rattle.legacy_base.specs.Iso2022Jp.{iso_2022_jp_pair, iso_2022_jp_code, iso_2022_jp_reported, is_roman_scalar, is_two_byte_scalar, keeps_mode}
 use Rattle.legacy_base.specs.Iso2022Jp.{roman_or_ascii, settled_mode, mode_behind, escape_to, escape_between, iso_2022_jp_text_events}
 
@@ -21,7 +21,7 @@ escape_between-other mode new h = grind arith
 
 -- the mode after one scalar, by three tests of the scalar
 abbrev pub mode_by : (pair keeps romans : Bool) → EncoderMode → EncoderMode
-mode_by pair keeps romans mode = cond pair in_two_byte (cond keeps (roman_or_ascii mode) (cond romans in_roman in_ascii))
+mode_by pair keeps romans mode = cond pair TwoByte (cond keeps (roman_or_ascii mode) (cond romans Roman Ascii))
 
 mode_by-twice : (pair keeps romans : Bool) (mode : EncoderMode) → mode_by pair keeps romans (mode_by pair keeps romans mode) ≡ mode_by pair keeps romans mode
 mode_by-twice pair keeps romans mode = grind (arith, roman_or_ascii-twice mode)
@@ -122,9 +122,9 @@ module _ (jis0208 katakana_index : List ℕ) where
 
   -- ---- the end
 
-  pub text_events-end : (mode : EncoderMode) → text_events mode [] true ≡ map Byte (escape_between mode in_ascii)
+  pub text_events-end : (mode : EncoderMode) → text_events mode [] true ≡ map Byte (escape_between mode Ascii)
   unfolding iso_2022_jp_text_events
-  text_events-end mode = ap (λ m. map Byte (escape_between m in_ascii)) (mode_behind-nothing mode)
+  text_events-end mode = ap (λ m. map Byte (escape_between m Ascii)) (mode_behind-nothing mode)
 
   pub text_events-open : (mode : EncoderMode) → text_events mode [] false ≡ []
   unfolding iso_2022_jp_text_events

@@ -3,7 +3,7 @@
 use Rattle.std.proofs.{lemmas.Bool.Decides.nat_tests, Common.{arith, ◌≡◌, ℕ, ◌+◌, false, cond, None, List, [], ◌∷◌, ◌++◌, drop, length, refl, add_assoc}}
 use Rattle.std.proofs.{Common.{zero-add, add-zero}}
 use Rattle.std.specs.Prelude.{◌==◌, unwrap_or}
-use Rattle.legacy_base.specs.{Events.shift, Fronts.cut, Iso2022Jp.{Mode, esc, parts_of, part_mode, escape_length, iso_2022_jp_front, escape_events}}
+use Rattle.legacy_base.specs.{declared.modes.DecoderMode.DecoderMode, Events.shift, Fronts.cut, Iso2022Jp.{esc, parts_of, part_mode, escape_length, iso_2022_jp_front, escape_events}}
 use Rattle.legacy_base.specs.Iso2022Jp.{part_events, parts_events, iso_2022_jp_events}
 use Rattle.legacy_base.proofs.{Shifts.shift-append, Cuts.cut-place}
 
@@ -36,7 +36,7 @@ first_unescaped place [] next = (refl, refl, refl)
 first_unescaped place (b ∷ bytes) next = let unescaped = no_escape b (first_part bytes) in grind (arith, unescaped)
 
 -- the first part is all body, in the mode in which the list begins
-first_events : (jis0208 : List ℕ) (mode : Mode) (place : ℕ) (bytes : List ℕ) (next : List (List ℕ)) → parts_events jis0208 mode place (first_part bytes ∷ next)
+first_events : (jis0208 : List ℕ) (mode : DecoderMode) (place : ℕ) (bytes : List ℕ) (next : List (List ℕ)) → parts_events jis0208 mode place (first_part bytes ∷ next)
     ≡ cut (iso_2022_jp_front jis0208 mode) 0 place (first_part bytes)
     ++ parts_events jis0208 mode (place + length (first_part bytes)) next
 unfolding parts_events part_events
@@ -48,7 +48,7 @@ escape_events-shift : (k place : ℕ) (part : List ℕ) (next : List (List ℕ))
 unfolding escape_events
 escape_events-shift k place part next = grind arith
 
-part_events-shift : (jis0208 : List ℕ) (mode : Mode) (k place : ℕ) (part : List ℕ) (next : List (List ℕ))
+part_events-shift : (jis0208 : List ℕ) (mode : DecoderMode) (k place : ℕ) (part : List ℕ) (next : List (List ℕ))
     → part_events jis0208 mode (k + place) part next ≡ shift k (part_events jis0208 mode place part next)
 unfolding part_events
 part_events-shift jis0208 mode k place part next =
@@ -59,7 +59,7 @@ part_events-shift jis0208 mode k place part next =
       cut-place (iso_2022_jp_front jis0208 mode) 0 k (place + escape_length part) (drop (escape_length part) part),
     )
 
-pub parts_events-shift : (jis0208 : List ℕ) (mode : Mode) (k place : ℕ) (parts : List (List ℕ))
+pub parts_events-shift : (jis0208 : List ℕ) (mode : DecoderMode) (k place : ℕ) (parts : List (List ℕ))
     → parts_events jis0208 mode (k + place) parts ≡ shift k (parts_events jis0208 mode place parts)
 unfolding parts_events
 parts_events-shift jis0208 mode k place [] = refl
@@ -67,12 +67,12 @@ parts_events-shift jis0208 mode k place (part ∷ parts) =
     let m = unwrap_or (part_mode part) mode in
     rw (shift-append, add_assoc, part_events-shift jis0208 m k place part parts, parts_events-shift jis0208 m k (place + length part) parts)
 
-pub parts_events-at : (jis0208 : List ℕ) (mode : Mode) (place : ℕ) (parts : List (List ℕ))
+pub parts_events-at : (jis0208 : List ℕ) (mode : DecoderMode) (place : ℕ) (parts : List (List ℕ))
     → parts_events jis0208 mode place parts ≡ shift place (parts_events jis0208 mode 0 parts)
 parts_events-at jis0208 mode place parts = rw (← (parts_events-shift jis0208 mode place 0 parts), add-zero)
 
 -- the events of a list: those of its first part in the given mode, and then those of the later parts
-pub events-by_parts : (jis0208 : List ℕ) (mode : Mode) (bytes : List ℕ) → iso_2022_jp_events jis0208 mode bytes
+pub events-by_parts : (jis0208 : List ℕ) (mode : DecoderMode) (bytes : List ℕ) → iso_2022_jp_events jis0208 mode bytes
     ≡ cut (iso_2022_jp_front jis0208 mode) 0 0 (first_part bytes)
     ++ shift (length (first_part bytes)) (parts_events jis0208 mode 0 (later_parts bytes))
 unfolding iso_2022_jp_events

@@ -6,7 +6,8 @@ use Rattle.std.proofs.lemmas.Bool.Decides.{nat_tests}
 use Rattle.std.specs.Char.{is_ascii}
 use Rattle.legacy_base.specs.{declared.results.DecodeEvent.DecodeEvent, declared.results.DecodeEvent.TheVariants.{Scalar, Bad}}
 use Rattle.legacy_base.specs.{declared.results.EncodeEvent.EncodeEvent, declared.results.EncodeEvent.TheVariants.Byte, Events.shift, Fronts.reads}
-use Rattle.legacy_base.specs.{EncoderProfile.{EncoderMode, in_ascii, in_roman, in_two_byte}, Iso2022Jp.{Mode, ascii, roman, two_byte, esc, escape_mode}}
+use Rattle.legacy_base.specs.declared.modes.EncoderMode.{EncoderMode, TheVariants.{Ascii as in_ascii, Roman as in_roman, TwoByte as in_two_byte}}
+use Rattle.legacy_base.specs.{declared.modes.DecoderMode.{DecoderMode, TheVariants.{Ascii, Roman, TwoByte}}, Iso2022Jp.{esc, escape_mode}}
 use Rattle.legacy_base.specs.Iso2022Jp.{part_mode, iso_2022_jp_front, iso_2022_jp_events, is_whole_escape, is_mode_control, iso_2022_jp_fold}
 use Rattle.legacy_base.specs.{Iso2022Jp.{iso_2022_jp_pointer_of, iso_2022_jp_pair, iso_2022_jp_code, roman_or_ascii, escape_between}, Encoders.iso_2022_jp}
 use Rattle.legacy_base.specs.RoundTrips.{is_fold, read_as, bytes_of, holds_adjacent_escapes}
@@ -18,10 +19,10 @@ use Rattle.legacy_base.proofs.Iso2022JpEncoding.{text_events-scalar, text_events
 use Rattle.legacy_tables.proofs.Pointers.{first-taken}
 
 -- the decoder's mode for an encoder's mode
-abbrev pub read_in : EncoderMode → Mode
-read_in in_ascii = ascii
-read_in in_roman = roman
-read_in in_two_byte = two_byte
+abbrev pub read_in : EncoderMode → DecoderMode
+read_in in_ascii = Ascii
+read_in in_roman = Roman
+read_in in_two_byte = TwoByte
 
 -- the list does not begin with a valid escape
 unescaped_start : (b : ℕ) (bytes : List ℕ) → (b == esc) ≡ false → is_whole_escape (b ∷ bytes) ≡ false
@@ -39,7 +40,7 @@ between : (P : EncoderMode → EncoderMode → List ℕ → Type 0) → ((mode :
 between P h k old new = grind arith
 
 module _ (jis0208 : List ℕ) where
-  escape_alone : (old new : Mode) (a b : ℕ) (rest : List ℕ) → escape_mode a b ≡ Some new → is_whole_escape rest ≡ false
+  escape_alone : (old new : DecoderMode) (a b : ℕ) (rest : List ℕ) → escape_mode a b ≡ Some new → is_whole_escape rest ≡ false
       → iso_2022_jp_events jis0208 old (esc ∷ a ∷ b ∷ rest) ≡ shift 3 (iso_2022_jp_events jis0208 new rest)
   escape_alone old new a b rest valid alone =
       step_escape jis0208 old new a b rest valid
@@ -57,7 +58,7 @@ module _ (jis0208 : List ℕ) where
   record IsPair (p c : ℕ) : Type 0 where
     first_unescaped : ((p / 94 + 0x21) == esc) ≡ false
     second_unescaped : ((p % 94 + 0x21) == esc) ≡ false
-    front : (rest : List ℕ) → iso_2022_jp_front jis0208 two_byte (p / 94 + 0x21) ((p % 94 + 0x21) ∷ rest) ≡ reads 2 (c ∷ [])
+    front : (rest : List ℕ) → iso_2022_jp_front jis0208 TwoByte (p / 94 + 0x21) ((p % 94 + 0x21) ∷ rest) ≡ reads 2 (c ∷ [])
 
   is_pair_of : (p c : ℕ) → LeadsBack is_jis0208_pointer jis0208 c p → IsPair p c
   unfolding iso_2022_jp_front
@@ -206,7 +207,7 @@ module _ (jis0208 katakana_index : List ℕ) where
   -- that the text decodes to, and then the events of those bytes, read in ASCII mode.
   abbrev pub IsTextRead : EncoderMode → List ℕ → List ℕ → List ℕ → Type 0
   IsTextRead mode back bytes more =
-      iso_2022_jp_events jis0208 (read_in mode) (bytes ++ more) ≡ map Scalar back ++ shift (length bytes) (iso_2022_jp_events jis0208 ascii more)
+      iso_2022_jp_events jis0208 (read_in mode) (bytes ++ more) ≡ map Scalar back ++ shift (length bytes) (iso_2022_jp_events jis0208 Ascii more)
 
   -- the events of c, and then those of the bytes after its n bytes
   scalar_then : (n m c : ℕ) (back : List ℕ) (events : List DecodeEvent)
@@ -224,7 +225,7 @@ module _ (jis0208 katakana_index : List ℕ) where
   text_read-scalar mode new c own back behind more o read =
       let all = behind ++ more in
       let joined : IsTextRead new (c ∷ back) (own ++ behind) more =
-      rw (append_assoc, length-append) (o.gives all ∙ rw read (scalar_then (length own) (length behind) c back (iso_2022_jp_events jis0208 ascii more))) in
+      rw (append_assoc, length-append) (o.gives all ∙ rw read (scalar_then (length own) (length behind) c back (iso_2022_jp_events jis0208 Ascii more))) in
       escape_then mode new (c ∷ back) (own ++ behind) more (rw (append_assoc own behind more) (o.unescaped all)) joined
 
   pub text_read : (mode : EncoderMode) (text more : List ℕ) → is_whole_escape more ≡ false

@@ -2,7 +2,7 @@
 use Rattle.std.proofs.Common.{◌≡◌, ◌∙◌, ℕ, List, [], ◌∷◌, ◌++◌, map, refl, sym, ap, arith, All, true, false, Option, Some}
 use Rattle.std.proofs.{lemmas.Bool.Decides.nat_tests, lemmas.List.map-append, lemmas.List.Elements.{All-head, All-tail}}
 use Rattle.legacy_base.specs.{declared.results.EncodeEvent.EncodeEvent, declared.results.EncodeEvent.TheVariants.Byte, EncodeEvents.{plain_events}}
-use Rattle.legacy_base.specs.{EncoderProfile.{EncoderMode, in_ascii, in_roman, in_two_byte}}
+use Rattle.legacy_base.specs.declared.modes.EncoderMode.{EncoderMode, TheVariants.{Ascii, Roman, TwoByte}}
 use Rattle.legacy_base.specs.{ShiftJis.shift_jis_code, EucJp.euc_jp_code}
 use Rattle.legacy_base.specs.Iso2022Jp.{is_pair, iso_2022_jp_code, is_whole_escape, roman_or_ascii, escape_to}
 use Rattle.legacy_base.specs.{Iso2022Jp.escape_between, Encoders.{Codec, single_byte, user_defined, big5, euc_kr, shift_jis, euc_jp, gb18030, gbk, iso_2022_jp}}
@@ -80,36 +80,36 @@ module _ (jis0208 katakana_index : List ℕ) where
   same_mode mode c own e again = grind (arith, nat_tests, mode_for-by, mode_by, single_stands)
 
   -- a scalar that is written in ASCII mode after ASCII mode is also written in ASCII mode after two-byte mode
-  back_to_ascii : (c : ℕ) (own : List ℕ) → code c ≡ Some own → code (own_of c) ≡ Some own → mode_of in_ascii c ≡ in_ascii →
-      mode_of in_two_byte (own_of c) ≡ in_ascii
+  back_to_ascii : (c : ℕ) (own : List ℕ) → code c ≡ Some own → code (own_of c) ≡ Some own → mode_of Ascii c ≡ Ascii →
+      mode_of TwoByte (own_of c) ≡ Ascii
   back_to_ascii c own e again n =
-      let stays : mode_of in_ascii (own_of c) ≡ in_ascii = same_mode in_ascii c own e again ∙ n in grind (arith, nat_tests, mode_for-by, mode_by)
+      let stays : mode_of Ascii (own_of c) ≡ Ascii = same_mode Ascii c own e again ∙ n in grind (arith, nat_tests, mode_for-by, mode_by)
 
   -- The bytes of a text from two-byte mode are the escape to ASCII mode and its bytes from that mode. This holds if the
   -- latter do not begin with an escape.
-  late_escape : (text : List ℕ) → All SameHere text → is_whole_escape (bytes_from in_ascii text) ≡ false → sent in_two_byte (back text)
-      ≡ map Byte (escape_to in_ascii) ++ sent in_ascii (back text)
+  late_escape : (text : List ℕ) → All SameHere text → is_whole_escape (bytes_from Ascii text) ≡ false → sent TwoByte (back text)
+      ≡ map Byte (escape_to Ascii) ++ sent Ascii (back text)
   late_escape [] same h =
-      rw (text_events-end jis0208 katakana_index in_two_byte, text_events-end jis0208 katakana_index in_ascii) refl
+      rw (text_events-end jis0208 katakana_index TwoByte, text_events-end jis0208 katakana_index Ascii) refl
   late_escape (c ∷ text) same h =
       let here = All-head SameHere c text same in
       let later = late_escape text (All-tail SameHere c text same) in
-      let alone = rw (text_bytes-scalar jis0208 katakana_index in_ascii c text) at h in
-      let some = λ (own : List ℕ) (e : code c ≡ Some own) (n : mode_of in_ascii c ≡ in_ascii).
-      text_events-escape jis0208 katakana_index in_two_byte in_ascii (own_of c) (back_to_ascii c own e (here own e) n) (λ z. cc) (back text) true in
-      grind (arith, some, later, none_keeps jis0208 katakana_index in_ascii c)
+      let alone = rw (text_bytes-scalar jis0208 katakana_index Ascii c text) at h in
+      let some = λ (own : List ℕ) (e : code c ≡ Some own) (n : mode_of Ascii c ≡ Ascii).
+      text_events-escape jis0208 katakana_index TwoByte Ascii (own_of c) (back_to_ascii c own e (here own e) n) (λ z. cc) (back text) true in
+      grind (arith, some, later, none_keeps jis0208 katakana_index Ascii c)
 
   -- a scalar without a code
   none-again : (mode : EncoderMode) (text : List ℕ) → All SameHere text
       → holds_adjacent_escapes (escape_between mode (roman_or_ascii mode) ++ bytes_from (roman_or_ascii mode) text) ≡ false
       → sent (roman_or_ascii mode) (back text) ≡ map Byte (bytes_from (roman_or_ascii mode) text)
       → sent mode (back text) ≡ map Byte (escape_between mode (roman_or_ascii mode) ++ bytes_from (roman_or_ascii mode) text)
-  none-again in_ascii text others h read = read
-  none-again in_roman text others h read = read
-  none-again in_two_byte text others h read =
-      late_escape text others (escape_apart jis0208 katakana_index in_two_byte in_ascii (bytes_from in_ascii text) (λ z. cc) h)
-      ∙ ap (λ l. map Byte (escape_to in_ascii) ++ l) read
-      ∙ sym (map-append Byte (escape_to in_ascii) (bytes_from in_ascii text))
+  none-again Ascii text others h read = read
+  none-again Roman text others h read = read
+  none-again TwoByte text others h read =
+      late_escape text others (escape_apart jis0208 katakana_index TwoByte Ascii (bytes_from Ascii text) (λ z. cc) h)
+      ∙ ap (λ l. map Byte (escape_to Ascii) ++ l) read
+      ∙ sym (map-append Byte (escape_to Ascii) (bytes_from Ascii text))
 
   iso_2022_jp-again : (mode : EncoderMode) (text : List ℕ) → All SameHere text → holds_adjacent_escapes (bytes_from mode text) ≡ false
       → sent mode (back text) ≡ map Byte (bytes_from mode text)
@@ -145,7 +145,7 @@ again (shift_jis jis0208) text sound keeps = plain-again _ _ text (λ k d h byte
 again (euc_jp jis0208 jis0212) text sound keeps = plain-again _ _ text (λ k d h bytes e. euc_jp-same jis0208 _ ∙ e)
 again (gb18030 index ranges pua) text sound keeps = plain-again _ _ text keeps
 again (gbk index ranges pua) text sound keeps = plain-again _ _ text keeps
-again (iso_2022_jp jis0208 katakana_index) text sound keeps = iso_2022_jp-again jis0208 katakana_index in_ascii text keeps sound
+again (iso_2022_jp jis0208 katakana_index) text sound keeps = iso_2022_jp-again jis0208 katakana_index Ascii text keeps sound
 
 pub reencodes_any_text : ReencodesAnyText
 reencodes_any_text = grind (arith, nat_tests, same_scalars, encodes_well_formed, again)

@@ -1,8 +1,8 @@
 -- The encoders: the events of a text, and the room and lengths of outputs.
 use Rattle.std.specs.Prelude.{ℕ, ◌-◌, List, [], ◌∷◌, length, Option, Bool, true, false, not}
-use Rattle.legacy_base.specs.declared.results.EncodeEvent.{EncodeEvent}
+use Rattle.legacy_base.specs.declared.{modes.EncoderMode.{EncoderMode, TheVariants.Ascii}, results.EncodeEvent.{EncodeEvent}}
 use Rattle.legacy_text.specs.EncodingForm.{EncodingForm}
-use Rattle.legacy_base.specs.EncoderProfile.{EncoderProfile, EncoderMode, in_ascii}
+use Rattle.legacy_base.specs.EncoderProfile.{EncoderProfile}
 use Rattle.legacy_base.specs.Lengths.{Formula, number, value, answer}
 use Rattle.legacy_base.specs.Profile.{is_empty}
 use Rattle.legacy_base.specs.SingleByte.{single_byte_encoder}
@@ -47,7 +47,7 @@ pub record EncoderState : Type 0 where
 
 -- an encoder before its first scalar
 abbrev pub new_encoder : Codec → EncoderState
-new_encoder codec = record { codec = codec; mode = in_ascii }
+new_encoder codec = record { codec = codec; mode = Ascii }
 
 -- the bytes of a scalar, or none
 abbrev pub code : EncoderState → ℕ → Option (List ℕ)

@@ -9,7 +9,8 @@ use Rattle.legacy_base.specs.LeadForms.{lead_trail_profile}
 use Rattle.legacy_base.specs.ShiftJis.{shift_jis_profile}
 use Rattle.legacy_base.specs.EucJp.{euc_jp_profile}
 use Rattle.legacy_base.specs.Gb18030.{gb18030_profile}
-use Rattle.legacy_base.specs.Iso2022Jp.{Mode, ascii, iso_2022_jp_profile}
+use Rattle.legacy_base.specs.declared.modes.DecoderMode.{DecoderMode, TheVariants.Ascii}
+use Rattle.legacy_base.specs.Iso2022Jp.{iso_2022_jp_profile}
 use Rattle.legacy_base.specs.Utf16.{utf16_profile}
 use Rattle.legacy_base.specs.Replacement.{replacement_profile}
 
@@ -26,7 +27,7 @@ pub data Grammar : Type 0 where
   shift_jis : (jis0208 : List ℕ) → Grammar
   euc_jp : (jis0208 jis0212 : List ℕ) → Grammar
   gb18030 : (index : List ℕ) (ranges : List (ℕ × ℕ)) → Grammar
-  iso_2022_jp : (jis0208 : List ℕ) (mode : Mode) → Grammar
+  iso_2022_jp : (jis0208 : List ℕ) (mode : DecoderMode) → Grammar
 
 -- the profile of a grammar's codec
 abbrev pub profile : Grammar → Profile
@@ -44,7 +45,7 @@ profile (iso_2022_jp jis0208 mode) = iso_2022_jp_profile jis0208 mode
 -- The same decoder as it was made. Only the mode in ISO-2022-JP and the report of the replacement decoder change.
 abbrev pub as_new : Grammar → Grammar
 as_new (replacement reported) = replacement false
-as_new (iso_2022_jp jis0208 mode) = iso_2022_jp jis0208 ascii
+as_new (iso_2022_jp jis0208 mode) = iso_2022_jp jis0208 Ascii
 as_new grammar = grammar
 
 -- the events of a list of bytes

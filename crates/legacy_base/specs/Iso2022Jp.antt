@@ -10,30 +10,28 @@ use Rattle.legacy_base.specs.declared.results.DecodeEvent.{DecodeEvent}
 use Rattle.legacy_base.specs.declared.results.DecodeEvent.TheVariants.{Bad}
 use Rattle.legacy_base.specs.declared.results.EncodeEvent.{EncodeEvent}
 use Rattle.legacy_base.specs.declared.results.EncodeEvent.TheVariants.{Byte}
+use Rattle.legacy_base.specs.declared.modes.DecoderMode.{DecoderMode, TheVariants.{Ascii, Roman, Katakana, TwoByte}}
+use Rattle.legacy_base.specs.declared.modes.EncoderMode.{EncoderMode, TheVariants.{Ascii as in_ascii, Roman as in_roman, TwoByte as in_two_byte}}
 use Rattle.legacy_base.specs.Fronts.{Front, reads, malformed, reads_or, cut}
 use Rattle.legacy_tables.specs.Indexes.{idx}
 use Rattle.legacy_base.specs.Profile.{Profile, held_profile}
 use Rattle.legacy_base.specs.Formulas.{number, ◌⊕◌, ◌⊗◌, half}
 use Rattle.legacy_text.specs.EncodingForm.{EncodingForm, Utf8, Utf16}
 use Rattle.legacy_base.specs.EncodeEvents.{code_events}
-use Rattle.legacy_base.specs.EncoderProfile.{EncoderProfile, EncoderMode, in_ascii, in_roman, in_two_byte, by_form}
+use Rattle.legacy_base.specs.EncoderProfile.{EncoderProfile, by_form}
 use Rattle.legacy_tables.specs.Pointers.{euc_jp_pointer_of, minus_as_hyphen}
-
--- how the bytes after an escape are read
-pub data Mode : Type 0 where
-  ascii roman katakana two_byte : Mode
 
 -- the escape byte
 abbrev pub esc : ℕ
 esc = 0x1B
 
 -- the mode of the escape that consists of an escape byte and these two bytes
-abbrev pub escape_mode : ℕ → ℕ → Option Mode
+abbrev pub escape_mode : ℕ → ℕ → Option DecoderMode
 escape_mode a b =
-    if a == 0x28 && b == 0x42 then Some ascii
-    else if a == 0x28 && b == 0x4A then Some roman
-    else if a == 0x28 && b == 0x49 then Some katakana
-    else if a == 0x24 && (b == 0x40 || b == 0x42) then Some two_byte
+    if a == 0x28 && b == 0x42 then Some Ascii
+    else if a == 0x28 && b == 0x4A then Some Roman
+    else if a == 0x28 && b == 0x49 then Some Katakana
+    else if a == 0x24 && (b == 0x40 || b == 0x42) then Some TwoByte
     else None
 
 -- ---- the parts
@@ -49,7 +47,7 @@ parts_of [] = [] ∷ []
 parts_of (b ∷ bytes) = if b == esc then [] ∷ with_first b (parts_of bytes) else with_first b (parts_of bytes)
 
 -- the mode of the valid escape that a part begins with, if any
-unfoldable pub part_mode : List ℕ → Option Mode
+unfoldable pub part_mode : List ℕ → Option DecoderMode
 part_mode (e ∷ a ∷ b ∷ body) = if e == esc then escape_mode a b else None
 part_mode _ = None
 
@@ -70,19 +68,19 @@ begins_valid (part ∷ parts) = is_some (part_mode part)
 -- ---- bodies
 
 -- the front of a body that begins with b
-unfoldable pub iso_2022_jp_front : List ℕ → Mode → ℕ → List ℕ → Front
-iso_2022_jp_front jis0208 ascii b rest =
+unfoldable pub iso_2022_jp_front : List ℕ → DecoderMode → ℕ → List ℕ → Front
+iso_2022_jp_front jis0208 Ascii b rest =
     if (b == 0x0E || b == 0x0F) || not (is_ascii b) then malformed 1
     else reads 1 (b ∷ [])
-iso_2022_jp_front jis0208 roman b rest =
+iso_2022_jp_front jis0208 Roman b rest =
     if (b == 0x0E || b == 0x0F) || not (is_ascii b) then malformed 1
     else if b == 0x5C then reads 1 (0xA5 ∷ [])
     else if b == 0x7E then reads 1 (0x203E ∷ [])
     else reads 1 (b ∷ [])
-iso_2022_jp_front jis0208 katakana b rest =
+iso_2022_jp_front jis0208 Katakana b rest =
     if is_in_range 0x21 0x5F b then reads 1 ((0xFF61 + (b - 0x21)) ∷ []) else malformed 1
-iso_2022_jp_front jis0208 two_byte b [] = malformed 1
-iso_2022_jp_front jis0208 two_byte b (t ∷ rest) =
+iso_2022_jp_front jis0208 TwoByte b [] = malformed 1
+iso_2022_jp_front jis0208 TwoByte b (t ∷ rest) =
     if not (is_in_range 0x21 0x7E b) then malformed 1
     else if is_in_range 0x21 0x7E t
     then reads_or 2 (option_to_list (idx jis0208 ((b - 0x21) * 94 + (t - 0x21)))) (malformed 2)
@@ -101,33 +99,33 @@ escape_events place (b ∷ part) next =
     else []
 
 -- the events of a part that begins at the place, is read in the mode, and is followed by these parts
-unfoldable pub part_events : List ℕ → Mode → ℕ → List ℕ → List (List ℕ) → List DecodeEvent
+unfoldable pub part_events : List ℕ → DecoderMode → ℕ → List ℕ → List (List ℕ) → List DecodeEvent
 part_events jis0208 mode place part next =
     escape_events place part next
     ++ cut (iso_2022_jp_front jis0208 mode) 0 (place + escape_length part) (drop (escape_length part) part)
 
 -- The events of parts, the first of which begins at the place and follows a part in the mode. Each part is read in the
 -- mode of its own valid escape, or else in the mode of the previous part.
-unfoldable pub parts_events : List ℕ → Mode → ℕ → List (List ℕ) → List DecodeEvent
+unfoldable pub parts_events : List ℕ → DecoderMode → ℕ → List (List ℕ) → List DecodeEvent
 parts_events jis0208 mode place [] = []
 parts_events jis0208 mode place (part ∷ parts) =
     part_events jis0208 (unwrap_or (part_mode part) mode) place part parts
     ++ parts_events jis0208 (unwrap_or (part_mode part) mode) (place + length part) parts
 
 -- the events of a list that begins in the mode
-unfoldable pub iso_2022_jp_events : List ℕ → Mode → List ℕ → List DecodeEvent
+unfoldable pub iso_2022_jp_events : List ℕ → DecoderMode → List ℕ → List DecodeEvent
 iso_2022_jp_events jis0208 mode bytes = parts_events jis0208 mode 0 (parts_of bytes)
 
 -- ---- held-back bytes
 
 -- true for the two-byte mode
-abbrev pub is_two_byte_mode : Mode → Bool
-is_two_byte_mode two_byte = true
+abbrev pub is_two_byte_mode : DecoderMode → Bool
+is_two_byte_mode TwoByte = true
 is_two_byte_mode _ = false
 
 -- true for the ASCII mode
-abbrev pub is_ascii_mode : Mode → Bool
-is_ascii_mode ascii = true
+abbrev pub is_ascii_mode : DecoderMode → Bool
+is_ascii_mode Ascii = true
 is_ascii_mode _ = false
 
 -- the byte is the second byte of a valid escape
@@ -147,17 +145,17 @@ is_whole_escape (e ∷ a ∷ b ∷ bytes) = e == esc && is_some (escape_mode a b
 is_whole_escape _ = false
 
 -- the byte may be held back by itself: a lead, or the byte after a malformed escape byte
-abbrev pub is_iso_2022_jp_byte : Mode → ℕ → Bool
+abbrev pub is_iso_2022_jp_byte : DecoderMode → ℕ → Bool
 is_iso_2022_jp_byte mode b = if is_two_byte_mode mode then is_in_range 0x21 0x7E b else is_escape_second b
 
 -- a byte by itself, the beginning of an escape, or a whole escape and the beginning of the next one
-abbrev pub iso_2022_jp_may_hold : Mode → List ℕ → Bool
+abbrev pub iso_2022_jp_may_hold : DecoderMode → List ℕ → Bool
 iso_2022_jp_may_hold mode (b ∷ []) = b == esc || is_iso_2022_jp_byte mode b
 iso_2022_jp_may_hold mode bytes =
     is_escape_start bytes || (is_whole_escape bytes && is_escape_start (drop 3 bytes))
 
 -- false outside two-byte mode if the byte after a malformed escape byte is still to be written
-abbrev pub iso_2022_jp_rests : Mode → List ℕ → Bool
+abbrev pub iso_2022_jp_rests : DecoderMode → List ℕ → Bool
 iso_2022_jp_rests mode (b ∷ []) = is_two_byte_mode mode || not (is_escape_second b)
 iso_2022_jp_rests mode _ = true
 
@@ -166,7 +164,7 @@ abbrev pub iso_2022_jp_weight : List ℕ → ℕ
 iso_2022_jp_weight bytes = if is_whole_escape bytes then length bytes - 2 else length bytes
 
 -- the decoder in a mode
-abbrev pub iso_2022_jp_profile : List ℕ → Mode → Profile
+abbrev pub iso_2022_jp_profile : List ℕ → DecoderMode → Profile
 iso_2022_jp_profile jis0208 mode = record (held_profile (iso_2022_jp_events jis0208 mode) (iso_2022_jp_may_hold mode)) {
   rests = iso_2022_jp_rests mode;
   begins_in_ascii = is_ascii_mode mode;

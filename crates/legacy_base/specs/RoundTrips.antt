@@ -12,7 +12,8 @@ use Rattle.legacy_tables.specs.Indexes.{gb18030_pua_of}
 use Rattle.legacy_tables.specs.Pointers.{minus_as_hyphen}
 use Rattle.legacy_base.specs.Profile.{is_empty}
 use Rattle.legacy_base.specs.Gb18030.{gb18030_scalars}
-use Rattle.legacy_base.specs.Iso2022Jp.{ascii, is_whole_escape, iso_2022_jp_fold}
+use Rattle.legacy_base.specs.Iso2022Jp.{is_whole_escape, iso_2022_jp_fold}
+use Rattle.legacy_base.specs.declared.modes.DecoderMode.TheVariants.{Ascii}
 use Rattle.legacy_base.specs.Grammar as grammars
 use Rattle.legacy_base.specs.Grammar.{Grammar, events_of}
 use Rattle.legacy_base.specs.EucKr as korean
@@ -30,7 +31,7 @@ grammar_of (shift_jis jis0208) = grammars.shift_jis jis0208
 grammar_of (euc_jp jis0208 jis0212) = grammars.euc_jp jis0208 jis0212
 grammar_of (gb18030 index ranges pua) = grammars.gb18030 index ranges
 grammar_of (gbk index ranges pua) = grammars.gb18030 index ranges
-grammar_of (iso_2022_jp jis0208 katakana_index) = grammars.iso_2022_jp jis0208 ascii
+grammar_of (iso_2022_jp jis0208 katakana_index) = grammars.iso_2022_jp jis0208 Ascii
 
 -- The lists of a codec are those of accepted indexes, or of an accepted single-byte table.
 abbrev pub HasAcceptedLists : Codec → Type 0
@@ -98,8 +99,8 @@ ReencodesToTheSame =
 abbrev pub EndsInAscii : List ℕ → List ℕ → List ℕ → Type 0
 EndsInAscii jis0208 text bytes =
     (more : List ℕ) → is_whole_escape more ≡ false →
-    events_of (grammars.iso_2022_jp jis0208 ascii) (bytes ++ more)
-    ≡ map Scalar text ++ shift (length bytes) (events_of (grammars.iso_2022_jp jis0208 ascii) more)
+    events_of (grammars.iso_2022_jp jis0208 Ascii) (bytes ++ more)
+    ≡ map Scalar text ++ shift (length bytes) (events_of (grammars.iso_2022_jp jis0208 Ascii) more)
 
 -- the bytes contain a valid escape directly after another one
 unfoldable pub holds_adjacent_escapes : List ℕ → Bool

@@ -7,6 +7,7 @@
 
 mod decoder;
 mod encoder;
+mod modes;
 mod results;
 
 pub use decoder::RawDecoder;
@@ -18,6 +19,7 @@ pub use legacy_tables::{
 pub use legacy_text::{
     ByteSource, Destination, Source, Utf8Destination, Utf8Source, Utf16Destination, Utf16Source,
 };
+pub use modes::{DecoderMode, EncoderMode};
 pub use results::{
     DecodeEvent, DecoderResult, DecoderStep, EncodeEvent, EncoderResult, EncoderStep,
 };

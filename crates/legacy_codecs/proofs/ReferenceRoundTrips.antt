@@ -11,7 +11,7 @@ use Rattle.std.specs.{List.list_any, Int.is_in_range, Char.is_ascii}
 use Rattle.legacy_tables.specs.AcceptedTables.{AcceptedIndexes}
 use Rattle.legacy_base.specs.{declared.results.DecodeEvent.TheVariants.Scalar, declared.results.EncodeEvent.EncodeEvent}
 use Rattle.legacy_base.specs.{declared.results.EncodeEvent.TheVariants.{Byte, Unmappable}, EncodeEvents.{plain_events}}
-use Rattle.legacy_base.specs.EncoderProfile.{EncoderMode, in_ascii}
+use Rattle.legacy_base.specs.declared.modes.EncoderMode.{EncoderMode, TheVariants.Ascii}
 use Rattle.legacy_base.specs.{SingleByte.single_byte_code, UserDefined.user_defined_code, Big5.big5_code, EucKr.euc_kr_code, ShiftJis.shift_jis_code}
 use Rattle.legacy_base.specs.{EucJp.euc_jp_code, Gb18030.{gb18030_code, gbk_code}}
 use Rattle.legacy_base.specs.Iso2022Jp.{roman_or_ascii, escape_between, iso_2022_jp_code, is_whole_escape}
@@ -165,7 +165,7 @@ module _ (jis0208 katakana_index : List ℕ) where
   jp-spelled : (mode : EncoderMode) (text : List ℕ) → sent mode (jp_spelled text) ≡ map Byte (referenced_bytes (sent mode text))
   jp-spelled mode [] =
       text_events-end jis0208 katakana_index mode
-      ∙ rw (text_events-end jis0208 katakana_index mode, referenced-of_bytes (escape_between mode in_ascii)) refl
+      ∙ rw (text_events-end jis0208 katakana_index mode, referenced-of_bytes (escape_between mode Ascii)) refl
   jp-spelled mode (c ∷ text) = jp-code mode c (jp_code c) refl text (λ new. jp-spelled new text)
 
 -- ---- the characters in each codec
@@ -278,7 +278,7 @@ all_spelled (shift_jis jis0208) text = plain-spelled (shift_jis_code jis0208) (m
 all_spelled (euc_jp jis0208 jis0212) text = plain-spelled (euc_jp_code jis0208) (marks_written (euc_jp jis0208 jis0212)) text
 all_spelled (gb18030 index ranges pua) text = plain-spelled (gb18030_code index ranges pua) (marks_written (gb18030 index ranges pua)) text
 all_spelled (gbk index ranges pua) text = plain-spelled (gbk_code index pua) (marks_written (gbk index ranges pua)) text
-all_spelled (iso_2022_jp jis0208 katakana_index) text = jp-spelled jis0208 katakana_index in_ascii text
+all_spelled (iso_2022_jp jis0208 katakana_index) text = jp-spelled jis0208 katakana_index Ascii text
 
 -- so the same bytes are written for both
 spelled_bytes : (codec : Codec) (text : List ℕ) → written codec (spelled codec text) ≡ written_with_references codec text
@@ -318,7 +318,7 @@ references_keep_escapes_apart jis0208 katakana_index text =
     let apart =
     escapes_stay_apart jis0208 katakana_index (spelled codec text) (written_with_references codec text) (all_spelled codec text) in
     let read = λ (more : List ℕ) (plain : is_whole_escape more ≡ false).
-    text_read jis0208 katakana_index in_ascii (spelled codec text) more plain (rw (spelled_bytes codec text) apart) in
+    text_read jis0208 katakana_index Ascii (spelled codec text) more plain (rw (spelled_bytes codec text) apart) in
     (λ more plain. rw (spelled_bytes codec text, back) at (read more plain), apart)
 
 -- ---- the text that is read, encoded again

@@ -2,7 +2,7 @@
 use Rattle.std.proofs.Common.{◌/◌, ◌%◌, ◌≡◌, ◌∙◌, ℕ, ◌+◌, ◌-◌, ◌≤◌, ◌<◌, List, [], ◌∷◌, ◌++◌, length, refl, sym, ap, subst, arith, Bool, false, Some}
 use Rattle.std.proofs.{Common.{Option, cond, option_map, ltb}, lemmas.Bool.{cases_lt, lt-ltb, le-ltb}, lemmas.Bool.Decides.nat_tests}
 use Rattle.legacy_text.specs.{EncodingForm.{EncodingForm, Utf8, Utf16, unit_count}, UnitCodes.IsNoSurrogate}
-use Rattle.legacy_base.specs.{Encoders.{Codec, encoder_profile, EncoderState, new_encoder, code, encoded, scalar_room}, EncoderProfile.{EncoderMode, in_ascii}}
+use Rattle.legacy_base.specs.{Encoders.{Codec, encoder_profile, EncoderState, new_encoder, code, encoded, scalar_room}, declared.modes.EncoderMode.{EncoderMode, TheVariants.Ascii}}
 use Rattle.legacy_base.specs.{EncoderProfile.{EncoderProfile, plain_encoder}, EncodeEvents.{code_events, code_length, plain_events}, Lengths.{Formula, number}}
 use Rattle.legacy_base.specs.Lengths.{value}
 use Rattle.legacy_text.proofs.CodeUnits.{encoding}
@@ -11,7 +11,7 @@ use Rattle.legacy_encoder_engine.specs.{declared.moves.EncoderMove.TheVariants.{
 use Rattle.legacy_encoder_engine.specs.Moves.{differs, Moves, IsCode, is_escape, move_bytes, move_report, wants_escape}
 use Rattle.legacy_encoder_engine.specs.{ProfileSuffices.{mode_room, Serves}, UnfinishedCall.{PutsCode, ReadsByte}, UnitTurns.{HasUnitCode, ReadsUnit}}
 use Rattle.legacy_encoder_engine.specs.PlainCodecs.{HasPlainLengths, IsPlainCodec, HasByte}
-use Rattle.legacy_encoder_engine.proofs.{ReadingAhead.IsSame, CallUnderWay.state_stays}
+use Rattle.legacy_encoder_engine.proofs.{CallUnderWay.state_stays}
 
 pub differs-same : (m : EncoderMode) → differs m m ≡ false
 differs-same m = grind arith
@@ -82,8 +82,8 @@ module _ (state : EncoderState) (r c : ℕ) (here : WritesHere state r c) where
 
 -- a profile without modes, with `past` bytes of room for a scalar past ASCII
 record ActsPlainly (p : EncoderProfile) (past : ℕ) : Type 0 where
-  law : (c : ℕ) (more : List ℕ) (ended : Bool) → p.events in_ascii (c ∷ more) ended ≡ code_events c (p.code c) ++ p.events in_ascii more ended
-  mode : (c : ℕ) → p.mode_for in_ascii c ≡ in_ascii
+  law : (c : ℕ) (more : List ℕ) (ended : Bool) → p.events Ascii (c ∷ more) ended ≡ code_events c (p.code c) ++ p.events Ascii more ended
+  mode : (c : ℕ) → p.mode_for Ascii c ≡ Ascii
   room : (c : ℕ) → p.scalar_room c ≡ cond (ltb c 128) 1 past
 
 acts : (code : ℕ → Option (List ℕ)) (past : ℕ) (from_utf8 from_utf16 : Formula → Formula) → ActsPlainly (plain_encoder code past from_utf8 from_utf16) past
@@ -123,8 +123,8 @@ module _ (codec : Codec) (past : ℕ) (p : IsPlainCodec codec past) where
   pub plain_code : (c : ℕ) → c < 128 → code S c ≡ Some (c ∷ [])
   plain_code c low = code_is c ∙ p.ascii c low
 
-  pub plain_ascii : (c byte : ℕ) → IsSame c byte → ReadsByte S 0 c byte
-  plain_ascii c byte is = grind (arith, ascii_room c, plain_moves c (One byte), plain_code c)
+  pub plain_ascii : (c : ℕ) → c < 128 → ReadsByte S 0 c c
+  plain_ascii c low = grind (arith, ascii_room c, plain_moves c (One c), plain_code c)
 
   pub plain_byte : (c byte : ℕ) → HasByte codec past c byte → ReadsByte S 0 c byte
   plain_byte c byte is = record { fits = let room = widest_room c in omega (arith, is.0); moves = plain_moves c (One byte) is.1 }

@@ -1,6 +1,6 @@
 -- Reading ahead of the moves.
-use Rattle.std.proofs.Common.{◌≡◌, ◌∙◌, ℕ, suc, ◌+◌, ◌-◌, ◌≤◌, ◌<◌, List, [], ◌∷◌, ◌++◌, length, get_or, take, drop, refl, sym, subst, arith, append_assoc}
-use Rattle.std.proofs.{Common.{append-nil, length-append, false, IsAscii}, lemmas.Grind.common_steps, lemmas.List.{get_or-take, length-take-le}}
+use Rattle.std.proofs.Common.{◌≡◌, ◌∙◌, ℕ, suc, ◌+◌, ◌-◌, ◌≤◌, ◌<◌, List, [], ◌∷◌, ◌++◌, length, get_or, take, drop, refl, ap, sym, subst, arith, append_assoc}
+use Rattle.std.proofs.{Common.{append-nil, length-append, false, IsAscii}, lemmas.List.{get_or-take, length-take-le}}
 use Rattle.std.proofs.lemmas.List.{take-append-drop}
 use Rattle.legacy_text.specs.{EncodingForm.{EncodingForm, code_units, all_code_units, total_unit_count}, NextScalars.IsFirst, UnitCodes.WritesCodes}
 use Rattle.legacy_text.proofs.CodeUnits.{length-code_units-ascii, total_unit_count-append}
@@ -54,20 +54,13 @@ module _ (state : EncoderState) (free : ℕ) where
 
 -- ---- ASCII scalars
 
--- an ASCII scalar is written as itself
-abbrev pub IsSame : ℕ → ℕ → Type 0
-IsSame c byte = (byte ≡ c) × (c < 0x80)
-
-pub same_bytes : (left old : List ℕ) (n : ℕ) → n ≤ length left → IsAscii (take n left) → WritesCodes IsSame left n old (old ++ take n left)
-same_bytes left old n within ascii = let long = length-take-le n left within in grind (arith, common_steps)
-
 -- ASCII scalars have one code unit each
 ascii_units : (form : EncodingForm) (front : List ℕ) → IsAscii front → total_unit_count form front ≡ length front
 ascii_units form [] a = refl
 ascii_units form (c ∷ front) a =
     omega (arith, length-append (code_units form c) (all_code_units form front), length-code_units-ascii form c (a 0), ascii_units form front (λ i. a (suc i)))
 
-pub ascii_count : (form : EncodingForm) (left : List ℕ) (n : ℕ) → n ≤ length left → IsAscii (take n left) → total_unit_count form (take n left) ≡ n
+ascii_count : (form : EncodingForm) (left : List ℕ) (n : ℕ) → n ≤ length left → IsAscii (take n left) → total_unit_count form (take n left) ≡ n
 ascii_count form left n within ascii = ascii_units form (take n left) ascii ∙ length-take-le n left within
 
 -- ---- loops
@@ -98,6 +91,21 @@ encodes_codes form free room serves reads {left} passed {n = n} within rest unit
       end = omega arith;
       units = rw rest (omega (arith, units, rw (take-append-drop n left) at (total_unit_count-append form (take n left) (drop n left))));
     }
+
+-- ASCII scalars that are copied, each of which is read as itself
+pub encodes_ascii : {state : EncoderState} (form : EncodingForm) (free room : ℕ) (serves : Serves (encoder_profile state.codec))
+    → {left : List ℕ} (passed : ℕ) {old new left' : List ℕ} {n passed' at : ℕ} → n ≤ length left → left' ≡ drop n left
+    → IsAscii (take n left) → passed' ≡ passed + n → new ≡ old ++ take n left
+    → ((k : ℕ) → k < length (take n left) → ReadsByte state room (get_or (take n left) k 0) (get_or (take n left) k 0)) → length old ≡ at → at + n + room ≤ free
+    → EncodesAhead state form free left passed old at left' passed' new (at + n)
+encodes_ascii {state} form free room serves {left} passed {n = n} within rest ascii units written reads =
+    encodes_codes {state = state} form free room serves (λ c byte code. code) passed within rest (units ∙ ap (λ k. passed + k) (sym (ascii_count form left n within ascii)))
+    (record {
+      bytes = take n left;
+      new_is = written;
+      count = length-take-le n left within;
+      each = λ k h. subst (λ c. ReadsByte state room c (get_or (take n left) k 0)) (get_or-take n left k 0 h) (reads k (omega (arith, h, length-take-le n left within)));
+    })
 
 -- one more scalar
 pub encodes_put : {state : EncoderState} (form : EncodingForm) {free passed passed' passed'' start at end c n room : ℕ}

@@ -2,7 +2,7 @@
 use Rattle.std.specs.Prelude.{◌≡◌, ℕ, ◌≤◌, List, [], ◌∷◌, ◌++◌, length, map, Bool, true, false, IsTrue, Option, Some, None, ◌⊎◌}
 use Rattle.legacy_base.specs.declared.results.{EncodeEvent.EncodeEvent, EncodeEvent.TheVariants.Byte}
 use Rattle.legacy_base.specs.Encoders.{EncoderState, encoder_profile, code, encoded, end_bytes, scalar_room}
-use Rattle.legacy_base.specs.EncoderProfile.{EncoderMode, in_ascii, in_roman, in_two_byte}
+use Rattle.legacy_base.specs.declared.modes.EncoderMode.{EncoderMode, TheVariants.{Ascii, Roman, TwoByte}}
 use Rattle.legacy_base.specs.{Beginnings.BeginsWith, EncodeEvents.code_length}
 use Rattle.legacy_encoder_engine.specs.declared.moves.EncoderMove.TheVariants.{One, Two, Four, Escape, Unmappable}
 use Rattle.legacy_encoder_engine.specs.declared.moves.EncoderMove.{EncoderMove}
@@ -33,9 +33,9 @@ is_escape _ = false
 
 -- the modes differ
 abbrev pub differs : EncoderMode → EncoderMode → Bool
-differs in_ascii in_ascii = false
-differs in_roman in_roman = false
-differs in_two_byte in_two_byte = false
+differs Ascii Ascii = false
+differs Roman Roman = false
+differs TwoByte TwoByte = false
 differs _ _ = true
 
 -- the scalar c needs an escape before it

@@ -2,7 +2,7 @@
 use Rattle.std.specs.Prelude.{ℕ, List, Option, Some, None, true, false, option_map}
 use Rattle.legacy_base.specs.Grammar.{single_byte, user_defined, replacement, utf16, big5, shift_jis, euc_jp, gb18030, iso_2022_jp}
 use Rattle.legacy_base.specs.EucKr.{euc_kr}
-use Rattle.legacy_base.specs.Iso2022Jp.{ascii}
+use Rattle.legacy_base.specs.declared.modes.DecoderMode.TheVariants.{Ascii}
 use Rattle.legacy_base.specs.States.{DecoderState, new_state}
 use Rattle.legacy_base.specs.Encoders.{EncoderState, new_encoder}
 use Rattle.legacy_base.specs.Encoders as encoders
@@ -17,7 +17,7 @@ decoder_of codec.Gbk flat entries = Some (new_state (gb18030 flat.gb18030 flat.r
 decoder_of codec.Gb18030 flat entries = Some (new_state (gb18030 flat.gb18030 flat.ranges))
 decoder_of codec.Big5 flat entries = Some (new_state (big5 flat.big5))
 decoder_of codec.EucJp flat entries = Some (new_state (euc_jp flat.jis0208 flat.jis0212))
-decoder_of codec.Iso2022Jp flat entries = Some (new_state (iso_2022_jp flat.jis0208 ascii))
+decoder_of codec.Iso2022Jp flat entries = Some (new_state (iso_2022_jp flat.jis0208 Ascii))
 decoder_of codec.ShiftJis flat entries = Some (new_state (shift_jis flat.jis0208))
 decoder_of codec.EucKr flat entries = Some (new_state (euc_kr flat.euc_kr))
 decoder_of codec.Replacement flat entries = Some (new_state (replacement false))

@@ -5,12 +5,12 @@ use Rattle.std.proofs.lemmas.{Bool.{Decides.nat_tests, cases_lt, ne_eqb}, Grind.
 use Rattle.std.proofs.lemmas.{List.{length-take-le, length-map, get_or-map, take-take, drop-drop}, Nat.Bits.{bit_at-trailing_zeros, bit_at-zero}}
 use Rattle.std.{proofs.lemmas.Simd.{bit_mask_l, bitmask_splat, mask_l-lt, zip2_splat}, specs.{Char.IsScalar, Int.trailing_zeros, Prelude.All}}
 use Rattle.legacy_text.specs.declared.destination.Destination.{Ghosts}
-use Rattle.legacy_base.specs.{Iso2022Jp.{ascii, two_byte, iso_2022_jp_front, esc}, Grammar.{iso_2022_jp, events_of}, States.DecoderState}
+use Rattle.legacy_base.specs.{declared.modes.DecoderMode.{DecoderMode, TheVariants.{Ascii, TwoByte}}, Iso2022Jp.{iso_2022_jp_front, esc}, Grammar.{iso_2022_jp, events_of}, States.DecoderState}
 use Rattle.legacy_base.proofs.{Iso2022JpFronts.{step_one, step_two}, Iso2022JpParts.no_escape, Shifts.{shift-append, shift-shift, shift-scalars}}
 use Rattle.legacy_tables.{specs.{AcceptedTables.AcceptedIndexes, Indexes.idx}, proofs.Accepted.length-jis0208}
-use Rattle.legacy_japanese.specs.declared.iso_2022_jp.bytes.{Mode.{TheVariants.Ascii, Mode}, Escape.Escape}
+use Rattle.legacy_japanese.specs.declared.iso_2022_jp.bytes.{Escape.Escape}
 use Rattle.legacy_japanese.specs.Iso2022JpAhead.{IsAsciiText, begun_state, HasEscape, jis_place}
-use Rattle.legacy_japanese.specs.Iso2022JpMachine.{mode_meaning, mode_of, second_of, third_of}
+use Rattle.legacy_japanese.specs.Iso2022JpMachine.{mode_of, second_of, third_of}
 use Rattle.legacy_japanese.proofs.{Iso2022JpRooms.{entry_narrow, one_fits, room-falls, times_one, same_rooms}, Iso2022JpStep.{events_in, escape_alone}}
 use Rattle.legacy_decoder_engine.specs.ReadAhead.{Yields, IsPair, ReadsAhead, YieldsTo, ReadsTo}
 use Rattle.legacy_decoder_engine.proofs.{WrittenReads.{yields_none, yields_more, all_code_units_ascii, rest_of}, PairPlaces.idx_past}
@@ -19,25 +19,25 @@ use lib.Lanes.{mask_l, zip2, top}
 
 -- ---- a byte of ASCII text
 
-pub ascii_text_yields : (jis0208 : List ℕ) (b : ℕ) → IsAsciiText b → Yields (iso_2022_jp jis0208 ascii) (b ∷ []) (b ∷ [])
+pub ascii_text_yields : (jis0208 : List ℕ) (b : ℕ) → IsAsciiText b → Yields (iso_2022_jp jis0208 Ascii) (b ∷ []) (b ∷ [])
 unfolding events_of iso_2022_jp_front
 ascii_text_yields jis0208 b h = grind (arith, nat_tests, step_one, ne_eqb, All-cons, All-nil, room-falls, times_one, one_fits)
 
-ascii_text_bytes : (jis0208 : List ℕ) (bytes : List ℕ) → All IsAsciiText bytes → Yields (iso_2022_jp jis0208 ascii) bytes bytes
-ascii_text_bytes jis0208 [] h = yields_none (iso_2022_jp jis0208 ascii)
-ascii_text_bytes jis0208 (b ∷ bytes) h = yields_more (iso_2022_jp jis0208 ascii) (b ∷ []) bytes (b ∷ []) bytes
+ascii_text_bytes : (jis0208 : List ℕ) (bytes : List ℕ) → All IsAsciiText bytes → Yields (iso_2022_jp jis0208 Ascii) bytes bytes
+ascii_text_bytes jis0208 [] h = yields_none (iso_2022_jp jis0208 Ascii)
+ascii_text_bytes jis0208 (b ∷ bytes) h = yields_more (iso_2022_jp jis0208 Ascii) (b ∷ []) bytes (b ∷ []) bytes
     (ascii_text_yields jis0208 b (h 0 0 (omega arith))) (ascii_text_bytes jis0208 bytes (λ i y l. h (suc i) y (omega arith)))
 
 -- ---- a pair
 
 pair_yield : (jis0208 : List ℕ) (a b c : ℕ) → 0x21 ≤ a → a ≤ 0x7E → 0x21 ≤ b → b ≤ 0x7E → c < 0x1_0000 → IsScalar c
-    → idx jis0208 ((a - 0x21) * 94 + (b - 0x21)) ≡ Some c → IsPair (iso_2022_jp jis0208 two_byte) a b c
+    → idx jis0208 ((a - 0x21) * 94 + (b - 0x21)) ≡ Some c → IsPair (iso_2022_jp jis0208 TwoByte) a b c
 unfolding events_of iso_2022_jp_front
 pair_yield jis0208 a b c low high low' high' narrow scalar is = grind (arith, nat_tests, step_two, ne_eqb, All-cons, All-nil, room-falls, times_one, one_fits)
 
 -- the scalar of two bytes, by the sum of their places
 pub placed_scalar : (tables : AcceptedIndexes) (a b c : ℕ) → idx tables.flat.jis0208 (jis_place 94 a + jis_place 1 b) ≡ Some c
-    → IsPair (iso_2022_jp tables.flat.jis0208 two_byte) a b c
+    → IsPair (iso_2022_jp tables.flat.jis0208 TwoByte) a b c
 unfolding jis_place
 placed_scalar tables a b c is =
     let short = length-jis0208 tables.flat tables.accepted in
@@ -92,9 +92,9 @@ ascii_text_before block k long within low h =
 -- ---- before and after an escape
 
 -- an escape before text of its mode, which does not begin with an escape byte
-escape_yields : (jis0208 : List ℕ) (mode : Mode) (e : Escape) (x : ℕ) (bytes ds : List ℕ) → x ≢ esc →
-    Yields (iso_2022_jp jis0208 (mode_meaning (mode_of e))) (x ∷ bytes) ds
-    → YieldsTo (iso_2022_jp jis0208 (mode_meaning mode)) (iso_2022_jp jis0208 (mode_meaning (mode_of e))) (esc ∷ second_of e ∷ third_of e ∷ x ∷ bytes) ds
+escape_yields : (jis0208 : List ℕ) (mode : DecoderMode) (e : Escape) (x : ℕ) (bytes ds : List ℕ) → x ≢ esc →
+    Yields (iso_2022_jp jis0208 (mode_of e)) (x ∷ bytes) ds
+    → YieldsTo (iso_2022_jp jis0208 mode) (iso_2022_jp jis0208 (mode_of e)) (esc ∷ second_of e ∷ third_of e ∷ x ∷ bytes) ds
 unfolding events_of
 escape_yields jis0208 mode e x bytes ds alone yields =
     grind (arith, events_in, escape_alone, no_escape, ne_eqb, shift-append, shift-scalars, shift-shift, room-falls)
@@ -110,7 +110,7 @@ escape_bytes e source read has some = grind (arith, take-add, bytes_after_escape
 
 module _ {D : Type 0} {T : Ghosts D} where
   -- text, then an escape and text of its mode
-  pub reads_on : (jis0208 : List ℕ) (first mode next : Mode) (e : Escape) (source : List ℕ) {old mid new : D} (at read : ℕ) → next ≡ mode_of e
+  pub reads_on : (jis0208 : List ℕ) (first mode next : DecoderMode) (e : Escape) (source : List ℕ) {old mid new : D} (at read : ℕ) → next ≡ mode_of e
       → HasEscape e (take (length source - at) (drop at source)) → 0 < read
       → ReadsTo T (begun_state jis0208 first) (begun_state jis0208 mode) source at old mid
       → ReadsAhead T (begun_state jis0208 next) (take (length source - (at + 3)) (drop (at + 3) source)) read mid new
@@ -121,7 +121,7 @@ module _ {D : Type 0} {T : Ghosts D} where
       ∙ ap (drop 3) (sym (rest_of source at)) in
       let text = rw (is, rest) at reads in
       let behind = rw (bytes_after_escape S read has.within some) at text.writes.yields in
-      let yields : YieldsTo (iso_2022_jp jis0208 (mode_meaning mode)) (iso_2022_jp jis0208 (mode_meaning (mode_of e))) (take (3 + read) S) text.writes.scalars =
+      let yields : YieldsTo (iso_2022_jp jis0208 mode) (iso_2022_jp jis0208 (mode_of e)) (take (3 + read) S) text.writes.scalars =
       rw (escape_bytes e S read has some) (escape_yields jis0208 mode e _ _ _ has.alone behind) in
       let both : ReadsTo T (begun_state jis0208 mode) (begun_state jis0208 (mode_of e)) S (3 + read) mid new =
       grind (arith, same_rooms, length-drop, yields, text) in

@@ -1,8 +1,9 @@
 -- The length formulas of the ISO-2022-JP encoder are enough for its scalars and escapes. Its moves, by its tables and by a list of pairs.
-use Rattle.std.proofs.Common.{◌≡◌, ℕ, ◌+◌, ◌<◌, ◌≤◌, ◌/◌, ◌%◌, List, arith, Bool, true, false, [], ◌∷◌, ◌++◌, length, refl, IsTrue, Some, map, ◌⊎◌}
+use Rattle.std.proofs.Common.{◌≡◌, ℕ, ◌+◌, ◌<◌, ◌≤◌, ◌/◌, ◌%◌, List, arith, Bool, true, false, [], ◌∷◌, ◌++◌, length, refl, IsTrue, Some, map, ◌⊎◌, IsAscii, get_or}
+use Rattle.std.{specs.List.list_any, proofs.lemmas.List.Folds.list_any_at}
 use Rattle.{std.proofs.lemmas.Bool.Decides.nat_tests, legacy_tables.specs.Indexes.FlatIndexes, legacy_text.specs.UnitCodes.IsNoSurrogate}
 use Rattle.{legacy_text.specs.EncodingForm.{EncodingForm, Utf8}, legacy_base.specs.{EncodeEvents.code_events, Beginnings.BeginsWith}}
-use Rattle.legacy_base.specs.{EncoderProfile.{EncoderProfile, EncoderMode, in_ascii}, Encoders.{encoder_profile, iso_2022_jp, is_pending}}
+use Rattle.legacy_base.specs.{EncoderProfile.EncoderProfile, Encoders.{encoder_profile, iso_2022_jp, is_pending}}
 use Rattle.legacy_base.specs.Iso2022Jp.{iso_2022_jp_encoder, iso_2022_jp_code, iso_2022_jp_reported, is_two_byte_scalar, is_roman_scalar, is_mode_control}
 use Rattle.legacy_base.{specs.{Iso2022Jp.{mode_behind, escape_to}, declared.results.EncodeEvent.EncodeEvent}, proofs.SameUnits.some_unit}
 use Rattle.legacy_base.proofs.Iso2022JpEncoding.{code-short, text_events, text_events-here, text_events-escape, text_events-end, text_events-open, mode_for}
@@ -11,7 +12,7 @@ use Rattle.legacy_encoder_engine.specs.{Moves.{differs, is_escape, move_bytes, m
 use Rattle.legacy_encoder_engine.specs.{UnfinishedCall.{PutsCode, ReadsByte}, UnitTurns.{ReadsUnit, two_bytes}}
 use Rattle.legacy_encoder_engine.specs.declared.moves.EncoderMove.{EncoderMove, TheVariants.{One, Two}}
 use Rattle.legacy_encoder_engine.proofs.PlainServes.{two_units, differs-same, here_moves}
-use Rattle.legacy_japanese.specs.{declared.iso_2022_jp.encoder.Mode.{Mode, TheVariants.{Ascii, TwoByte}}, Iso2022JpEncoder.{mode_of, state_in, Asks}}
+use Rattle.{legacy_base.specs.declared.modes.EncoderMode.{EncoderMode, TheVariants.{Ascii, TwoByte}}, legacy_japanese.specs.Iso2022JpEncoder.{state_in, Asks}}
 use Rattle.legacy_base.specs.declared.results.EncodeEvent.TheVariants as events
 
 module _ (jis0208 katakana_index : List ℕ) where
@@ -57,9 +58,9 @@ module _ (jis0208 katakana_index : List ℕ) where
   no_escape c r more rest e = grind (arith, nat_tests)
 
   -- the escape to ASCII mode comes at the end, or before a text that begins with it; the rest is encoded from ASCII mode
-  escape_first : (mode : EncoderMode) → (mode ≡ in_ascii → ⊥) → (more : List ℕ) (ended : Bool)
-      → ((more ≡ []) × IsTrue ended) ⊎ BeginsWith (text_events jis0208 katakana_index mode more ended) (map events.Byte (escape_to in_ascii))
-      → text_events jis0208 katakana_index mode more ended ≡ map events.Byte (escape_to in_ascii) ++ text_events jis0208 katakana_index in_ascii more ended
+  escape_first : (mode : EncoderMode) → (mode ≡ Ascii → ⊥) → (more : List ℕ) (ended : Bool)
+      → ((more ≡ []) × IsTrue ended) ⊎ BeginsWith (text_events jis0208 katakana_index mode more ended) (map events.Byte (escape_to Ascii))
+      → text_events jis0208 katakana_index mode more ended ≡ map events.Byte (escape_to Ascii) ++ text_events jis0208 katakana_index Ascii more ended
   escape_first mode other [] ended h = grind (arith, text_events-open, text_events-end)
   escape_first mode other (c ∷ more) ended h = grind (arith, text_events-here, text_events-escape, no_escape)
 
@@ -69,59 +70,57 @@ module _ (jis0208 katakana_index : List ℕ) where
 -- ---- the moves
 
 module _ (flat : FlatIndexes) where
-  pub finishes : (mode : Mode) → is_pending (state_in flat mode) ≡ true → Finishes (state_in flat mode) (state_in flat Ascii)
+  pub finishes : (mode : EncoderMode) → is_pending (state_in flat mode) ≡ true → Finishes (state_in flat mode) (state_in flat Ascii)
   finishes mode h = grind (arith, escape_first)
 
-  module _ (mode new : Mode) (c : ℕ) (move : EncoderMove) where
+  module _ {mode new : EncoderMode} {c : ℕ} {move : EncoderMove} where
     -- the scalar is read in the mode that it needs
-    pub stays : Asks flat mode c new move → differs (mode_of mode) (mode_of new) ≡ false → Moves (state_in flat mode) c (state_in flat mode) move
+    pub stays : Asks flat mode c new move → differs mode new ≡ false → Moves (state_in flat mode) c (state_in flat mode) move
     stays asks same =
-        let here : mode_for flat.jis0208 flat.katakana (mode_of mode) c ≡ mode_of mode = grind (arith, asks.mode_is) in
+        let here : mode_for flat.jis0208 flat.katakana mode c ≡ mode = grind (arith, asks.mode_is) in
         here_moves (state_in flat mode) (iso_2022_jp_reported c) c (record {
-          law = text_events-here flat.jis0208 flat.katakana (mode_of mode) c here;
+          law = text_events-here flat.jis0208 flat.katakana mode c here;
           fits = omega (arith, code-short flat.jis0208 flat.katakana c);
-          asks = rw here (differs-same (mode_of mode));
+          asks = rw here (differs-same mode);
         }) move asks.code_is
 
-    pub fits : Asks flat mode c new move → differs (mode_of mode) (mode_of new) ≡ false → length (move_bytes move) ≤ 3
+    pub fits : Asks flat mode c new move → differs mode new ≡ false → length (move_bytes move) ≤ 3
     fits asks same = let moves = stays asks same in omega (arith, moves.fits)
 
-    pub puts : Asks flat mode c new move → differs (mode_of mode) (mode_of new) ≡ false → is_escape move ≡ false → move_report move ≡ []
+    pub puts : Asks flat mode c new move → differs mode new ≡ false → is_escape move ≡ false → move_report move ≡ []
         → {old bytes : List ℕ} {at end : ℕ} → bytes ≡ old ++ move_bytes move → end ≡ at + length (move_bytes move)
         → PutsCode (state_in flat mode) c old at bytes end
     puts asks same reads silent bytes ends = record { move = move; moves = stays asks same; reads = reads; silent = silent; bytes = bytes; ends = ends }
 
     -- an escape goes to another mode
-    pub escapes : (own : EncoderMove) → Asks flat mode c new own → differs (mode_of mode) (mode_of new) ≡ true → is_escape move ≡ true
-        → move_bytes move ≡ escape_to (mode_of new) → Moves (state_in flat mode) c (state_in flat new) move
-    escapes own asks e is bytes = grind (arith, text_events-escape, differs-same, asks.mode_is)
+    pub escapes : {own : EncoderMove} → Asks flat mode c new own → (differs mode new ≡ true) × (is_escape move ≡ true) × (move_bytes move ≡ escape_to new)
+        → Moves (state_in flat mode) c (state_in flat new) move
+    escapes asks is = grind (arith, text_events-escape, differs-same, asks.mode_is)
 
-  -- ASCII in ASCII mode
-  module _ (c : ℕ) (low : c < 128) (free : is_mode_control c ≡ false) where
-    asks_ascii : Asks flat Ascii c Ascii (One c)
-    asks_ascii = record { mode_is = grind (arith, asked_steps); code_is = grind (arith, asked_steps) }
+  -- ASCII without controls, in ASCII mode
+  asks_ascii : (c : ℕ) → c < 128 → is_mode_control c ≡ false → Asks flat Ascii c Ascii (One c)
+  asks_ascii c low free = record { mode_is = grind (arith, asked_steps); code_is = grind (arith, asked_steps) }
 
-    pub own_byte : ReadsByte (state_in flat Ascii) 2 c c
-    own_byte = record { fits = omega arith; moves = stays Ascii Ascii c (One c) asks_ascii refl }
+  pub own_bytes : (bytes : List ℕ) → IsAscii bytes → list_any is_mode_control bytes ≡ false → (k : ℕ) → k < length bytes
+      → ReadsByte (state_in flat Ascii) 2 (get_or bytes k 0) (get_or bytes k 0)
+  own_bytes bytes ascii none k h =
+      let free : is_mode_control (get_or bytes k 0) ≡ false = grind (arith, none, h, list_any_at is_mode_control bytes k 0) in
+      record { fits = omega arith; moves = stays (asks_ascii _ (ascii k) free) refl }
 
-    pub puts_ascii : (mode : Mode) → mode ≡ Ascii → (old bytes : List ℕ) (at : ℕ) → bytes ≡ old ++ c ∷ []
-        → PutsCode (state_in flat mode) c old at bytes (at + 1)
-    puts_ascii mode here old bytes at is = rw here (puts Ascii Ascii c (One c) asks_ascii refl refl refl is refl)
-
-  pub ruleset put_steps = (fits, puts, puts_ascii)
+  pub ruleset put_steps = (fits, puts)
 
   -- a pair that is in the list
   module _ (c both : ℕ) (is : IsNoSurrogate c × (iso_2022_jp_code flat.jis0208 flat.katakana c ≡ Some (two_bytes both))) where
     abbrev pair : EncoderMove
     pair = Two (both % 256) (both / 256)
 
-    pub asks_listed : (mode : Mode) → Asks flat mode c TwoByte pair
+    pub asks_listed : (mode : EncoderMode) → Asks flat mode c TwoByte pair
     unfolding mode_behind
     asks_listed mode = record { mode_is = rw is.1 refl; code_is = is.1 }
 
     pub puts_listed : (old bytes : List ℕ) (at : ℕ) → bytes ≡ old ++ two_bytes both → PutsCode (state_in flat TwoByte) c old at bytes (at + 2)
-    puts_listed old bytes at is = puts TwoByte TwoByte c pair (asks_listed TwoByte) refl refl refl is refl
+    puts_listed old bytes at is = puts (asks_listed TwoByte) refl refl refl is refl
 
     pub reads_listed : ReadsUnit (state_in flat TwoByte) c both 2
     reads_listed =
-        record { bmp = is.0; move = pair; moves = stays TwoByte TwoByte c pair (asks_listed TwoByte) refl; reads = refl; silent = refl; bytes = refl }
+        record { bmp = is.0; move = pair; moves = stays (asks_listed TwoByte) refl; reads = refl; silent = refl; bytes = refl }

@@ -6,9 +6,10 @@ use Rattle.legacy_decoder_engine.specs.Moves.{fed_scalars, fed_units, unread_byt
 use Rattle.{legacy_decoder_engine.specs.declared.moves.Fed.{TheVariants.{Nothing as Kept, One, Two}, Fed}, legacy_tables.specs.AcceptedTables.AcceptedIndexes}
 use Rattle.legacy_japanese.proofs.Iso2022JpRooms.{read_room-is, one_fits, room-falls, replacement_fits, times_one, held_allowed, held_rests, same_rooms}
 use Rattle.legacy_japanese.proofs.{Iso2022JpRooms.{single_narrow, entry_narrow}, Iso2022JpStep.{done, step_events, IsStep, read_step}}
-use Rattle.legacy_japanese.specs.Iso2022JpMachine.{mode_meaning, bytes_held, is_held, malformed, read, second_of, third_of, state_in}
+use Rattle.legacy_japanese.specs.Iso2022JpMachine.{bytes_held, is_held, malformed, read, second_of, third_of, state_in}
 use Rattle.legacy_japanese.specs.declared.iso_2022_jp.bytes.{Start.TheVariants.{Nothing, EscapeByte, Dollar, Paren}, Held.TheVariants.Begun, Escape.Escape}
-use Rattle.legacy_japanese.specs.{declared.iso_2022_jp.bytes.{Start.Start, Mode.Mode, Held.Held}, Iso2022JpAhead.{begun_state, BeginsEscape}}
+use Rattle.legacy_base.specs.declared.modes.DecoderMode.{DecoderMode}
+use Rattle.legacy_japanese.specs.{declared.iso_2022_jp.bytes.{Start.Start, Held.Held}, Iso2022JpAhead.{begun_state, BeginsEscape}}
 use Rattle.legacy_text.specs.EncodingForm.{total_unit_count, EncodingForm, bmp_room}
 
 -- at most one scalar, which is not above U+FFFF
@@ -17,11 +18,11 @@ IsNarrow (One c) = (c < 0x1_0000) × IsScalar c
 IsNarrow (Two c d) = ⊥
 IsNarrow fed = Unit {0}
 
-narrow : (tables : AcceptedIndexes) (mode : Mode) (held : Held) (b : ℕ) → IsNarrow (read tables.flat.jis0208 mode held b).0
+narrow : (tables : AcceptedIndexes) (mode : DecoderMode) (held : Held) (b : ℕ) → IsNarrow (read tables.flat.jis0208 mode held b).0
 narrow tables mode held b = grind (arith, nat_tests, single_narrow, entry_narrow tables)
 
-module _ (tables : AcceptedIndexes) (mode : Mode) (held : Held) (byte : ℕ) (o : Fed × Mode × Held) (may : is_held mode held ≡ true)
-    (resting : rests (iso_2022_jp tables.flat.jis0208 (mode_meaning mode)) (bytes_held held) ≡ true) (is : o ≡ read tables.flat.jis0208 mode held byte) where
+module _ (tables : AcceptedIndexes) (mode : DecoderMode) (held : Held) (byte : ℕ) (o : Fed × DecoderMode × Held) (may : is_held mode held ≡ true)
+    (resting : rests (iso_2022_jp tables.flat.jis0208 mode) (bytes_held held) ≡ true) (is : o ≡ read tables.flat.jis0208 mode held byte) where
   -- the outcome is the machine's step
   step : IsStep tables.flat.jis0208 mode held byte o
   step = rw is (read_step tables.flat.jis0208 mode held byte may (sym (held_rests tables.flat.jis0208 mode held may) ∙ resting))
@@ -62,7 +63,7 @@ module _ (tables : AcceptedIndexes) (mode : Mode) (held : Held) (byte : ℕ) (o 
       }
 
 -- a byte past ASCII is malformed in each mode
-pub malformed_byte : (tables : AcceptedIndexes) (mode : Mode) (byte : ℕ) → 0x80 ≤ byte → FeedsMalformedByte (begun_state tables.flat.jis0208 mode) byte
+pub malformed_byte : (tables : AcceptedIndexes) (mode : DecoderMode) (byte : ℕ) → 0x80 ≤ byte → FeedsMalformedByte (begun_state tables.flat.jis0208 mode) byte
 malformed_byte tables mode byte past =
     let is : malformed 1 false mode (Begun None Nothing) ≡ read tables.flat.jis0208 mode (Begun None Nothing) byte = grind (arith, nat_tests) in
     (refl, feeds tables mode (Begun None Nothing) byte _ refl (held_rests tables.flat.jis0208 mode (Begun None Nothing) refl) is)
@@ -73,7 +74,7 @@ malformed_byte tables mode byte past =
 abbrev second_start : Escape → Start
 second_start e = cond (second_of e == 0x24) Dollar Paren
 
-module _ (form : EncodingForm) (free : ℕ) (enough : bmp_room form ≤ free) (tables : AcceptedIndexes) (mode : Mode) where
+module _ (form : EncodingForm) (free : ℕ) (enough : bmp_room form ≤ free) (tables : AcceptedIndexes) (mode : DecoderMode) where
   abbrev state : Held → DecoderState
   state = state_in tables.flat.jis0208 mode
 

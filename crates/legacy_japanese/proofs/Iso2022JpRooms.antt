@@ -6,29 +6,30 @@ use Rattle.legacy_base.specs.{DecoderActs.room_needed, Lengths.{LengthQuery, que
 use Rattle.legacy_base.{specs.States.{rests, is_empty, may_hold}, proofs.Iso2022JpFronts.step_end}
 use Rattle.legacy_text.{specs.EncodingForm.{EncodingForm, bmp_room, code_units, total_unit_count}, proofs.CodeUnits.length-code_units-bmp}
 use Rattle.legacy_decoder_engine.{specs.Moves.{IsCovered, SameRooms, read_room}, proofs.RoomMoves.no_short_room}
-use Rattle.legacy_japanese.specs.declared.iso_2022_jp.bytes.{Mode.Mode, Start.TheVariants.Nothing, Held.{Held, TheVariants.Begun}}
-use Rattle.legacy_japanese.specs.Iso2022JpMachine.{mode_meaning, bytes_held, is_held, is_resting, single, state_in, weight_of}
+use Rattle.legacy_base.specs.declared.modes.DecoderMode.{DecoderMode}
+use Rattle.legacy_japanese.specs.declared.iso_2022_jp.bytes.{Start.TheVariants.Nothing, Held.{Held, TheVariants.Begun}}
+use Rattle.legacy_japanese.specs.Iso2022JpMachine.{bytes_held, is_held, is_resting, single, state_in, weight_of}
 
 -- ---- the held-back bytes
 
 -- the grammar may hold back these bytes
-pub held_allowed : (jis0208 : List ℕ) (mode : Mode) (held : Held) → is_held mode held ≡ true →
-    may_hold (iso_2022_jp jis0208 (mode_meaning mode)) (bytes_held held) ≡ true
+pub held_allowed : (jis0208 : List ℕ) (mode : DecoderMode) (held : Held) → is_held mode held ≡ true →
+    may_hold (iso_2022_jp jis0208 mode) (bytes_held held) ≡ true
 held_allowed jis0208 mode held h = grind arith
 
 -- they rest exactly if the machine reads on
-pub held_rests : (jis0208 : List ℕ) (mode : Mode) (held : Held) → is_held mode held ≡ true →
-    rests (iso_2022_jp jis0208 (mode_meaning mode)) (bytes_held held) ≡ is_resting mode held
+pub held_rests : (jis0208 : List ℕ) (mode : DecoderMode) (held : Held) → is_held mode held ≡ true →
+    rests (iso_2022_jp jis0208 mode) (bytes_held held) ≡ is_resting mode held
 held_rests jis0208 mode held h = grind arith
 
 -- ---- the room of an act
 
 -- all modes need the same room
-pub same_rooms : (jis0208 : List ℕ) (before after : Mode) → SameRooms (iso_2022_jp jis0208 (mode_meaning before)) (iso_2022_jp jis0208 (mode_meaning after))
+pub same_rooms : (jis0208 : List ℕ) (before after : DecoderMode) → SameRooms (iso_2022_jp jis0208 before) (iso_2022_jp jis0208 after)
 same_rooms jis0208 before after = record { codec = refl; full = λ form. refl; report = λ form. refl; wants = λ previous c. refl }
 
 -- each byte needs the room of a scalar up to U+FFFF
-pub read_room-is : (form : EncodingForm) (jis0208 : List ℕ) (mode : Mode) (held : Held) (byte : ℕ) →
+pub read_room-is : (form : EncodingForm) (jis0208 : List ℕ) (mode : DecoderMode) (held : Held) (byte : ℕ) →
     read_room form (state_in jis0208 mode held) byte ≡ bmp_room form
 read_room-is form jis0208 mode held byte = no_short_room (is_ascii byte && is_empty (bytes_held held)) 1 (bmp_room form)
 
@@ -37,7 +38,7 @@ pub one_fits : (form : EncodingForm) (c : ℕ) → c < 0x1_0000 → total_unit_c
 one_fits form c h = let l = length-code_units-bmp form c h in let a = length-append (code_units form c) [] in omega arith
 
 -- the scalar of a byte, and of a pointer in the index
-pub single_narrow : (mode : Mode) (b c : ℕ) → single mode b ≡ Some c → (c < 0x1_0000) × IsScalar c
+pub single_narrow : (mode : DecoderMode) (b c : ℕ) → single mode b ≡ Some c → (c < 0x1_0000) × IsScalar c
 single_narrow mode b c is = grind (arith, nat_tests)
 
 pub entry_narrow : (tables : AcceptedIndexes) (p c : ℕ) → idx tables.flat.jis0208 p ≡ Some c → (c < 0x1_0000) × IsScalar c
@@ -46,12 +47,12 @@ entry_narrow tables p c is = grind (arith, common_steps, idx-all, jis0208-below,
 -- ---- the room of a state
 
 -- the room of the input bytes and the held-back bytes: for each a scalar up to U+FFFF
-pub room-is : (query : LengthQuery) (jis0208 : List ℕ) (mode : Mode) (held : Held) (n : ℕ) →
+pub room-is : (query : LengthQuery) (jis0208 : List ℕ) (mode : DecoderMode) (held : Held) (n : ℕ) →
     room query (state_in jis0208 mode held) n ≡ bmp_room (query_form query) * (n + weight_of held)
 room-is query jis0208 mode held n = grind arith
 
 -- the room decreases by what is written, if the weight decreases by the number of scalars and reports
-pub room-falls : (query : LengthQuery) (jis0208 : List ℕ) (mode new_mode : Mode) (held new_held : Held) (n m r u : ℕ)
+pub room-falls : (query : LengthQuery) (jis0208 : List ℕ) (mode new_mode : DecoderMode) (held new_held : Held) (n m r u : ℕ)
     → (m + weight_of new_held) + r ≤ n + weight_of held → u ≤ bmp_room (query_form query) * r
     → room query (state_in jis0208 new_mode new_held) m + u ≤ room query (state_in jis0208 mode held) n
 room-falls query jis0208 mode new_mode held new_held n m r u h k =
@@ -67,11 +68,11 @@ times_one query u h = grind arith
 -- ---- the room of the next act
 
 -- the room of a length query is enough for the next act
-pub covered : (jis0208 : List ℕ) (mode : Mode) (held : Held) → IsCovered (state_in jis0208 mode held)
+pub covered : (jis0208 : List ℕ) (mode : DecoderMode) (held : Held) → IsCovered (state_in jis0208 mode held)
 unfolding events_of
 covered jis0208 mode held = record { covers = λ query unread last. rw (room-is query jis0208 mode held (length unread)) (enough query last unread held) }
   where
     enough : (query : LengthQuery) (last : Bool) (unread : List ℕ) (held : Held) → room_needed (query_form query) (state_in jis0208 mode held) unread last
         ≤ bmp_room (query_form query) * (length unread + weight_of held)
-    enough query last [] (Begun None Nothing) = rw (step_end jis0208 (mode_meaning mode)) (omega arith)
+    enough query last [] (Begun None Nothing) = rw (step_end jis0208 mode) (omega arith)
     enough query last unread held = grind (arith, nat_tests, read_room-is)

@@ -5,19 +5,20 @@ use Rattle.legacy_base.specs.{Beginnings.BeginsWith, Events.shift, Iso2022Jp.{is
 use Rattle.legacy_base.{specs.declared.results.DecodeEvent.{DecodeEvent, TheVariants.{Scalar, Bad}}, proofs.Iso2022JpParts.no_escape}
 use Rattle.legacy_base.proofs.{Iso2022JpFronts.{step_one, step_two, step_no_escape, step_escape}, Shifts.{shift-append, shift-shift, shift-zero}}
 use Rattle.legacy_decoder_engine.specs.{Moves.{fed_scalars, fed_malformed, unread_byte, FedHolds}, declared.moves.Fed.Fed}
-use Rattle.legacy_japanese.specs.declared.iso_2022_jp.bytes.{Mode.{Mode, TheVariants.TwoByte}, Escape.Escape, Start.{TheVariants.{Nothing, EscapeByte}, Start}}
+use Rattle.legacy_base.specs.declared.modes.DecoderMode.{DecoderMode, TheVariants.TwoByte}
+use Rattle.legacy_japanese.specs.declared.iso_2022_jp.bytes.{Escape.Escape, Start.{TheVariants.{Nothing, EscapeByte}, Start}}
 use Rattle.legacy_japanese.specs.declared.iso_2022_jp.bytes.Held.{Held, TheVariants.{Begun, Byte}}
-use Rattle.legacy_japanese.specs.Iso2022JpMachine.{mode_meaning, bytes_held, is_held, is_resting, mode_of, read, read_in_mode, state_in, weight_of, read_start}
+use Rattle.legacy_japanese.specs.Iso2022JpMachine.{bytes_held, is_held, is_resting, mode_of, read, read_in_mode, state_in, weight_of, read_start}
 use Rattle.legacy_japanese.specs.Iso2022JpMachine.{read_trail, second_of, start_bytes, third_of}
 
 -- the definitions at the modes of the code
-abbrev pub events_in : List ℕ → Mode → List ℕ → List DecodeEvent
-events_in jis0208 mode bytes = iso_2022_jp_events jis0208 (mode_meaning mode) bytes
+abbrev pub events_in : List ℕ → DecoderMode → List ℕ → List DecodeEvent
+events_in jis0208 mode bytes = iso_2022_jp_events jis0208 mode bytes
 
 -- ---- the law
 
 -- the number of held-back and read bytes that a step consumes
-abbrev pub done : Held → ℕ → Fed × Mode × Held → ℕ
+abbrev pub done : Held → ℕ → Fed × DecoderMode × Held → ℕ
 done held b o = suc (length (bytes_held held)) - length (bytes_held o.2 ++ unread_byte b o.0)
 
 -- the events of a step that has consumed `taken` bytes
@@ -26,7 +27,7 @@ step_events taken fed = map Scalar (fed_scalars fed) ++ fed_malformed taken fed
 
 -- The law of a step, for all bytes that follow. The events of the held-back bytes, the byte and the rest are those of
 -- the step, and then others. The others are the events of the bytes now held back and the unread bytes.
-abbrev pub MeetsLaw : List ℕ → Mode → Held → ℕ → Fed × Mode × Held → Type 0
+abbrev pub MeetsLaw : List ℕ → DecoderMode → Held → ℕ → Fed × DecoderMode × Held → Type 0
 MeetsLaw jis0208 mode held b o = (more : List ℕ) →
     events_in jis0208 mode (bytes_held held ++ b ∷ more)
     ≡ step_events (done held b o) o.0
@@ -38,7 +39,7 @@ ended held new_held = length (bytes_held held) - length (bytes_held new_held)
 
 -- The law of the end: the report and the events after it. It also holds if more bytes follow and the report is the
 -- same.
-abbrev pub MeetsEnd : List ℕ → Mode → Held → Option (Mode × Held) → Type 0
+abbrev pub MeetsEnd : List ℕ → DecoderMode → Held → Option (DecoderMode × Held) → Type 0
 MeetsEnd jis0208 mode held None = events_in jis0208 mode (bytes_held held) ≡ []
 MeetsEnd jis0208 mode held (Some o) = (more : List ℕ) →
     (more ≡ []) ⊎ BeginsWith (events_in jis0208 mode (bytes_held held ++ more)) (Bad (ended held o.1 - 1) 1 ∷ []) →
@@ -48,7 +49,7 @@ MeetsEnd jis0208 mode held (Some o) = (more : List ℕ) →
 -- ---- lemmas
 
 -- the second byte of an escape may be held back alone
-pub second_kept : (mode : Mode) → (is_held mode (Byte 0x24) ≡ true) × (is_held mode (Byte 0x28) ≡ true)
+pub second_kept : (mode : DecoderMode) → (is_held mode (Byte 0x24) ≡ true) × (is_held mode (Byte 0x28) ≡ true)
 second_kept mode = grind arith
 
 -- the bytes of a pair are not escape bytes
@@ -60,7 +61,7 @@ shift-none k items e = rw (e, shift-zero)
 
 module _ (jis0208 : List ℕ) where
   -- a step meets its law, and what it leaves is sound
-  pub record IsStep (mode : Mode) (held : Held) (b : ℕ) (o : Fed × Mode × Held) : Type 0 where
+  pub record IsStep (mode : DecoderMode) (held : Held) (b : ℕ) (o : Fed × DecoderMode × Held) : Type 0 where
     pub law : MeetsLaw jis0208 mode held b o
     pub kept : is_held o.1 o.2 ≡ true
     pub suffix : drop (done held b o) (bytes_held held ++ b ∷ []) ≡ bytes_held o.2 ++ unread_byte b o.0
@@ -72,16 +73,16 @@ module _ (jis0208 : List ℕ) where
   -- ---- after a whole escape
 
   -- a whole escape is malformed if a valid escape follows directly, and otherwise has no events; the bytes after it are read in its mode
-  pub escaped : (mode : Mode) (e : Escape) (more : List ℕ) → events_in jis0208 mode (esc ∷ second_of e ∷ third_of e ∷ more)
+  pub escaped : (mode : DecoderMode) (e : Escape) (more : List ℕ) → events_in jis0208 mode (esc ∷ second_of e ∷ third_of e ∷ more)
       ≡ cond (is_some (part_mode more)) (Bad 0 3 ∷ []) [] ++ shift 3 (events_in jis0208 (mode_of e) more)
-  escaped mode e more = step_escape jis0208 (mode_meaning mode) (mode_meaning (mode_of e)) (second_of e) (third_of e) more (grind arith)
+  escaped mode e more = step_escape jis0208 mode (mode_of e) (second_of e) (third_of e) more (grind arith)
 
-  pub escape_alone : (mode : Mode) (e : Escape) (more : List ℕ) → part_mode more ≡ None
+  pub escape_alone : (mode : DecoderMode) (e : Escape) (more : List ℕ) → part_mode more ≡ None
       → events_in jis0208 mode (esc ∷ second_of e ∷ third_of e ∷ more) ≡ shift 3 (events_in jis0208 (mode_of e) more)
   escape_alone mode e more h = rw (escaped mode e more, h)
 
   -- a step after a whole escape is the step without it in its mode, if no valid escape follows directly
-  behind_step : (mode : Mode) (e : Escape) (s : Start) (b : ℕ) (o : Fed × Mode × Held) → ((more : List ℕ) → part_mode (start_bytes s ++ b ∷ more) ≡ None)
+  behind_step : (mode : DecoderMode) (e : Escape) (s : Start) (b : ℕ) (o : Fed × DecoderMode × Held) → ((more : List ℕ) → part_mode (start_bytes s ++ b ∷ more) ≡ None)
       → IsStep (mode_of e) (Begun None s) b o → IsStep mode (Begun (Some e) s) b o
   behind_step mode e s b o alone step =
       let further : done (Begun (Some e) s) b o ≡ suc (suc (suc (done (Begun None s) b o))) = omega (arith, step.fits) in
@@ -90,11 +91,11 @@ module _ (jis0208 : List ℕ) where
 
   -- ---- less than a whole escape
 
-  in_mode_step : (mode : Mode) (b : ℕ) → (b == esc) ≡ false → IsStep mode (Begun None Nothing) b (read_in_mode mode b)
+  in_mode_step : (mode : DecoderMode) (b : ℕ) → (b == esc) ≡ false → IsStep mode (Begun None Nothing) b (read_in_mode mode b)
   unfolding iso_2022_jp_front
   in_mode_step mode b plain = grind (arith, nat_tests, step_one, shift-none)
 
-  lead_step : (mode : Mode) (l b : ℕ) → is_held mode (Byte l) ≡ true → is_two_byte_mode (mode_meaning mode) ≡ true →
+  lead_step : (mode : DecoderMode) (l b : ℕ) → is_held mode (Byte l) ≡ true → is_two_byte_mode mode ≡ true →
       IsStep mode (Byte l) b (read_trail jis0208 l b)
   unfolding iso_2022_jp_front
   lead_step TwoByte l b lead two = cond_both (b == esc) _ _ (IsStep TwoByte (Byte l) b)
@@ -102,7 +103,7 @@ module _ (jis0208 : List ℕ) where
       (λ h. let first = in_range_plain l lead in grind (arith, step_two))
   lead_step _ l b lead two = cc
 
-  start_step : (mode : Mode) (e : Option Escape) (s : Start) (b : ℕ) → IsStep mode (Begun e s) b (read_start mode e s b)
+  start_step : (mode : DecoderMode) (e : Option Escape) (s : Start) (b : ℕ) → IsStep mode (Begun e s) b (read_start mode e s b)
   unfolding part_mode
   start_step mode None Nothing b = cond_both (b == esc) _ _ (IsStep mode (Begun None Nothing) b)
       (λ h. rw (eqb-true b esc h) (grind (arith, shift-none)))
@@ -121,6 +122,6 @@ module _ (jis0208 : List ℕ) where
       let all = escaped mode e in let kept = second_kept (mode_of e) in grind (arith, nat_tests, all, step_no_escape, shift-shift, shift-none)
 
   -- The main theorem of the machine: each byte read is a correct step, if the held-back bytes rest.
-  pub read_step : (mode : Mode) (held : Held) (b : ℕ) → is_held mode held ≡ true → is_resting mode held ≡ true → IsStep mode held b (read jis0208 mode held b)
+  pub read_step : (mode : DecoderMode) (held : Held) (b : ℕ) → is_held mode held ≡ true → is_resting mode held ≡ true → IsStep mode held b (read jis0208 mode held b)
   read_step mode (Byte l) b h r = lead_step mode l b h r
   read_step mode (Begun e s) b h r = start_step mode e s b

@@ -1,31 +1,20 @@
 -- The state of the ISO-2022-JP encoder between two calls, and its moves.
-use Rattle.std.proofs.Common.{◌≡◌, ◌≢◌, ℕ, ◌+◌, ◌*◌, ◌/◌, ◌%◌, ◌<◌, ◌≤◌, List, [], ◌∷◌, slice_index, false, Some, arith}
+use Rattle.std.proofs.Common.{◌≡◌, ◌≢◌, ℕ, ◌+◌, ◌*◌, ◌/◌, ◌%◌, [], ◌∷◌, Some, arith}
 use Rattle.{legacy_tables.specs.Indexes.FlatIndexes, legacy_text.specs.UnitCodes.IsNoSurrogate}
-use Rattle.legacy_base.specs.Iso2022Jp.{iso_2022_jp_code, iso_2022_jp_reported, is_mode_control, mode_behind}
-use Rattle.legacy_base.specs.{EncoderProfile.{EncoderMode, in_ascii, in_roman, in_two_byte}, Encoders.{EncoderState, iso_2022_jp}}
+use Rattle.legacy_base.specs.Iso2022Jp.{iso_2022_jp_code, iso_2022_jp_reported, mode_behind}
+use Rattle.legacy_base.specs.{declared.modes.EncoderMode.EncoderMode, Encoders.{EncoderState, iso_2022_jp}}
 use Rattle.legacy_encoder_engine.specs.{Moves.IsCode, UnitTurns.two_bytes, declared.moves.EncoderMove.EncoderMove}
-use Rattle.legacy_japanese.specs.declared.iso_2022_jp.encoder.Mode.{Mode, TheVariants.{Ascii, Roman, TwoByte}}
-
--- the mode of the profile
-abbrev pub mode_of : Mode → EncoderMode
-mode_of Ascii = in_ascii
-mode_of Roman = in_roman
-mode_of TwoByte = in_two_byte
 
 -- the codec with these indexes, in a mode
-abbrev pub state_in : FlatIndexes → Mode → EncoderState
-state_in flat mode = record { codec = iso_2022_jp flat.jis0208 flat.katakana; mode = mode_of mode }
+abbrev pub state_in : FlatIndexes → EncoderMode → EncoderState
+state_in flat mode = record { codec = iso_2022_jp flat.jis0208 flat.katakana; mode = mode }
 
 -- ---- internal definitions
 
 -- In `mode` the scalar c needs the mode `new`, in which `move` encodes it.
-pub record Asks (flat : FlatIndexes) (mode : Mode) (c : ℕ) (new : Mode) (move : EncoderMove) : Type 0 where
-  pub mode_is : mode_behind flat.jis0208 flat.katakana (mode_of mode) (c ∷ []) ≡ mode_of new
+pub record Asks (flat : FlatIndexes) (mode : EncoderMode) (c : ℕ) (new : EncoderMode) (move : EncoderMove) : Type 0 where
+  pub mode_is : mode_behind flat.jis0208 flat.katakana mode (c ∷ []) ≡ new
   pub code_is : IsCode (iso_2022_jp_code flat.jis0208 flat.katakana c) (iso_2022_jp_reported c) move
-
--- none of the bytes from the place `first` to before the place `end` is a control that would switch modes
-abbrev pub HasNoControl : List ℕ → ℕ → ℕ → Type 0
-HasNoControl bytes first end = (k : ℕ) → first ≤ k → k < end → is_mode_control (slice_index bytes k) ≡ false
 
 -- ---- a list of pairs, each with its lead in the low byte and its trail in the high byte
 

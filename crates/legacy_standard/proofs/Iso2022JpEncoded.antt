@@ -2,7 +2,7 @@
 use Rattle.std.proofs.Common.{◌≡◌, ◌∙◌, ℕ, Bool, cond, List, [], ◌∷◌, Option, Some, None, inl, inr, refl, true, false, arith}
 use Rattle.std.proofs.{lemmas.Bool.{cases_Bool, false≢true}, lemmas.Bool.Decides.nat_tests}
 use Rattle.std.specs.{Prelude.{◌==◌, ◌||◌}, Int.is_in_range, Char.is_ascii}
-use Rattle.legacy_base.specs.{declared.results.EncodeEvent.EncodeEvent, EncoderProfile.{EncoderMode, in_ascii, in_roman, in_two_byte}}
+use Rattle.legacy_base.specs.declared.{results.EncodeEvent.EncodeEvent, modes.EncoderMode.{EncoderMode, TheVariants.{Ascii, Roman, TwoByte}}}
 use Rattle.legacy_base.specs.Iso2022Jp.{mode_behind, settled_mode, iso_2022_jp_code, iso_2022_jp_pointer_of, iso_2022_jp_reported, escape_to}
 use Rattle.legacy_base.proofs.Iso2022JpEncoding.{text_events, text_events-here, text_events-escape, text_events-end, mode_for, mode_for-twice}
 use Rattle.legacy_tables.specs.Pointers.{euc_jp_pointer_of, minus_as_hyphen}
@@ -13,14 +13,14 @@ use Rattle.legacy_base.specs.Encoders as codecs
 
 -- the handler's state for a mode
 abbrev state_of : EncoderMode → Iso2022JpEncoderState
-state_of in_ascii = ascii
-state_of in_roman = roman
-state_of in_two_byte = jis0208
+state_of Ascii = ascii
+state_of Roman = roman
+state_of TwoByte = jis0208
 
 abbrev same_mode : EncoderMode → EncoderMode → Bool
-same_mode in_ascii in_ascii = true
-same_mode in_roman in_roman = true
-same_mode in_two_byte in_two_byte = true
+same_mode Ascii Ascii = true
+same_mode Roman Roman = true
+same_mode TwoByte TwoByte = true
 same_mode _ _ = false
 
 same_self : (mode : EncoderMode) → same_mode mode mode ≡ true
@@ -141,13 +141,13 @@ module _ (index katakana_index : List ℕ) where
 
     nothing : (mode : EncoderMode) → Gives mode []
     unfolding iso_2022_jp_encodes
-    nothing in_ascii = rw (text_events-end index katakana_index in_ascii) (ends refl)
-    nothing in_roman = rw (text_events-end index katakana_index in_roman) (end_bytes (escape_to in_ascii) refl (ends refl))
-    nothing in_two_byte = rw (text_events-end index katakana_index in_two_byte) (end_bytes (escape_to in_ascii) refl (ends refl))
+    nothing Ascii = rw (text_events-end index katakana_index Ascii) (ends refl)
+    nothing Roman = rw (text_events-end index katakana_index Roman) (end_bytes (escape_to Ascii) refl (ends refl))
+    nothing TwoByte = rw (text_events-end index katakana_index TwoByte) (end_bytes (escape_to Ascii) refl (ends refl))
 
     all_texts : (text : List ℕ) → Goes text
     all_texts [] = nothing
     all_texts (c ∷ more) = any c more (all_texts more)
 
     pub iso_2022_jp_encoded : IsEncodedBy (codecs.iso_2022_jp index katakana_index) handler ascii
-    iso_2022_jp_encoded text all = steady (all_texts text in_ascii)
+    iso_2022_jp_encoded text all = steady (all_texts text Ascii)

@@ -4,7 +4,8 @@ use Rattle.std.proofs.{Common.{true, false, inl, inr, arith}, lemmas.Bool.{and_r
 use Rattle.std.proofs.lemmas.Bool.Decides.{nat_tests}
 use Rattle.std.specs.{Prelude.{is_some, ◌==◌, ◌||◌, ◌&&◌}, Int.is_in_range}
 use Rattle.legacy_base.specs.{declared.results.DecodeEvent.DecodeEvent, declared.results.DecodeEvent.TheVariants.{Scalar, Bad}, Events.shift, Fronts.Front}
-use Rattle.legacy_base.specs.{Fronts.{reads, malformed, front_events}, Iso2022Jp.{Mode, esc, escape_mode, part_mode, is_two_byte_mode}}
+use Rattle.legacy_base.specs.{Fronts.{reads, malformed, front_events}, declared.modes.DecoderMode.{DecoderMode, TheVariants.{Ascii, Roman, Katakana, TwoByte}}}
+use Rattle.legacy_base.specs.Iso2022Jp.{esc, escape_mode, part_mode, is_two_byte_mode}
 use Rattle.legacy_base.specs.{Iso2022Jp.{iso_2022_jp_front, iso_2022_jp_events}, Grammar.{iso_2022_jp, events_of}}
 use Rattle.legacy_base.proofs.{Shifts.{shift-append, shift-shift, shift-zero}, Iso2022JpParts.{first_part, no_escape}, Iso2022JpFronts.{step_end, step_one}}
 use Rattle.legacy_base.proofs.Iso2022JpFronts.{step_two, step_no_escape, step_escape, escape_ahead}
@@ -13,7 +14,6 @@ use Rattle.legacy_standard.specs.Queue.{Item, byte, end_of_queue, continue, fini
 use Rattle.legacy_standard.specs.Iso2022Jp.{Iso2022JpDecoderState, ascii, roman, katakana, leading_byte, trailing_byte, escape_start, escape, escape_state}
 use Rattle.legacy_standard.specs.{Iso2022Jp.{Iso2022Jp, iso_2022_jp_handler, length_and_after, iso_2022_jp_malformed}, DecoderLaw.HandlerDecodes}
 use Rattle.legacy_standard.proofs.Turns.{Proceeds, steady, at_end, goes_on, error_at, error_at_end, gives}
-use Rattle.legacy_base.specs.Iso2022Jp as iso
 use Rattle.legacy_standard.specs.DecoderLaw as decoders
 
 -- ---- turns, by the number of bytes read
@@ -63,21 +63,21 @@ module _ {jis0208 : List ℕ} {s t : Iso2022Jp} {few pos : ℕ} where
 -- ---- the decoder
 
 -- the handler's state for a mode
-abbrev state_of : Mode → Iso2022JpDecoderState
-state_of iso.ascii = ascii
-state_of iso.roman = roman
-state_of iso.katakana = katakana
-state_of iso.two_byte = leading_byte
+abbrev state_of : DecoderMode → Iso2022JpDecoderState
+state_of Ascii = ascii
+state_of Roman = roman
+state_of Katakana = katakana
+state_of TwoByte = leading_byte
 
 -- the decoder between two forms
-abbrev at_rest : Mode → ℕ → Bool → Iso2022Jp
+abbrev at_rest : DecoderMode → ℕ → Bool → Iso2022Jp
 at_rest m l flag = record { state = state_of m; output_state = state_of m; leading = l; output = flag }
 
 -- the decoder after an escape byte
-abbrev started : Mode → ℕ → Bool → Iso2022Jp
+abbrev started : DecoderMode → ℕ → Bool → Iso2022Jp
 started m l flag = record { state = escape_start; output_state = state_of m; leading = l; output = flag }
 
-abbrev behind_two : Mode → ℕ → Bool → Iso2022Jp
+abbrev behind_two : DecoderMode → ℕ → Bool → Iso2022Jp
 behind_two m l flag = record { state = escape; output_state = state_of m; leading = l; output = flag }
 
 abbrev behind_lead : ℕ → Iso2022Jp
@@ -98,23 +98,23 @@ part_mode-none a rest h = grind arith
 
 module _ (jis0208 : List ℕ) where
   -- the events of a list that begins after `pos` bytes
-  abbrev events : Mode → ℕ → List ℕ → List DecodeEvent
+  abbrev events : DecoderMode → ℕ → List ℕ → List DecodeEvent
   events m pos bytes = shift pos (iso_2022_jp_events jis0208 m bytes)
 
-  abbrev Decodes : Mode → ℕ → Bool → ℕ → List ℕ → Type 0
+  abbrev Decodes : DecoderMode → ℕ → Bool → ℕ → List ℕ → Type 0
   Decodes m l flag pos bytes = Gives jis0208 (at_rest m l flag) 0 pos bytes (again flag pos bytes ++ events m pos bytes)
 
   -- all lists with at most n bytes are decoded, at any position
   record Below (n : ℕ) : Type 0 where
-    decodes : (m : Mode) (l : ℕ) (flag : Bool) (pos : ℕ) (bytes : List ℕ) → length bytes ≤ n → Decodes m l flag pos bytes
+    decodes : (m : DecoderMode) (l : ℕ) (flag : Bool) (pos : ℕ) (bytes : List ℕ) → length bytes ≤ n → Decodes m l flag pos bytes
 
   -- ---- escapes
 
-  none-outs : (m : Mode) (flag : Bool) (pos : ℕ) (rest : List ℕ) → part_mode (esc ∷ rest) ≡ None →
+  none-outs : (m : DecoderMode) (flag : Bool) (pos : ℕ) (rest : List ℕ) → part_mode (esc ∷ rest) ≡ None →
       again flag pos (esc ∷ rest) ++ events m pos (esc ∷ rest) ≡ Bad pos 1 ∷ events m (pos + 1) rest
   none-outs m flag pos rest none = grind (arith, again-none, step_no_escape, shift-shift, add-zero)
 
-  some-outs : (m new : Mode) (flag : Bool) (pos a b : ℕ) (more : List ℕ) → escape_mode a b ≡ Some new →
+  some-outs : (m new : DecoderMode) (flag : Bool) (pos a b : ℕ) (more : List ℕ) → escape_mode a b ≡ Some new →
       again flag pos (esc ∷ a ∷ b ∷ more) ++ events m pos (esc ∷ a ∷ b ∷ more)
       ≡ cond flag (Bad (pos - 3) 3 ∷ []) [] ++ (again true (pos + 3) more ++ events new (pos + 3) more)
   some-outs m new flag pos a b more valid =
@@ -122,7 +122,7 @@ module _ (jis0208 : List ℕ) where
       (grind arith)
 
   -- The third byte of an escape. A valid escape switches to its mode; otherwise the two bytes are restored.
-  third : (m : Mode) (flag : Bool) (pos a b : ℕ) (more : List ℕ) → Below (suc (suc (length more))) → (o : Option Mode) → escape_mode a b ≡ o →
+  third : (m : DecoderMode) (flag : Bool) (pos a b : ℕ) (more : List ℕ) → Below (suc (suc (length more))) → (o : Option DecoderMode) → escape_mode a b ≡ o →
       Gives jis0208 (behind_two m a flag) 1 (pos + 2) (b ∷ more) (again flag pos (esc ∷ a ∷ b ∷ more) ++ events m pos (esc ∷ a ∷ b ∷ more))
   unfolding iso_2022_jp_handler part_mode
   third m flag pos a b more below None e =
@@ -139,7 +139,7 @@ module _ (jis0208 : List ℕ) where
       ])
 
   -- the bytes after an escape byte
-  behind_escape_byte : (m : Mode) (l : ℕ) (flag : Bool) (pos : ℕ) (rest : List ℕ) → Below (length rest) →
+  behind_escape_byte : (m : DecoderMode) (l : ℕ) (flag : Bool) (pos : ℕ) (rest : List ℕ) → Below (length rest) →
       Gives jis0208 (started m l flag) 0 (pos + 1) rest (again flag pos (esc ∷ rest) ++ events m pos (esc ∷ rest))
   unfolding iso_2022_jp_handler part_mode
   behind_escape_byte m l flag pos [] below =
@@ -165,18 +165,18 @@ module _ (jis0208 : List ℕ) where
   front_of n None = malformed n
   front_of n (Some c) = reads n (c ∷ [])
 
-  one-outs : (m : Mode) (flag : Bool) (pos b : ℕ) (more : List ℕ) (o : Option ℕ) → (b == esc) ≡ false →
+  one-outs : (m : DecoderMode) (flag : Bool) (pos b : ℕ) (more : List ℕ) (o : Option ℕ) → (b == esc) ≡ false →
       iso_2022_jp_front jis0208 m b (first_part more) ≡ front_of 1 o →
       again flag pos (b ∷ more) ++ events m pos (b ∷ more) ≡ front_events pos (front_of 1 o) ++ events m (pos + 1) more
   one-outs m flag pos b more o h k = grind (arith, nat_tests, step_one, again-none, no_escape, shift-shift, add-zero)
 
-  two-outs : (m : Mode) (flag : Bool) (pos b t : ℕ) (more : List ℕ) (o : Option ℕ) → (b == esc) ≡ false → (t == esc) ≡ false →
+  two-outs : (m : DecoderMode) (flag : Bool) (pos b t : ℕ) (more : List ℕ) (o : Option ℕ) → (b == esc) ≡ false → (t == esc) ≡ false →
       iso_2022_jp_front jis0208 m b (t ∷ first_part more) ≡ front_of 2 o →
       again flag pos (b ∷ t ∷ more) ++ events m pos (b ∷ t ∷ more) ≡ front_events pos (front_of 2 o) ++ events m (pos + 1 + 1) more
   two-outs m flag pos b t more o h k e = grind (arith, nat_tests, step_two, again-none, no_escape, shift-shift, add-zero)
 
   -- the handler returns the scalar, or error
-  returned : {d : Iso2022Jp} {few pos next b : ℕ} {more : List ℕ} (m : Mode) (l begin n : ℕ) (o : Option ℕ) →
+  returned : {d : Iso2022Jp} {few pos next b : ℕ} {more : List ℕ} (m : DecoderMode) (l begin n : ℕ) (o : Option ℕ) →
       Gives jis0208 (at_rest m l false) 0 next more (events m next more) →
       iso_2022_jp_handler jis0208 d (byte b) ≡ returns (code_point_or_error o) (at_rest m l false) → pos + 1 ≡ next →
       length_and_after d.state d.leading (byte b) ≡ (n, 0) → begin + n ≡ next →
@@ -185,7 +185,7 @@ module _ (jis0208 : List ℕ) where
   returned m l begin n (Some c) h e is extent ends = out-scalar h e is
 
   -- the byte is the first of two in the mode
-  abbrev is_lead : Mode → ℕ → Bool
+  abbrev is_lead : DecoderMode → ℕ → Bool
   is_lead m b = is_two_byte_mode m && is_in_range 0x21 0x7E b
 
   -- the scalar of one byte
@@ -193,22 +193,22 @@ module _ (jis0208 : List ℕ) where
   own (reads n (c ∷ scalars)) = Some c
   own _ = None
 
-  own-front : (m : Mode) (b : ℕ) (rest : List ℕ) → is_lead m b ≡ false →
+  own-front : (m : DecoderMode) (b : ℕ) (rest : List ℕ) → is_lead m b ≡ false →
       iso_2022_jp_front jis0208 m b rest ≡ front_of 1 (own (iso_2022_jp_front jis0208 m b []))
   unfolding iso_2022_jp_front
   own-front m b rest h = grind arith
 
-  own-handler : (m : Mode) (l : ℕ) (flag : Bool) (b : ℕ) → (b == esc) ≡ false → is_lead m b ≡ false →
+  own-handler : (m : DecoderMode) (l : ℕ) (flag : Bool) (b : ℕ) → (b == esc) ≡ false → is_lead m b ≡ false →
       iso_2022_jp_handler jis0208 (at_rest m l flag) (byte b) ≡ returns (code_point_or_error (own (iso_2022_jp_front jis0208 m b []))) (at_rest m l false)
   unfolding iso_2022_jp_handler iso_2022_jp_front
   own-handler m l flag b unescaped h = grind (arith, nat_tests)
 
   -- in a mode each error is for one byte
-  own-extent : (m : Mode) (l : ℕ) (item : Item) → length_and_after (state_of m) l item ≡ (1, 0)
+  own-extent : (m : DecoderMode) (l : ℕ) (item : Item) → length_and_after (state_of m) l item ≡ (1, 0)
   own-extent m l item = grind arith
 
   -- a form of one byte
-  one_byte : (m : Mode) (l : ℕ) (flag : Bool) (pos b : ℕ) (more : List ℕ) → (b == esc) ≡ false → Below (length more) → is_lead m b ≡ false →
+  one_byte : (m : DecoderMode) (l : ℕ) (flag : Bool) (pos b : ℕ) (more : List ℕ) → (b == esc) ≡ false → Below (length more) → is_lead m b ≡ false →
       Decodes m l flag pos (b ∷ more)
   one_byte m l flag pos b more unescaped below h =
       rw (one-outs m flag pos b more _ unescaped (own-front m b (first_part more) h))
@@ -216,37 +216,37 @@ module _ (jis0208 : List ℕ) where
 
   -- the byte after a lead byte
   behind_lead_byte : (flag : Bool) (pos b : ℕ) (more : List ℕ) → (b == esc) ≡ false → is_in_range 0x21 0x7E b ≡ true → Below (length more) →
-      Gives jis0208 (behind_lead b) 1 (pos + 1) more (again flag pos (b ∷ more) ++ events iso.two_byte pos (b ∷ more))
+      Gives jis0208 (behind_lead b) 1 (pos + 1) more (again flag pos (b ∷ more) ++ events TwoByte pos (b ∷ more))
   unfolding iso_2022_jp_handler iso_2022_jp_front
   behind_lead_byte flag pos b [] unescaped lead below =
-      rw (one-outs iso.two_byte flag pos b [] None unescaped refl)
+      rw (one-outs TwoByte flag pos b [] None unescaped refl)
       (out-error_at_end 0 (below.decodes _ b _ _ _ (omega arith)) refl (omega arith) (omega arith) refl (omega arith))
   behind_lead_byte flag pos b (t ∷ rest) unescaped lead below = elim (cases_eq t esc) [
     | inl is ↦
         let shorter : Below (length rest) = record { decodes = λ m l flag pos bytes h. below.decodes m l flag pos bytes (omega arith) } in
-        rw (one-outs iso.two_byte flag pos b (t ∷ rest) None unescaped (rw is refl), is)
-        (out-error 1 [] (behind_escape_byte iso.two_byte b false (pos + 1) rest shorter) refl (omega arith) (omega arith) refl (omega arith))
+        rw (one-outs TwoByte flag pos b (t ∷ rest) None unescaped (rw is refl), is)
+        (out-error 1 [] (behind_escape_byte TwoByte b false (pos + 1) rest shorter) refl (omega arith) (omega arith) refl (omega arith))
     | inr other ↦
         let unescaped_t = ne_eqb t esc other in
         let o : Option ℕ = cond (is_in_range 0x21 0x7E t) (idx jis0208 ((b - 0x21) * 94 + (t - 0x21))) None in
-        rw (two-outs iso.two_byte flag pos b t rest o unescaped unescaped_t (grind arith))
-        (returned iso.two_byte b pos 2 o (below.decodes _ b _ _ _ (omega arith)) (grind arith) refl (rw unescaped_t refl) (omega arith))
+        rw (two-outs TwoByte flag pos b t rest o unescaped unescaped_t (grind arith))
+        (returned TwoByte b pos 2 o (below.decodes _ b _ _ _ (omega arith)) (grind arith) refl (rw unescaped_t refl) (omega arith))
   ]
 
-  lead_byte : (m : Mode) (l : ℕ) (flag : Bool) (pos b : ℕ) (more : List ℕ) → (b == esc) ≡ false → Below (length more) → is_lead m b ≡ true →
+  lead_byte : (m : DecoderMode) (l : ℕ) (flag : Bool) (pos b : ℕ) (more : List ℕ) → (b == esc) ≡ false → Below (length more) → is_lead m b ≡ true →
       Decodes m l flag pos (b ∷ more)
   unfolding iso_2022_jp_handler
-  lead_byte iso.two_byte l flag pos b more unescaped below h =
+  lead_byte TwoByte l flag pos b more unescaped below h =
       out-continue (behind_lead_byte flag pos b more unescaped h below) (rw (unescaped, h) refl) (omega arith) refl
   lead_byte _ l flag pos b more unescaped below h = absurd (false≢true h)
 
   -- ---- whole lists
 
-  nothing : (m : Mode) (l : ℕ) (flag : Bool) (pos : ℕ) → Decodes m l flag pos []
+  nothing : (m : DecoderMode) (l : ℕ) (flag : Bool) (pos : ℕ) → Decodes m l flag pos []
   unfolding part_mode iso_2022_jp_handler
   nothing m l flag pos = rw (and_right flag false refl, step_end jis0208 m) (out-end {t = at_rest m l flag} (grind arith))
 
-  first : (m : Mode) (l : ℕ) (flag : Bool) (pos b : ℕ) (more : List ℕ) → Below (length more) → Decodes m l flag pos (b ∷ more)
+  first : (m : DecoderMode) (l : ℕ) (flag : Bool) (pos b : ℕ) (more : List ℕ) → Below (length more) → Decodes m l flag pos (b ∷ more)
   unfolding iso_2022_jp_handler
   first m l flag pos b more below = elim (cases_eq b esc) [
     | inl is ↦ rw is (out-continue (behind_escape_byte m l flag pos more below) (grind arith) (omega arith) refl)
@@ -261,15 +261,15 @@ module _ (jis0208 : List ℕ) where
   below_all : (n : ℕ) → Below n
   below_all n = record { decodes = all n }
     where
-      all : (n : ℕ) (m : Mode) (l : ℕ) (flag : Bool) (pos : ℕ) (bytes : List ℕ) → length bytes ≤ n → Decodes m l flag pos bytes
+      all : (n : ℕ) (m : DecoderMode) (l : ℕ) (flag : Bool) (pos : ℕ) (bytes : List ℕ) → length bytes ≤ n → Decodes m l flag pos bytes
       all n m l flag pos [] h = nothing m l flag pos
       all zero m l flag pos (b ∷ more) h = absurd (omega arith)
       all (suc n) m l flag pos (b ∷ more) h =
           first m l flag pos b more (record { decodes = λ m l flag pos bytes k. all n m l flag pos bytes (omega arith) })
 
 pub iso_2022_jp_handled : (jis0208 bytes : List ℕ) → AreBytes bytes →
-    HandlerDecodes (decoders.iso_2022_jp jis0208) bytes (events_of (iso_2022_jp jis0208 iso.ascii) bytes)
+    HandlerDecodes (decoders.iso_2022_jp jis0208) bytes (events_of (iso_2022_jp jis0208 Ascii) bytes)
 unfolding events_of
 iso_2022_jp_handled jis0208 bytes all =
-    let decoded : Decodes jis0208 iso.ascii 0 false 0 bytes = (below_all jis0208 (length bytes)).decodes _ _ _ _ _ (omega arith) in
-    steady (rw (shift-zero (iso_2022_jp_events jis0208 iso.ascii bytes)) at (decoded.from 0 0 refl (omega arith)))
+    let decoded : Decodes jis0208 Ascii 0 false 0 bytes = (below_all jis0208 (length bytes)).decodes _ _ _ _ _ (omega arith) in
+    steady (rw (shift-zero (iso_2022_jp_events jis0208 Ascii bytes)) at (decoded.from 0 0 refl (omega arith)))

@@ -4,7 +4,7 @@ use Rattle.legacy_base.specs.declared.results.DecodeEvent.{DecodeEvent}
 use Rattle.legacy_base.specs.Grammar as grammars
 use Rattle.legacy_base.specs.Grammar.{Grammar, events_of}
 use Rattle.legacy_base.specs.EucKr as korean
-use Rattle.legacy_base.specs.Iso2022Jp.{ascii}
+use Rattle.legacy_base.specs.declared.modes.DecoderMode.TheVariants.{Ascii}
 use Rattle.legacy_tables.specs.Unicode.{AreBytes}
 use Rattle.legacy_standard.specs.Processing.{Processes, all_read}
 use Rattle.legacy_standard.specs.SingleByte.{single_byte_handler}
@@ -42,7 +42,7 @@ decoder_grammar (big5 index) = grammars.big5 index
 decoder_grammar (shift_jis jis0208) = grammars.shift_jis jis0208
 decoder_grammar (euc_jp jis0208 jis0212) = grammars.euc_jp jis0208 jis0212
 decoder_grammar (gb18030 index ranges) = grammars.gb18030 index ranges
-decoder_grammar (iso_2022_jp jis0208) = grammars.iso_2022_jp jis0208 ascii
+decoder_grammar (iso_2022_jp jis0208) = grammars.iso_2022_jp jis0208 Ascii
 
 -- The handler finishes over these bytes, and its code points and errors are these events, with the place and length of
 -- each malformed sequence.

@@ -3,21 +3,13 @@
 //! `read` gives the mode and the held-back bytes after a byte, and `finish` those at the end of the input.
 ghost use Rattle.std.specs.Prelude.{◌≡◌, ◌≤◌, ◌↔◌, IsTrue, None, length, true};
 ghost use Rattle.legacy_japanese.specs.Iso2022JpMachine.{start_bytes, bytes_held, is_held, is_resting, weight_of};
-ghost use Rattle.legacy_japanese.specs.declared.iso_2022_jp.bytes.{Mode.TheVariants.Ascii, Start.TheVariants.Nothing, Held.TheVariants.Begun};
+ghost use Rattle.legacy_base.specs.declared.modes.DecoderMode.TheVariants.{Ascii};
+ghost use Rattle.legacy_japanese.specs.declared.iso_2022_jp.bytes.{Start.TheVariants.Nothing, Held.TheVariants.Begun};
 ghost use Rattle.legacy_japanese.specs.Iso2022JpMachine as machine;
 
-use legacy_base::{IndexName, Tables};
+use legacy_base::{DecoderMode, IndexName, Tables};
 use legacy_decoder_engine::moves::Fed;
 use legacy_tables::DecoderTables;
-
-/// The mode in which bytes are read.
-#[derive(Clone, Copy)]
-pub enum Mode {
-    Ascii,
-    Roman,
-    Katakana,
-    TwoByte,
-}
 
 /// The five valid escapes.
 #[derive(Clone, Copy)]
@@ -50,7 +42,7 @@ pub enum Held {
 }
 
 /// The effect of a step, with the mode and the held-back bytes after it.
-pub type Outcome = (Fed, Mode, Held);
+pub type Outcome = (Fed, DecoderMode, Held);
 
 /// No held-back bytes.
 pub const NOTHING: Held = Held::Begun(None, Start::Nothing);
@@ -65,14 +57,14 @@ pub const PAREN: u8 = 0x28;
 impl Escape {
     /// Returns the mode that the escape switches to.
     #[inline]
-    pub fn mode(self) -> Mode
+    pub fn mode(self) -> DecoderMode
         ensures { result ≡ machine.mode_of self }
     {
         match self {
-            Escape::ToAscii => Mode::Ascii,
-            Escape::ToRoman => Mode::Roman,
-            Escape::ToKatakana => Mode::Katakana,
-            Escape::ToJis1978 | Escape::ToJis1983 => Mode::TwoByte,
+            Escape::ToAscii => DecoderMode::Ascii,
+            Escape::ToRoman => DecoderMode::Roman,
+            Escape::ToKatakana => DecoderMode::Katakana,
+            Escape::ToJis1978 | Escape::ToJis1983 => DecoderMode::TwoByte,
         }
     }
 }
@@ -129,7 +121,7 @@ impl Held {
 
 /// Returns the mode of the bytes after a held-back escape, if there is one.
 #[inline]
-fn mode_after(mode: Mode, escape: Option<Escape>) -> Mode
+fn mode_after(mode: DecoderMode, escape: Option<Escape>) -> DecoderMode
     ensures { result ≡ machine.mode_after mode escape }
 {
     match escape {
@@ -140,7 +132,7 @@ fn mode_after(mode: Mode, escape: Option<Escape>) -> Mode
 
 /// Returns the outcome of a malformed sequence of this many bytes.
 #[inline]
-fn malformed(length: u8, unread: bool, mode: Mode, held: Held) -> Outcome
+fn malformed(length: u8, unread: bool, mode: DecoderMode, held: Held) -> Outcome
     ensures { result ≡ machine.malformed length unread mode held }
 {
     let back = held.count();
@@ -171,14 +163,14 @@ fn ascii_scalar(byte: u8) -> Option<char>
 
 /// Returns the scalar of a byte outside two-byte mode, or `None`.
 #[inline]
-pub fn single_scalar(mode: Mode, byte: u8) -> Option<char>
+pub fn single_scalar(mode: DecoderMode, byte: u8) -> Option<char>
     ensures { result ≡ machine.single mode byte }
 {
     match (mode, byte) {
-        (Mode::Roman, 0x5C) => Some('\u{A5}'),
-        (Mode::Roman, 0x7E) => Some('\u{203E}'),
-        (Mode::Ascii | Mode::Roman, _) => ascii_scalar(byte),
-        (Mode::Katakana, 0x21..=0x5F) => char::from_u32(0xFF61 + u32::from(byte - 0x21)),
+        (DecoderMode::Roman, 0x5C) => Some('\u{A5}'),
+        (DecoderMode::Roman, 0x7E) => Some('\u{203E}'),
+        (DecoderMode::Ascii | DecoderMode::Roman, _) => ascii_scalar(byte),
+        (DecoderMode::Katakana, 0x21..=0x5F) => char::from_u32(0xFF61 + u32::from(byte - 0x21)),
         _ => None,
     }
 }
@@ -200,14 +192,14 @@ pub fn completed(start: Start, byte: u8) -> Option<Escape>
 
 /// Reads a byte that is not the escape byte, with nothing held back.
 #[inline]
-fn read_in_mode(mode: Mode, byte: u8) -> Outcome
+fn read_in_mode(mode: DecoderMode, byte: u8) -> Outcome
     ensures { result ≡ machine.read_in_mode mode byte }
 {
     // Bytes past ASCII are malformed in every mode, and often follow one another.
     if byte >= 0x80 {
         return malformed(1, false, mode, NOTHING);
     }
-    if matches!(mode, Mode::TwoByte) && byte >= 0x21 && byte <= 0x7E {
+    if matches!(mode, DecoderMode::TwoByte) && byte >= 0x21 && byte <= 0x7E {
         return (Fed::Nothing, mode, Held::Byte(byte));
     }
     match single_scalar(mode, byte) {
@@ -224,7 +216,7 @@ fn read_trail(tables: &Tables, lead: u8, byte: u8) -> Outcome
     requires { 0x21 ≤ lead }
     ensures { result ≡ machine.read_trail tables.now.flat.jis0208 lead byte }
 {
-    let mode = Mode::TwoByte;
+    let mode = DecoderMode::TwoByte;
     if byte == ESCAPE {
         return malformed(1, false, mode, Held::Begun(None, Start::EscapeByte));
     }
@@ -242,7 +234,12 @@ fn read_trail(tables: &Tables, lead: u8, byte: u8) -> Outcome
 /// Either the next escape is whole, and one directly before it is malformed. Or the escape byte is
 /// malformed and the second byte is held back alone.
 #[inline]
-fn read_third(mode: Mode, before: Option<Escape>, second: u8, next: Option<Escape>) -> Outcome
+fn read_third(
+    mode: DecoderMode,
+    before: Option<Escape>,
+    second: u8,
+    next: Option<Escape>,
+) -> Outcome
     ensures { result ≡ machine.read_third mode before second next }
 {
     let Some(escape) = next else {
@@ -259,7 +256,7 @@ fn read_third(mode: Mode, before: Option<Escape>, second: u8, next: Option<Escap
 ///
 /// The mode of that escape applies from here on.
 #[inline(always)]
-fn read_start(mode: Mode, escape: Option<Escape>, start: Start, byte: u8) -> Outcome
+fn read_start(mode: DecoderMode, escape: Option<Escape>, start: Start, byte: u8) -> Outcome
     ensures { result ≡ machine.read_start mode escape start byte }
 {
     let new_mode = mode_after(mode, escape);
@@ -278,7 +275,7 @@ fn read_start(mode: Mode, escape: Option<Escape>, start: Start, byte: u8) -> Out
 ///
 /// No scalar may be held back.
 #[inline(always)]
-pub fn read(tables: &Tables, mode: Mode, held: Held, byte: u8) -> Outcome
+pub fn read(tables: &Tables, mode: DecoderMode, held: Held, byte: u8) -> Outcome
     requires sound { is_held mode held ≡ true }
     requires rests { is_resting mode held ≡ true }
     ensures { result ≡ machine.read tables.now.flat.jis0208 mode held byte }
@@ -292,7 +289,7 @@ pub fn read(tables: &Tables, mode: Mode, held: Held, byte: u8) -> Outcome
 /// Returns the mode and the held-back bytes after one malformed byte at the end of the input.
 ///
 /// Returns `None` if nothing is left to report.
-pub fn finish(mode: Mode, held: Held) -> Option<(Mode, Held)>
+pub fn finish(mode: DecoderMode, held: Held) -> Option<(DecoderMode, Held)>
     ensures { result ≡ machine.finish mode held }
 {
     let Held::Begun(escape, start) = held else {

@@ -1,11 +1,11 @@
 //! The encoder of ISO-2022-JP that reads pairs from a list, in memory that the caller lends.
 ghost use Rattle.std.specs.Prelude.{◌≡◌, ◌≢◌, ◌<◌, ◌≤◌, ℕ, length, slice_index, MatchOption};
 ghost use Rattle.legacy_japanese.specs.Iso2022JpEncoder.{IsListedEntry, iso_2022_jp_mark, iso_2022_jp_mark-some, state_in};
-ghost use Rattle.legacy_japanese.specs.declared.iso_2022_jp.encoder.Mode.TheVariants.{TwoByte};
+ghost use Rattle.legacy_base.specs.declared.modes.EncoderMode.TheVariants.{TwoByte};
 
 use crate::asked_scalars::ask_others;
-use crate::iso_2022_jp::encoder::{EncoderBy, FindsPairs, Iso2022JpEncoder, Mode, TablePairs};
-use legacy_base::{PackedPart, Source};
+use crate::iso_2022_jp::encoder::{EncoderBy, FindsPairs, Iso2022JpEncoder, TablePairs};
+use legacy_base::{EncoderMode, PackedPart, Source};
 use legacy_encoder_engine::ahead_codes::AheadCodes;
 use legacy_encoder_engine::asked_pairs::PairEntries;
 use legacy_encoder_engine::cached::PAIR_ROOM;
@@ -21,7 +21,7 @@ impl PairEntries for TablePairs<'_> {
     ghost right = { λ pairs. IsListedEntry pairs.tables.now.flat };
 
     fn pair_entry(&self, c: char) -> u16 {
-        match self.asked(Mode::TwoByte, c) {
+        match self.asked(EncoderMode::TwoByte, c) {
             (_, EncoderMove::Two(lead, trail)) => u16::from(lead) + 256 * u16::from(trail),
             _ => 0,
         }
@@ -71,23 +71,23 @@ impl FindsPairs for ListedPairs<'_, '_> {
 
     #[inline]
     #[tactic(auto, using(crate::proofs::Iso2022JpEncoderMoves::asks_listed))]
-    fn asked(&self, mode: Mode, c: char) -> (Mode, EncoderMove) {
+    fn asked(&self, mode: EncoderMode, c: char) -> (EncoderMode, EncoderMove) {
         let entry = self.entry_of(c);
         if entry == 0 {
             return self.found.asked(mode, c);
         }
         let pair = EncoderMove::Two((entry % 256) as u8, (entry / 256) as u8);
-        (Mode::TwoByte, pair)
+        (EncoderMode::TwoByte, pair)
     }
 
     // The list is copied, so that nothing else refers to it.
     #[inline]
-    fn read_in<S: Source>(&self, mode: Mode, src: &mut S, dst: &mut [u8], at: usize) -> usize {
-        if let Mode::TwoByte = mode {
+    fn read<S: Source>(&self, mode: EncoderMode, src: &mut S, dst: &mut [u8], at: usize) -> usize {
+        if let EncoderMode::TwoByte = mode {
             let own = *self;
             return read_common(&own, src, dst, at);
         }
-        self.found.read_in(mode, src, dst, at)
+        self.found.read(mode, src, dst, at)
     }
 }
 
@@ -128,9 +128,8 @@ impl AheadCodes for ListedPairs<'_, '_> {
 ///
 /// The list has the pairs of all scalars below U+10000, in memory that the caller lends. `new` makes
 /// it in one walk over index jis0208, flat or packed, and looks up the scalars that have another
-/// pair than their pointer's. Each pair is then one load, whatever tables
-/// the other encoder has. The encoder has its own mode, which is ASCII after the last call of a
-/// text: it can encode any number of texts, one after another. Each copy has its own mode.
+/// pair than their pointer's. Each pair is then one load. After the last call of a text the mode is
+/// ASCII, so the encoder can encode any number of texts. Each copy has its own mode.
 pub type CachedIso2022JpEncoder<'a, 'b> = EncoderBy<ListedPairs<'a, 'b>>;
 
 impl<'a, 'b> EncoderBy<ListedPairs<'a, 'b>> {

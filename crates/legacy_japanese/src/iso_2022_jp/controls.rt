@@ -1,6 +1,6 @@
 //! The controls that would switch ISO-2022-JP's modes, which its encoder does not write.
-ghost use Rattle.std.specs.Prelude.{◌≡◌, ◌+◌, ◌≤◌, length, false};
-ghost use Rattle.{legacy_base.specs.Iso2022Jp.is_mode_control, legacy_japanese.specs.Iso2022JpEncoder.HasNoControl};
+ghost use Rattle.std.specs.{Prelude.{◌≡◌}, List.{list_any}};
+ghost use Rattle.legacy_base.specs.Iso2022Jp.{is_mode_control};
 
 /// Checks whether the scalar is a control that would switch modes, which has no bytes.
 #[inline]
@@ -10,24 +10,15 @@ pub fn is_control(scalar: u32) -> bool
     scalar == 0x0E || scalar == 0x0F || scalar == 0x1B
 }
 
-/// Checks whether one of the bytes from `first` to before `end`, or of the fifteen after them, is such a control.
-///
-/// If it returns false, none of the bytes before `end` is one.
-// There is no branch in a block, so that its sixteen bytes are tested at once.
+/// Checks whether one of the bytes is such a control.
+// There is no branch in the loop, so that many bytes are tested at once.
 #[inline(always)]
-pub fn has_control(bytes: &[u8], first: usize, end: usize) -> bool
-    requires { end + 15 ≤ length bytes.now }
-    ensures { result ≡ false → HasNoControl bytes.now first end }
+pub fn has_control(bytes: &[u8]) -> bool
+    ensures { result ≡ list_any is_mode_control bytes.now }
 {
     let mut found = false;
-    let mut at = first;
-    while at < end {
-        let mut k = 0;
-        while k < 16 {
-            found = found | is_control(u32::from(bytes[at + k]));
-            k += 1;
-        }
-        at += 16;
+    for byte in bytes {
+        found = found | is_control(u32::from(*byte));
     }
     found
 }

@@ -1,10 +1,10 @@
 //! The decoder of ISO-2022-JP.
 ghost use Rattle.std.specs.Prelude.{◌≡◌, true};
-ghost use Rattle.{legacy_base.specs.{Grammar.iso_2022_jp, Iso2022Jp.ascii, States.{is_neutral, new_state}}, legacy_japanese.specs.Iso2022JpMachine.is_held};
+ghost use Rattle.{legacy_base.specs.{Grammar.iso_2022_jp, declared.modes.DecoderMode.TheVariants.Ascii, States.{is_neutral, new_state}}, legacy_japanese.specs.Iso2022JpMachine.is_held};
 
-use super::bytes::{Held, Mode, NOTHING, Start, finish, read, single_scalar};
+use super::bytes::{Held, NOTHING, Start, finish, read, single_scalar};
 use super::read_ahead::{front_escape, read_modes};
-use legacy_base::{DecoderStep, Destination, RawDecoder, Tables};
+use legacy_base::{DecoderMode, DecoderStep, Destination, RawDecoder, Tables};
 use legacy_decoder_engine::drive::drive_decoder;
 use legacy_decoder_engine::moves::{DecoderMoves, Fed, Room};
 
@@ -28,7 +28,7 @@ use legacy_decoder_engine::moves::{DecoderMoves, Fed, Room};
 #[derive(Drop)]
 pub struct Iso2022JpDecoder<'a> {
     tables: &'a Tables<'a>,
-    mode: Mode,
+    mode: DecoderMode,
     held: Held,
     ghost sound: { is_held mode held ≡ true },
 }
@@ -40,11 +40,11 @@ impl<'a> Iso2022JpDecoder<'a> {
     ///
     /// It looks up pairs in index jis0208 of the tables, which it borrows.
     pub fn new(tables: &'a Tables<'a>) -> Iso2022JpDecoder<'a>
-        ensures { iso_2022_jp_state result ≡ new_state (iso_2022_jp tables.now.flat.jis0208 ascii) }
+        ensures { iso_2022_jp_state result ≡ new_state (iso_2022_jp tables.now.flat.jis0208 Ascii) }
     {
         Iso2022JpDecoder {
             tables,
-            mode: Mode::Ascii,
+            mode: DecoderMode::Ascii,
             held: NOTHING,
         }
     }
@@ -57,7 +57,7 @@ impl<'a> Iso2022JpDecoder<'a> {
     pub fn in_neutral_state(&self) -> bool
         ensures { result ≡ is_neutral (iso_2022_jp_state self.now) }
     {
-        matches!(self.mode, Mode::Ascii) && self.held.is_nothing()
+        matches!(self.mode, DecoderMode::Ascii) && self.held.is_nothing()
     }
 }
 
@@ -68,7 +68,7 @@ impl<'a> DecoderMoves for Iso2022JpDecoder<'a> {
 
     #[inline]
     fn rests(&self) -> bool {
-        matches!(self.mode, Mode::TwoByte) || matches!(self.held, Held::Begun(..))
+        matches!(self.mode, DecoderMode::TwoByte) || matches!(self.held, Held::Begun(..))
     }
 
     #[inline]

@@ -1,13 +1,12 @@
 //! The encoder of ISO-2022-JP.
-ghost use Rattle.std.specs.Prelude.{◌≡◌, ◌==◌, ◌||◌, ◌+◌, ◌<◌, ◌≤◌, length, true, IfSome};
-ghost use Rattle.legacy_tables.specs.Indexes.{FlatIndexes};
-ghost use Rattle.legacy_base.specs.{Encoders.{iso_2022_jp, is_pending, new_encoder}, Iso2022Jp.{escape_to, iso_2022_jp_pointer_of}};
-ghost use Rattle.legacy_encoder_engine.specs.{Moves.{differs, is_escape, move_bytes}, UnfinishedCall.{EncodesBy, EncodesFrom}};
-ghost use Rattle.legacy_japanese.specs.{declared.iso_2022_jp.encoder.Mode.TheVariants.Ascii, Iso2022JpEncoder.{Asks, mode_of, state_in}};
+ghost use Rattle.std.specs.Prelude.{◌≡◌, ◌==◌, ◌||◌, ◌+◌, ◌<◌, ◌≤◌, length, IfSome};
+ghost use Rattle.{legacy_tables.specs.Indexes.{FlatIndexes}, legacy_encoder_engine.specs.UnfinishedCall.{EncodesBy, EncodesFrom}};
+ghost use Rattle.legacy_base.specs.{Encoders.{iso_2022_jp, is_pending, new_encoder}, Iso2022Jp.{iso_2022_jp_pointer_of}};
+ghost use Rattle.{legacy_base.specs.declared.modes.EncoderMode.TheVariants.Ascii, legacy_japanese.specs.Iso2022JpEncoder.{Asks, state_in}};
 
 use crate::folded_scalars::minus_as_hyphen;
 use crate::iso_2022_jp::controls::{has_control, is_control};
-use legacy_base::{EncoderStep, IndexName, RawEncoder, Source, Tables};
+use legacy_base::{EncoderMode, EncoderStep, IndexName, RawEncoder, Source, Tables};
 use legacy_encoder_engine::ahead_codes::AheadCodes;
 use legacy_encoder_engine::drive::{drive_encoder, put_move};
 use legacy_encoder_engine::moves::{EncoderMove, EncoderMoves};
@@ -20,48 +19,17 @@ use legacy_text::TextCursor;
 /// They are few, so little is copied without use, however many controls there are.
 const PIECE: usize = 256;
 
-/// The mode of the encoder: how the next bytes are read.
-#[derive(Clone, Copy)]
-pub enum Mode {
-    Ascii,
-    Roman,
-    TwoByte,
-}
-
-impl Mode {
-    /// Checks whether this is another mode.
-    #[inline]
-    fn differs(self, other: Mode) -> bool
-        ensures { result ≡ differs (mode_of self) (mode_of other) }
-    {
-        self as u8 != other as u8
-    }
-
-    /// Returns the escape to the mode.
-    #[inline]
-    fn escape(self) -> EncoderMove
-        ensures escapes { is_escape result ≡ true }
-        ensures bytes { move_bytes result ≡ escape_to (mode_of self) }
-    {
-        match self {
-            Mode::Ascii => EncoderMove::TO_ASCII,
-            Mode::Roman => EncoderMove::Escape(0x28, 0x4A),
-            Mode::TwoByte => EncoderMove::Escape(0x24, 0x42),
-        }
-    }
-}
-
 /// How the encoder finds pairs.
 pub trait FindsPairs {
     /// The indexes of the pairs.
     ghost flat: { Self → FlatIndexes };
 
     /// Returns the mode that a scalar needs after this one, and the move that reads it there.
-    fn asked(&self, mode: Mode, c: char) -> (Mode, EncoderMove)
+    fn asked(&self, mode: EncoderMode, c: char) -> (EncoderMode, EncoderMove)
         ensures { Asks (flat self.now) mode c result.0 result.1 };
 
     /// Reads scalars ahead in this mode, as `EncoderMoves::read_ahead` does.
-    fn read_in<S: Source>(&self, mode: Mode, src: &mut S, dst: &mut [u8], at: usize) -> usize
+    fn read<S: Source>(&self, mode: EncoderMode, src: &mut S, dst: &mut [u8], at: usize) -> usize
         requires { at ≤ length dst.old }
         ensures { EncodesFrom S.Source (state_in (flat self.now) mode) src.old dst.old at src.new
             dst.new result };
@@ -71,7 +39,7 @@ pub trait FindsPairs {
 #[derive(Clone, Copy)]
 pub struct EncoderBy<P> {
     pub(crate) pairs: P,
-    pub(crate) mode: Mode,
+    pub(crate) mode: EncoderMode,
 }
 
 impl<P: FindsPairs> EncoderBy<P> {
@@ -81,7 +49,7 @@ impl<P: FindsPairs> EncoderBy<P> {
     pub fn has_pending_state(&self) -> bool
         ensures { result ≡ is_pending (state_in (P.flat self.now.pairs) self.now.mode) }
     {
-        !matches!(self.mode, Mode::Ascii)
+        !matches!(self.mode, EncoderMode::Ascii)
     }
 }
 
@@ -98,11 +66,11 @@ impl<P: FindsPairs> EncoderMoves for EncoderBy<P> {
     #[inline]
     fn next(&mut self, c: char) -> EncoderMove {
         let (mode, own) = self.pairs.asked(self.mode, c);
-        if !self.mode.differs(mode) {
+        let Some(escape) = EncoderMove::escape_between(self.mode, mode) else {
             return own;
-        }
+        };
         self.mode = mode;
-        mode.escape()
+        escape
     }
 
     #[inline]
@@ -113,12 +81,12 @@ impl<P: FindsPairs> EncoderMoves for EncoderBy<P> {
 
     #[inline]
     fn finish(&mut self) {
-        self.mode = Mode::Ascii;
+        self.mode = EncoderMode::Ascii;
     }
 
     #[inline]
     fn read_ahead<S: Source>(&self, src: &mut S, dst: &mut [u8], at: usize) -> usize {
-        self.pairs.read_in(self.mode, src, dst, at)
+        self.pairs.read(self.mode, src, dst, at)
     }
 }
 
@@ -167,24 +135,27 @@ impl FindsPairs for TablePairs<'_> {
 
     #[inline]
     #[tactic(auto, using(crate::proofs::Iso2022JpEncoderMoves::asked_steps))]
-    fn asked(&self, mode: Mode, c: char) -> (Mode, EncoderMove) {
+    fn asked(&self, mode: EncoderMode, c: char) -> (EncoderMode, EncoderMove) {
         let scalar = c as u32;
         // The mode after a scalar that is in both ASCII and Roman mode, or has no bytes.
-        let settled = if let Mode::Roman = mode {
+        let settled = if let EncoderMode::Roman = mode {
             mode
         } else {
-            Mode::Ascii
+            EncoderMode::Ascii
         };
         match scalar {
             _ if is_control(scalar) => (settled, EncoderMove::Unmappable('\u{FFFD}')),
             // In Roman mode these two bytes are other scalars.
-            0..0x80 if scalar == 0x5C || scalar == 0x7E => (Mode::Ascii, EncoderMove::One(c as u8)),
+            0..0x80 if scalar == 0x5C || scalar == 0x7E => (
+                EncoderMode::Ascii,
+                EncoderMove::One(c as u8),
+            ),
             0..0x80 => (settled, EncoderMove::One(c as u8)),
-            0xA5 => (Mode::Roman, EncoderMove::One(0x5C)),
-            0x203E => (Mode::Roman, EncoderMove::One(0x7E)),
+            0xA5 => (EncoderMode::Roman, EncoderMove::One(0x5C)),
+            0x203E => (EncoderMode::Roman, EncoderMove::One(0x7E)),
             _ => match pointer(self.tables, c) {
                 Some(p) => (
-                    Mode::TwoByte,
+                    EncoderMode::TwoByte,
                     EncoderMove::Two((p / 94 + 0x21) as u8, (p % 94 + 0x21) as u8),
                 ),
                 None => (settled, EncoderMove::Unmappable(c)),
@@ -194,10 +165,10 @@ impl FindsPairs for TablePairs<'_> {
 
     // The mode is known in each of the two loops.
     #[inline]
-    fn read_in<S: Source>(&self, mode: Mode, src: &mut S, dst: &mut [u8], at: usize) -> usize {
+    fn read<S: Source>(&self, mode: EncoderMode, src: &mut S, dst: &mut [u8], at: usize) -> usize {
         let pairs = *self;
-        if let Mode::Ascii = mode {
-            let mode = Mode::Ascii;
+        if let EncoderMode::Ascii = mode {
+            let mode = EncoderMode::Ascii;
             return read_common(&EncoderBy { pairs, mode }, src, dst, at);
         }
         read_common(&EncoderBy { pairs, mode }, src, dst, at)
@@ -219,16 +190,13 @@ pub type Iso2022JpEncoder<'a> = EncoderBy<TablePairs<'a>>;
 
 impl<'a> EncoderBy<TablePairs<'a>> {
     /// Returns an encoder before its first scalar, in ASCII mode.
-    ///
-    /// It looks scalars up in index jis0208 of the tables, and the half-width katakana U+FF61 to
-    /// U+FF9F by their entries in index katakana.
     pub fn new(tables: &'a Tables<'a>) -> Iso2022JpEncoder<'a>
         ensures { state_in result.pairs.tables.now.flat result.mode
             ≡ new_encoder (iso_2022_jp tables.now.flat.jis0208 tables.now.flat.katakana) }
     {
         EncoderBy {
             pairs: TablePairs { tables },
-            mode: Mode::Ascii,
+            mode: EncoderMode::Ascii,
         }
     }
 
@@ -238,14 +206,14 @@ impl<'a> EncoderBy<TablePairs<'a>> {
     // It reads by a copy of the cursor, which is dropped if a control was copied.
     #[inline(always)]
     fn copy_piece<S: TextCursor>(&self, src: &mut S, dst: &mut [u8], start: usize) -> usize
-        requires { start + 15 ≤ length dst.old }
+        requires { start + 2 ≤ length dst.old }
         ensures { EncodesBy S.TextCursor (state_in self.now.pairs.tables.now.flat Ascii) src.old
             dst.old start src.new dst.new result }
     {
-        let limit = (dst.len() - 15).min(start + PIECE);
+        let limit = (dst.len() - 2).min(start + PIECE);
         let mut own = *src;
         let end = start + own.copy_ascii(&mut dst[..limit], start);
-        if has_control(dst, start, end) {
+        if has_control(&dst[start..end]) {
             return start;
         }
         *src = own;
@@ -267,15 +235,11 @@ impl AheadCodes for EncoderBy<TablePairs<'_>> {
     #[inline(always)]
     #[tactic(auto, using(crate::proofs::Iso2022JpEncoderMoves::put_steps))]
     fn put_code(&self, _part: &mut RangePart, dst: &mut [u8], at: usize, c: char) -> Option<usize> {
-        if let Mode::Ascii = self.mode {
-            let scalar = c as u32;
-            if scalar >= 0x80 || is_control(scalar) {
-                return None;
-            }
-            return Some(put_move(dst, at, EncoderMove::One(scalar as u8)));
+        if matches!(self.mode, EncoderMode::Ascii) && (c as u32) >= 0x80 {
+            return None;
         }
         let (mode, own) = self.pairs.asked(self.mode, c);
-        if self.mode.differs(mode) || !own.has_bytes() {
+        if EncoderMove::escape_between(self.mode, mode).is_some() || !own.has_bytes() {
             return None;
         }
         Some(put_move(dst, at, own))
@@ -284,11 +248,11 @@ impl AheadCodes for EncoderBy<TablePairs<'_>> {
     #[inline(always)]
     #[tactic(auto, using(legacy_encoder_engine::proofs::ReadingAhead::turns))]
     fn read_blocks<S: TextCursor>(&self, src: &mut S, dst: &mut [u8], start: usize) -> usize {
-        let Mode::Ascii = self.mode else {
+        let EncoderMode::Ascii = self.mode else {
             return start;
         };
         let mut at = start;
-        while dst.len() - at >= 31 {
+        while dst.len() - at >= 2 {
             let end = self.copy_piece(src, dst, at);
             if end - at < PIECE {
                 return end;

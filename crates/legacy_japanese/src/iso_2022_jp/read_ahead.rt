@@ -3,12 +3,12 @@
 // Functions that run for each sequence or block are always inlined, and so are their callers. A call would pass vectors
 // through memory, and keep the destination's place there.
 ghost use Rattle.std.specs.Prelude.{◌≡◌, ◌≤◌, All, IfSome, take, true};
-ghost use Rattle.{legacy_base.specs.{Grammar.iso_2022_jp, Iso2022Jp.two_byte, States.new_state}, legacy_decoder_engine.specs.ReadAhead.{ReadsAhead, ReadsInto}};
+ghost use Rattle.{legacy_base.specs.{Grammar.iso_2022_jp, declared.modes.DecoderMode.TheVariants.{Ascii, TwoByte}, States.new_state}, legacy_decoder_engine.specs.ReadAhead.{ReadsAhead, ReadsInto}};
 ghost use Rattle.legacy_japanese.specs.Iso2022JpAhead.{BeginsEscape, HasEscape, IsAsciiText, ReadsModes};
 
-use super::bytes::{DOLLAR, ESCAPE, Escape, Mode, PAREN, Start, completed};
+use super::bytes::{DOLLAR, ESCAPE, Escape, PAREN, Start, completed};
 use super::places::{LEADS, TRAILS};
-use legacy_base::{Destination, IndexName, Tables, Utf8Destination};
+use legacy_base::{DecoderMode, Destination, IndexName, Tables, Utf8Destination};
 use legacy_decoder_engine::common_forms::{CommonForm, FrontForms, read_forms};
 use legacy_decoder_engine::places::pair_pointer;
 use legacy_decoder_engine::read_ahead::SLACK;
@@ -25,7 +25,7 @@ struct Jis0208Pairs<'a> {
 }
 
 impl FrontForms for Jis0208Pairs<'_> {
-    ghost grammar = { λ pairs. iso_2022_jp pairs.tables.flat.jis0208 two_byte };
+    ghost grammar = { λ pairs. iso_2022_jp pairs.tables.flat.jis0208 TwoByte };
 
     #[inline(always)]
     fn form(&self, first: u8, second: u8) -> CommonForm {
@@ -42,7 +42,7 @@ struct PairsAhead<'a, 'b> {
 }
 
 impl FillsBuffer for PairsAhead<'_, '_> {
-    ghost fills = { λ ahead. ReadsInto (iso_2022_jp ahead.pairs.tables.flat.jis0208 two_byte) ahead.src.now };
+    ghost fills = { λ ahead. ReadsInto (iso_2022_jp ahead.pairs.tables.flat.jis0208 TwoByte) ahead.src.now };
 
     /// Reads pairs from the front of the text, and returns the numbers of bytes read and written.
     // It is a function of its own, so that its loop has the registers of a call for itself.
@@ -57,7 +57,7 @@ impl FillsBuffer for PairsAhead<'_, '_> {
 /// Reads pairs from the front, and returns the number of bytes read, which may be 0.
 #[inline(always)]
 fn read_pairs<T: Destination>(tables: &FlatTables, src: &[u8], dst: &mut T) -> usize
-    ensures { ReadsAhead T.Destination (new_state (iso_2022_jp tables.now.flat.jis0208 two_byte)) src.now result dst.old dst.new }
+    ensures { ReadsAhead T.Destination (new_state (iso_2022_jp tables.now.flat.jis0208 TwoByte)) src.now result dst.old dst.new }
 {
     let ahead = PairsAhead {
         pairs: Jis0208Pairs {
@@ -97,7 +97,7 @@ fn ascii_text_count(block: u8x64) -> usize
 #[inline(always)]
 #[tactic(auto, using(legacy_decoder_engine::proofs::WrittenReads::no_bytes, crate::proofs::Iso2022JpAhead::reads_ascii_text_block))]
 fn read_ascii_text_blocks<T: Destination>(tables: &Tables, src: &[u8], dst: &mut T) -> usize
-    ensures { ReadsModes T.Destination tables.now.flat.jis0208 Mode.Ascii Mode.Ascii src.now result dst.old dst.new }
+    ensures { ReadsModes T.Destination tables.now.flat.jis0208 Ascii Ascii src.now result dst.old dst.new }
 {
     let _ = tables;
     let mut at = 0;
@@ -119,7 +119,7 @@ fn read_ascii_text_blocks<T: Destination>(tables: &Tables, src: &[u8], dst: &mut
 #[inline(always)]
 #[tactic(auto, using(legacy_decoder_engine::proofs::WrittenReads::no_bytes))]
 fn read_ascii_text_bytes<T: Destination>(tables: &Tables, src: &[u8], dst: &mut T) -> usize
-    ensures { ReadsModes T.Destination tables.now.flat.jis0208 Mode.Ascii Mode.Ascii src.now result dst.old dst.new }
+    ensures { ReadsModes T.Destination tables.now.flat.jis0208 Ascii Ascii src.now result dst.old dst.new }
 {
     let _ = tables;
     let mut at = 0;
@@ -134,7 +134,7 @@ fn read_ascii_text_bytes<T: Destination>(tables: &Tables, src: &[u8], dst: &mut 
 #[inline(always)]
 #[tactic(auto, using(std::proofs::lemmas::Grind::common_steps))]
 fn read_ascii_text<T: Destination>(tables: &Tables, src: &[u8], dst: &mut T) -> usize
-    ensures { ReadsModes T.Destination tables.now.flat.jis0208 Mode.Ascii Mode.Ascii src.now result dst.old dst.new }
+    ensures { ReadsModes T.Destination tables.now.flat.jis0208 Ascii Ascii src.now result dst.old dst.new }
 {
     // A single byte before a malformed one is read without a block.
     if src.len() > 1 && src[1] >= 0x80 {
@@ -149,15 +149,15 @@ fn read_ascii_text<T: Destination>(tables: &Tables, src: &[u8], dst: &mut T) -> 
 /// Returns the number of bytes read, which may be 0. Over packed tables it reads no pairs.
 #[inline(always)]
 #[tactic(auto, using(legacy_decoder_engine::proofs::WrittenReads::no_bytes))]
-fn read_begun<T: Destination>(tables: &Tables, mode: Mode, src: &[u8], dst: &mut T) -> usize
+fn read_begun<T: Destination>(tables: &Tables, mode: DecoderMode, src: &[u8], dst: &mut T) -> usize
     ensures { ReadsModes T.Destination tables.now.flat.jis0208 mode mode src.now result dst.old dst.new }
 {
     if src.is_empty() {
         return 0;
     }
     match mode {
-        Mode::Ascii if is_ascii_text(src[0]) => read_ascii_text(tables, src, dst),
-        Mode::TwoByte if src[0] >= 0x21 => match tables.flat() {
+        DecoderMode::Ascii if is_ascii_text(src[0]) => read_ascii_text(tables, src, dst),
+        DecoderMode::TwoByte if src[0] >= 0x21 => match tables.flat() {
             Some(tables) => read_pairs(tables, src, dst),
             None => 0,
         },
@@ -197,10 +197,10 @@ fn escape_alone(src: &[u8]) -> Option<Escape>
 #[inline(always)]
 pub fn read_modes<T: Destination>(
     tables: &Tables,
-    first: Mode,
+    first: DecoderMode,
     src: &[u8],
     dst: &mut T,
-) -> (Mode, usize)
+) -> (DecoderMode, usize)
     ensures { ReadsModes T.Destination tables.now.flat.jis0208 first result.0 src.now result.1 dst.old dst.new }
 {
     let mut mode = first;

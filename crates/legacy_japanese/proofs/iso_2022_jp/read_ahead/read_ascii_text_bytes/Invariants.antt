@@ -1,5 +1,5 @@
 use Rattle.std.proofs.Common.{◌-◌, length}
-use Rattle.legacy_japanese.specs.{Iso2022JpAhead.ReadsModes, declared.iso_2022_jp.bytes.Mode.TheVariants.Ascii}
+use Rattle.{legacy_base.specs.declared.modes.DecoderMode.TheVariants.Ascii, legacy_japanese.specs.Iso2022JpAhead.ReadsModes}
 use Rattle.legacy_japanese.proofs.iso_2022_jp.read_ahead.read_ascii_text_bytes.Given as goal
 
 abbrev pub invariant-loop-at : goal.invariant-loop-at

@@ -1,7 +1,7 @@
 use Rattle.std.proofs.Common.{◌-◌, length}
 use Rattle.legacy_encoder_engine.specs.UnfinishedCall.{EncodesBy}
 use Rattle.legacy_japanese.specs.Iso2022JpEncoder.{state_in}
-use Rattle.legacy_japanese.specs.declared.iso_2022_jp.encoder.Mode.TheVariants.{Ascii}
+use Rattle.legacy_base.specs.declared.modes.EncoderMode.TheVariants.{Ascii}
 use Rattle.legacy_japanese.proofs.iso_2022_jp.encoder.EncoderByTablePairsAheadCodes.read_blocks.Given as goal
 
 -- what was read was written
