@@ -1,10 +1,17 @@
 -- A record that defines an encoder. Each codec's file in this folder has its own value.
-use Rattle.std.specs.Prelude.{ℕ, List, [], ◌∷◌, Option, Some, Bool, nat_lt, if◌then◌else◌, option_map}
+use Rattle.std.specs.Prelude.{ℕ, List, [], ◌∷◌, Option, Some, Bool, true, false, nat_lt, if◌then◌else◌, option_map}
 use Rattle.std.specs.Char.{is_ascii}
-use Rattle.legacy_base.specs.declared.{modes.EncoderMode.{EncoderMode}, results.EncodeEvent.{EncodeEvent}}
+use Rattle.legacy_base.specs.declared.{modes.EncoderMode.{EncoderMode, TheVariants.{Ascii, Roman, TwoByte}}, results.EncodeEvent.{EncodeEvent}}
 use Rattle.legacy_base.specs.EncodeEvents.{plain_events}
 use Rattle.legacy_text.specs.EncodingForm.{EncodingForm, Utf8, Utf16}
 use Rattle.legacy_base.specs.Formulas.{Formula, number, ◌⊕◌, ◌⊗◌}
+
+-- the modes differ
+abbrev pub differs : EncoderMode → EncoderMode → Bool
+differs Ascii Ascii = false
+differs Roman Roman = false
+differs TwoByte TwoByte = false
+differs _ _ = true
 
 -- an encoder: all that the law of a call depends on
 pub record EncoderProfile : Type 0 where

@@ -3,12 +3,12 @@ use Rattle.std.proofs.Common.{◌/◌, ◌%◌, ◌≡◌, ◌∙◌, ℕ, ◌+�
 use Rattle.std.proofs.{Common.{Option, cond, option_map, ltb}, lemmas.Bool.{cases_lt, lt-ltb, le-ltb}, lemmas.Bool.Decides.nat_tests}
 use Rattle.legacy_text.specs.{EncodingForm.{EncodingForm, Utf8, Utf16, unit_count}, UnitCodes.IsNoSurrogate}
 use Rattle.legacy_base.specs.{Encoders.{Codec, encoder_profile, EncoderState, new_encoder, code, encoded, scalar_room}, declared.modes.EncoderMode.{EncoderMode, TheVariants.Ascii}}
-use Rattle.legacy_base.specs.{EncoderProfile.{EncoderProfile, plain_encoder}, EncodeEvents.{code_events, code_length, plain_events}, Lengths.{Formula, number}}
+use Rattle.legacy_base.specs.{EncoderProfile.{EncoderProfile, differs, plain_encoder}, EncodeEvents.{code_events, code_length, plain_events}, Lengths.{Formula, number}}
 use Rattle.legacy_base.specs.Lengths.{value}
 use Rattle.legacy_text.proofs.CodeUnits.{encoding}
 use Rattle.legacy_base.proofs.SameUnits.{some_unit}
 use Rattle.legacy_encoder_engine.specs.{declared.moves.EncoderMove.TheVariants.{One, Two}, declared.moves.EncoderMove.EncoderMove}
-use Rattle.legacy_encoder_engine.specs.Moves.{differs, Moves, IsCode, is_escape, move_bytes, move_report, wants_escape}
+use Rattle.legacy_encoder_engine.specs.Moves.{Moves, IsCode, is_escape, move_bytes, move_report, wants_escape}
 use Rattle.legacy_encoder_engine.specs.{ProfileSuffices.{mode_room, Serves}, UnfinishedCall.{PutsCode, ReadsByte}, UnitTurns.{HasUnitCode, ReadsUnit}}
 use Rattle.legacy_encoder_engine.specs.PlainCodecs.{HasPlainLengths, IsPlainCodec, HasByte}
 use Rattle.legacy_encoder_engine.proofs.{CallUnderWay.state_stays}

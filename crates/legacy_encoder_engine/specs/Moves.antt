@@ -2,8 +2,7 @@
 use Rattle.std.specs.Prelude.{◌≡◌, ℕ, ◌≤◌, List, [], ◌∷◌, ◌++◌, length, map, Bool, true, false, IsTrue, Option, Some, None, ◌⊎◌}
 use Rattle.legacy_base.specs.declared.results.{EncodeEvent.EncodeEvent, EncodeEvent.TheVariants.Byte}
 use Rattle.legacy_base.specs.Encoders.{EncoderState, encoder_profile, code, encoded, end_bytes, scalar_room}
-use Rattle.legacy_base.specs.declared.modes.EncoderMode.{EncoderMode, TheVariants.{Ascii, Roman, TwoByte}}
-use Rattle.legacy_base.specs.{Beginnings.BeginsWith, EncodeEvents.code_length}
+use Rattle.legacy_base.specs.{Beginnings.BeginsWith, EncodeEvents.code_length, EncoderProfile.differs}
 use Rattle.legacy_encoder_engine.specs.declared.moves.EncoderMove.TheVariants.{One, Two, Four, Escape, Unmappable}
 use Rattle.legacy_encoder_engine.specs.declared.moves.EncoderMove.{EncoderMove}
 use Rattle.legacy_base.specs.declared.results.EncodeEvent.TheVariants as events
@@ -30,13 +29,6 @@ unread_scalar _ c = []
 abbrev pub is_escape : EncoderMove → Bool
 is_escape (Escape a b) = true
 is_escape _ = false
-
--- the modes differ
-abbrev pub differs : EncoderMode → EncoderMode → Bool
-differs Ascii Ascii = false
-differs Roman Roman = false
-differs TwoByte TwoByte = false
-differs _ _ = true
 
 -- the scalar c needs an escape before it
 abbrev pub wants_escape : EncoderState → ℕ → Bool

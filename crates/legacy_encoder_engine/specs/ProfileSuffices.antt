@@ -1,9 +1,8 @@
 -- The requirements of the loop on an encoder's profile: its rooms and length formulas are enough for its scalars.
 use Rattle.std.specs.Prelude.{◌≡◌, ℕ, ◌+◌, ◌-◌, ◌≤◌, [], length, Bool, true, false, not}
 use Rattle.legacy_text.specs.EncodingForm.{EncodingForm, unit_count}
-use Rattle.legacy_base.specs.{EncodeEvents.code_length, EncoderProfile.EncoderProfile, declared.modes.EncoderMode.EncoderMode, Lengths.number, Lengths.value}
+use Rattle.legacy_base.specs.{EncodeEvents.code_length, EncoderProfile.{EncoderProfile, differs}, declared.modes.EncoderMode.EncoderMode, Lengths.number, Lengths.value}
 use Rattle.legacy_base.specs.Profile.{is_empty}
-use Rattle.legacy_encoder_engine.specs.Moves.{differs}
 
 -- the room that n more code units of a form can need in a mode
 abbrev pub mode_room : EncoderProfile → EncodingForm → EncoderMode → ℕ → ℕ

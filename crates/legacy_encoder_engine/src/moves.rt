@@ -1,8 +1,8 @@
 //! The small moves of each encoder, and the text that it reads ahead of them.
-ghost use Rattle.std.specs.Prelude.{◌≡◌, ◌≤◌, [], ◌∷◌, length, true, false, option_map, MatchOption};
+ghost use Rattle.std.specs.Prelude.{◌≡◌, ◌≤◌, [], ◌∷◌, length, true, false, option_map};
 ghost use Rattle.legacy_base.specs.Encoders.{EncoderState, encoder_profile, is_pending, scalar_room};
 ghost use Rattle.legacy_base.specs.Iso2022Jp.{escape_to};
-ghost use Rattle.legacy_encoder_engine.specs.Moves.{Moves, Finishes, IsCode, differs, is_escape, move_bytes, move_report};
+ghost use Rattle.legacy_encoder_engine.specs.Moves.{Moves, Finishes, IsCode, is_escape, move_bytes, move_report};
 ghost use Rattle.legacy_encoder_engine.specs.ProfileSuffices.{Serves};
 ghost use Rattle.legacy_encoder_engine.specs.UnfinishedCall.{EncodesFrom};
 
@@ -27,20 +27,17 @@ impl EncoderMove {
     /// The escape to ASCII mode.
     pub const TO_ASCII: EncoderMove = EncoderMove::Escape(0x28, 0x42);
 
-    /// Returns the escape from one mode to another, or `None` if they are equal.
-    #[inline(always)]
-    pub fn escape_between(old: EncoderMode, new: EncoderMode) -> Option<EncoderMove>
-        ensures { MatchOption result (differs old new ≡ false) (λ escape. (differs old new ≡ true)
-            × (is_escape escape ≡ true) × (move_bytes escape ≡ escape_to new)) }
+    /// Returns the escape to a mode.
+    #[inline]
+    pub fn escape_to(mode: EncoderMode) -> EncoderMove
+        ensures escapes { is_escape result ≡ true }
+        ensures bytes { move_bytes result ≡ escape_to mode }
     {
-        if old as u8 == new as u8 {
-            return None;
-        }
-        Some(match new {
+        match mode {
             EncoderMode::Ascii => EncoderMove::TO_ASCII,
             EncoderMode::Roman => EncoderMove::Escape(0x28, 0x4A),
             EncoderMode::TwoByte => EncoderMove::Escape(0x24, 0x42),
-        })
+        }
     }
 
     /// Checks whether the move reads the scalar and writes bytes for it.

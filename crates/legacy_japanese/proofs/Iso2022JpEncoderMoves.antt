@@ -3,12 +3,12 @@ use Rattle.std.proofs.Common.{◌≡◌, ℕ, ◌+◌, ◌<◌, ◌≤◌, ◌/�
 use Rattle.std.{specs.List.list_any, proofs.lemmas.List.Folds.list_any_at}
 use Rattle.{std.proofs.lemmas.Bool.Decides.nat_tests, legacy_tables.specs.Indexes.FlatIndexes, legacy_text.specs.UnitCodes.IsNoSurrogate}
 use Rattle.{legacy_text.specs.EncodingForm.{EncodingForm, Utf8}, legacy_base.specs.{EncodeEvents.code_events, Beginnings.BeginsWith}}
-use Rattle.legacy_base.specs.{EncoderProfile.EncoderProfile, Encoders.{encoder_profile, iso_2022_jp, is_pending}}
+use Rattle.legacy_base.specs.{EncoderProfile.{EncoderProfile, differs}, Encoders.{encoder_profile, iso_2022_jp, is_pending}}
 use Rattle.legacy_base.specs.Iso2022Jp.{iso_2022_jp_encoder, iso_2022_jp_code, iso_2022_jp_reported, is_two_byte_scalar, is_roman_scalar, is_mode_control}
 use Rattle.legacy_base.{specs.{Iso2022Jp.{mode_behind, escape_to}, declared.results.EncodeEvent.EncodeEvent}, proofs.SameUnits.some_unit}
 use Rattle.legacy_base.proofs.Iso2022JpEncoding.{code-short, text_events, text_events-here, text_events-escape, text_events-end, text_events-open, mode_for}
 use Rattle.legacy_base.proofs.Iso2022JpEncoding.{mode_by, mode_for-by, mode_for-twice, code_by}
-use Rattle.legacy_encoder_engine.specs.{Moves.{differs, is_escape, move_bytes, move_report, Moves, Finishes}, ProfileSuffices.{Serves, mode_room}}
+use Rattle.legacy_encoder_engine.specs.{Moves.{is_escape, move_bytes, move_report, Moves, Finishes}, ProfileSuffices.{Serves, mode_room}}
 use Rattle.legacy_encoder_engine.specs.{UnfinishedCall.{PutsCode, ReadsByte}, UnitTurns.{ReadsUnit, two_bytes}}
 use Rattle.legacy_encoder_engine.specs.declared.moves.EncoderMove.{EncoderMove, TheVariants.{One, Two}}
 use Rattle.legacy_encoder_engine.proofs.PlainServes.{two_units, differs-same, here_moves}
@@ -93,9 +93,9 @@ module _ (flat : FlatIndexes) where
     puts asks same reads silent bytes ends = record { move = move; moves = stays asks same; reads = reads; silent = silent; bytes = bytes; ends = ends }
 
     -- an escape goes to another mode
-    pub escapes : {own : EncoderMove} → Asks flat mode c new own → (differs mode new ≡ true) × (is_escape move ≡ true) × (move_bytes move ≡ escape_to new)
+    pub escapes : {own : EncoderMove} → Asks flat mode c new own → differs mode new ≡ true → is_escape move ≡ true → move_bytes move ≡ escape_to new
         → Moves (state_in flat mode) c (state_in flat new) move
-    escapes asks is = grind (arith, text_events-escape, differs-same, asks.mode_is)
+    escapes asks e is bytes = grind (arith, text_events-escape, differs-same, asks.mode_is)
 
   -- ASCII without controls, in ASCII mode
   asks_ascii : (c : ℕ) → c < 128 → is_mode_control c ≡ false → Asks flat Ascii c Ascii (One c)
@@ -107,7 +107,11 @@ module _ (flat : FlatIndexes) where
       let free : is_mode_control (get_or bytes k 0) ≡ false = grind (arith, none, h, list_any_at is_mode_control bytes k 0) in
       record { fits = omega arith; moves = stays (asks_ascii _ (ascii k) free) refl }
 
-  pub ruleset put_steps = (fits, puts)
+  pub puts_ascii : (c : ℕ) (mode : EncoderMode) → c < 128 → is_mode_control c ≡ false → mode ≡ Ascii → (old bytes : List ℕ) (at : ℕ) → bytes ≡ old ++ c ∷ []
+      → PutsCode (state_in flat mode) c old at bytes (at + 1)
+  puts_ascii c mode low free here old bytes at is = rw here (puts (asks_ascii c low free) refl refl refl is refl)
+
+  pub ruleset put_steps = (fits, puts, puts_ascii)
 
   -- a pair that is in the list
   module _ (c both : ℕ) (is : IsNoSurrogate c × (iso_2022_jp_code flat.jis0208 flat.katakana c ≡ Some (two_bytes both))) where

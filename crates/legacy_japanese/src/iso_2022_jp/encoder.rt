@@ -66,11 +66,11 @@ impl<P: FindsPairs> EncoderMoves for EncoderBy<P> {
     #[inline]
     fn next(&mut self, c: char) -> EncoderMove {
         let (mode, own) = self.pairs.asked(self.mode, c);
-        let Some(escape) = EncoderMove::escape_between(self.mode, mode) else {
+        if !self.mode.differs(mode) {
             return own;
-        };
+        }
         self.mode = mode;
-        escape
+        EncoderMove::escape_to(mode)
     }
 
     #[inline]
@@ -206,14 +206,15 @@ impl<'a> EncoderBy<TablePairs<'a>> {
     // It reads by a copy of the cursor, which is dropped if a control was copied.
     #[inline(always)]
     fn copy_piece<S: TextCursor>(&self, src: &mut S, dst: &mut [u8], start: usize) -> usize
-        requires { start + 2 ≤ length dst.old }
+        requires { start + 15 ≤ length dst.old }
         ensures { EncodesBy S.TextCursor (state_in self.now.pairs.tables.now.flat Ascii) src.old
             dst.old start src.new dst.new result }
     {
-        let limit = (dst.len() - 2).min(start + PIECE);
+        let limit = (dst.len() - 15).min(start + PIECE);
         let mut own = *src;
         let end = start + own.copy_ascii(&mut dst[..limit], start);
-        if has_control(&dst[start..end]) {
+        let past = start + (end - start + 15) / 16 * 16;
+        if has_control(&dst[start..past]) {
             return start;
         }
         *src = own;
@@ -235,11 +236,15 @@ impl AheadCodes for EncoderBy<TablePairs<'_>> {
     #[inline(always)]
     #[tactic(auto, using(crate::proofs::Iso2022JpEncoderMoves::put_steps))]
     fn put_code(&self, _part: &mut RangePart, dst: &mut [u8], at: usize, c: char) -> Option<usize> {
-        if matches!(self.mode, EncoderMode::Ascii) && (c as u32) >= 0x80 {
-            return None;
+        if let EncoderMode::Ascii = self.mode {
+            let scalar = c as u32;
+            if scalar >= 0x80 || is_control(scalar) {
+                return None;
+            }
+            return Some(put_move(dst, at, EncoderMove::One(scalar as u8)));
         }
         let (mode, own) = self.pairs.asked(self.mode, c);
-        if EncoderMove::escape_between(self.mode, mode).is_some() || !own.has_bytes() {
+        if self.mode.differs(mode) || !own.has_bytes() {
             return None;
         }
         Some(put_move(dst, at, own))
@@ -252,7 +257,7 @@ impl AheadCodes for EncoderBy<TablePairs<'_>> {
             return start;
         };
         let mut at = start;
-        while dst.len() - at >= 2 {
+        while dst.len() - at >= 31 {
             let end = self.copy_piece(src, dst, at);
             if end - at < PIECE {
                 return end;
