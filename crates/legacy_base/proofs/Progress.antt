@@ -9,34 +9,31 @@ use Rattle.legacy_base.proofs.{Beginnings.{begins_sooner, begins_later, begins_b
 pub stay : (ended : Bool) (s : DecoderState) (source : List ℕ) → Progress ended s source 0 s source []
 stay ended s source = record { counts = omega arith; rest = refl; codec = refl; events = λ more h. sym (shift-zero _) }
 
--- if `a` implies `b`, progress with the exception `a` implies progress with the exception `b`
-pub at_less : (a b : Bool) → (IsTrue a → IsTrue b) → (s : DecoderState) (xs : List ℕ) (n : ℕ) (t : DecoderState) (ys : List ℕ) (out : List DecodeEvent) →
-    Progress a s xs n t ys out → Progress b s xs n t ys out
-at_less a b i s xs n t ys out h = record { counts = h.counts; rest = h.rest; codec = h.codec; events = λ more e. h.events more (λ l. e (i l)) }
-
--- progress without the exception implies progress with it
-pub at_last : (ended : Bool) (s : DecoderState) (xs : List ℕ) (n : ℕ) (t : DecoderState) (ys : List ℕ) (out : List DecodeEvent) →
-    Progress false s xs n t ys out → Progress ended s xs n t ys out
-at_last ended s xs n t ys out h = at_less false ended (λ f. absurd (false≢true f)) s xs n t ys out h
-
 -- a report at the end is made on a last call, with nothing unread
 pub end_report-last : (last : Bool) (answer : DecoderResult) (left : List ℕ) → IsTrue (may_report_end last answer left) → IsTrue last
 end_report-last last answer left h = grind arith
 
--- the same progress if more source follows
-pub behind : (s : DecoderState) (xs : List ℕ) (n : ℕ) (t : DecoderState) (ys : List ℕ) (out : List DecodeEvent) (zs : List ℕ) →
-    Progress false s xs n t ys out → Progress false s (xs ++ zs) n t (ys ++ zs) out
-behind s xs n t ys out zs h = grind (arith, nat_tests, length-append, append_assoc, drop-append-le, false≢true)
+module _ {s t : DecoderState} {xs ys : List ℕ} {n : ℕ} {out : List DecodeEvent} where
+  -- if `a` implies `b`, progress with the exception `a` implies progress with the exception `b`
+  pub at_less : {a b : Bool} → (IsTrue a → IsTrue b) → Progress a s xs n t ys out → Progress b s xs n t ys out
+  at_less i h = record { counts = h.counts; rest = h.rest; codec = h.codec; events = λ more e. h.events more (λ l. e (i l)) }
+
+  -- progress without the exception implies progress with it
+  pub at_last : {ended : Bool} → Progress false s xs n t ys out → Progress ended s xs n t ys out
+  at_last h = at_less (λ f. absurd (false≢true f)) h
+
+  -- the same progress if more source follows
+  pub behind : (zs : List ℕ) → Progress false s xs n t ys out → Progress false s (xs ++ zs) n t (ys ++ zs) out
+  behind zs h = grind (arith, nat_tests, length-append, append_assoc, drop-append-le, false≢true)
 
 -- a list of events that begins with `one` and then `two` begins with `two` after `one`
 behind_first : (m : ℕ) (one two items : List DecodeEvent) → BeginsWith (one ++ shift m items) (one ++ shift m two) → BeginsWith items two
 behind_first m one two items b = begins_back m two items (begins_later one (shift m two) (shift m items) b)
 
 -- one step after another
-pub after_that : (ended : Bool) (s : DecoderState) (xs : List ℕ) (m : ℕ) (t : DecoderState) (ys : List ℕ) (one : List DecodeEvent) (n : ℕ) (u : DecoderState)
-    (zs : List ℕ) (two : List DecodeEvent) →
+pub after_that : {ended : Bool} {s t u : DecoderState} {xs ys zs : List ℕ} {m n : ℕ} {one two : List DecodeEvent} →
     Progress ended s xs m t ys one → Progress ended t ys n u zs two → Progress ended s xs (m + n) u zs (one ++ shift m two)
-after_that ended s xs m t ys one n u zs two a b = record {
+after_that {s} {t} {u} {xs} {ys} {zs} {m} {n} {one} {two} a b = record {
   counts = omega (arith, a.counts, b.counts);
   codec = b.codec ∙ a.codec;
   rest = sym (drop-drop n m (s.held ++ xs)) ∙ ap (drop n) a.rest ∙ b.rest;

@@ -4,7 +4,7 @@ use Rattle.std.proofs.{Common.true, lemmas.List.drop_all}
 use Rattle.legacy_base.specs.{declared.results.DecodeEvent.DecodeEvent, declared.results.DecodeEvent.TheVariants.{Scalar, Bad}}
 use Rattle.legacy_base.specs.{declared.results.DecoderResult.DecoderResult, declared.results.DecoderResult.TheVariants.{InputEmpty, OutputFull, Malformed}}
 use Rattle.legacy_base.specs.{Events.shift, Grammar.events_of, States.DecoderState, Lengths.{to_utf8_without_replacement, room}, Calls.{Progress, DecoderCall}}
-use Rattle.legacy_base.specs.Calls.{may_report_end, out_events}
+use Rattle.legacy_base.specs.Calls.{out_events}
 use Rattle.legacy_text.specs.EncodingForm.{Utf8}
 use Rattle.legacy_base.proofs.Progress.{stay, at_less, after_that}
 use Rattle.legacy_codecs.specs.{declared.malformed.MalformedSequence.MalformedSequence, MalformedSequences.malformed_of}
@@ -45,10 +45,7 @@ module _ {before : DecoderState} {input : List ℕ} {free : ℕ} {now : DecoderS
     (f : Finds before input free now rest read found) {after : DecoderState} {count : ℕ} {scalars : List ℕ} where
   progress_after : {answer : DecoderResult} (c : DecoderCall Utf8 now rest true free after answer count scalars) →
       Progress true before input (f.passed + c.passed) after (drop count rest) (f.out ++ shift f.passed (out_events (length now.held + count) scalars answer))
-  progress_after {answer} c =
-      after_that true before input f.passed now rest f.out c.passed after (drop count rest) (out_events (length now.held + count) scalars answer) f.progress
-      (at_less (may_report_end true answer (drop count rest)) true (λ l. refl) now rest c.passed after (drop count rest)
-      (out_events (length now.held + count) scalars answer) c.progress)
+  progress_after c = after_that f.progress (at_less (λ l. refl) c.progress)
 
   -- the place of a malformed sequence
   place_is : {a b : ℕ} → DecoderCall Utf8 now rest true free after (Malformed a b) count scalars →

@@ -155,13 +155,8 @@ module _ {form : EncodingForm} {before : DecoderState} {source : List ℕ} {last
         (drop (read + count) source)
         (out_after count scalars answer)
     progress_after =
-        let d = drop-drop count read source in
-        let unread = drop count (drop read source) in
-        let out = out_events (length now.held + count) scalars answer in
-        let ended = may_replace_end last (found_after found answer) unread in
-        let first = at_less _ ended (still_found last found answer count (drop read source)) before source r.passed now (drop read source) r.out r.progress in
-        let second = at_less _ ended (found_now last found answer unread) now (drop read source) c.passed after unread out c.progress in
-        rw (← d) (after_that ended before source r.passed now (drop read source) r.out c.passed after unread out first second)
+        let first = at_less (still_found last found answer count (drop read source)) r.progress in
+        rw (← drop-drop count read source) (after_that first (at_less (found_now last found answer (drop count (drop read source))) c.progress))
 
     scalar_after : All IsScalar (replaced_scalars (out_after count scalars answer))
     scalar_after =

@@ -65,7 +65,7 @@ module _ {form : EncodingForm} {last : Bool} where
     pub going_release : {source : List ℕ} {now : DecoderState} {c : ℕ} → rests s.grammar s.held ≡ false → release_room_in form s.grammar ≤ free
         → Releases s now c → Going form last s source free now 0 (c ∷ [])
     going_release {source} {now} {c} r enough h =
-        let progress = behind _ _ _ _ _ _ source h.progress in
+        let progress = behind source h.progress in
         grind (arith, progress, HadRooms-released, All-cons, All-nil, room_needed-release, length-append)
 
     fed_going : {byte : ℕ} {rest : List ℕ} {next : DecoderState} (fed : Fed) → rests s.grammar s.held ≡ true → Feeds s byte next fed
@@ -76,7 +76,7 @@ module _ {form : EncodingForm} {last : Bool} where
         record {
           within = omega arith;
           passed = f.passed;
-          progress = behind _ _ _ _ _ _ rest f.progress;
+          progress = behind rest f.progress;
           resting = f.holds;
           allowed = f.allowed;
           rooms = f.rooms;
@@ -130,7 +130,7 @@ module _ {form : EncodingForm} {last : Bool} where
         let full = f.full form (inl tt) in
         let needs = room_needed-read form s byte rest last r in
         let room : malformed_room form s.grammar n ≤ free = grind (arith, nat_tests) in
-        call_malformed n f.passed (grind arith) f.allowed f.holds (at_last _ _ _ _ _ _ _ (rw left_is (behind _ _ _ _ _ _ rest f.progress))) (grind arith) room
+        call_malformed n f.passed (grind arith) f.allowed f.holds (at_last (rw left_is (behind rest f.progress))) (grind arith) room
         (λ query q more z. grind (arith, f.lowers query (length rest + more), ap length left_is, length-append))
 
     -- the call ends at the next byte
@@ -172,8 +172,7 @@ module _ {form : EncodingForm} {last : Bool} where
         record {
           within = omega (arith, a.within, b.within, length-drop read source);
           passed = a.passed + b.passed;
-          progress = rw (← drop-drop n read source, map-append Scalar scalars ds, ← shift-scalars a.passed ds)
-              (after_that _ _ _ _ _ _ _ _ _ _ _ a.progress b.progress);
+          progress = rw (← drop-drop n read source, map-append Scalar scalars ds, ← shift-scalars a.passed ds) (after_that a.progress b.progress);
           resting = b.resting;
           allowed = b.allowed;
           rooms = both_rooms _ _ _ a.rooms b.rooms;
@@ -206,8 +205,7 @@ module _ {form : EncodingForm} {last : Bool} where
           fits = a.fits;
           scalar = a.scalar;
           passed = a.passed + c.passed;
-          progress = rw (← drop-drop n read source, ← reported.0)
-              (after_that _ _ _ _ _ _ _ _ _ _ _ (at_last _ _ _ _ _ _ _ a.progress) c.progress);
+          progress = rw (← drop-drop n read source, ← reported.0) (after_that (at_last a.progress) c.progress);
           allowed = c.allowed;
           malformed_sequence = reported.1;
           input_empty = λ e. grind (arith, c.input_empty e);

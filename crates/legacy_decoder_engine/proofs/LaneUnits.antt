@@ -37,10 +37,10 @@ pub chosen_at : (ks es : List ℕ) → length ks ≡ 8 → length es ≡ 8 → (
     → get_or (sel_l (map (top 15) (zip2 (λ a b. mask_if (ltb a b)) ks (replicate 8 128))) ks es) k 0 ≡ unit_at (get_or ks k 0) (get_or es k 0)
 chosen_at ks es m n k h = grind (arith, nat_tests, tops_compared w16 ltb ks (replicate 8 128) ∙ zip2_splat ltb ks 8 128 m, get_or-sel_l, get_or-map, length-map)
 
-module _ (g : Grammar) (ascii : HasAscii g) (entries : List ℕ) (pointer : ℕ → ℕ) (pairs : ArePairs g entries pointer) where
-  pub is_form : (code kept place entry unit : ℕ) → unit < 65536 → IsLane pointer code kept place → place < length entries
+module _ {g : Grammar} (ascii : HasAscii g) (entries : List ℕ) {pointer : ℕ → ℕ} (pairs : ArePairs g entries pointer) where
+  pub is_form : {code kept place entry unit : ℕ} → unit < 65536 → IsLane pointer code kept place → place < length entries
       → (entry ≢ 0 → entry ≡ get_or entries place 0) → unit ≡ unit_at kept entry → unit ≢ 0 → IsForm g code kept unit
-  is_form code kept place entry unit narrow lane within looked_up is some = grind (arith, nat_tests, ascii (code % 256), pairs code lane.small)
+  is_form {code} narrow lane within looked_up is some = grind (arith, nat_tests, ascii (code % 256), pairs code lane.small)
 
 module _ (g : Grammar) (pointer : ℕ → ℕ) (last : ℕ) (codes kept places us : List ℕ) (long : length us ≡ 8) (lanes : AreLanes pointer last 8 codes kept places)
     (forms : AreForms g pointer kept places us) where

@@ -97,7 +97,7 @@ raw_decodes {before = before} {source} {last} {after = after} {answer} {read} {s
       within = c.within;
       passed = c.passed;
       out = out;
-      progress = at_less _ _ (found-report last seen scalars answer left) before source c.passed after left out c.progress;
+      progress = at_less (found-report last seen scalars answer left) c.progress;
       allowed = λ _. c.allowed;
       text = rw (replaced-out seen scalars answer) e;
     }
@@ -154,10 +154,10 @@ module _ {form : EncodingForm} {before : DecoderState} {source : List ℕ} {last
 -- ---- calls one after another
 
 -- the same progress if more source follows, or none after the last piece
-progress_ahead : (ended : Bool) (s : DecoderState) (xs : List ℕ) (n : ℕ) (t : DecoderState) (ys : List ℕ) (out : List DecodeEvent) (zs : List ℕ) →
+progress_ahead : (ended : Bool) {s t : DecoderState} {xs ys : List ℕ} {n : ℕ} {out : List DecodeEvent} (zs : List ℕ) →
     (IsTrue ended → zs ≡ []) → Progress ended s xs n t ys out → Progress ended s (xs ++ zs) n t (ys ++ zs) out
-progress_ahead false s xs n t ys out zs h p = behind s xs n t ys out zs p
-progress_ahead true s xs n t ys out zs h p = rw (h refl, append-nil xs, append-nil ys) p
+progress_ahead false zs h p = behind zs p
+progress_ahead true {xs} {ys} zs h p = rw (h refl, append-nil xs, append-nil ys) p
 
 -- a malformed sequence at the end of the input, found by the calls before or by this one
 found_sooner : (found more : Bool) (count : ℕ) (left : List ℕ) → IsTrue (may_replace_end true found left) →
@@ -217,15 +217,12 @@ module _ {form : EncodingForm} {last : Bool} {before : DecoderState} {source : L
       (drop (read + count) source) out_after
   progress_after =
       let unread = drop count piece in
-      let ended = may_replace_end true (has_malformed r.out || has_malformed c.out) (unread ++ later) in
       let sooner = found_sooner (has_malformed r.out) (has_malformed c.out) count (drop read source) in
       let same : drop count (drop read source) ≡ unread ++ later = drop-drop count read source ∙ left_is in
-      let one = at_less _ ended (rw same at sooner) before source r.passed now (drop read source) r.out r.progress in
-      let ahead = progress_ahead _ now piece c.passed after unread c.out later (found_last (has_malformed c.out) last unread later none) c.progress in
+      let one = at_less (rw same at sooner) r.progress in
+      let ahead = progress_ahead _ later (found_last (has_malformed c.out) last unread later none) c.progress in
       let found = found_now (has_malformed r.out) (has_malformed c.out) last unread later none in
-      let two = at_less _ ended found now (piece ++ later) c.passed after (unread ++ later) c.out ahead in
-      rw (found_after, left_is)
-      (after_that ended before source r.passed now (piece ++ later) r.out c.passed after (unread ++ later) c.out (rw parts at one) two)
+      rw (found_after, left_is) (after_that (rw parts at one) (at_less found ahead))
 
   text_after : written ++ units ≡ all_code_units form (replaced_scalars out_after)
   text_after = grind (arith, replaced-append, replaced-shift, all_code_units-append, r.text, c.text)
@@ -245,7 +242,7 @@ module _ {form : EncodingForm} {last : Bool} {before : DecoderState} {source : L
       ≡ length c.out + length (events_of after.grammar (after.held ++ drop (read + count) source))
   events_fewer =
       let unread = drop count piece in
-      let ahead = progress_ahead _ now piece c.passed after unread c.out later (found_last (has_malformed c.out) last unread later none) c.progress in
+      let ahead = progress_ahead _ later (found_last (has_malformed c.out) last unread later none) c.progress in
       let events = ahead.events [] (λ _. inl refl) in
       let long = ap length events ∙ length-append c.out _ ∙ ap (λ n. length c.out + n) (length-shift c.passed _) in
       rw (parts, left_is) (rw (append-nil, append-nil) at long)

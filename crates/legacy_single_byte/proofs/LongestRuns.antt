@@ -13,8 +13,8 @@ not_refused table scalar start count from within holds =
 
 -- ---- one more place
 
-module _ (table : List ℕ) where
-  module _ (scalar start count place : ℕ) (before : LongestToThe table scalar start count place) where
+module _ {table : List ℕ} where
+  module _ {scalar start count place : ℕ} (before : LongestToThe table scalar start count place) where
     -- the scalar at the place continues the run
     pub grown : get_or table place 0 ≡ scalar + count → scalar + count < 0x2000 → LongestToThe table scalar start (count + 1) (place + 1)
     grown e low = record {
@@ -24,8 +24,8 @@ module _ (table : List ℕ) where
     }
 
     -- the scalar at the place does not continue the run
-    pub begun : (value : ℕ) → get_or table place 0 ≡ value → value ≢ scalar + count → value < 0x2000 → LongestToThe table value place 1 (place + 1)
-    begun value e other low = record {
+    pub begun : {value : ℕ} → get_or table place 0 ≡ value → value ≢ scalar + count → value < 0x2000 → LongestToThe table value place 1 (place + 1)
+    begun e other low = record {
       is = grind arith;
       ends = refl;
       longest = λ c s n run ends.
@@ -34,7 +34,7 @@ module _ (table : List ℕ) where
 
   -- ---- the longest run up to a place
 
-  module _ (scalar start count place : ℕ) (best : LongestUpTo table scalar start count place) (c s n : ℕ) (run : LongestToThe table c s n (place + 1)) where
+  module _ {scalar start count place : ℕ} (best : LongestUpTo table scalar start count place) {c s n : ℕ} (run : LongestToThe table c s n (place + 1)) where
     pub kept : n ≤ count → LongestUpTo table scalar start count (place + 1)
     kept h = record { is = best.is; within = grind arith; longest = λ d t m other ends. grind (arith, best.longest d t m other, run.longest d t m other) }
 
@@ -42,6 +42,6 @@ module _ (table : List ℕ) where
     replaced h = record { is = run.is; within = grind arith; longest = λ d t m other ends. grind (arith, best.longest d t m other, run.longest d t m other) }
 
   -- no run that the encoder accepts is longer than the longest one up to the end
-  pub none_longer : (scalar start count place : ℕ) → 128 ≤ place → LongestUpTo table scalar start count place →
+  pub none_longer : {scalar start count place : ℕ} → 128 ≤ place → LongestUpTo table scalar start count place →
       (c s n : ℕ) → single_byte_run_fault table c s n ≡ None → c + n ≤ 0x2000 → n ≤ count
-  none_longer scalar start count place end best c s n e low = grind (arith, nat_tests, best.longest c s n, run_holds table c s n)
+  none_longer end best c s n e low = grind (arith, nat_tests, best.longest c s n, run_holds table c s n)

@@ -91,7 +91,7 @@ module _ {before : DecoderState} {piece : List ℕ} {last : Bool} {total : ℕ} 
     within = within;
     passed = u.passed + passed;
     events = u.events ++ shift u.passed given;
-    progress = rw (← drop-drop count offset piece) (after_that _ _ _ _ _ _ _ _ _ _ _ u.progress way);
+    progress = rw (← drop-drop count offset piece) (after_that u.progress way);
     sent = u.sent;
     written = u.written;
     lines = grind (arith, input_events-append, event_lines-append, append_assoc, u.lines);
@@ -115,7 +115,7 @@ module _ {before : DecoderState} {piece : List ℕ} {last : Bool} {total : ℕ} 
     pub piece_step : IsPieceUnderWay before piece last total after (offset + read) more old mid
     piece_step =
         let within : offset + read ≤ length piece = let r = c.within in let v = u.within in omega (arith, length-drop offset piece) in
-        more_events read within (at_less _ last (end_report-last last answer _) _ _ _ _ _ _ c.progress) given_is w
+        more_events read within (at_less (end_report-last last answer _) c.progress) given_is w
 
     -- after the last call of a piece, all its lines are written
     pub piece_end : (new : Option (List ℕ)) → answer ≡ InputEmpty → Appends mid new more → RecodesPiece before piece last total after old new
@@ -186,10 +186,10 @@ unfolding malformed_events
 malformed_way last state bytes zero few malformed_byte = stay last state bytes
 malformed_way last state [] (suc count) few malformed_byte = absurd (omega arith)
 malformed_way last state (b ∷ bytes) (suc count) few malformed_byte =
-    let first = at_last last _ _ _ _ _ _ (behind _ _ _ _ _ _ bytes (malformed_byte 0 (omega arith)).progress) in
+    let first = at_last {ended = last} (behind bytes (malformed_byte 0 (omega arith)).progress) in
     let rest = malformed_way last state bytes count (omega arith) (λ k l. malformed_byte (suc k) (omega arith)) in
     let all : 1 + count ≡ suc count = omega arith in
-    rw (shifted_malformed 1 0 count, all) at (after_that _ _ _ _ _ _ _ _ _ _ _ first rest)
+    rw (shifted_malformed 1 0 count, all) at (after_that first rest)
 
 -- Lines are written, so that room is made, and then those of bytes that are malformed one by one are added.
 pub piece_ahead : (count : ℕ) {before : DecoderState} {piece : List ℕ} {last : Bool} {total : ℕ} {now : DecoderState} {offset : ℕ}

@@ -58,8 +58,7 @@ module _ {before : DecoderState} {piece : List ℕ} {last : Bool} {now : Decoder
     (c : ReplacingDecoderCall Utf8 now (drop offset piece) last free after answer read written more) where
   -- the progress up to the end of the call
   way_of_call : Progress last before piece (u.passed + c.passed) after (drop (offset + read) piece) (u.events ++ shift u.passed c.out)
-  way_of_call =
-      rw (← drop-drop read offset piece) (after_that _ _ _ _ _ _ _ _ _ _ _ u.progress (at_less _ last (end_found-last last more _) _ _ _ _ _ _ c.progress))
+  way_of_call = rw (← drop-drop read offset piece) (after_that u.progress (at_less (end_found-last last more _) c.progress))
 
   -- if only a front of the text of the call is written, the piece was decoded in part
   pub text_front : (new : Option (List ℕ)) (count : ℕ) → Appends mid new (take count written) → WritesFront before piece last after old new

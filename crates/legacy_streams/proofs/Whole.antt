@@ -75,7 +75,7 @@ module _ {before now : DecoderState} {total : ℕ} {left_old left_mid : Option (
   way_on : (last : Bool) (piece : List ℕ) {after : DecoderState} {passed : ℕ} {unread : List ℕ} {events : List DecodeEvent}
       → Progress last now piece passed after unread events
       → Progress last before (w.bytes ++ piece) (w.passed + passed) after unread (all_events events)
-  way_on last piece p = after_that _ _ _ _ _ _ _ _ _ _ _ (at_last last _ _ _ _ _ _ (behind _ _ _ _ _ _ piece w.progress)) p
+  way_on last piece p = after_that (at_last (behind piece w.progress)) p
 
   module _ (piece : List ℕ) {after : DecoderState} {left : Option (List ℕ)} (r : Consumes left_mid left piece) {Second Both : List DecodeEvent → Type 0}
       (j : Joins before now total First Second Both) where

@@ -3,7 +3,7 @@ use Rattle.std.proofs.Common.{◌≡◌, ℕ, zero, suc, ◌+◌, ◌-◌, ◌*�
 use Rattle.std.proofs.Common.{map, take, drop, replicate, bit_and, refl, sym, ap, ap₂, ◌∙◌, arith, subst, zero-add, w8, w16, Fits, ◌&&◌, mod-lt, zero-lt-suc}
 use Rattle.std.proofs.{Common.{mul_assoc, length-append, All}, lemmas.{Bool.{leb-true, eqb-true, and_parts, agree_below_at}, List.{map-append, append_assoc}}}
 use Rattle.std.proofs.{lemmas.List.{length-replicate, length-take-le, take-take, take-map, length-map, FromFn.get_or-range_with_len}, Math.Seq.take-append_seam}
-use Rattle.std.proofs.lemmas.{Nat.{and_mask, Bits.{and_high, bit_at_ones}}, Simd.{mask_l-lt, swz_l, SwzOk, SwzOk-from_below, Each1-get_or, pick_l_whole}}
+use Rattle.std.proofs.lemmas.{Nat.{and_mask, Bits.{and_high, bit_at_ones}}, Simd.{mask_l-lt, swz_l, SwzOk, SwzOk-from_below, Each1-get_or}}
 use Rattle.std.proofs.{lemmas.{Simd.{bitmask_splat, bit_mask_l}, Grind.{flat_map-append, common_steps}, Bool.Decides.nat_tests}, Math.ListN.get_or-map}
 use Rattle.std.specs.{Char.encode_utf8, List.range_with_len, Int.RustNames.count_ones}
 use lib.Lanes.{Each1, zip2, sel_l, mask_l, top, number_l, digits_l, pick_l, all_below}
@@ -16,10 +16,9 @@ use Rattle.legacy_text.proofs.{Ascii.{mask_from, mask_from-is}, VectorUnits.free
 -- a property of any eight lanes that fit is a property of a vector
 pub of_eight : (P : List ℕ → Type 0) → ((a b c d e f g h : ℕ) → a < 65536 → b < 65536 → c < 65536 → d < 65536 → e < 65536 → f < 65536 → g < 65536 → h < 65536
     → P (a ∷ b ∷ c ∷ d ∷ e ∷ f ∷ g ∷ h ∷ [])) → (v : List ℕ) → length v ≡ 8 → Each1 (Fits w16) v → P v
-of_eight P p v n s =
-    let b : (k : ℕ) → k < 8 → get_or v k 0 < 65536 = λ k h. (Each1-get_or (Fits w16) v k 0 (omega arith) s).fits in
-    subst P (pick_l_whole 0 v 8 n) (p _ _ _ _ _ _ _ _ (b 0 (omega arith)) (b 1 (omega arith)) (b 2 (omega arith)) (b 3 (omega arith))
-    (b 4 (omega arith)) (b 5 (omega arith)) (b 6 (omega arith)) (b 7 (omega arith)))
+of_eight P p (a ∷ b ∷ c ∷ d ∷ e ∷ f ∷ g ∷ h ∷ []) n (sa, (sb, (sc, (sd, (se, (sf, (sg, (sh, _)))))))) =
+    p a b c d e f g h sa.fits sb.fits sc.fits sd.fits se.fits sf.fits sg.fits sh.fits
+of_eight P p v n s = absurd (omega arith)
 
 -- ---- the bytes of one code unit
 

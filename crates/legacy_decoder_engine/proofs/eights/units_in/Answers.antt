@@ -16,7 +16,7 @@ returns g c =
     let grammar = g.C.LaneCodec.grammar c.args.tables.now.flat in
     let long : length c.chosen.result ≡ 8 = omega arith in
     let forms : AreForms grammar g.C.LaneCodec.place kept places c.chosen.result =
-    λ code k h lane some. is_form _ (g.met.C.LaneCodec.ascii c.args.tables.now) _ _ c.entries_at.ensures.pairs code _ _ _ _ (c.chosen.ensures.small k h) lane
+    λ code k h lane some. is_form (g.met.C.LaneCodec.ascii c.args.tables.now) _ c.entries_at.ensures.pairs (c.chosen.ensures.small k h) lane
     (omega (arith, (c.kept_and_places.ensures k h).1, c.requires)) (rw (map-id places) at (c.entries_at.ensures.are k h)) (c.chosen.ensures.lanes k h) some in
     record {
       small = c.chosen.ensures.small;

@@ -19,5 +19,5 @@ loop-k-preserved g c =
           let before = i.3 front.0 in
           let read = s.ensures.scalar before.is_text (ltb-true _ _ front.1) in
           let stored = ap (λ n. take n (slice_set c.loop-k.dst at b.result.0)) place ∙ take_more_set c.loop-k.dst at b.result.0 inside in
-          scalars_append _ _ _ _ _ 1 _ _ _ _ before (scalars_one _ _ _ _ _ _ _ _ read (b.ensures flags.1).1 stored)),
+          scalars_append before (scalars_one b.result.0 read (b.ensures flags.1).1 stored)),
     )

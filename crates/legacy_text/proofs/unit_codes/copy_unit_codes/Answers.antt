@@ -5,13 +5,15 @@ use Rattle.legacy_text.proofs.unit_codes.copy_unit_codes.Goals as goal
 pub returns-then-count-lt16 : goal.returns-then-count-lt16
 returns-then-count-lt16 g c =
     let e = c.ascii_count-count.ensures in
-    let b = c.code_block.ensures in
+    let b = c.code_block in
     let i = c.loop-copied.invariant in
-    grind (arith, block_behind _ _ _ _ _ _ _ _ _ _ (omega (arith, c.loop-copied-test.true)) e.most b.bytes b.codes e.ascii (c.store.ensures _ e.most) i.2 i.3)
+    let stored = c.store.ensures _ e.most in
+    grind (arith, block_behind b.result.0 b.result.1 (omega (arith, c.loop-copied-test.true)) e.most b.ensures.bytes b.ensures.codes e.ascii stored i.2 i.3)
 
 pub loop-copied-preserved : goal.loop-copied-preserved
 loop-copied-preserved g c =
     let e = c.ascii_count-count.ensures in
-    let b = c.code_block.ensures in
+    let b = c.code_block in
     let i = c.loop-copied.invariant in
-    grind (arith, block_behind _ _ _ _ _ _ _ _ _ _ (omega (arith, c.loop-copied-test.true)) e.most b.bytes b.codes e.ascii (c.store.ensures _ e.most) i.2 i.3)
+    let stored = c.store.ensures _ e.most in
+    grind (arith, block_behind b.result.0 b.result.1 (omega (arith, c.loop-copied-test.true)) e.most b.ensures.bytes b.ensures.codes e.ascii stored i.2 i.3)

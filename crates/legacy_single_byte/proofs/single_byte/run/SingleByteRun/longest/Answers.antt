@@ -9,13 +9,13 @@ loop-place-preserved c =
     let to = c.run_to-run.ensures in (
       to,
       elim c.if-run-best.branch [
-        | then-run-best w ↦ rw w.best-is (replaced _ _ _ _ _ until _ _ _ to (let h = w.if-run-best.true in omega arith))
-        | else-run-best w ↦ rw w.best-is (kept _ _ _ _ _ until _ _ _ to (let h = w.if-run-best.false in omega arith))
+        | then-run-best w ↦ rw w.best-is (replaced until to (let h = w.if-run-best.true in omega arith))
+        | else-run-best w ↦ rw w.best-is (kept until to (let h = w.if-run-best.false in omega arith))
       ],
     )
 
 pub returns-clause-longest : goal.returns-clause-longest
-returns-clause-longest c = none_longer _ _ _ _ c.loop-place.place (let test = c.loop-place-test.false in omega arith) c.loop-place.invariant.1
+returns-clause-longest c = none_longer (let test = c.loop-place-test.false in omega arith) c.loop-place.invariant.1
 
 pub returns-clause-accepted : goal.returns-clause-accepted
 returns-clause-accepted c =
