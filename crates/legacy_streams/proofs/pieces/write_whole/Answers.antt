@@ -9,8 +9,8 @@ within_bytes : {written count : ℕ} (bytes : List ℕ) {rest : List ℕ} → re
 within_bytes {written} bytes e before h = omega (arith, ap length e, length-drop written bytes)
 
 -- a front of the bytes was written, and then a front of the rest
-more_written : (old mid new : Option (List ℕ)) (written count : ℕ) (bytes : List ℕ) {rest : List ℕ} → rest ≡ drop written bytes → Appends old mid (take written bytes)
-    → Appends mid new (take count rest) → Appends old new (take (written + count) bytes)
+more_written : (old mid new : Option (List ℕ)) (written count : ℕ) (bytes : List ℕ) {rest : List ℕ} → rest ≡ drop written bytes
+    → Appends old mid (take written bytes) → Appends mid new (take count rest) → Appends old new (take (written + count) bytes)
 more_written old mid new written count bytes e p q = rw (take-add written count bytes) (Appends-trans old mid new _ _ p (rw e at q))
 
 -- all bytes were written
