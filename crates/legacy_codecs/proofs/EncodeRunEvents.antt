@@ -13,19 +13,18 @@ use Rattle.legacy_codecs.specs.EncodeRuns.EncodeReaches.{called}
 use Rattle.legacy_codecs.proofs.Places.{last_empty, place_before-state}
 
 -- the length of a call's output is the next of the lengths
-free_is : (lengths output : List ℕ) (calls : ℕ) → calls < length lengths → All (λ n. n ≤ length output) lengths →
+free_is : (lengths output : List ℕ) {calls : ℕ} → calls < length lengths → All (λ n. n ≤ length output) lengths →
     slice_get lengths calls ≡ Some (length (take (get_or lengths calls 0) output))
-free_is lengths output calls h fits = grind (arith, length-take, slice_get-get_or)
+free_is lengths output h fits = grind (arith, length-take, slice_get-get_or)
 
 -- one more call, with its inputs and outputs given by equations
-pub reaches_call : {from : RunPlace EncoderState} {lengths : List ℕ} {calls : ℕ} {items items' : List EncodeEvent} {p p' : RunPlace EncoderState}
-    {after : EncoderState}
-    {last finished empty : Bool} {answer : EncoderResult} {left bytes : List ℕ} (output : List ℕ) →
-    EncodeReaches from lengths calls items false p → calls < length lengths → All (λ n. n ≤ length output) lengths →
-    EncoderCall p.state p.piece last (length (take (get_or lengths calls 0) output)) after answer left bytes →
-    last ≡ is_none p.later → empty ≡ is_input_empty answer → items' ≡ items ++ (map Byte bytes ++ reported answer) →
-    finished ≡ ends_run p empty → p' ≡ place_behind p after empty left → EncodeReaches from lengths (calls + 1) items' finished p'
-reaches_call output r few fits c l e i f q = let c' = rw l at c in rw (i, f, q, e) (called _ _ _ r _ (free_is _ output _ few fits) _ _ _ _ c')
+module _ {from : RunPlace EncoderState} {lengths : List ℕ} {calls : ℕ} {items items' : List EncodeEvent} {p p' : RunPlace EncoderState}
+    {after : EncoderState} {last finished empty : Bool} {answer : EncoderResult} {left bytes : List ℕ} (output : List ℕ) where
+  pub reaches_call : EncodeReaches from lengths calls items false p → calls < length lengths → All (λ n. n ≤ length output) lengths →
+      EncoderCall p.state p.piece last (length (take (get_or lengths calls 0) output)) after answer left bytes →
+      last ≡ is_none p.later → empty ≡ is_input_empty answer → items' ≡ items ++ (map Byte bytes ++ reported answer) →
+      finished ≡ ends_run p empty → p' ≡ place_behind p after empty left → EncodeReaches from lengths (calls + 1) items' finished p'
+  reaches_call r few fits c l e i f q = rw (i, f, q, e) (called calls items p r _ (free_is lengths output few fits) after answer left bytes (rw l at c))
 
 -- the events of what is unread and of the pieces after it
 abbrev pub encoded_ahead : RunPlace EncoderState → List EncodeEvent

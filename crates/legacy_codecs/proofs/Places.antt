@@ -70,35 +70,37 @@ pub not_last : (pieces : List (List ℕ)) (index : ℕ) → is_none (drop (index
 not_last pieces index e = grind (arith, cases_lt, drop_of_length-le, true≢false)
 
 -- the room for a call and for all calls after it
-pub room_step : (xs : List ℕ) (i : ℕ) → i < length xs →
-    sum (drop i xs) + length (drop i xs) ≡ get_or xs i 0 + 1 + (sum (drop (i + 1) xs) + length (drop (i + 1) xs))
+abbrev pub room_from : List ℕ → ℕ → ℕ
+room_from lengths calls = sum (drop calls lengths) + length (drop calls lengths)
+
+room_step : (xs : List ℕ) (i : ℕ) → i < length xs → room_from xs i ≡ get_or xs i 0 + 1 + room_from xs (i + 1)
 room_step xs i h = grind (arith, common_steps)
 
 -- ---- a list of events with room for a call and for all calls after it
 
-module _ (len capacity total next rest : ℕ) (room : len + total ≤ capacity) (step : total ≡ next + 1 + rest) where
+module _ (lengths : List ℕ) {calls : ℕ} (few : calls < length lengths) (len : ℕ) {capacity : ℕ} (room : len + room_from lengths calls ≤ capacity) where
   -- there is room for the events of the call, and for its report
-  pub room_now : (free : ℕ) → free ≡ next → len + (free + 1) ≤ capacity
-  room_now free e = omega arith
+  pub room_now : {free : ℕ} → free ≡ get_or lengths calls 0 → len + (free + 1) ≤ capacity
+  room_now e = omega (arith, room_step lengths calls few)
 
-  pub room_written : len + next ≤ capacity
-  room_written = omega arith
+  pub room_written : len + get_or lengths calls 0 ≤ capacity
+  room_written = omega (arith, room_step lengths calls few)
 
-  module _ (after capacity_after : ℕ) (grown : capacity ≤ capacity_after) where
+  module _ {after capacity_after : ℕ} (grown : capacity ≤ capacity_after) where
     -- after the call there is room for the events of the calls after it
-    pub room_later : (free : ℕ) → free ≡ next → after ≤ len + (free + 1) → after + rest ≤ capacity_after
-    room_later free e made = omega arith
+    pub room_later : {free : ℕ} → free ≡ get_or lengths calls 0 → after ≤ len + (free + 1) → after + room_from lengths (calls + 1) ≤ capacity_after
+    room_later e made = omega (arith, room_step lengths calls few)
 
-    module _ (made : after ≤ len + next) where
-      pub room_kept : after + rest ≤ capacity_after
-      room_kept = omega arith
+    module _ (made : after ≤ len + get_or lengths calls 0) where
+      pub room_kept : after + room_from lengths (calls + 1) ≤ capacity_after
+      room_kept = omega (arith, room_step lengths calls few)
 
       -- and before it for the report
       pub room_report : after < capacity_after
-      room_report = omega arith
+      room_report = omega (arith, room_step lengths calls few)
 
-      pub room_reported : (last capacity_last : ℕ) → last ≡ after + 1 → capacity_after ≤ capacity_last → last + rest ≤ capacity_last
-      room_reported last capacity_last one more = omega arith
+      pub room_reported : {last capacity_last : ℕ} → last ≡ after + 1 → capacity_after ≤ capacity_last → last + room_from lengths (calls + 1) ≤ capacity_last
+      room_reported one more = omega (arith, room_step lengths calls few)
 
 -- an output of which a front was lent is as long as before
 pub front_put_back : (n : ℕ) (old new : List ℕ) → length new ≡ length (take n old) → length (new ++ drop n old) ≡ length old

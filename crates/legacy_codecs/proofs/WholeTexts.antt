@@ -10,7 +10,7 @@ use Rattle.legacy_codecs.specs.References.{event_bytes, referenced_bytes, tells_
 pub wrote_last : (last : Bool) (answer : CoderResult) → IsTrue (tells_text_end last answer) → IsTrue last
 wrote_last last answer h = grind arith
 
-module _ {last : Bool} (before : EncoderState) (source : List ℕ) (free : ℕ) (after : EncoderState) (answer : CoderResult) (left bytes : List ℕ) (found : Bool)
+module _ {last : Bool} {before : EncoderState} {source : List ℕ} {free : ℕ} {after : EncoderState} {answer : CoderResult} {left bytes : List ℕ} {found : Bool}
     (c : ReplacingEncoderCall before source last free after answer left bytes found) where
   -- what was written, and then the bytes of what is left, are those of the text
   pub bytes_go_on : referenced_bytes (encoded before source last) ≡ bytes ++ referenced_bytes (encoded after left last)
@@ -33,4 +33,4 @@ module _ {before : EncoderState} {source : List ℕ} {free : ℕ} {after : Encod
   pub bytes_after : (done : List ℕ) {now whole : List ℕ} → done ++ referenced_bytes (encoded before source true) ≡ whole → now ≡ done ++ bytes →
       now ++ referenced_bytes (encoded after left true) ≡ whole
   bytes_after done h e =
-      rw (e, append_assoc, ← (bytes_go_on _ _ _ _ _ _ _ _ c)) h
+      rw (e, append_assoc, ← (bytes_go_on c)) h

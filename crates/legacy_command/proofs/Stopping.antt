@@ -5,7 +5,7 @@ use Rattle.legacy_base.specs.{declared.results.DecodeEvent.DecodeEvent, Encoders
 use Rattle.legacy_streams.specs.{declared.recode.RecodeError.RecodeError, declared.recode.RecodeError.TheVariants.{Read, Write}}
 use Rattle.legacy_streams.specs.Streams.{AppendsFront, AppendsAtLeast, DecodesAll, DecodesBeginning, DecodesPartly}
 use Rattle.legacy_streams.specs.Encoding.{EncodesAll, EncodesBeginning, EncodesPartly, EncodesUpTo}
-use Rattle.legacy_command.specs.{declared.words.OutputKind.OutputKind, declared.words.OutputKind.TheVariants.{Lines, Text}, declared.host.Program.Program}
+use Rattle.legacy_command.specs.{declared.words.OutputKind.TheVariants.{Lines, Text}, declared.host.Program.Program}
 use Rattle.legacy_command.specs.{declared.host.Program.TheVariants.{Recode, Encode}, Host.IsStoppedBy, Program.{Untouched, RecodesInput, RecodesSome}}
 use Rattle.legacy_command.specs.Program.{EncodesSome}
 
@@ -82,36 +82,24 @@ weaker_partly less weaker r = record {
   parts = r.parts;
 }
 
-module _ (i j o p q : Option (List ℕ)) (k : Keeps p q) where
+module _ {o p q : Option (List ℕ)} (k : Keeps p q) where
   front_kept : {bytes : List ℕ} → AppendsFront o p bytes → AppendsFront o q bytes
   front_kept f = record { sent = f.sent; unsent = f.unsent; parts = f.parts; written = Appends-kept o p q _ f.written k }
 
   at_least_kept : {bytes : List ℕ} → AppendsAtLeast o p bytes → AppendsAtLeast o q bytes
   at_least_kept f = record { more = f.more; written = Appends-kept o p q _ f.written k }
 
-  pub input_kept : (kind : OutputKind) (b : DecoderState) → RecodesInput kind b i j o p → RecodesInput kind b i j o q
-  input_kept Lines b (a, r) = (a, weaker_all (λ e w. Appends-kept o p q _ w k) r)
-  input_kept Text b (a, (found, r)) = (a, (found, weaker_all (λ e w. (w.0, Appends-kept o p q _ w.1 k)) r))
-
-  pub some_kept : (kind : OutputKind) (b : DecoderState) → RecodesSome kind b i j o p → RecodesSome kind b i j o q
-  some_kept Lines b (a, inl r) = (a, inl (weaker_all (λ e w. Appends-kept o p q _ w k) r))
-  some_kept Lines b (a, inr (inl r)) = (a, inr (inl (weaker_beginning (λ e w. Appends-kept o p q _ w k) r)))
-  some_kept Lines b (a, inr (inr r)) = (a, inr (inr (weaker_partly (λ e w. at_least_kept w) (λ e w. front_kept w) r)))
-  some_kept Text b (a, inl (found, r)) = (a, inl (found, weaker_all (λ e w. (w.0, Appends-kept o p q _ w.1 k)) r))
-  some_kept Text b (a, inr (inl r)) = (a, inr (inl (weaker_beginning (λ e w. Appends-kept o p q _ w k) r)))
-  some_kept Text b (a, inr (inr r)) = (a, inr (inr (weaker_partly (λ e w. at_least_kept w) (λ e w. front_kept w) r)))
-
   up_to_kept : {b a : EncoderState} {text left waited waiting : List ℕ} {last : Bool} → EncodesUpTo b text last a left waited waiting o p
       → EncodesUpTo b text last a left waited waiting o q
   up_to_kept d = grind (arith, Appends-kept, k)
 
-  pub all_kept : {b a : EncoderState} → EncodesAll b a i j o p → EncodesAll b a i j o q
+  pub all_kept : {b a : EncoderState} {i j : Option (List ℕ)} → EncodesAll b a i j o p → EncodesAll b a i j o q
   all_kept r = grind (arith, Appends-kept, k)
 
-  beginning_kept : {b a : EncoderState} → EncodesBeginning b a i j o p → EncodesBeginning b a i j o q
+  beginning_kept : {b a : EncoderState} {i j : Option (List ℕ)} → EncodesBeginning b a i j o p → EncodesBeginning b a i j o q
   beginning_kept r = grind (arith, Appends-kept, k)
 
-  partly_kept : {b a : EncoderState} → EncodesPartly b a i j o p → EncodesPartly b a i j o q
+  partly_kept : {b a : EncoderState} {i j : Option (List ℕ)} → EncodesPartly b a i j o p → EncodesPartly b a i j o q
   partly_kept r = record {
     bytes = r.bytes;
     read = r.read;
@@ -131,10 +119,27 @@ module _ (i j o p q : Option (List ℕ)) (k : Keeps p q) where
     written = Appends-kept r.output_between p q _ r.written k;
   }
 
-  pub encoded_kept : (b : EncoderState) → EncodesSome b i j o p → EncodesSome b i j o q
-  encoded_kept b (a, inl r) = (a, inl (all_kept r))
-  encoded_kept b (a, inr (inl r)) = (a, inr (inl (beginning_kept r)))
-  encoded_kept b (a, inr (inr r)) = (a, inr (inr (partly_kept r)))
+  pub encoded_kept : {b : EncoderState} {i j : Option (List ℕ)} → EncodesSome b i j o p → EncodesSome b i j o q
+  encoded_kept (a, inl r) = (a, inl (all_kept r))
+  encoded_kept (a, inr (inl r)) = (a, inr (inl (beginning_kept r)))
+  encoded_kept (a, inr (inr r)) = (a, inr (inr (partly_kept r)))
+
+module _ {b : DecoderState} {i j : Option (List ℕ)} (o p q : Option (List ℕ)) (k : Keeps p q) where
+  pub lines_kept : RecodesInput Lines b i j o p → RecodesInput Lines b i j o q
+  lines_kept (a, r) = (a, weaker_all (λ e w. Appends-kept o p q _ w k) r)
+
+  pub text_kept : RecodesInput Text b i j o p → RecodesInput Text b i j o q
+  text_kept (a, (found, r)) = (a, (found, weaker_all (λ e w. (w.0, Appends-kept o p q _ w.1 k)) r))
+
+  pub some_lines_kept : RecodesSome Lines b i j o p → RecodesSome Lines b i j o q
+  some_lines_kept (a, inl r) = (a, inl (weaker_all (λ e w. Appends-kept o p q _ w k) r))
+  some_lines_kept (a, inr (inl r)) = (a, inr (inl (weaker_beginning (λ e w. Appends-kept o p q _ w k) r)))
+  some_lines_kept (a, inr (inr r)) = (a, inr (inr (weaker_partly (λ e w. at_least_kept k w) (λ e w. front_kept k w) r)))
+
+  pub some_text_kept : RecodesSome Text b i j o p → RecodesSome Text b i j o q
+  some_text_kept (a, inl (found, r)) = (a, inl (found, weaker_all (λ e w. (w.0, Appends-kept o p q _ w.1 k)) r))
+  some_text_kept (a, inr (inl r)) = (a, inr (inl (weaker_beginning (λ e w. Appends-kept o p q _ w k) r)))
+  some_text_kept (a, inr (inr r)) = (a, inr (inr (weaker_partly (λ e w. at_least_kept k w) (λ e w. front_kept k w) r)))
 
 pub untouched : (program : Program) (words : List (List ℕ)) (files : List (Option (List ℕ))) (i j o p : Option (List ℕ))
     → Untouched i j o p → IsStoppedBy program words files i j o p

@@ -62,7 +62,7 @@ lines-append : (before now : DecoderState) (total passed : ℕ) (xs ys : List De
     → lines_of before (xs ++ shift passed ys) ≡ lines_of before xs ++ piece_lines total now ys
 lines-append before now total passed xs ys e = grind (arith, placed-append, passed, placed-shift, event_lines-append)
 
-module _ (before now : DecoderState) (total : ℕ) (old mid new : Option (List ℕ)) where
+module _ {before now : DecoderState} {total : ℕ} (old mid new : Option (List ℕ)) where
   pub lines_join : Joins before now total (λ events. Appends old mid (lines_of before events)) (λ events. Appends mid new (piece_lines total now events))
       (λ events. Appends old new (lines_of before events))
   lines_join = record { join = λ passed xs ys e a b. rw (lines-append before now total passed xs ys e) (Appends-trans _ _ _ _ _ a b) }

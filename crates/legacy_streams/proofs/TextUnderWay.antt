@@ -109,11 +109,11 @@ module _ {before : DecoderState} {piece : List ℕ} {last : Bool} {now : Decoder
 pub whole_text_start : (old : Option (List ℕ)) → (false ≡ has_malformed []) × Appends old old (text_in_utf8 [])
 whole_text_start old = (refl, rw text-none (Appends-nil old))
 
-module _ (before now : DecoderState) (total : ℕ) (found : Bool) (old mid new : Option (List ℕ)) where
-  pub text_join : (more : Bool) → Joins before now total (λ events. (found ≡ has_malformed events) × Appends old mid (text_in_utf8 events))
+module _ {before now : DecoderState} {total : ℕ} {found : Bool} (old mid new : Option (List ℕ)) where
+  pub text_join : {more : Bool} → Joins before now total (λ events. (found ≡ has_malformed events) × Appends old mid (text_in_utf8 events))
       (λ events. (more ≡ has_malformed events) × Appends mid new (text_in_utf8 events))
       (λ events. ((found || more) ≡ has_malformed events) × Appends old new (text_in_utf8 events))
-  text_join more = grind (arith, found-append, text-append, Appends-trans)
+  text_join = grind (arith, found-append, text-append, Appends-trans)
 
   pub text_front_join : Joins before now total (λ events. (found ≡ has_malformed events) × Appends old mid (text_in_utf8 events))
       (λ events. AppendsFront mid new (text_in_utf8 events)) (λ events. AppendsFront old new (text_in_utf8 events))

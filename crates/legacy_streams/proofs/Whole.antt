@@ -40,8 +40,8 @@ pub record Whole (before : DecoderState) (total : ℕ) (now : DecoderState) (lef
   pub progress : Progress false before bytes passed now [] events
   pub shown : Shown events
 
-pub whole_start : (before : DecoderState) (left : Option (List ℕ)) (Shown : List DecodeEvent → Type 0) → Shown [] → Whole before 0 before left left Shown
-whole_start before left Shown none =
+pub whole_start : {before : DecoderState} {left : Option (List ℕ)} {Shown : List DecodeEvent → Type 0} → Shown [] → Whole before 0 before left left Shown
+whole_start {before} {left} none =
     record { bytes = []; count = refl; read = Consumes-nil left; passed = 0; events = []; progress = stay false before []; shown = none; settled = inl refl }
 
 -- What is true of all events, if this is true of those before a piece and of those of the piece.
@@ -77,7 +77,7 @@ module _ {before now : DecoderState} {total : ℕ} {left_old left_mid : Option (
       → Progress last before (w.bytes ++ piece) (w.passed + passed) after unread (all_events events)
   way_on last piece p = after_that (at_last (behind piece w.progress)) p
 
-  module _ (piece : List ℕ) {after : DecoderState} {left : Option (List ℕ)} (r : Consumes left_mid left piece) {Second Both : List DecodeEvent → Type 0}
+  module _ {piece : List ℕ} {after : DecoderState} {left : Option (List ℕ)} (r : Consumes left_mid left piece) {Second Both : List DecodeEvent → Type 0}
       (j : Joins before now total First Second Both) where
     pub whole_step : {last : Bool} → last ≡ false → DecodesPiece now piece last after Second → Whole before (total + length piece) after left_old left Both
     whole_step e given =
@@ -111,11 +111,11 @@ module _ {before now : DecoderState} {total : ℕ} {left_old left_mid : Option (
         }
 
     -- what holds after a failed write
-    pub whole_partly : {Done : List DecodeEvent → Type 0} (last : Bool) → (IsTrue last → IsAtEnd left) → length piece ≤ 4096
+    pub whole_partly : {Done : List DecodeEvent → Type 0} {last : Bool} → (IsTrue last → IsAtEnd left) → length piece ≤ 4096
         → ((xs ys : List DecodeEvent) → First xs → Second ys → Done xs) → DecodesFront now piece last after Second
         → DecodesPartly before after left_old left Done Both
     unfolding whole_beginning
-    whole_partly {Done} last at_end near d p =
+    whole_partly {Done} {last} at_end near d p =
         let way = way_on last piece p.progress in
         record {
           bytes = w.bytes ++ piece;
@@ -137,9 +137,9 @@ module _ {before now : DecoderState} {total : ℕ} {left_old left_mid : Option (
         }
 
   -- the next piece is the front of a buffer
-  pub whole_next : (buffer : List ℕ) (count : ℕ) {after : DecoderState} {left : Option (List ℕ)} {Second Both : List DecodeEvent → Type 0} {last : Bool}
+  pub whole_next : (buffer : List ℕ) {count : ℕ} {after : DecoderState} {left : Option (List ℕ)} {Second Both : List DecodeEvent → Type 0} {last : Bool}
       → count ≤ length buffer → Consumes left_mid left (take count buffer) → Joins before now total First Second Both → last ≡ false
       → DecodesPiece now (take count buffer) last after Second → Whole before (total + count) after left_old left Both
-  whole_next buffer count within r j e given =
+  whole_next buffer {count} within r j e given =
       let long : length (take count buffer) ≡ count = length-take-le count buffer within in
-      rw (← long) (whole_step (take count buffer) r j e given)
+      rw (← long) (whole_step r j e given)

@@ -2,7 +2,7 @@ use Rattle.std.proofs.{Common.{◌≡◌, ◌+◌, [], drop, length, refl, arith
 use Rattle.std.proofs.{lemmas.Option.slice_get-get_or, lemmas.List.length-map}
 use Rattle.std.specs.Prelude.{slice_index_or}
 use Rattle.legacy_codecs.specs.Pieces.{contents_of}
-use Rattle.legacy_codecs.proofs.{Places.{place_before-state, pieces-length, place_at-first, place_at-next, not_last, room_step}, RunSteps.running_start}
+use Rattle.legacy_codecs.proofs.{Places.{place_before-state, pieces-length, place_at-first, place_at-next, not_last}, RunSteps.running_start}
 use Rattle.legacy_codecs.proofs.Places.{room_written, room_kept, room_report, room_reported}
 use Rattle.legacy_codecs.proofs.{RunSteps.{running_call, is_run, place_at-more}, decode_run.run_calls.Goals.{in-InputEmpty+else-last, in-OutputFull}}
 use Rattle.legacy_codecs.proofs.decode_run.run_calls.Goals.{in-Malformed}
@@ -24,13 +24,11 @@ pub call_once-answer-requires-clause-buffer : goal.call_once-answer-requires-cla
 call_once-answer-requires-clause-buffer g c = c.loop-calls.invariant.buffer c.loop-calls.calls 0 c.loop-calls-test.true
 
 pub call_once-answer-requires-clause-room : goal.call_once-answer-requires-clause-room
-call_once-answer-requires-clause-room g c =
-    room_written _ _ _ _ _ c.loop-calls.invariant.room (room_step c.args.lengths.now c.loop-calls.calls c.loop-calls-test.true)
+call_once-answer-requires-clause-room g c = room_written c.args.lengths.now c.loop-calls-test.true _ c.loop-calls.invariant.room
 
 pub push_within-requires : goal.push_within-requires
 push_within-requires g c =
-    let step = room_step c.args.lengths.now c.loop-calls.calls c.loop-calls-test.true in
-    room_report _ _ _ _ _ c.loop-calls.invariant.room step _ _ c.call_once-answer.ensures.capacity c.call_once-answer.ensures.len
+    room_report c.args.lengths.now c.loop-calls-test.true _ c.loop-calls.invariant.room c.call_once-answer.ensures.capacity c.call_once-answer.ensures.len
 
 pub overflow_add-total : goal.overflow_add-total
 overflow_add-total g c = grind (arith, pieces-length)
@@ -63,9 +61,8 @@ loop-calls-preserved g c =
     let unread = c.unread_of-unread.ensures in
     let last = c.is_last-last.ensures in
     let given = slice_get-get_or c.args.lengths.now c.loop-calls.calls 0 c.loop-calls-test.true in
-    let step = room_step c.args.lengths.now c.loop-calls.calls c.loop-calls-test.true in
     let unread_length = ap length unread in
-    let room = room_kept _ _ _ _ _ i.room step _ _ c.call_once-answer.ensures.capacity c.call_once-answer.ensures.len in
+    let room = room_kept c.args.lengths.now c.loop-calls-test.true _ i.room c.call_once-answer.ensures.capacity c.call_once-answer.ensures.len in
     elim c.match-answer.branch [
       | in-InputEmpty+else-last w ↦
           let goes = sym w.if-last.false ∙ last in
@@ -93,7 +90,7 @@ loop-calls-preserved g c =
                 running_call i.running given call.1 unread last w.in-Malformed.is
                 (w.push_within.ensures.items ∙ (rw (w.malformed_event.ensures, call.2) refl)) refl (place_at-more pieces _ index offset _);
             room =
-                room_reported _ _ _ _ _ i.room step _ _ c.call_once-answer.ensures.capacity c.call_once-answer.ensures.len _ _
+                room_reported c.args.lengths.now c.loop-calls-test.true _ i.room c.call_once-answer.ensures.capacity c.call_once-answer.ensures.len
                 w.push_within.ensures.len w.push_within.ensures.capacity;
             buffer = λ k d h. rw c.call_once-answer.auto.buffer (i.buffer k d h);
             inside = i.inside;

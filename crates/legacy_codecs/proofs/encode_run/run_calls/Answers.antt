@@ -2,7 +2,7 @@ use Rattle.std.proofs.Common.{◌≡◌, ◌+◌, ◌≤◌, ◌++◌, [], drop,
 use Rattle.std.proofs.{Common.◌∙◌, lemmas.Bool.true≢false, lemmas.List.{length-map, length-take-le}}
 use Rattle.std.proofs.lemmas.List.{get_or-map}
 use Rattle.legacy_codecs.specs.{Pieces.place_before, EncodeRuns.EncodeReaches.begun}
-use Rattle.legacy_codecs.proofs.Places.{place_before-state, place_at-begin, place_at-next, same_end, not_last, room_step, room_now, room_later, front_put_back}
+use Rattle.legacy_codecs.proofs.Places.{place_before-state, place_at-begin, place_at-next, same_end, not_last, room_now, room_later, front_put_back}
 use Rattle.legacy_codecs.proofs.EncodeRunEvents.{reaches_call}
 use Rattle.legacy_codecs.proofs.encode_run.run_calls.Goals.{then-call_once+else-last, else-call_once}
 use Rattle.legacy_codecs.proofs.encode_run.run_calls.Goals as goal
@@ -26,9 +26,8 @@ slice_bounds-output-end g c = c.loop-calls.invariant.output c.loop-calls.calls 0
 
 pub call_once-requires : goal.call_once-requires
 call_once-requires g c =
-    let step = room_step c.args.lengths.now c.loop-calls.calls c.loop-calls-test.true in
     let small = c.loop-calls.invariant.output c.loop-calls.calls 0 c.loop-calls-test.true in
-    room_now _ _ _ _ _ c.loop-calls.invariant.room step _ (length-take-le _ c.loop-calls.output small)
+    room_now c.args.lengths.now c.loop-calls-test.true _ c.loop-calls.invariant.room (length-take-le _ c.loop-calls.output small)
 
 pub bounds-pieces-index : goal.bounds-pieces-index
 bounds-pieces-index g c =
@@ -71,13 +70,13 @@ loop-calls-preserved g c =
     let after = g.E.RawEncoder.state c.call_once.new.encoder in
     let call = c.call_once.ensures.call in
     let last = c.is_last-last.ensures ∙ same_end g.T.Piece.units g.T.Text.scalars pieces (index + 1) in
-    let step = room_step c.args.lengths.now c.loop-calls.calls c.loop-calls-test.true in
-    let small = i.output c.loop-calls.calls 0 c.loop-calls-test.true in
+    let few = c.loop-calls-test.true in
+    let small = length-take-le _ c.loop-calls.output (i.output c.loop-calls.calls 0 few) in
     let next = get_or c.args.lengths.now c.loop-calls.calls 0 in
     let same_room = front_put_back next c.loop-calls.output c.call_once.new.output c.call_once.auto.output in
     let output : All (λ n. n ≤ length (c.call_once.new.output ++ drop next c.loop-calls.output)) c.args.lengths.now =
     λ k d h. rw same_room (i.output k d h) in
-    let room = room_later _ _ _ _ _ i.room step _ _ c.call_once.ensures.capacity _ (length-take-le _ c.loop-calls.output small) c.call_once.ensures.len in
+    let room = room_later c.args.lengths.now few _ i.room c.call_once.ensures.capacity small c.call_once.ensures.len in
     elim c.if-call_once.branch [
       | then-call_once+else-last w ↦
           let goes = sym w.if-last.false ∙ last in
@@ -88,9 +87,7 @@ loop-calls-preserved g c =
           w.cursor-unread-then-call_once.ensures
           ∙ ap g.T.Text.scalars w.index-pieces-index.is ∙ sym (get_or-map g.T.Text.scalars pieces (index + 1) _ [] (omega (arith, more, same))) in
           rw (w.index-is, w.unread-is, left) record {
-            reaches =
-                reaches_call c.loop-calls.output i.reaches c.loop-calls-test.true i.output call.2 last emptied call.4 goes
-                (place_at-next texts after index more);
+            reaches = reaches_call c.loop-calls.output i.reaches few i.output call.2 last emptied call.4 goes (place_at-next texts after index more);
             room = room;
             output = output;
             inside = omega (arith, more, same);
@@ -98,7 +95,7 @@ loop-calls-preserved g c =
       | else-call_once w ↦
           let going = sym w.if-call_once.false ∙ call.3 in
           rw (w.index-is, w.unread-is) record {
-            reaches = reaches_call c.loop-calls.output i.reaches c.loop-calls-test.true i.output call.2 last going call.4 refl refl;
+            reaches = reaches_call c.loop-calls.output i.reaches few i.output call.2 last going call.4 refl refl;
             room = room;
             output = output;
             inside = i.inside;

@@ -11,7 +11,7 @@ returns-in-InputEmpty-clause-bytes g c =
 pub calls-smaller : goal.calls-smaller
 calls-smaller g c =
     let call = rw (← c.range_from-rest.ensures.value) at c.encode_replacing_utf8-answer.ensures.call in
-    bytes_less _ _ _ _ _ _ _ _ call c.calls.invariant.2 c.in-OutputFull.is
+    bytes_less call c.calls.invariant.2 c.in-OutputFull.is
 
 pub calls-preserved : goal.calls-preserved
 calls-preserved g c =

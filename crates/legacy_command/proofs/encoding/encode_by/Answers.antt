@@ -5,10 +5,10 @@ use Rattle.legacy_command.proofs.encoding.encode_by.Goals as goal
 pub returns-in-Ok-clause-done : goal.returns-in-Ok-clause-done
 returns-in-Ok-clause-done g c =
     let e = c.encode_text-encoded in
-    (_, all_kept _ _ _ _ _ c.in-Ok.ensures.bytes (ok_of e.result c.in-Ok.ensures.ok e.ensures.ok))
+    (_, all_kept c.in-Ok.ensures.bytes (ok_of e.result c.in-Ok.ensures.ok e.ensures.ok))
 
 pub returns-in-Err-clause-stops : goal.returns-in-Err-clause-stops
 returns-in-Err-clause-stops g c =
     let e = c.encode_text-encoded in
     let stops = failed e.result (λ h. (_, inr (inl (e.ensures.read h)))) (λ h. (_, inr (inr (e.ensures.write h)))) in
-    encoded_kept _ _ _ _ _ c.in-Err.ensures.bytes _ (either e.result (λ all. (_, inl all)) e.ensures.ok stops)
+    encoded_kept c.in-Err.ensures.bytes (either e.result (λ all. (_, inl all)) e.ensures.ok stops)

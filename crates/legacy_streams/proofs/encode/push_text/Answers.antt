@@ -14,7 +14,7 @@ returns-in-InputEmpty-clause-text g c =
 pub calls-smaller : goal.calls-smaller
 calls-smaller g c =
     let call = rw (← c.range_from-rest.ensures.value) at c.encode-answer.ensures.call.2 in
-    bytes_less _ _ _ _ _ _ _ _ call c.in_ok-make_room.ensures.room c.in-OutputFull.is
+    bytes_less call c.in_ok-make_room.ensures.room c.in-OutputFull.is
 
 pub calls-preserved : goal.calls-preserved
 calls-preserved g c =

@@ -4,7 +4,7 @@ use Rattle.legacy_streams.proofs.PieceUnderWay.{lines_of_none, lines_join, lines
 use Rattle.legacy_streams.proofs.recode.recode.Goals as goal
 
 pub pieces-init : goal.pieces-init
-pieces-init g c = record { whole = whole_start _ _ _ (rw lines_of_none (Appends-nil _)); long = refl; small = omega arith; empty = c.new-lines.ensures }
+pieces-init g c = record { whole = whole_start (rw lines_of_none (Appends-nil _)); long = refl; small = omega arith; empty = c.new-lines.ensures }
 
 pub returns-in_default-clause-read : goal.returns-in_default-clause-read
 returns-in_default-clause-read g c e = whole_beginning c.pieces.invariant.whole _ (λ _ shown. shown) c.in_default.ensures.kept
@@ -12,7 +12,7 @@ returns-in_default-clause-read g c e = whole_beginning c.pieces.invariant.whole 
 pub returns-then-last-clause-ok : goal.returns-then-last-clause-ok
 returns-then-last-clause-ok g c =
     let read = c.in-Some.ensures.bytes in
-    whole_end c.pieces.invariant.whole _ read.0 (lines_join _ _ _ _ _ _) (read.1 c.if-last.true) (eq-eqb c.in-Some.count 0 c.if-last.true)
+    whole_end c.pieces.invariant.whole read.0 (lines_join _ _ _) (read.1 c.if-last.true) (eq-eqb c.in-Some.count 0 c.if-last.true)
     c.in-Ok.ensures.piece
 
 pub pieces-preserved : goal.pieces-preserved
@@ -20,7 +20,7 @@ pieces-preserved g c =
     let read = c.in-Some.ensures in
     record {
       whole =
-          whole_next c.pieces.invariant.whole _ _ read.count.0 read.bytes.0 (lines_join _ _ _ _ _ _) (ne_eqb _ 0 c.if-last.false) c.in-Ok.ensures.piece;
+          whole_next c.pieces.invariant.whole _ read.count.0 read.bytes.0 (lines_join _ _ _) (ne_eqb _ 0 c.if-last.false) c.in-Ok.ensures.piece;
       long = omega arith;
       small = read.count.1;
       empty = c.in-Ok.ensures.empty;
@@ -30,5 +30,5 @@ pub returns-in_default-recode_piece-clause-write : goal.returns-in_default-recod
 returns-in_default-recode_piece-clause-write g c e =
     let read = c.in-Some.ensures.bytes in
     let near : length (take c.in-Some.count c.read_piece.new.buffer) ≤ 4096 = front_near _ _ (omega (arith, c.pieces.invariant.long)) in
-    whole_partly c.pieces.invariant.whole _ read.0 (lines_front_join _ _ _ _ _ _) _ (λ l. read.1 (eqb-true _ _ l)) near
+    whole_partly c.pieces.invariant.whole read.0 (lines_front_join _ _ _) (λ l. read.1 (eqb-true _ _ l)) near
     (λ _ _ first front. at_least _ first front) c.in_default-recode_piece.ensures.err
