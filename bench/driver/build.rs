@@ -10,8 +10,8 @@ use std::{env, fs};
 fn constants(header: &str) -> String {
     let mut constants = String::new();
     for line in header.lines() {
-        let Some((name, behind)) = line.trim().split_once(" = ") else { continue };
-        let number: String = behind.chars().take_while(char::is_ascii_digit).collect();
+        let Some((name, after)) = line.trim().split_once(" = ") else { continue };
+        let number: String = after.chars().take_while(char::is_ascii_digit).collect();
         if name.starts_with("LEGACY_") && !number.is_empty() {
             constants += &format!("pub const {name}: u32 = {number};\n");
         }

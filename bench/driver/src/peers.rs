@@ -49,8 +49,8 @@ fn in_pieces<U: Unit>(src: &[U], piece: usize, mut encode: impl FnMut(usize, usi
     loop {
         let end = end_of_piece(src, read, piece);
         let last = end == src.len();
-        let Some(behind) = encode(read, end, written, last) else { return 0 };
-        written = behind;
+        let Some(after) = encode(read, end, written, last) else { return 0 };
+        written = after;
         if last {
             return written;
         }

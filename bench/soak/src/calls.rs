@@ -45,7 +45,7 @@ fn called<W: Copy + PartialEq>(room: usize, blank: W, function: impl FnOnce(&mut
     let mut output = vec![blank; room + GUARD];
     let written = function(&mut output[..room]);
     if output[room..].iter().any(|unit| *unit != blank) {
-        return Err(format!("wrote behind the output of {room} code units"));
+        return Err(format!("wrote past the output of {room} code units"));
     }
     if written == usize::MAX {
         return Ok(None);

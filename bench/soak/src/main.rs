@@ -59,7 +59,7 @@ fn round(standard: &Standard, codec: Codec, seed: u64, count: &mut Count) -> Res
 }
 
 /// Returns the seed of the round after the one of this seed.
-fn seed_behind(seed: u64) -> u64 {
+fn seed_after(seed: u64) -> u64 {
     Numbers::new(seed ^ 0x5DEE_CE66).next()
 }
 
@@ -95,7 +95,7 @@ fn main() -> Result<(), String> {
         if start.elapsed() >= Duration::from_secs(seconds) {
             break;
         }
-        seed = seed_behind(seed);
+        seed = seed_after(seed);
     }
     report(&counts, seconds);
     Ok(())

@@ -1,10 +1,11 @@
--- Laws of each encoder's profile: the end of a text, the room that acts need, and monotonic length formulas.
+-- Laws of each encoder's profile: the end of a text, what acts need, and monotonic length formulas.
 use Rattle.std.proofs.Common.{◌≡◌, ℕ, ◌-◌, ◌≤◌, List, [], length, map, arith, Option, Bool, true, IsTrue, Some}
-use Rattle.legacy_base.specs.{declared.{modes.EncoderMode.EncoderMode, results.EncodeEvent.TheVariants.Byte}, EncodeEvents.plain_events, EncoderProfile.EncoderProfile}
+use Rattle.legacy_base.specs.{declared.{modes.EncoderMode.EncoderMode, results.EncodeEvent.TheVariants.Byte}, EncodeEvents.plain_events}
+use Rattle.legacy_base.specs.EncoderProfile.{EncoderProfile}
 use Rattle.legacy_base.specs.{EncoderProfile.plain_encoder, Encoders.{Codec, single_byte, user_defined, big5, euc_kr, shift_jis, euc_jp, gb18030, gbk}}
 use Rattle.legacy_base.specs.Encoders.{iso_2022_jp, encoder_profile, EncoderState, encoded, end_bytes, encoder_need, encoder_formula, encoder_answer}
-use Rattle.legacy_base.specs.{Encoders.encoder_room, declared.results.EncoderResult.EncoderResult, EncoderCalls.tells_end, Iso2022Jp.iso_2022_jp_encoder}
-use Rattle.legacy_base.specs.{Iso2022Jp.{iso_2022_jp_text_events, mode_behind}, Lengths.{Formula, number, ◌⊕◌, ◌⊗◌, value}}
+use Rattle.legacy_base.specs.{Encoders.encoder_total_need, declared.results.EncoderResult.EncoderResult, EncoderCalls.tells_end, Iso2022Jp.iso_2022_jp_encoder}
+use Rattle.legacy_base.specs.{Iso2022Jp.{iso_2022_jp_text_events, mode_after_text}, Lengths.{Formula, number, ◌⊕◌, ◌⊗◌, value}}
 use Rattle.legacy_text.specs.EncodingForm.{EncodingForm}
 use Rattle.legacy_base.proofs.Enough.{answer-value}
 
@@ -14,9 +15,9 @@ pub record HasLaws (p : EncoderProfile) : Type 0 where
   -- the events of an empty text that ends are the bytes of the end
   pub ended : (mode : EncoderMode) → p.events mode [] true ≡ map Byte (p.end_bytes mode)
   -- each scalar and the end need at most four bytes
-  pub scalar_fits : (c : ℕ) → p.scalar_room c ≤ 4
+  pub scalar_fits : (c : ℕ) → p.scalar_need c ≤ 4
   pub end_fits : (mode : EncoderMode) → length (p.end_bytes mode) ≤ 4
-  -- more code units need at least as much room
+  -- more code units need at least as much
   pub rises : (form : EncodingForm) (mode : EncoderMode) (m n : ℕ) → m ≤ n →
       value (p.formula form (number m)) - p.surplus form mode m ≤ value (p.formula form (number n)) - p.surplus form mode n
 
@@ -42,7 +43,7 @@ pair_laws code = plain_laws code 2 _ _ (omega arith) (λ m n h. omega arith) (λ
 
 -- ISO-2022-JP, with escapes between the modes
 iso_2022_jp_laws : (jis0208 katakana : List ℕ) → HasLaws (iso_2022_jp_encoder jis0208 katakana)
-unfolding iso_2022_jp_text_events mode_behind
+unfolding iso_2022_jp_text_events mode_after_text
 iso_2022_jp_laws jis0208 katakana = grind arith
 
 pub encoder_laws : (codec : Codec) → HasLaws (encoder_profile codec)
@@ -66,13 +67,13 @@ end-encoded s = (encoder_laws s.codec).ended s.mode
 pub encoder_need-small : (s : EncoderState) (unread : List ℕ) (last : Bool) → encoder_need s unread last ≤ 4
 encoder_need-small s unread last = grind arith
 
--- more code units need at least as much room
-pub encoder_room-rises : (form : EncodingForm) (s : EncoderState) (m n : ℕ) → m ≤ n → encoder_room form s m ≤ encoder_room form s n
-encoder_room-rises form s = (encoder_laws s.codec).rises form s.mode
+-- more code units need at least as much
+pub encoder_total_need-rises : (form : EncodingForm) (s : EncoderState) (m n : ℕ) → m ≤ n → encoder_total_need form s m ≤ encoder_total_need form s n
+encoder_total_need-rises form s = (encoder_laws s.codec).rises form s.mode
 
--- the room is at most the result of the length query
-pub encoder_room-answer : (form : EncodingForm) (s : EncoderState) (n k : ℕ) → encoder_answer form s n ≡ Some k → encoder_room form s n ≤ k
-encoder_room-answer form s n k e = let v = answer-value (encoder_formula form s n) k e in omega arith
+-- the need is at most the result of the length query
+pub encoder_total_need-answer : (form : EncodingForm) (s : EncoderState) (n k : ℕ) → encoder_answer form s n ≡ Some k → encoder_total_need form s n ≤ k
+encoder_total_need-answer form s n k e = let v = answer-value (encoder_formula form s n) k e in omega arith
 
 -- a result says that the end was written only on a last call
 pub told_end-last : (last : Bool) (answer : EncoderResult) → IsTrue (tells_end last answer) → IsTrue last

@@ -1,7 +1,7 @@
--- The result of a length query is at least the room that is needed.
+-- The result of a length query is at least the need.
 use Rattle.std.proofs.{Common.{◌≡◌, ℕ, ◌≤◌, List, arith, Some}, lemmas.Nat.mul-le, lemmas.Option.cond_some}
 use Rattle.legacy_base.specs.{Formulas.{Formula, Term, to_come, weighed, paired, constant, ◌⊞◌, ◌⊠◌, halved, formula}, Grammar.Grammar, States.DecoderState}
-use Rattle.legacy_base.specs.Lengths.{value, has_lengths, answer, LengthQuery, state_formula, query_answer, room}
+use Rattle.legacy_base.specs.Lengths.{value, has_lengths, answer, LengthQuery, state_formula, query_answer, total_need}
 
 -- the result is the value of the formula
 pub answer-value : (f : Formula) (k : ℕ) → answer f ≡ Some k → value f ≡ k
@@ -24,10 +24,10 @@ pub rises : (query : LengthQuery) (g : Grammar) (held : List ℕ) (m n : ℕ) �
     value (state_formula query (record { grammar = g; held = held }) m) ≤ value (state_formula query (record { grammar = g; held = held }) n)
 rises query g held m n h = grind arith
 
--- for at most as many bytes, the room is at most the result
-pub room-answer : (query : LengthQuery) (s : DecoderState) (m n k : ℕ) → m ≤ n → query_answer query s n ≡ Some k → room query s m ≤ k
-room-answer query s m n k h e = grind arith
+-- for at most as many bytes, the need is at most the result
+pub total_need-answer : (query : LengthQuery) (s : DecoderState) (m n k : ℕ) → m ≤ n → query_answer query s n ≡ Some k → total_need query s m ≤ k
+total_need-answer query s m n k h e = grind arith
 
--- more bytes need at least as much room
-pub room-rises : (query : LengthQuery) (s : DecoderState) (m n : ℕ) → m ≤ n → room query s m ≤ room query s n
-room-rises query s m n h = grind arith
+-- more bytes need at least as much
+pub total_need-rises : (query : LengthQuery) (s : DecoderState) (m n : ℕ) → m ≤ n → total_need query s m ≤ total_need query s n
+total_need-rises query s m n h = grind arith

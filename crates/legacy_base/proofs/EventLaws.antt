@@ -6,7 +6,8 @@ use Rattle.std.proofs.lemmas.List.Elements.{All-head, All-tail, All-drop}
 use Rattle.std.specs.{Prelude.{◌==◌, is_some}, Char.IsScalar}
 use Rattle.legacy_tables.specs.Unicode.{IsByte, AreBytes, AreScalars}
 use Rattle.legacy_base.specs.{declared.results.DecodeEvent.DecodeEvent, declared.results.DecodeEvent.TheVariants.{Scalar, Bad}, Events.{shift_event, shift}}
-use Rattle.legacy_base.specs.{Fronts.{Front, reads, malformed, front_length, front_events, cut}, declared.modes.DecoderMode.DecoderMode, Iso2022Jp.{esc, escape_mode, part_mode}}
+use Rattle.legacy_base.specs.{Fronts.{Front, reads, malformed, front_length, front_events, cut}, declared.modes.DecoderMode.DecoderMode}
+use Rattle.legacy_base.specs.Iso2022Jp.{esc, escape_mode, part_mode}
 use Rattle.legacy_base.specs.{Iso2022Jp.{iso_2022_jp_front, iso_2022_jp_events}, Laws.{IsFrontOf, IsEventOf}}
 use Rattle.legacy_base.proofs.{Cuts.{cut-nil, cut-front}, FrontLaws.{front_of-malformed, iso_2022_jp_front-of, iso_2022_jp_front-short}}
 use Rattle.legacy_base.proofs.{Iso2022JpParts.first_part, Iso2022JpFronts.{step_end, step_one, step_two, step_escape, step_no_escape}}
@@ -44,10 +45,10 @@ module _ (Q : Type 0) where
   front_of size (malformed n) i = one_malformed size n i.some i.short i.within
 
   -- the events of a front, and then those of the bytes after it
-  front_and : (size : ℕ) (f : Front) (behind : ℕ) (events : List DecodeEvent) → IsFrontOf size Q f → front_length f + behind ≤ size → AreOf behind events
+  front_and : (size : ℕ) (f : Front) (after : ℕ) (events : List DecodeEvent) → IsFrontOf size Q f → front_length f + after ≤ size → AreOf after events
       → AreOf size (front_events 0 f ++ shift (front_length f) events)
-  front_and size f behind events i h a =
-      All-append (IsEventOf size Q) (front_events 0 f) (shift (front_length f) events) (front_of size f i) (further (front_length f) behind size h events a)
+  front_and size f after events i h a =
+      All-append (IsEventOf size Q) (front_events 0 f) (shift (front_length f) events) (front_of size f i) (further (front_length f) after size h events a)
 
   -- ---- lists that are cut into fronts
 
@@ -58,13 +59,13 @@ module _ (Q : Type 0) where
     cut_within (suc n) (b ∷ rest) h are =
         let f = front b rest in
         let i = fronts b rest are in
-        let behind = drop (front_length f) (b ∷ rest) in
+        let after = drop (front_length f) (b ∷ rest) in
         let d = length-drop (front_length f) (b ∷ rest) in
         let some = i.some in
         let within = i.within in
         rw (cut-front front b rest some)
-        (front_and (length (b ∷ rest)) f (length behind) (cut front 0 0 behind) i (omega (arith, d, within))
-        (cut_within n behind (omega (arith, d, some, h)) (λ q. All-drop IsByte (front_length f) (b ∷ rest) (are q))))
+        (front_and (length (b ∷ rest)) f (length after) (cut front 0 0 after) i (omega (arith, d, within))
+        (cut_within n after (omega (arith, d, some, h)) (λ q. All-drop IsByte (front_length f) (b ∷ rest) (are q))))
 
     pub cut_sound : (bytes : List ℕ) → (Q → AreBytes bytes) → AreOf (length bytes) (cut front 0 0 bytes)
     cut_sound bytes are = cut_within (length bytes) bytes (omega arith) are

@@ -8,7 +8,8 @@ use Rattle.legacy_base.specs.{Fronts.{Front, reads, malformed, front_length, rea
 use Rattle.legacy_base.specs.{SingleByte.single_byte_front, UserDefined.user_defined_front, Big5.{big5_pointer, big5_scalars, big5_pair, big5_front}}
 use Rattle.legacy_base.specs.{LeadForms.{lead_pair, lead_front}, ShiftJis.{is_shift_jis_lead, shift_jis_pointer, shift_jis_scalars, shift_jis_pair}}
 use Rattle.legacy_base.specs.{ShiftJis.shift_jis_front, EucJp.{is_euc_jp_lead, euc_jp_scalars, euc_jp_katakana, euc_jp_third, euc_jp_second, euc_jp_pair}}
-use Rattle.legacy_base.specs.{EucJp.euc_jp_front, Gb18030.{gb18030_scalars, gb18030_fourth, gb18030_third, gb18030_second, gb18030_front}, Iso2022Jp.iso_2022_jp_front}
+use Rattle.legacy_base.specs.{EucJp.euc_jp_front, Gb18030.{gb18030_scalars, gb18030_fourth, gb18030_third, gb18030_second, gb18030_front}}
+use Rattle.legacy_base.specs.Iso2022Jp.{iso_2022_jp_front}
 use Rattle.legacy_base.specs.declared.modes.DecoderMode.{DecoderMode, TheVariants.{Ascii, Roman, Katakana, TwoByte}}
 use Rattle.legacy_tables.proofs.Accepted.{idx-all}
 

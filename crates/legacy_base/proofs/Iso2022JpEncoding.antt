@@ -4,9 +4,10 @@ use Rattle.std.proofs.{lemmas.Bool.Decides.nat_tests, Common.{◌≡◌, ◌∙�
 use Rattle.std.proofs.Common.{true, false, Some, None, cond, option_map, if◌then◌else◌}
 use Rattle.std.specs.Char.{is_ascii}
 use Rattle.legacy_base.specs.{declared.results.EncodeEvent.EncodeEvent, declared.results.EncodeEvent.TheVariants.Byte, EncodeEvents.{code_events, code_length}}
-use Rattle.legacy_base.specs.{declared.modes.EncoderMode.{EncoderMode, TheVariants.{Ascii, Roman, TwoByte}}, Iso2022Jp.{is_mode_control, iso_2022_jp_pointer_of}}
+use Rattle.legacy_base.specs.declared.modes.EncoderMode.{EncoderMode, TheVariants.{Ascii, Roman, TwoByte}}
+use Rattle.legacy_base.specs.Iso2022Jp.{is_mode_control, iso_2022_jp_pointer_of}
 use Rattle.legacy_base.specs.Iso2022Jp.{iso_2022_jp_pair, iso_2022_jp_code, iso_2022_jp_reported, is_roman_scalar, is_two_byte_scalar, keeps_mode}
-use Rattle.legacy_base.specs.Iso2022Jp.{roman_or_ascii, settled_mode, mode_behind, escape_to, escape_between, iso_2022_jp_text_events}
+use Rattle.legacy_base.specs.Iso2022Jp.{roman_or_ascii, settled_mode, mode_after_text, escape_to, escape_between, iso_2022_jp_text_events}
 
 -- ---- modes
 
@@ -38,39 +39,39 @@ module _ (jis0208 katakana_index : List ℕ) where
   settled_mode-settled mode [] = roman_or_ascii-twice mode
   settled_mode-settled mode (c ∷ before) = let settled = settled_mode-settled mode before in grind arith
 
-  settled_mode-behind : (mode : EncoderMode) (before : List ℕ)
-      → settled_mode jis0208 katakana_index mode before ≡ roman_or_ascii (mode_behind jis0208 katakana_index mode before)
-  unfolding mode_behind settled_mode
-  settled_mode-behind mode before = grind (arith, nat_tests, pair_settles, settled_mode-settled)
+  settled_mode-after : (mode : EncoderMode) (before : List ℕ)
+      → settled_mode jis0208 katakana_index mode before ≡ roman_or_ascii (mode_after_text jis0208 katakana_index mode before)
+  unfolding mode_after_text settled_mode
+  settled_mode-after mode before = grind (arith, nat_tests, pair_settles, settled_mode-settled)
 
   -- the mode after two parts is the mode after the second, begun in the mode after the first
   settled_mode-append : (mode : EncoderMode) (second first : List ℕ) → settled_mode jis0208 katakana_index mode (second ++ first)
-      ≡ settled_mode jis0208 katakana_index (mode_behind jis0208 katakana_index mode first) second
+      ≡ settled_mode jis0208 katakana_index (mode_after_text jis0208 katakana_index mode first) second
   unfolding settled_mode
-  settled_mode-append mode [] first = settled_mode-behind mode first
+  settled_mode-append mode [] first = settled_mode-after mode first
   settled_mode-append mode (c ∷ second) first = rw (settled_mode-append mode second first) refl
 
-  pub mode_behind-append : (mode : EncoderMode) (second first : List ℕ) → mode_behind jis0208 katakana_index mode (second ++ first)
-      ≡ mode_behind jis0208 katakana_index (mode_behind jis0208 katakana_index mode first) second
-  unfolding mode_behind
-  mode_behind-append mode [] first = refl
-  mode_behind-append mode (c ∷ second) first = rw (settled_mode-append mode (c ∷ second) first) refl
+  pub mode_after_text-append : (mode : EncoderMode) (second first : List ℕ) → mode_after_text jis0208 katakana_index mode (second ++ first)
+      ≡ mode_after_text jis0208 katakana_index (mode_after_text jis0208 katakana_index mode first) second
+  unfolding mode_after_text
+  mode_after_text-append mode [] first = refl
+  mode_after_text-append mode (c ∷ second) first = rw (settled_mode-append mode (c ∷ second) first) refl
 
   -- the events after a first part are those of a text that begins in the mode after that part
-  pub text_events-behind : (mode : EncoderMode) (near far text : List ℕ) (ended : Bool)
+  pub text_events-after : (mode : EncoderMode) (near far text : List ℕ) (ended : Bool)
       → iso_2022_jp_text_events jis0208 katakana_index mode (near ++ far) text ended
-      ≡ iso_2022_jp_text_events jis0208 katakana_index (mode_behind jis0208 katakana_index mode far) near text ended
+      ≡ iso_2022_jp_text_events jis0208 katakana_index (mode_after_text jis0208 katakana_index mode far) near text ended
   unfolding iso_2022_jp_text_events
-  text_events-behind mode near far [] ended = rw (mode_behind-append mode near far) refl
-  text_events-behind mode near far (c ∷ text) ended =
-      let rest = text_events-behind mode (c ∷ near) far text ended in
-      rw (mode_behind-append mode near far, mode_behind-append mode (c ∷ near) far, rest) refl
+  text_events-after mode near far [] ended = rw (mode_after_text-append mode near far) refl
+  text_events-after mode near far (c ∷ text) ended =
+      let rest = text_events-after mode (c ∷ near) far text ended in
+      rw (mode_after_text-append mode near far, mode_after_text-append mode (c ∷ near) far, rest) refl
 
   -- ---- one scalar
 
   -- the mode after the scalar c
   abbrev pub mode_for : EncoderMode → ℕ → EncoderMode
-  mode_for mode c = mode_behind jis0208 katakana_index mode (c ∷ [])
+  mode_for mode c = mode_after_text jis0208 katakana_index mode (c ∷ [])
 
   -- the events of the scalar itself, without an escape
   abbrev pub own_events : ℕ → List EncodeEvent
@@ -82,7 +83,7 @@ module _ (jis0208 katakana_index : List ℕ) where
 
   pub mode_for-by : (mode : EncoderMode) (c : ℕ)
       → mode_for mode c ≡ mode_by (is_two_byte_scalar jis0208 katakana_index c) (keeps_mode jis0208 katakana_index c) (is_roman_scalar c) mode
-  unfolding mode_behind settled_mode
+  unfolding mode_after_text settled_mode
   mode_for-by mode c = refl
 
   -- the code of a scalar by its definition
@@ -96,9 +97,9 @@ module _ (jis0208 katakana_index : List ℕ) where
   pub mode_for-twice : (mode : EncoderMode) (c : ℕ) → mode_for (mode_for mode c) c ≡ mode_for mode c
   mode_for-twice mode c = grind (arith, nat_tests, mode_for-by, mode_by-twice)
 
-  mode_behind-nothing : (mode : EncoderMode) → mode_behind jis0208 katakana_index mode [] ≡ mode
-  unfolding mode_behind
-  mode_behind-nothing mode = refl
+  mode_after_text-nothing : (mode : EncoderMode) → mode_after_text jis0208 katakana_index mode [] ≡ mode
+  unfolding mode_after_text
+  mode_after_text-nothing mode = refl
 
   -- the events of a scalar, and then those of the rest in the mode after it
   pub text_events-scalar : (mode : EncoderMode) (c : ℕ) (more : List ℕ) (ended : Bool) → text_events mode (c ∷ more) ended
@@ -106,9 +107,9 @@ module _ (jis0208 katakana_index : List ℕ) where
   unfolding iso_2022_jp_text_events
   text_events-scalar mode c more ended =
       ap (λ m. (map Byte (escape_between m (mode_for mode c)) ++ own_events c) ++ iso_2022_jp_text_events jis0208 katakana_index mode (c ∷ []) more ended)
-      (mode_behind-nothing mode)
+      (mode_after_text-nothing mode)
       ∙ append_assoc (map Byte (escape_between mode (mode_for mode c))) (own_events c) (iso_2022_jp_text_events jis0208 katakana_index mode (c ∷ []) more ended)
-      ∙ ap (λ l. map Byte (escape_between mode (mode_for mode c)) ++ (own_events c ++ l)) (text_events-behind mode [] (c ∷ []) more ended)
+      ∙ ap (λ l. map Byte (escape_between mode (mode_for mode c)) ++ (own_events c ++ l)) (text_events-after mode [] (c ∷ []) more ended)
 
   -- a scalar that is written in the current mode needs no escape
   pub text_events-here : (mode : EncoderMode) (c : ℕ) → mode_for mode c ≡ mode → (more : List ℕ) (ended : Bool)
@@ -124,7 +125,7 @@ module _ (jis0208 katakana_index : List ℕ) where
 
   pub text_events-end : (mode : EncoderMode) → text_events mode [] true ≡ map Byte (escape_between mode Ascii)
   unfolding iso_2022_jp_text_events
-  text_events-end mode = ap (λ m. map Byte (escape_between m Ascii)) (mode_behind-nothing mode)
+  text_events-end mode = ap (λ m. map Byte (escape_between m Ascii)) (mode_after_text-nothing mode)
 
   pub text_events-open : (mode : EncoderMode) → text_events mode [] false ≡ []
   unfolding iso_2022_jp_text_events

@@ -3,7 +3,8 @@
 use Rattle.std.proofs.Common.{◌≡◌, ℕ, suc, ◌+◌, false, cond, Some, None, List, [], ◌∷◌, ◌++◌, length, refl, zero-add, one-add, append_assoc, arith}
 use Rattle.std.proofs.{lemmas.Bool.{eqb-true, ne_eqb}, lemmas.Bool.Decides.nat_tests}
 use Rattle.std.specs.Prelude.{◌==◌, ◌&&◌, is_some}
-use Rattle.legacy_base.specs.{declared.results.DecodeEvent.TheVariants.Bad, Events.shift, Fronts.{Front, front_length, front_events, cut}, declared.modes.DecoderMode.DecoderMode}
+use Rattle.legacy_base.specs.{declared.results.DecodeEvent.TheVariants.Bad, Events.shift, Fronts.{Front, front_length, front_events, cut}}
+use Rattle.legacy_base.specs.declared.modes.DecoderMode.{DecoderMode}
 use Rattle.legacy_base.specs.Iso2022Jp.{esc, escape_mode, parts_of, part_mode, escape_length, begins_valid, iso_2022_jp_front, escape_events, part_events}
 use Rattle.legacy_base.specs.Iso2022Jp.{parts_events, iso_2022_jp_events}
 use Rattle.legacy_base.proofs.{Shifts.{shift-append, shift-shift, shift-zero}, Cuts.cut_from_zero, Iso2022JpParts.{first_part, later_parts, events-by_parts}}

@@ -3,7 +3,8 @@
 use Rattle.std.proofs.{lemmas.Bool.Decides.nat_tests, Common.{arith, ◌≡◌, ℕ, ◌+◌, false, cond, None, List, [], ◌∷◌, ◌++◌, drop, length, refl, add_assoc}}
 use Rattle.std.proofs.{Common.{zero-add, add-zero}}
 use Rattle.std.specs.Prelude.{◌==◌, unwrap_or}
-use Rattle.legacy_base.specs.{declared.modes.DecoderMode.DecoderMode, Events.shift, Fronts.cut, Iso2022Jp.{esc, parts_of, part_mode, escape_length, iso_2022_jp_front, escape_events}}
+use Rattle.legacy_base.specs.{declared.modes.DecoderMode.DecoderMode, Events.shift, Fronts.cut}
+use Rattle.legacy_base.specs.Iso2022Jp.{esc, parts_of, part_mode, escape_length, iso_2022_jp_front, escape_events}
 use Rattle.legacy_base.specs.Iso2022Jp.{part_events, parts_events, iso_2022_jp_events}
 use Rattle.legacy_base.proofs.{Shifts.shift-append, Cuts.cut-place}
 
@@ -36,8 +37,8 @@ first_unescaped place [] next = (refl, refl, refl)
 first_unescaped place (b ∷ bytes) next = let unescaped = no_escape b (first_part bytes) in grind (arith, unescaped)
 
 -- the first part is all body, in the mode in which the list begins
-first_events : (jis0208 : List ℕ) (mode : DecoderMode) (place : ℕ) (bytes : List ℕ) (next : List (List ℕ)) → parts_events jis0208 mode place (first_part bytes ∷ next)
-    ≡ cut (iso_2022_jp_front jis0208 mode) 0 place (first_part bytes)
+first_events : (jis0208 : List ℕ) (mode : DecoderMode) (place : ℕ) (bytes : List ℕ) (next : List (List ℕ))
+    → parts_events jis0208 mode place (first_part bytes ∷ next) ≡ cut (iso_2022_jp_front jis0208 mode) 0 place (first_part bytes)
     ++ parts_events jis0208 mode (place + length (first_part bytes)) next
 unfolding parts_events part_events
 first_events jis0208 mode place bytes next =

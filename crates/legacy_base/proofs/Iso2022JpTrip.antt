@@ -13,7 +13,7 @@ use Rattle.legacy_base.specs.{Iso2022Jp.{iso_2022_jp_pointer_of, iso_2022_jp_pai
 use Rattle.legacy_base.specs.RoundTrips.{is_fold, read_as, bytes_of, holds_adjacent_escapes}
 use Rattle.legacy_tables.specs.Pointers.{is_jis0208_pointer, euc_jp_pointer_of}
 use Rattle.legacy_base.proofs.{Shifts.{shift-zero, shift-append, shift-shift, shift-scalars}, PointersBack.{LeadsBack, leads_back}, Trips.same_byte_lists}
-use Rattle.legacy_base.proofs.{Trips.{begins_with, has_code, coded, bytes_of-behind, bytes_of-bytes, bytes_of-unmappable}, Iso2022JpParts.first_part}
+use Rattle.legacy_base.proofs.{Trips.{begins_with, has_code, coded, bytes_of-after, bytes_of-bytes, bytes_of-unmappable}, Iso2022JpParts.first_part}
 use Rattle.legacy_base.proofs.{Iso2022JpFronts.{step_one, step_two, step_escape}, Iso2022JpEncoding.{mode_for, mode_for-by, own_events, text_events}}
 use Rattle.legacy_base.proofs.Iso2022JpEncoding.{text_events-scalar, text_events-end}
 use Rattle.legacy_tables.proofs.Pointers.{first-taken}
@@ -164,12 +164,12 @@ module _ (jis0208 katakana_index : List ℕ) where
 
   -- a scalar's escape, its own bytes and the bytes after it, by its code
   abbrev pub scalar_bytes : EncoderMode → EncoderMode → Option (List ℕ) → List ℕ → List ℕ
-  scalar_bytes mode new None behind = escape_between mode new ++ behind
-  scalar_bytes mode new (Some own) behind = escape_between mode new ++ (own ++ behind)
+  scalar_bytes mode new None after = escape_between mode new ++ after
+  scalar_bytes mode new (Some own) after = escape_between mode new ++ (own ++ after)
 
   pub text_bytes-scalar : (mode : EncoderMode) (c : ℕ) (text : List ℕ) → text_bytes mode (c ∷ text)
       ≡ scalar_bytes mode (mode_of mode c) (code c) (text_bytes (mode_of mode c) text)
-  text_bytes-scalar mode c text = grind (arith, nat_tests, text_events-scalar, bytes_of-behind, own_events, bytes_of-unmappable)
+  text_bytes-scalar mode c text = grind (arith, nat_tests, text_events-scalar, bytes_of-after, own_events, bytes_of-unmappable)
 
   pub text_bytes-end : (mode : EncoderMode) → text_bytes mode [] ≡ escape_between mode in_ascii
   text_bytes-end mode = ap bytes_of (text_events-end jis0208 katakana_index mode) ∙ bytes_of-bytes (escape_between mode in_ascii)
@@ -190,10 +190,10 @@ module _ (jis0208 katakana_index : List ℕ) where
   -- ---- no two adjacent escapes
 
   -- if a list has no adjacent escapes, neither has its end
-  pub apart_behind : (front bytes : List ℕ) → holds_adjacent_escapes (front ++ bytes) ≡ false → holds_adjacent_escapes bytes ≡ false
+  pub rest_apart : (front bytes : List ℕ) → holds_adjacent_escapes (front ++ bytes) ≡ false → holds_adjacent_escapes bytes ≡ false
   unfolding holds_adjacent_escapes
-  apart_behind [] bytes h = h
-  apart_behind (b ∷ front) bytes h = apart_behind front bytes (or_parts _ (holds_adjacent_escapes (front ++ bytes)) h).1
+  rest_apart [] bytes h = h
+  rest_apart (b ∷ front) bytes h = rest_apart front bytes (or_parts _ (holds_adjacent_escapes (front ++ bytes)) h).1
 
   -- no second escape follows an escape
   pub escape_apart : (old new : EncoderMode) (bytes : List ℕ) → (old ≡ new → ⊥) → holds_adjacent_escapes (escape_between old new ++ bytes) ≡ false →
@@ -220,26 +220,26 @@ module _ (jis0208 katakana_index : List ℕ) where
       → IsTextRead new back bytes more → IsTextRead old back (escape_between old new ++ bytes) more
   escape_then old new back bytes more alone read = grind (arith, nat_tests, append_assoc, length-append, escape_read, shift-append, shift-scalars, shift-shift)
 
-  text_read-scalar : (mode new : EncoderMode) (c : ℕ) (own back behind more : List ℕ)
-      → OwnRead new c own → IsTextRead new back behind more → IsTextRead mode (c ∷ back) (escape_between mode new ++ (own ++ behind)) more
-  text_read-scalar mode new c own back behind more o read =
-      let all = behind ++ more in
-      let joined : IsTextRead new (c ∷ back) (own ++ behind) more =
-      rw (append_assoc, length-append) (o.gives all ∙ rw read (scalar_then (length own) (length behind) c back (iso_2022_jp_events jis0208 Ascii more))) in
-      escape_then mode new (c ∷ back) (own ++ behind) more (rw (append_assoc own behind more) (o.unescaped all)) joined
+  text_read-scalar : (mode new : EncoderMode) (c : ℕ) (own back after more : List ℕ)
+      → OwnRead new c own → IsTextRead new back after more → IsTextRead mode (c ∷ back) (escape_between mode new ++ (own ++ after)) more
+  text_read-scalar mode new c own back after more o read =
+      let all = after ++ more in
+      let joined : IsTextRead new (c ∷ back) (own ++ after) more =
+      rw (append_assoc, length-append) (o.gives all ∙ rw read (scalar_then (length own) (length after) c back (iso_2022_jp_events jis0208 Ascii more))) in
+      escape_then mode new (c ∷ back) (own ++ after) more (rw (append_assoc own after more) (o.unescaped all)) joined
 
   pub text_read : (mode : EncoderMode) (text more : List ℕ) → is_whole_escape more ≡ false
       → holds_adjacent_escapes (text_bytes mode text) ≡ false → IsTextRead mode (text_back text) (text_bytes mode text) more
   text_read mode [] more unescaped h = rw (text_bytes-end mode) (escape_read jis0208 mode in_ascii more unescaped)
   text_read mode (c ∷ text) more unescaped h =
       let new = mode_of mode c in
-      let behind = text_bytes new text in
+      let after = text_bytes new text in
       let later = text_read new text more unescaped in
       let begins = text_begins new text more unescaped in
-      let none = apart_behind (escape_between mode new) behind in
-      let some = λ (own : List ℕ) (e : code c ≡ Some own) (k : holds_adjacent_escapes (escape_between mode new ++ (own ++ behind)) ≡ false).
-      text_read-scalar mode new (own_scalar c) own (text_back text) behind more (own_read mode c own e)
-      (later (apart_behind own behind (apart_behind (escape_between mode new) (own ++ behind) k))) in
+      let none = rest_apart (escape_between mode new) after in
+      let some = λ (own : List ℕ) (e : code c ≡ Some own) (k : holds_adjacent_escapes (escape_between mode new ++ (own ++ after)) ≡ false).
+      text_read-scalar mode new (own_scalar c) own (text_back text) after more (own_read mode c own e)
+      (later (rest_apart own after (rest_apart (escape_between mode new) (own ++ after) k))) in
       let apart = rw (text_bytes-scalar mode c text) at h in
       rw (text_bytes-scalar mode c text) (grind (arith, nat_tests, some, none, none_keeps mode c, later, begins, escape_then, escape_apart))
 
@@ -264,10 +264,10 @@ module _ (jis0208 katakana_index : List ℕ) where
       let escape =
       begins_with (escape_between mode new) bytes (own_events jis0208 katakana_index c ++ later)
       (sym (text_events-scalar jis0208 katakana_index mode c text true) ∙ e) in
-      let here = has_code _ (code c) escape.rest later escape.behind in
+      let here = has_code _ (code c) escape.rest later escape.after in
       let t = here.begins in
       let own = own_read mode c here.own here.code_is in
-      let rest = text_apart new text t.rest t.behind in
+      let rest = text_apart new text t.rest t.after in
       record {
         coded_all = rw here.code_is (ap (λ (l : List ℕ). c ∷ l) rest.coded_all);
         apart = rw (escape.split, t.split) (escape_adjacent mode new (here.own ++ t.rest) (own.unescaped t.rest) ∙ own.quiet t.rest ∙ rest.apart);

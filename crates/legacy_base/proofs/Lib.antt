@@ -4,7 +4,7 @@ pub mod Shifts
 pub mod Cuts
 pub mod Beginnings
 pub mod Progress
-pub mod Rooms
+pub mod Needs
 pub mod Enough
 pub mod EncoderLaws
 pub mod Iso2022JpParts

@@ -23,12 +23,12 @@ module _ {s t : DecoderState} {xs ys : List ℕ} {n : ℕ} {out : List DecodeEve
   at_last h = at_less (λ f. absurd (false≢true f)) h
 
   -- the same progress if more source follows
-  pub behind : (zs : List ℕ) → Progress false s xs n t ys out → Progress false s (xs ++ zs) n t (ys ++ zs) out
-  behind zs h = grind (arith, nat_tests, length-append, append_assoc, drop-append-le, false≢true)
+  pub more_follows : (zs : List ℕ) → Progress false s xs n t ys out → Progress false s (xs ++ zs) n t (ys ++ zs) out
+  more_follows zs h = grind (arith, nat_tests, length-append, append_assoc, drop-append-le, false≢true)
 
 -- a list of events that begins with `one` and then `two` begins with `two` after `one`
-behind_first : (m : ℕ) (one two items : List DecodeEvent) → BeginsWith (one ++ shift m items) (one ++ shift m two) → BeginsWith items two
-behind_first m one two items b = begins_back m two items (begins_later one (shift m two) (shift m items) b)
+begins_after : (m : ℕ) (one two items : List DecodeEvent) → BeginsWith (one ++ shift m items) (one ++ shift m two) → BeginsWith items two
+begins_after m one two items b = begins_back m two items (begins_later one (shift m two) (shift m items) b)
 
 -- one step after another
 pub after_that : {ended : Bool} {s t u : DecoderState} {xs ys zs : List ℕ} {m n : ℕ} {one two : List DecodeEvent} →
@@ -43,7 +43,7 @@ after_that {s} {t} {u} {xs} {ys} {zs} {m} {n} {one} {two} a b = record {
       let first : all ≡ one ++ shift m later =
       a.events more (λ l. elim (h l) [ inl z ↦ inl z | inr g ↦ inr (begins_sooner one (shift m two) all g) ]) in
       let second : later ≡ two ++ shift n (events_of u.grammar (u.held ++ (zs ++ more))) =
-      b.events more (λ l. elim (h l) [ inl z ↦ inl z | inr g ↦ inr (behind_first m one two later (rw first at g)) ]) in
+      b.events more (λ l. elim (h l) [ inl z ↦ inl z | inr g ↦ inr (begins_after m one two later (rw first at g)) ]) in
       first
       ∙ ap (λ l. one ++ shift m l) second
       ∙ ap (λ l. one ++ l) (shift-append m two (shift n (events_of u.grammar (u.held ++ (zs ++ more)))))

@@ -8,9 +8,9 @@ use Rattle.legacy_base.specs.Iso2022Jp.{is_pair, iso_2022_jp_code, is_whole_esca
 use Rattle.legacy_base.specs.{Iso2022Jp.escape_between, Encoders.{Codec, single_byte, user_defined, big5, euc_kr, shift_jis, euc_jp, gb18030, gbk, iso_2022_jp}}
 use Rattle.legacy_base.specs.{Encoders.{new_encoder, encoded}, RoundTrips.{japanese_scalar, read_back, bytes_of, written}}
 use Rattle.legacy_base.specs.RoundTrips.{holds_adjacent_escapes, IsSound, KeepsCodes, HasSameCode, ReencodesAnyText}
-use Rattle.legacy_base.proofs.{Trips.{coded, bytes_of-nothing, bytes_of-behind, bytes_of-unmappable}, Iso2022JpEncoding.{mode_by, mode_for, mode_for-by}}
+use Rattle.legacy_base.proofs.{Trips.{coded, bytes_of-nothing, bytes_of-after, bytes_of-unmappable}, Iso2022JpEncoding.{mode_by, mode_for, mode_for-by}}
 use Rattle.legacy_base.proofs.{Iso2022JpEncoding.{text_events, text_events-scalar, text_events-escape, text_events-end}, Iso2022JpTrip.{own_scalar, none_keeps}}
-use Rattle.legacy_base.proofs.Iso2022JpTrip.{coded_here, text_back, text_bytes, scalar_bytes, text_bytes-scalar, text_bytes-end, apart_behind, escape_apart}
+use Rattle.legacy_base.proofs.Iso2022JpTrip.{coded_here, text_back, text_bytes, scalar_bytes, text_bytes-scalar, text_bytes-end, rest_apart, escape_apart}
 use Rattle.legacy_base.proofs.RoundTrips.{same_scalars, encodes_well_formed}
 
 -- ---- codecs without modes
@@ -23,7 +23,7 @@ plain-again code read (c ∷ text) same =
     let P : ℕ → Type 0 = λ c. (bytes : List ℕ) → code c ≡ Some bytes → code (read c) ≡ Some bytes in
     let here = All-head P c text same in
     let later = plain-again code read text (All-tail P c text same) in
-    grind (arith, nat_tests, bytes_of-unmappable, bytes_of-behind, map-append)
+    grind (arith, nat_tests, bytes_of-unmappable, bytes_of-after, map-append)
 
 -- the scalar that a fold decodes to has the code of the fold
 folded-same : (code : ℕ → Option (List ℕ)) → code 0x5C ≡ code 0xA5 → code 0x7E ≡ code 0x203E → code 0xFF0D ≡ code 0x2212 → (c : ℕ) →
@@ -116,18 +116,18 @@ module _ (jis0208 katakana_index : List ℕ) where
   iso_2022_jp-again mode [] same h = rw (text_bytes-end jis0208 katakana_index mode) (text_events-end jis0208 katakana_index mode)
   iso_2022_jp-again mode (c ∷ text) same h =
       let new = mode_of mode c in
-      let behind = bytes_from new text in
+      let after = bytes_from new text in
       let here = All-head SameHere c text same in
       let others = All-tail SameHere c text same in
       let later = iso_2022_jp-again new text others in
-      let some : (own : List ℕ) → code c ≡ Some own → holds_adjacent_escapes (escape_between mode new ++ (own ++ behind)) ≡ false →
-      sent mode (own_of c ∷ back text) ≡ map Byte (escape_between mode new ++ (own ++ behind)) =
+      let some : (own : List ℕ) → code c ≡ Some own → holds_adjacent_escapes (escape_between mode new ++ (own ++ after)) ≡ false →
+      sent mode (own_of c ∷ back text) ≡ map Byte (escape_between mode new ++ (own ++ after)) =
       λ own e k.
-      let read = later (apart_behind jis0208 katakana_index own behind (apart_behind jis0208 katakana_index (escape_between mode new) (own ++ behind) k)) in
+      let read = later (rest_apart jis0208 katakana_index own after (rest_apart jis0208 katakana_index (escape_between mode new) (own ++ after) k)) in
       text_events-scalar jis0208 katakana_index mode (own_of c) (back text) true
-      ∙ rw (same_mode mode c own e (here own e), here own e, read, map-append Byte (escape_between mode new) (own ++ behind), map-append Byte own behind)
+      ∙ rw (same_mode mode c own e (here own e), here own e, read, map-append Byte (escape_between mode new) (own ++ after), map-append Byte own after)
       refl in
-      let none = apart_behind jis0208 katakana_index (escape_between mode new) behind in
+      let none = rest_apart jis0208 katakana_index (escape_between mode new) after in
       let apart = rw (text_bytes-scalar jis0208 katakana_index mode c text) at h in
       rw (text_bytes-scalar jis0208 katakana_index mode c text)
       (grind (arith, some, none, later, none-again mode text others, none_keeps jis0208 katakana_index mode c))

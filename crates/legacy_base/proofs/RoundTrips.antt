@@ -5,7 +5,8 @@ use Rattle.std.specs.List.{list_any}
 use Rattle.legacy_base.specs.{declared.results.DecodeEvent.TheVariants.Scalar, declared.results.EncodeEvent.TheVariants.Byte}
 use Rattle.legacy_base.specs.{SingleByte.{single_byte_code}, UserDefined.{user_defined_code}}
 use Rattle.legacy_base.specs.{Big5.big5_code, EucKr.{euc_kr_code}, ShiftJis.{shift_jis_code}}
-use Rattle.legacy_base.specs.{EucJp.{euc_jp_code}, Gb18030.{gb18030_code, gbk_code}, declared.modes.{EncoderMode.TheVariants.Ascii as in_ascii, DecoderMode.TheVariants.Ascii}}
+use Rattle.legacy_base.specs.{EucJp.{euc_jp_code}, Gb18030.{gb18030_code, gbk_code}}
+use Rattle.legacy_base.specs.declared.modes.{EncoderMode.TheVariants.Ascii as in_ascii, DecoderMode.TheVariants.Ascii}
 use Rattle.legacy_base.specs.{Grammar.events_of, Encoders.{Codec, single_byte, user_defined, big5, euc_kr, shift_jis, euc_jp, gb18030, gbk, iso_2022_jp}}
 use Rattle.legacy_base.specs.{Encoders.{new_encoder, code, encoded}, RoundTrips.{grammar_of, is_fold, is_private_use_fold, IsEncodedAs, RoundTrips}}
 use Rattle.legacy_base.specs.RoundTrips.{ReencodesToTheSame, EscapesAreInPlace, read_as, read_back, bytes_of, written}

@@ -28,7 +28,7 @@ cut-code front bytes more c h = grind (arith, nat_tests, cut-front, drop_at byte
 pub record BeginsWithBytes (own bytes : List ℕ) (events : List EncodeEvent) : Type 0 where
   pub rest : List ℕ
   pub split : bytes ≡ own ++ rest
-  pub behind : events ≡ map Byte rest
+  pub after : events ≡ map Byte rest
 
 pub same_byte_lists : (xs ys : List ℕ) → map Byte xs ≡ map Byte ys → xs ≡ ys
 same_byte_lists [] [] e = refl
@@ -36,11 +36,11 @@ same_byte_lists (x ∷ xs) (y ∷ ys) e = grind (arith, same_byte_lists xs ys)
 same_byte_lists _ _ e = cc
 
 pub begins_with : (own bytes : List ℕ) (events : List EncodeEvent) → map Byte own ++ events ≡ map Byte bytes → BeginsWithBytes own bytes events
-begins_with [] bytes events e = record { rest = bytes; split = refl; behind = e }
+begins_with [] bytes events e = record { rest = bytes; split = refl; after = e }
 begins_with (b ∷ own) [] events e = cc
 begins_with (b ∷ own) (a ∷ bytes) events e =
     let t = begins_with own bytes events (cc) in
-    record { rest = t.rest; split = (let first : a ≡ b = cc in ap₂ ◌∷◌ first t.split); behind = t.behind }
+    record { rest = t.rest; split = (let first : a ≡ b = cc in ap₂ ◌∷◌ first t.split); after = t.after }
 
 -- a scalar whose events are all bytes has a code
 pub record HasCode (c : ℕ) (code : Option (List ℕ)) (bytes : List ℕ) (events : List EncodeEvent) : Type 0 where
@@ -56,10 +56,10 @@ has_code c (Some own) bytes events e = record { own = own; code_is = refl; begin
 
 -- ---- the bytes among events
 
-pub bytes_of-behind : (bytes : List ℕ) (events : List EncodeEvent) → bytes_of (map Byte bytes ++ events) ≡ bytes ++ bytes_of events
+pub bytes_of-after : (bytes : List ℕ) (events : List EncodeEvent) → bytes_of (map Byte bytes ++ events) ≡ bytes ++ bytes_of events
 unfolding bytes_of
-bytes_of-behind [] events = refl
-bytes_of-behind (b ∷ bytes) events = ap (λ (l : List ℕ). b ∷ l) (bytes_of-behind bytes events)
+bytes_of-after [] events = refl
+bytes_of-after (b ∷ bytes) events = ap (λ (l : List ℕ). b ∷ l) (bytes_of-after bytes events)
 
 pub bytes_of-bytes : (bytes : List ℕ) → bytes_of (map Byte bytes) ≡ bytes
 unfolding bytes_of
@@ -91,7 +91,7 @@ plain-read front code read lost each (c ∷ text) none =
     let kept = or_parts (lost c) (list_any lost text) none in
     let later = plain-read front code read lost each text kept.1 in
     let first = λ (own : List ℕ) (e : code c ≡ Some own). cut-code front own (bytes_of (plain_events code text)) (read c) (each c own kept.0 e) in
-    grind (arith, nat_tests, bytes_of-unmappable, bytes_of-behind, first, shift-scalars)
+    grind (arith, nat_tests, bytes_of-unmappable, bytes_of-after, first, shift-scalars)
 
 -- no scalar of a text is lost if none can be
 pub none_lost : (text : List ℕ) → list_any (λ (c : ℕ). false) text ≡ false
@@ -104,4 +104,4 @@ unfolding plain_events
 plain-coded code [] bytes e = refl
 plain-coded code (c ∷ text) bytes e =
     let here = has_code c (code c) bytes (plain_events code text) e in
-    rw here.code_is (ap (λ (l : List ℕ). c ∷ l) (plain-coded code text here.begins.rest here.begins.behind))
+    rw here.code_is (ap (λ (l : List ℕ). c ∷ l) (plain-coded code text here.begins.rest here.begins.after))

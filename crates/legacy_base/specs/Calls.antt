@@ -11,8 +11,8 @@ use Rattle.legacy_base.specs.Beginnings.{BeginsWith}
 use Rattle.legacy_base.specs.Profile.{is_empty}
 use Rattle.legacy_base.specs.Grammar.{as_new, events_of}
 use Rattle.legacy_base.specs.States.{DecoderState, may_hold, rests}
-use Rattle.legacy_base.specs.DecoderActs.{LacksRoom, HadRooms, malformed_room, full_room_in}
-use Rattle.legacy_base.specs.Lengths.{LengthQuery, query_form, query_answer, answer_units, room}
+use Rattle.legacy_base.specs.DecoderActs.{LacksRoom, HadRooms, malformed_need, full_need_in}
+use Rattle.legacy_base.specs.Lengths.{LengthQuery, query_form, query_answer, answer_units, total_need}
 
 -- The malformed sequence that a result reports. It has `length` bytes and ends `back` bytes before the end of the
 -- `seen` bytes, which were held back before the call or read by it.
@@ -105,22 +105,22 @@ pub record DecoderCall (form : EncodingForm) (before : DecoderState) (source : L
   -- at InputEmpty all bytes are read and no scalar is held back; on a last call no events are left
   pub input_empty : answer ≡ InputEmpty → (read ≡ length source) × IsTrue (rests after.grammar after.held)
       × (IsTrue last → events_of after.grammar after.held ≡ [])
-  -- at OutputFull the next act needs more room than is free
+  -- at OutputFull the next act needs more than is free
   pub output_full : answer ≡ OutputFull → LacksRoom form after (drop read source) last (free - total_unit_count form scalars)
   -- if the next act lacks room when the call begins, the result is OutputFull and nothing is done
   pub full_at_once : LacksRoom form before source last free → (answer ≡ OutputFull) × (read ≡ 0) × (scalars ≡ []) × (after ≡ before)
   -- after a malformed sequence there is room for U+FFFD
-  pub room_after_malformed : IsMalformed answer → malformed_room form before.grammar read ≤ free - total_unit_count form scalars
+  pub room_after_malformed : IsMalformed answer → malformed_need form before.grammar read ≤ free - total_unit_count form scalars
   -- if a byte was read and bytes are held back, there is room for reading a byte past ASCII
-  pub room_held : 0 < read → after.held ≢ [] → full_room_in form before.grammar ≤ free - total_unit_count form scalars
-  -- each scalar was written with the room that it needs
+  pub room_held : 0 < read → after.held ≢ [] → full_need_in form before.grammar ≤ free - total_unit_count form scalars
+  -- each scalar was written where what it needs was free
   pub had_room : HadRooms form before free scalars
-  -- the written scalars, and U+FFFD if the query counts it, lower the room that is still needed
+  -- the written scalars, and U+FFFD if the query counts it, lower the need
   pub lowers : (query : LengthQuery) → query_form query ≡ form → (more : ℕ) → (IsTrue last → more ≡ 0) →
-      room query after (length (drop read source) + more) + (total_unit_count form scalars + answer_units query answer)
-      ≤ room query before (length source + more)
-  -- with the room that the source needs free, the result is not OutputFull
-  pub suffices : (query : LengthQuery) → query_form query ≡ form → room query before (length source) ≤ free → answer ≢ OutputFull
+      total_need query after (length (drop read source) + more) + (total_unit_count form scalars + answer_units query answer)
+      ≤ total_need query before (length source + more)
+  -- if what the source needs is free, the result is not OutputFull
+  pub suffices : (query : LengthQuery) → query_form query ≡ form → total_need query before (length source) ≤ free → answer ≢ OutputFull
   -- with the length returned by a query for at least as many bytes free, the result is not OutputFull
   pub enough : (query : LengthQuery) → query_form query ≡ form → (n k : ℕ) → length source ≤ n
       → query_answer query before n ≡ Some k → k ≤ free → answer ≢ OutputFull

@@ -8,7 +8,7 @@ use Rattle.legacy_base.specs.declared.results.EncoderResult.TheVariants.{InputEm
 use Rattle.legacy_text.specs.EncodingForm.{EncodingForm, total_unit_count}
 use Rattle.legacy_base.specs.Beginnings.{BeginsWith}
 use Rattle.legacy_base.specs.EncodeEvents.{byte_count, code_length}
-use Rattle.legacy_base.specs.Encoders.{EncoderState, code, encoded, end_bytes, scalar_room, encoder_need, encoder_answer, encoder_room}
+use Rattle.legacy_base.specs.Encoders.{EncoderState, code, encoded, end_bytes, scalar_need, encoder_need, encoder_answer, encoder_total_need}
 
 -- the event that a result reports
 abbrev pub reported : EncoderResult → List EncodeEvent
@@ -22,7 +22,7 @@ tells_end last InputEmpty = last
 tells_end last OutputFull = false
 tells_end last (Unmappable c) = false
 
--- the next act needs more room than is free
+-- the next act needs more than is free
 abbrev pub EncoderLacksRoom : EncoderState → List ℕ → Bool → ℕ → Type 0
 EncoderLacksRoom state unread last free = free < encoder_need state unread last
 
@@ -56,20 +56,20 @@ pub record EncoderCall (before : EncoderState) (source : List ℕ) (last : Bool)
       encoded before (source ++ more) ended ≡ map Byte bytes ++ (reported answer ++ encoded after (left ++ more) ended)
   -- at InputEmpty all scalars are read; on a last call the end has nothing left to write
   pub input_empty : answer ≡ InputEmpty → (left ≡ []) × (IsTrue last → end_bytes after ≡ [])
-  -- at OutputFull the next act needs more room than is free
+  -- at OutputFull the next act needs more than is free
   pub output_full : answer ≡ OutputFull → EncoderLacksRoom after left last (free - length bytes)
   -- if the next act lacks room when the call begins, the result is OutputFull and nothing is done
   pub full_at_once : EncoderLacksRoom before source last free → (answer ≡ OutputFull) × (left ≡ source) × (bytes ≡ []) × (after ≡ before)
-  -- before the own bytes, or the report, of each scalar read, its room was free
+  -- before the own bytes, or the report, of each scalar read, what it needs was free
   pub had_room : (k : ℕ) → k < length taken →
-      bytes_before before (take k taken) (slice_index taken k) + scalar_room before (slice_index taken k) ≤ free
-  -- the written bytes lower the room that is still needed
+      bytes_before before (take k taken) (slice_index taken k) + scalar_need before (slice_index taken k) ≤ free
+  -- the written bytes lower the need
   pub lowers : (form : EncodingForm) (more : ℕ) → GoesOn last answer →
-      encoder_room form after (total_unit_count form left + more) + length bytes ≤ encoder_room form before (total_unit_count form source + more)
-  -- at the end of the text, the written bytes fit into the room that was needed
+      encoder_total_need form after (total_unit_count form left + more) + length bytes ≤ encoder_total_need form before (total_unit_count form source + more)
+  -- at the end of the text, the written bytes are at most what was needed
   pub ends : (form : EncodingForm) → answer ≡ InputEmpty → IsTrue last →
-      length bytes ≤ encoder_room form before (total_unit_count form source)
-  -- with the room that the source needs free, the result is not OutputFull
-  pub suffices : (form : EncodingForm) → encoder_room form before (total_unit_count form source) ≤ free → answer ≢ OutputFull
+      length bytes ≤ encoder_total_need form before (total_unit_count form source)
+  -- if what the source needs is free, the result is not OutputFull
+  pub suffices : (form : EncodingForm) → encoder_total_need form before (total_unit_count form source) ≤ free → answer ≢ OutputFull
   -- with the length returned by a query for at least as many code units free, the result is not OutputFull
   pub enough : (form : EncodingForm) (n k : ℕ) → total_unit_count form source ≤ n → encoder_answer form before n ≡ Some k → k ≤ free → answer ≢ OutputFull

@@ -24,7 +24,7 @@ pub record EncoderProfile : Type 0 where
   -- the bytes that the end of a text writes in a mode
   pub end_bytes : EncoderMode → List ℕ
   -- the free bytes that a scalar needs, mapped or not, with an escape before it
-  pub scalar_room : ℕ → ℕ
+  pub scalar_need : ℕ → ℕ
   -- the formulas of the length queries, for a number of code units in the text's form
   pub formula : EncodingForm → Formula → Formula
   -- the amount, by mode, by which less than the formula's value is enough
@@ -35,7 +35,7 @@ abbrev pub by_form : (Formula → Formula) → (Formula → Formula) → Encodin
 by_form from_utf8 from_utf16 Utf8 n = from_utf8 n
 by_form from_utf8 from_utf16 Utf16 n = from_utf16 n
 
--- a codec without modes: the code of a scalar, the room of a scalar past ASCII (ASCII needs one byte), and the formulas
+-- a codec without modes: the code of a scalar, the need of a scalar past ASCII (ASCII needs one byte), and the formulas
 -- for UTF-8 and UTF-16
 abbrev pub plain_encoder : (ℕ → Option (List ℕ)) → ℕ → (Formula → Formula) → (Formula → Formula) → EncoderProfile
 plain_encoder code past from_utf8 from_utf16 = record {
@@ -43,7 +43,7 @@ plain_encoder code past from_utf8 from_utf16 = record {
   events = λ mode scalars ended. plain_events code scalars;
   mode_for = λ mode c. mode;
   end_bytes = λ mode. [];
-  scalar_room = λ c. if nat_lt c 0x80 then 1 else past;
+  scalar_need = λ c. if nat_lt c 0x80 then 1 else past;
   formula = by_form from_utf8 from_utf16;
   surplus = λ form mode n. 0;
 }

@@ -1,4 +1,4 @@
--- The encoders: the events of a text, and the room and lengths of outputs.
+-- The encoders: the events of a text, and the needs and lengths of outputs.
 use Rattle.std.specs.Prelude.{ℕ, ◌-◌, List, [], ◌∷◌, length, Option, Bool, true, false, not}
 use Rattle.legacy_base.specs.declared.{modes.EncoderMode.{EncoderMode, TheVariants.Ascii}, results.EncodeEvent.{EncodeEvent}}
 use Rattle.legacy_text.specs.EncodingForm.{EncodingForm}
@@ -65,16 +65,16 @@ end_bytes state = (encoder_profile state.codec).end_bytes state.mode
 abbrev pub is_pending : EncoderState → Bool
 is_pending state = not (is_empty (end_bytes state))
 
--- ---- room and length queries
+-- ---- needs and length queries
 
 -- the free bytes that a scalar needs, mapped or not
-abbrev pub scalar_room : EncoderState → ℕ → ℕ
-scalar_room state c = (encoder_profile state.codec).scalar_room c
+abbrev pub scalar_need : EncoderState → ℕ → ℕ
+scalar_need state c = (encoder_profile state.codec).scalar_need c
 
 -- The free bytes that the next act needs, or 0 if there is none. The next act writes the first unread scalar, with an
 -- escape before it if needed, or the end of the last call.
 abbrev pub encoder_need : EncoderState → List ℕ → Bool → ℕ
-encoder_need state (c ∷ unread) last = scalar_room state c
+encoder_need state (c ∷ unread) last = scalar_need state c
 encoder_need state [] true = length (end_bytes state)
 encoder_need state [] false = 0
 
@@ -86,6 +86,6 @@ encoder_formula form state n = (encoder_profile state.codec).formula form (numbe
 abbrev pub encoder_answer : EncodingForm → EncoderState → ℕ → Option ℕ
 encoder_answer form state n = answer (encoder_formula form state n)
 
--- the room that n more code units can need, as an unbounded number
-abbrev pub encoder_room : EncodingForm → EncoderState → ℕ → ℕ
-encoder_room form state n = value (encoder_formula form state n) - (encoder_profile state.codec).surplus form state.mode n
+-- what n more code units can need, as an unbounded number
+abbrev pub encoder_total_need : EncodingForm → EncoderState → ℕ → ℕ
+encoder_total_need form state n = value (encoder_formula form state n) - (encoder_profile state.codec).surplus form state.mode n

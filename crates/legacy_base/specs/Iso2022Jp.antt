@@ -244,9 +244,9 @@ settled_mode jis0208 katakana_index mode (c ∷ before) =
     else in_ascii
 
 -- the mode after a text that began in the mode, given last scalar first
-unfoldable pub mode_behind : List ℕ → List ℕ → EncoderMode → List ℕ → EncoderMode
-mode_behind jis0208 katakana_index mode [] = mode
-mode_behind jis0208 katakana_index mode (c ∷ before) =
+unfoldable pub mode_after_text : List ℕ → List ℕ → EncoderMode → List ℕ → EncoderMode
+mode_after_text jis0208 katakana_index mode [] = mode
+mode_after_text jis0208 katakana_index mode (c ∷ before) =
     if is_two_byte_scalar jis0208 katakana_index c then in_two_byte
     else settled_mode jis0208 katakana_index mode (c ∷ before)
 
@@ -268,7 +268,7 @@ escape_between _ new = escape_to new
 -- the escape before c, after the scalars `before` (last one first) of a text that began in the mode
 abbrev pub escape_before : List ℕ → List ℕ → EncoderMode → List ℕ → ℕ → List ℕ
 escape_before jis0208 katakana_index mode before c =
-    escape_between (mode_behind jis0208 katakana_index mode before) (mode_behind jis0208 katakana_index mode (c ∷ before))
+    escape_between (mode_after_text jis0208 katakana_index mode before) (mode_after_text jis0208 katakana_index mode (c ∷ before))
 
 -- the events of c after `before`: the escape if the mode changes, and its bytes or its report
 abbrev pub iso_2022_jp_scalar_events : List ℕ → List ℕ → EncoderMode → List ℕ → ℕ → List EncodeEvent
@@ -285,7 +285,7 @@ iso_2022_jp_end_events mode true = map Byte (escape_between mode in_ascii)
 unfoldable pub iso_2022_jp_text_events : List ℕ → List ℕ
     → EncoderMode → List ℕ → List ℕ → Bool → List EncodeEvent
 iso_2022_jp_text_events jis0208 katakana_index mode before [] ended =
-    iso_2022_jp_end_events (mode_behind jis0208 katakana_index mode before) ended
+    iso_2022_jp_end_events (mode_after_text jis0208 katakana_index mode before) ended
 iso_2022_jp_text_events jis0208 katakana_index mode before (c ∷ text) ended =
     iso_2022_jp_scalar_events jis0208 katakana_index mode before c
     ++ iso_2022_jp_text_events jis0208 katakana_index mode (c ∷ before) text ended
@@ -302,9 +302,9 @@ abbrev pub iso_2022_jp_encoder : List ℕ → List ℕ → EncoderProfile
 iso_2022_jp_encoder jis0208 katakana_index = record {
   code = iso_2022_jp_code jis0208 katakana_index;
   events = λ mode. iso_2022_jp_text_events jis0208 katakana_index mode [];
-  mode_for = λ mode c. mode_behind jis0208 katakana_index mode (c ∷ []);
+  mode_for = λ mode c. mode_after_text jis0208 katakana_index mode (c ∷ []);
   end_bytes = λ mode. escape_between mode in_ascii;
-  scalar_room = λ c. 3;
+  scalar_need = λ c. 3;
   formula = by_form (λ n. number 3 ⊕ number 3 ⊗ n) (λ n. (number 3 ⊕ number 4 ⊗ n) ⊕ half (n ⊕ number 1));
   surplus = iso_2022_jp_surplus;
 }

@@ -1,5 +1,5 @@
 -- The number of code units of output that a number of bytes needs, at most. These are the formulas that the length
--- queries return, and the room that they leave. They are not in the Standard; each call is proved to need no more.
+-- queries return, and the needs that they bound. They are not in the Standard; each call is proved to need no more.
 use Rattle.std.specs.Prelude.{ℕ, ◌+◌, ◌-◌, ◌*◌, ◌/◌, ◌^◌, List, Option, Some, None, Bool, true, ◌&&◌, nat_le, if◌then◌else◌}
 use Rattle.legacy_base.specs.declared.results.DecoderResult.{DecoderResult}
 use Rattle.legacy_base.specs.declared.results.DecoderResult.TheVariants.{InputEmpty, OutputFull, Malformed}
@@ -103,7 +103,7 @@ state_formula query state n =
 abbrev pub query_answer : LengthQuery → DecoderState → ℕ → Option ℕ
 query_answer query state n = answer (state_formula query state n)
 
--- The room that n more bytes can need, as an unbounded number. It is 0 after a replacement decoder has reported its
+-- What n more bytes can need, as an unbounded number. It is 0 after a replacement decoder has reported its
 -- error.
-abbrev pub room : LengthQuery → DecoderState → ℕ → ℕ
-room query state n = if has_reported state.grammar then 0 else value (state_formula query state n)
+abbrev pub total_need : LengthQuery → DecoderState → ℕ → ℕ
+total_need query state n = if has_reported state.grammar then 0 else value (state_formula query state n)

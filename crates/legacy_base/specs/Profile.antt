@@ -22,13 +22,13 @@ pub record Profile : Type 0 where
   pub rests : List ℕ → Bool
   -- a further condition of a neutral state, besides that nothing is held back: in ISO-2022-JP the mode is ASCII
   pub begins_in_ascii : Bool
-  -- reading a byte past ASCII needs room for the longest scalar, and not only for the longest one up to U+FFFF
+  -- reading a byte past ASCII needs the code units of the longest scalar, and not only those of the longest one up to U+FFFF
   pub wide_reads : Bool
   -- the same for writing a held-back scalar, and for a report at the end of input
   pub wide_writes : Bool
   -- an ASCII byte needs one code unit if nothing is held back
   pub short_ascii : Bool
-  -- the error was reported, and no act needs room
+  -- the error was reported, and no act needs anything
   pub reported : Bool
   -- some pairs give a letter and a combining mark
   pub marks : Bool
@@ -68,7 +68,7 @@ weightless held = 0
 abbrev pub three_bytes : Term → LengthTerms
 three_bytes units = record { utf16 = units; utf8 = constant 3 ⊠ units; utf8_without_replacement = constant 3 ⊠ units }
 
--- the same with room for one code unit more
+-- the same, with one code unit more
 abbrev pub one_more : LengthTerms → LengthTerms
 one_more terms = record {
   utf16 = constant 1 ⊞ terms.utf16;

@@ -5,7 +5,7 @@
 pub enum DecoderResult {
     /// The whole input was read, and every complete scalar was written.
     InputEmpty,
-    /// The decoder's next act needs more room than the output has left.
+    /// The decoder's next act needs more code units than the output has free.
     OutputFull,
     /// `Malformed(length, back)`: a malformed sequence of `length` bytes (1 to 4).
     ///
@@ -36,7 +36,7 @@ pub enum DecodeEvent {
 pub enum EncoderResult {
     /// The whole input was read and its bytes were written; on a last call, its end too.
     InputEmpty,
-    /// The encoder's next act needs more room than the output has left.
+    /// The encoder's next act needs more bytes than the output has free.
     OutputFull,
     /// The scalar was read, and the encoding has no bytes for it.
     ///

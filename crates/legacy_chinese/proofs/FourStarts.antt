@@ -1,10 +1,11 @@
 -- The forms that are picked at their starts are the front of the block: ASCII bytes, and sequences of four bytes.
+use Rattle.std.proofs.lemmas.List.{take_rest}
 use Rattle.std.proofs.Common.{◌≡◌, ◌∙◌, ℕ, zero, suc, ◌+◌, ◌-◌, ◌*◌, ◌/◌, ◌^◌, ◌<◌, ◌≤◌, List, [], ◌∷◌, ◌++◌, cond, ◌==◌, length, map, flat_map, take, drop}
 use Rattle.std.proofs.Common.{get_or, w64, inl, inr, bit_and, bit_or, bit_xor, refl, sym, ap, arith, length-append, append_assoc, append-nil}
 use Rattle.std.proofs.{lemmas.{List.{length-drop, take_more, get_or-drop, length-map, length-take-le}, Bool.{Decides.nat_tests, cases_lt}}, Math.Seq.take-add}
 use Rattle.std.{proofs.lemmas.Nat.{shr-shr, or_lt, and_le_l}, specs.Int.{bit_at, trailing_zeros}}
 use Rattle.std.proofs.lemmas.Nat.Bits.{bit_at-lt, bit_at-zero, bit_at_and, bit_at_xor, bit_at_or, bit_at_ones, bit_at-trailing_zeros, bit_at-pow_other}
-use Rattle.{legacy_decoder_engine.{proofs.WrittenReads.{rest_of, take_two}, specs.PickedForms.{places, code_at}}, legacy_text.specs.PastAscii.ArePast}
+use Rattle.{legacy_decoder_engine.{proofs.WrittenReads.take_two, specs.PickedForms.{places, code_at}}, legacy_text.specs.PastAscii.ArePast}
 use Rattle.legacy_chinese.specs.FourForms.{four_form, fours_of, form_at, AreFourStarts, IsFourEnd}
 
 -- a bit of the bits further on
@@ -128,6 +129,6 @@ block_picked count n m ps block fronts backs front-now back-now f b within withi
 -- the forms so far, and those of the next bytes
 pub forms_more : (at bytes : ℕ) (src before now : List ℕ) → before ≡ take at src → now ≡ before ++ take bytes (take (length src - at) (drop at src))
     → now ≡ take (at + bytes) src
-forms_more at bytes src before now front more = grind (arith, take-add, rest_of)
+forms_more at bytes src before now front more = grind (arith, take-add, take_rest)
 
-pub ruleset next_forms = (forms_more, length-drop, rest_of)
+pub ruleset next_forms = (forms_more, length-drop, take_rest)

@@ -7,10 +7,10 @@ use Rattle.legacy_chinese.specs.{Gb18030Machine.{gb18030_step, gb18030_machine},
 use Rattle.legacy_chinese.specs.declared.gb18030.{decoder.Held.{Held, TheVariants.Nothing}, digit.Digit.Digit as HeldDigit}
 use Rattle.legacy_decoder_engine.proofs.{LanePlaces.entry_is, PairPlaces.{none_past, pair_entry}, Widths.idx_below, YieldedForms.{pair_yields, four_yields}}
 use Rattle.legacy_decoder_engine.specs.{Feeding.Took, LaneCodes.ArePairs, LanePlaces.trail_place, Places.lead_place, ReadAhead.{Yields, IsPair}}
-use Rattle.legacy_decoder_engine.specs.{Moves.{IsCovered, Feeds, FeedsMalformedByte, Releases, Reports, read_room}, Shown.IsShown, declared.held_lead.Lead.Lead}
+use Rattle.legacy_decoder_engine.specs.{Moves.{IsCovered, Feeds, FeedsMalformedByte, Releases, Reports, read_need}, Shown.IsShown, declared.held_lead.Lead.Lead}
 use Rattle.{legacy_decoder_engine.specs.declared.moves.Fed.{Fed, TheVariants.One}, legacy_tables.specs.{Indexes.{range, idx}, Unicode.{IsByte, AreBytes}}}
 use Rattle.legacy_tables.{proofs.Accepted.{length-gb18030, gb18030-below, gb18030-scalars, range-scalar}, specs.AcceptedTables.AcceptedIndexes}
-use Rattle.legacy_text.specs.EncodingForm.{EncodingForm, wide_room}
+use Rattle.legacy_text.specs.EncodingForm.{EncodingForm, wide_need}
 use Rattle.legacy_decoder_engine.proofs.Feeding as moves
 
 may : (held : Held) → gb18030_may_hold (held_bytes held) ≡ true
@@ -51,8 +51,8 @@ module _ (tables : AcceptedIndexes) where
       Took (gb18030_step tables.flat.gb18030 tables.flat.ranges (first.byte ∷ []) b) (first.byte ∷ []) b (One c) []
   takes_pair first b c e scalar = grind (arith, nat_tests, trail_not_digit tables.flat.gb18030 first.byte b c)
 
-  -- reading a byte needs no more room than any scalar
-  pub reads_wide : (form : EncodingForm) (held : Held) (b : ℕ) → read_room form (state held) b ≤ wide_room form
+  -- reading a byte needs no more than any scalar
+  pub reads_wide : (form : EncodingForm) (held : Held) (b : ℕ) → read_need form (state held) b ≤ wide_need form
   reads_wide form held b = grind (arith, nat_tests)
 
   -- a held-back digit is written; the bytes after it stay held back

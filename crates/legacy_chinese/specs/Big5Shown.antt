@@ -1,7 +1,7 @@
 -- The steps of Big5 agree with its grammar.
 use Rattle.std.{proofs.Common.{ℕ, ◌<◌, ◌≤◌, List, [], ◌∷◌, Option, arith}, specs.Option.option_map_or}
 use Rattle.legacy_base.specs.{Big5.{big5_front, big5_pair, big5_pointer, big5_scalars}, Grammar.big5, States.is_lead}
-use Rattle.legacy_decoder_engine.proofs.{SettledSteps.{one_test, one_option}, TwoByteCosts.units_test, TwoByteShown.{HasTwoByteRooms, lead_codec}}
+use Rattle.legacy_decoder_engine.proofs.{SettledSteps.{one_test, one_option}, TwoByteCosts.units_test, TwoByteShown.{HasTwoByteNeeds, lead_codec}}
 use Rattle.legacy_decoder_engine.proofs.{TwoByteMeets.{IsTwoByte, is_lead-past, lead_byte_below, lead_first_is, lead_front_is}, Widths.idx_units}
 use Rattle.legacy_decoder_engine.specs.{LeadCodecs.IsLeadCodec, LeadMachines.lead_first, StepUnits.{units, IsWidth}}
 
@@ -20,10 +20,10 @@ is : (index : List ℕ) → IsTwoByte (big5 index) (big5_front index) is_lead (l
 unfolding big5_front big5_pair
 is index = grind (arith, lead_front_is, one_test, one_option)
 
-rooms : (index : List ℕ) → HasTwoByteRooms (big5 index) (big5_pair_scalars index) 4
-rooms index = grind (arith, scalar_units)
+needs : (index : List ℕ) → HasTwoByteNeeds (big5 index) (big5_pair_scalars index) 4
+needs index = grind (arith, scalar_units)
 
 pub big5_codec : IsLeadCodec (λ flat. big5 flat.big5) is_lead (lead_first is_lead) (λ flat. big5_pair_scalars flat.big5)
 big5_codec =
     lead_codec (λ flat. big5 flat.big5) (λ flat. big5_front flat.big5) is_lead (lead_first is_lead) (λ flat. big5_pair_scalars flat.big5)
-    (λ flat. is flat.big5) 4 (lead_first_is is_lead is_lead-past 4 (omega arith)) (λ flat accepted. rooms flat.big5) (lead_byte_below is_lead is_lead-past)
+    (λ flat. is flat.big5) 4 (lead_first_is is_lead is_lead-past 4 (omega arith)) (λ flat accepted. needs flat.big5) (lead_byte_below is_lead is_lead-past)

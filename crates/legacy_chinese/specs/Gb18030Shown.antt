@@ -4,9 +4,9 @@ use Rattle.std.specs.Char.{is_ascii, is_ascii_digit}
 use Rattle.legacy_base.specs.Gb18030.{gb18030_scalars, gb18030_range_pointer, gb18030_fourth, gb18030_third, gb18030_second, gb18030_front}
 use Rattle.legacy_base.{specs.{States.{is_lead, gb18030_may_hold, rests}, Grammar.{Grammar, gb18030, events_of}}, proofs.FrontLaws.gb18030_front-of}
 use Rattle.{legacy_base.{specs.Fronts.{Front, cut}, proofs.Cuts.cut-nil}, legacy_chinese.specs.Gb18030Machine.{gb18030_pending, gb18030_step, gb18030_machine}}
-use Rattle.legacy_decoder_engine.proofs.{SettledSteps.{settles_test, one_test, one_option, trail_settles, or_settles, write_test}, CallUnderWay.same_rooms}
+use Rattle.legacy_decoder_engine.proofs.{SettledSteps.{settles_test, one_test, one_option, trail_settles, or_settles, write_test}, CallUnderWay.same_needs}
 use Rattle.legacy_decoder_engine.proofs.{FrontMoves.{Fits, fits_trail, fits_meets, write_meets, end_meets, report_meets}, YieldedForms.{has_ascii, ascii_is}}
-use Rattle.legacy_decoder_engine.proofs.{RoomMoves.{first_room, held_room_is, HasCosts, sloped_rooms}, Widths.{idx_units, option_units}}
+use Rattle.legacy_decoder_engine.proofs.{NeedMoves.{first_need, held_need_is, HasCosts, sloped_needs}, Widths.{idx_units, option_units}}
 use Rattle.legacy_decoder_engine.{specs.Steps.{DecoderMachine, WriteMeets, end_events, Meets}, proofs.TwoByteCosts.{cost_test, units_test, trail_cost}}
 use Rattle.legacy_decoder_engine.specs.{StepUnits.{units, IsWidth, Cost}, Shown.{IsShown, WriteSettles}, StatesAfterSteps.Settles, ReadAhead.HasAscii}
 use Rattle.{legacy_tables.specs.{AcceptedTables.AcceptedIndexes, Indexes.range}, legacy_text.proofs.CodeUnits.length-code_units-ascii}
@@ -64,14 +64,14 @@ module _ (index : List ℕ) (ranges : List (ℕ × ℕ)) where
       let some = λ (b : ℕ) (rest : List ℕ). (gb18030_front-of {P = ⊥} index ranges (λ n. absurd n) (λ p c q n. absurd n) b rest).some in
       grind (arith, steps, fits, written, all_end, reports, some, false≢true)
 
-  -- ---- rooms
+  -- ---- needs
 
   costs : HasCosts g machine length 6
   costs = record {
     to_is = λ held b. refl;
     cost = λ len narrow wide w. elim [
-      | [] ↦ λ b h r bytes byte. rw (first_room (is_ascii b) 1 wide) (grind (arith, cost_test, ltb-true))
-      | a ∷ held ↦ λ b h r bytes byte. rw (held_room_is (is_ascii b) true 1 wide) (held_cost _ _ _ w index ranges a held b h)
+      | [] ↦ λ b h r bytes byte. rw (first_need (is_ascii b) 1 wide) (grind (arith, cost_test, ltb-true))
+      | a ∷ held ↦ λ b h r bytes byte. rw (held_need_is (is_ascii b) true 1 wide) (held_cost _ _ _ w index ranges a held b h)
     ];
   }
 
@@ -85,8 +85,8 @@ module _ (index : List ℕ) (ranges : List (ℕ × ℕ)) where
 
   pub gb18030_shown : IsShown g machine
   gb18030_shown =
-      let rooms = sloped_rooms g machine length 6 meets costs (grind (arith, digit_other, length-code_units-ascii)) in
-      grind (arith, meets, rooms, settles, write_settles, same_rooms)
+      let needs = sloped_needs g machine length 6 meets costs (grind (arith, digit_other, length-code_units-ascii)) in
+      grind (arith, meets, needs, settles, write_settles, same_needs)
 
 pub ascii : (tables : AcceptedIndexes) → HasAscii (gb18030 tables.flat.gb18030 tables.flat.ranges)
 ascii tables = has_ascii (gb18030_shown tables.flat.gb18030 tables.flat.ranges) (λ b. refl) (λ b h. let a = ascii_is b h in rw a refl)

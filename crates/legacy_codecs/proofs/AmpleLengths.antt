@@ -4,11 +4,12 @@ use Rattle.std.proofs.{lemmas.List.length-map, lemmas.List.Elements.All-get_or, 
 use Rattle.legacy_base.specs.declared.results.DecodeEvent.{DecodeEvent}
 use Rattle.legacy_base.specs.{declared.results.DecoderResult.DecoderResult, declared.results.DecoderResult.TheVariants.{InputEmpty, OutputFull, Malformed}}
 use Rattle.legacy_base.specs.{Events.shift, States.DecoderState, Calls.{DecoderCall, reported_events, out_events}}
-use Rattle.legacy_text.specs.EncodingForm.{EncodingForm, wide_room, total_unit_count}
-use Rattle.legacy_base.proofs.Rooms.{lacks_small}
+use Rattle.legacy_text.specs.EncodingForm.{EncodingForm, wide_need, total_unit_count}
+use Rattle.legacy_base.proofs.Needs.{lacks_small}
 use Rattle.legacy_codecs.specs.{Pieces.{RunPlace, is_none, place_before, ends_run}, Runs.{is_input_empty, Reaches, IsRun, HasAmpleLengths}, Runs.Reaches.begun}
 use Rattle.legacy_codecs.specs.Runs.Reaches.{called}
-use Rattle.legacy_codecs.proofs.{Places.{later_less, calls_are_fewer}, Replaced.length-shift, RunEvents.{behind, events_ahead, place_before-ahead}}
+use Rattle.legacy_codecs.proofs.{RunDrivers.{later_less, calls_are_fewer}, Replaced.length-shift}
+use Rattle.legacy_codecs.proofs.RunEvents.{place_after_call, events_ahead, place_before-ahead}
 use Rattle.legacy_codecs.proofs.RunEvents.{Reaches-events}
 
 -- a call's report adds its events after those of its scalars
@@ -23,8 +24,8 @@ some_scalar form (c ∷ cs) h = omega arith
 
 -- a call that does not end the run gives an event or goes on to the next piece
 progresses : (form : EncodingForm) (p : RunPlace DecoderState) (free : ℕ) (after : DecoderState) (answer : DecoderResult) (read : ℕ) (scalars : List ℕ) →
-    wide_room form ≤ free → DecoderCall form p.state p.piece (is_none p.later) free after answer read scalars → ends_run p (is_input_empty answer) ≡ false →
-    1 + length (behind p after answer read).later ≤ length (out_events (length p.state.held + read) scalars answer) + length p.later
+    wide_need form ≤ free → DecoderCall form p.state p.piece (is_none p.later) free after answer read scalars → ends_run p (is_input_empty answer) ≡ false →
+    1 + length (place_after_call p after answer read).later ≤ length (out_events (length p.state.held + read) scalars answer) + length p.later
 progresses form p free after InputEmpty read scalars w c e = let l = later_less after p.later e in omega arith
 progresses form p free after OutputFull read scalars w c e =
     let lacks = lacks_small form after _ _ (free - total_unit_count form scalars) (c.output_full refl) in
@@ -38,14 +39,14 @@ progresses form p free after (Malformed a b) read scalars w c e =
 -- so there are at most as many calls as events and pieces
 calls-few : {form : EncodingForm} {from : RunPlace DecoderState} {lengths : List ℕ} {calls : ℕ} {events : List DecodeEvent} {passed : ℕ} {finished : Bool}
     {p : RunPlace DecoderState} →
-    Reaches form from lengths calls events passed finished p → All (λ n. wide_room form ≤ n) lengths → finished ≡ false →
+    Reaches form from lengths calls events passed finished p → All (λ n. wide_need form ≤ n) lengths → finished ≡ false →
     calls + length p.later ≤ length events + length from.later
 calls-few begun w h = omega arith
 calls-few {form = form} {from = from} {lengths = lengths} (called calls events passed p r free e after answer read scalars c) w h =
     let before = calls-few r w refl in
-    let at = All-get_or (λ n. wide_room form ≤ n) lengths calls 0 (slice_get_within lengths calls free e) w in
+    let at = All-get_or (λ n. wide_need form ≤ n) lengths calls 0 (slice_get_within lengths calls free e) w in
     let is = get_or_from_slice_get lengths calls free 0 e in
-    let wide : wide_room form ≤ free = omega arith in
+    let wide : wide_need form ≤ free = omega arith in
     let one = progresses form p free after answer read scalars wide c h in
     let out = out_events (length p.state.held + read) scalars answer in
     let both = length-append events (shift passed out) in

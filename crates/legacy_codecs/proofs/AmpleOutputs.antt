@@ -5,9 +5,9 @@ use Rattle.legacy_base.specs.{declared.results.EncodeEvent.EncodeEvent, declared
 use Rattle.legacy_base.specs.declared.results.EncoderResult.{EncoderResult}
 use Rattle.legacy_base.specs.{Encoders.EncoderState, EncoderCalls.{EncoderCall, reported}}
 use Rattle.legacy_base.proofs.EncoderLaws.{encoder_need-small}
-use Rattle.legacy_codecs.specs.{Pieces.{RunPlace, is_none, place_before, place_behind, ends_run}, EncodeRuns.{is_input_empty, EncodeReaches, IsEncodeRun}}
+use Rattle.legacy_codecs.specs.{Pieces.{RunPlace, is_none, place_before, place_after, ends_run}, EncodeRuns.{is_input_empty, EncodeReaches, IsEncodeRun}}
 use Rattle.legacy_codecs.specs.{EncodeRuns.HasAmpleOutputs, EncodeRuns.EncodeReaches.{begun, called}}
-use Rattle.legacy_codecs.proofs.{Places.{later_less, calls_are_fewer}, EncodeRunEvents.{encoded_ahead, place_before-encoded, reaches-encoded}}
+use Rattle.legacy_codecs.proofs.{RunDrivers.{later_less, calls_are_fewer}, EncodeRunEvents.{encoded_ahead, place_before-encoded, reaches-encoded}}
 
 -- a call's report adds its events after those of its bytes
 out-length : (bytes : List ℕ) (answer : EncoderResult) → length (map Byte bytes ++ reported answer) ≡ length bytes + length (reported answer)
@@ -16,7 +16,7 @@ out-length bytes answer = grind (arith, length-append, length-map)
 -- a call that does not end the run gives an event or goes on to the next piece
 progresses : (p : RunPlace EncoderState) (free : ℕ) (after : EncoderState) (answer : EncoderResult) (left bytes : List ℕ) → 4 ≤ free →
     EncoderCall p.state p.piece (is_none p.later) free after answer left bytes → ends_run p (is_input_empty answer) ≡ false →
-    1 + length (place_behind p after (is_input_empty answer) left).later ≤ length (map Byte bytes ++ reported answer) + length p.later
+    1 + length (place_after p after (is_input_empty answer) left).later ≤ length (map Byte bytes ++ reported answer) + length p.later
 progresses p free after answer left bytes h h1 h2 = grind (arith, later_less, encoder_need-small, out-length)
 
 -- so there are at most as many calls as events and pieces

@@ -56,8 +56,8 @@ bytes-by front code b bytes (c ∷ text) later (inr is_malformed) e = let here =
 bytes-by front code b bytes (c ∷ text) later (inl own) e =
     let here = sym (cut-scalar front b own.0 bytes own.1) ∙ e in
     let same : own.0 ≡ c = cc in
-    let behind : shift 1 (cut front 0 0 bytes) ≡ map Scalar text = cc in
-    rw (← same, own.2, later text (unshifted 1 (cut front 0 0 bytes) text behind)) refl
+    let after : shift 1 (cut front 0 0 bytes) ≡ map Scalar text = cc in
+    rw (← same, own.2, later text (unshifted 1 (cut front 0 0 bytes) text after)) refl
 
 plain-bytes : (front : ℕ → List ℕ → Front) (code : ℕ → Option (List ℕ)) → ((b : ℕ) → IsByte b → IsOwnByte front code b)
     → (bytes text : List ℕ) → AreBytes bytes → cut front 0 0 bytes ≡ map Scalar text → plain_events code text ≡ map Byte bytes

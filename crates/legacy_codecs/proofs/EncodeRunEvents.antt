@@ -7,10 +7,10 @@ use Rattle.legacy_base.specs.{declared.results.EncodeEvent.EncodeEvent, declared
 use Rattle.legacy_base.specs.{declared.results.EncoderResult.EncoderResult, declared.results.EncoderResult.TheVariants.InputEmpty}
 use Rattle.legacy_base.specs.{Encoders.{EncoderState, encoded}, EncoderCalls.{EncoderCall, reported}}
 use Rattle.legacy_base.proofs.EncoderLaws.{end-encoded, told_end-last}
-use Rattle.legacy_codecs.specs.{Pieces.{joined, RunPlace, is_none, place_before, place_behind, ends_run}, EncodeRuns.{is_input_empty, EncodeReaches}}
+use Rattle.legacy_codecs.specs.{Pieces.{joined, RunPlace, is_none, place_before, place_after, ends_run}, EncodeRuns.{is_input_empty, EncodeReaches}}
 use Rattle.legacy_codecs.specs.{EncodeRuns.{IsEncodeRun, IsEncodeBeginning, HasNoEnd, FinishedEncodeRun, EncodeCutsDoNotMatter}, EncodeRuns.EncodeReaches.begun}
 use Rattle.legacy_codecs.specs.EncodeRuns.EncodeReaches.{called}
-use Rattle.legacy_codecs.proofs.Places.{last_empty, place_before-state}
+use Rattle.legacy_codecs.proofs.RunDrivers.{last_empty, place_before-state}
 
 -- the length of a call's output is the next of the lengths
 free_is : (lengths output : List ℕ) {calls : ℕ} → calls < length lengths → All (λ n. n ≤ length output) lengths →
@@ -23,7 +23,7 @@ module _ {from : RunPlace EncoderState} {lengths : List ℕ} {calls : ℕ} {item
   pub reaches_call : EncodeReaches from lengths calls items false p → calls < length lengths → All (λ n. n ≤ length output) lengths →
       EncoderCall p.state p.piece last (length (take (get_or lengths calls 0) output)) after answer left bytes →
       last ≡ is_none p.later → empty ≡ is_input_empty answer → items' ≡ items ++ (map Byte bytes ++ reported answer) →
-      finished ≡ ends_run p empty → p' ≡ place_behind p after empty left → EncodeReaches from lengths (calls + 1) items' finished p'
+      finished ≡ ends_run p empty → p' ≡ place_after p after empty left → EncodeReaches from lengths (calls + 1) items' finished p'
   reaches_call r few fits c l e i f q = rw (i, f, q, e) (called calls items p r _ (free_is lengths output few fits) after answer left bytes (rw l at c))
 
 -- the events of what is unread and of the pieces after it
@@ -34,9 +34,9 @@ pub place_before-encoded : (s : EncoderState) (pieces : List (List ℕ)) → enc
 place_before-encoded s pieces = grind arith
 
 -- after a call the same scalars are ahead, without those that it read
-place_behind-encoded : (p : RunPlace EncoderState) (after : EncoderState) (answer : EncoderResult) (left : List ℕ) → (answer ≡ InputEmpty → left ≡ []) →
-    encoded after (left ++ joined p.later) true ≡ encoded_ahead (place_behind p after (is_input_empty answer) left)
-place_behind-encoded p after answer left h = grind (arith, place_before-encoded)
+place_after-encoded : (p : RunPlace EncoderState) (after : EncoderState) (answer : EncoderResult) (left : List ℕ) → (answer ≡ InputEmpty → left ≡ []) →
+    encoded after (left ++ joined p.later) true ≡ encoded_ahead (place_after p after (is_input_empty answer) left)
+place_after-encoded p after answer left h = grind (arith, place_before-encoded)
 
 module _ {from : RunPlace EncoderState} {lengths : List ℕ} where
   -- the events up to a place, and then those of what is ahead, are all events
@@ -45,7 +45,7 @@ module _ {from : RunPlace EncoderState} {lengths : List ℕ} where
   reaches-encoded begun = refl
   reaches-encoded (called calls events p r free e after answer left bytes c) =
       let one = c.events (joined p.later) true (λ l. inl (ap joined (last_empty p.later (told_end-last (is_none p.later) answer l)), refl)) in
-      let two = place_behind-encoded p after answer left (λ q. (c.input_empty q).0) in
+      let two = place_after-encoded p after answer left (λ q. (c.input_empty q).0) in
       reaches-encoded r ∙ rw (one, two) (simp append_assoc)
 
   -- a finished run is past all pieces, and the end has nothing left to write

@@ -1,7 +1,7 @@
 -- Laws of the grammars and of runs.
 pub mod SoundEvents
 pub mod KeptAsWritten
-pub mod Places
+pub mod RunDrivers
 pub mod RunEvents
 pub mod RunSteps
 pub mod QueriedLengths

@@ -3,7 +3,8 @@ use Rattle.std.proofs.Common.{◌≡◌, ℕ, ◌+◌, ◌-◌, ◌≤◌, List,
 use Rattle.std.proofs.{Common.true, lemmas.List.drop_all}
 use Rattle.legacy_base.specs.{declared.results.DecodeEvent.DecodeEvent, declared.results.DecodeEvent.TheVariants.{Scalar, Bad}}
 use Rattle.legacy_base.specs.{declared.results.DecoderResult.DecoderResult, declared.results.DecoderResult.TheVariants.{InputEmpty, OutputFull, Malformed}}
-use Rattle.legacy_base.specs.{Events.shift, Grammar.events_of, States.DecoderState, Lengths.{to_utf8_without_replacement, room}, Calls.{Progress, DecoderCall}}
+use Rattle.legacy_base.specs.{Events.shift, Grammar.events_of, States.DecoderState, Lengths.{to_utf8_without_replacement, total_need}}
+use Rattle.legacy_base.specs.Calls.{Progress, DecoderCall}
 use Rattle.legacy_base.specs.Calls.{out_events}
 use Rattle.legacy_text.specs.EncodingForm.{Utf8}
 use Rattle.legacy_base.proofs.Progress.{stay, at_less, after_that}
@@ -34,9 +35,9 @@ pub record Finds (before : DecoderState) (input : List ℕ) (room_free : ℕ) (n
   pub progress : Progress true before input passed now rest out
   pub counts : read + length rest ≡ length input
   pub found_is : found ≡ malformed_of (length before.held) out
-  pub fits : room to_utf8_without_replacement now (length rest) ≤ room_free
+  pub fits : total_need to_utf8_without_replacement now (length rest) ≤ room_free
 
-pub finds_start : (before : DecoderState) (input : List ℕ) (free : ℕ) → room to_utf8_without_replacement before (length input) ≤ free →
+pub finds_start : (before : DecoderState) (input : List ℕ) (free : ℕ) → total_need to_utf8_without_replacement before (length input) ≤ free →
     Finds before input free before input 0 []
 unfolding malformed_of
 finds_start before input free h = record { passed = 0; out = []; progress = stay true before input; counts = omega arith; found_is = refl; fits = h }

@@ -85,11 +85,11 @@ module _ (code : ℕ → Option (List ℕ)) (own : WritesMarks code) where
       → plain_events code (spelled_text (c ∷ text)) ≡ map Byte (referenced_bytes (plain_events code (c ∷ text)))
   unfolding plain_events
   plain-code c None e text later =
-      let behind = referenced_bytes (plain_events code text) in
-      rw (e, plain-marks (reference c) (spelled_text text) (reference_is_marks c), later, map-append Byte (reference c) behind) refl
+      let after = referenced_bytes (plain_events code text) in
+      rw (e, plain-marks (reference c) (spelled_text text) (reference_is_marks c), later, map-append Byte (reference c) after) refl
   plain-code c (Some bytes) e text later =
-      let behind = plain_events code text in
-      rw (e, e, later, referenced-append (map Byte bytes) behind, referenced-of_bytes bytes, map-append Byte bytes (referenced_bytes behind)) refl
+      let after = plain_events code text in
+      rw (e, e, later, referenced-append (map Byte bytes) after, referenced-of_bytes bytes, map-append Byte bytes (referenced_bytes after)) refl
 
   plain-spelled : (text : List ℕ) → plain_events code (spelled_text text) ≡ map Byte (referenced_bytes (plain_events code text))
   unfolding plain_events

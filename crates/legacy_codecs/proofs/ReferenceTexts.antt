@@ -59,8 +59,8 @@ marks_before text place two within =
     grind (arith, drop-set (set text (place - 1) 35) (place - 2) 38, drop-set text (place - 1) 35)
 
 -- the byte after the digits
-pub mark_behind : (text : List ℕ) → length text ≡ 10 → drop 9 (set text 9 59) ≡ 59 ∷ []
-mark_behind text long =
+pub mark_after : (text : List ℕ) → length text ≡ 10 → drop 9 (set text 9 59) ≡ 59 ∷ []
+mark_after text long =
     let short : length text ≤ 10 = omega arith in
     drop-set text 9 59 (omega arith) ∙ ap (λ l. 59 ∷ l) (drop_of_length-le text short)
 

@@ -8,7 +8,7 @@ use Rattle.legacy_base.specs.{declared.results.EncoderResult.EncoderResult, decl
 use Rattle.legacy_base.specs.{Encoders.{EncoderState, encoded, end_bytes, encoder_need, encoder_answer}, EncoderCalls.{EncoderCall, tells_end, reported}}
 use Rattle.legacy_text.specs.EncodingForm.{EncodingForm, total_unit_count}
 use Rattle.legacy_base.proofs.{Beginnings.begins_later, EncoderLaws.{end-encoded, encoder_need-small}}
-use Rattle.legacy_codecs.specs.References.{reference, reference_room, referenced_bytes, has_unmappable, Gives, KeepsReserve, LacksReferenceRoom}
+use Rattle.legacy_codecs.specs.References.{reference, reference_need, referenced_bytes, has_unmappable, Gives, KeepsReserve, LacksReferenceRoom}
 use Rattle.legacy_codecs.specs.{References.{ReplacingEncoderCall, tells_text_end}, declared.results.CoderResult.CoderResult}
 use Rattle.legacy_codecs.proofs.ReferenceTexts.{referenced-append, referenced-of_bytes, has_unmappable-append, has_unmappable-of_bytes}
 use Rattle.legacy_base.specs.declared.results.EncodeEvent.TheVariants as event
@@ -69,10 +69,10 @@ same_end last result = grind arith
 is_full : (result : CoderResult) → last_answer result ≡ OutputFull → result ≡ coder.OutputFull
 is_full result e = grind arith
 
--- ---- the room of a reference
+-- ---- the need of a reference
 
 -- the reserve is kept by bytes that leave it free, and then by the events after them
-reserve-bytes : (free : ℕ) (bytes : List ℕ) (events : List EncodeEvent) → length bytes ≤ free - reference_room → KeepsReserve (free - length bytes) events →
+reserve-bytes : (free : ℕ) (bytes : List ℕ) (events : List EncodeEvent) → length bytes ≤ free - reference_need → KeepsReserve (free - length bytes) events →
     KeepsReserve free (map Byte bytes ++ events)
 unfolding KeepsReserve
 reserve-bytes free [] events fits kept = rw sub-zero at kept
@@ -138,15 +138,15 @@ module _ {before : EncoderState} {source : List ℕ} {last : Bool} {free : ℕ} 
   text_after written answer = ap (λ l. l ++ (written ++ reported_bytes answer)) u.text ∙ sym (referenced-call u.out written answer)
 
   -- the reserve is kept after a call, if its bytes leave it free and its report keeps it
-  reserve_after : (room : ℕ) → room ≡ free - length bytes - reference_room → (written : List ℕ) (answer : EncoderResult) → length written ≤ room →
+  reserve_after : (room : ℕ) → room ≡ free - length bytes - reference_need → (written : List ℕ) (answer : EncoderResult) → length written ≤ room →
       KeepsReserve (free - length bytes - length written) (reported answer) → KeepsReserve free (out_after written answer)
   reserve_after room room_is written answer fits kept =
       let done : length (referenced_bytes u.out) ≡ length bytes = ap length (sym u.text) in
       reserve-append free u.out (out_events written answer) u.reserve
       (rw done (reserve-bytes (free - length bytes) written (reported answer) (omega (arith, fits, room_is)) kept))
 
-  -- a call with all the free room but that of a reference
-  module _ {room : ℕ} (room_is : room ≡ free - length bytes - reference_room) {after : EncoderState} {rest written : List ℕ} where
+  -- a call with all the room but what a reference needs
+  module _ {room : ℕ} (room_is : room ≡ free - length bytes - reference_need) {after : EncoderState} {rest written : List ℕ} where
     cut_after : (answer : EncoderResult) (c : EncoderCall now left last room after answer rest written) → source ≡ (u.taken ++ c.taken) ++ rest
     cut_after answer c = u.cut ∙ ap (λ l. u.taken ++ l) c.cut ∙ sym (append_assoc u.taken c.taken rest)
 
@@ -174,13 +174,13 @@ module _ {before : EncoderState} {source : List ℕ} {last : Bool} {free : ℕ} 
 
     -- ---- an unmappable scalar
 
-    pub referencing_step : (c : ℕ) → length (bytes ++ (written ++ reference c)) ≤ free → length bytes + length written + reference_room ≤ free →
+    pub referencing_step : (c : ℕ) → length (bytes ++ (written ++ reference c)) ≤ free → length bytes + length written + reference_need ≤ free →
         EncoderCall now left last room after (Unmappable c) rest written →
         IsReferencing before source last free after rest (bytes ++ (written ++ reference c)) true
     unfolding KeepsReserve
     referencing_step c fits spare call =
         let x = Unmappable c in
-        let some : reference_room ≤ free - length bytes - length written = omega (arith, spare) in
+        let some : reference_need ≤ free - length bytes - length written = omega (arith, spare) in
         record {
           taken = u.taken ++ call.taken;
           cut = cut_after x call;
@@ -206,7 +206,7 @@ module _ {before : EncoderState} {source : List ℕ} {last : Bool} {free : ℕ} 
     -- with a queried length free, the room is lacking only after an unmappable scalar
     found_if_full : (found : Bool) → (found ≡ false → (now ≡ before) × (left ≡ source) × (bytes ≡ [])) →
         EncoderCall now left last room after OutputFull rest written →
-        (form : EncodingForm) (n k : ℕ) → total_unit_count form source ≤ n → encoder_answer form before n ≡ Some k → k + reference_room ≤ free → IsTrue found
+        (form : EncodingForm) (n k : ℕ) → total_unit_count form source ≤ n → encoder_answer form before n ≡ Some k → k + reference_need ≤ free → IsTrue found
     found_if_full found h h1 form n k h2 h3 h4 = grind arith
 
     pub referencing_end : (result : CoderResult) → EncoderCall now left last room after (last_answer result) rest written →
@@ -237,7 +237,7 @@ module _ {before : EncoderState} {source : List ℕ} {last : Bool} {free : ℕ} 
   -- ---- no room for a reference
 
   -- no scalar is left, and a call without room shows whether the end has something to write
-  pub referencing_done : free < length bytes + reference_room → {after : EncoderState} {rest written : List ℕ} (result : CoderResult) →
+  pub referencing_done : free < length bytes + reference_need → {after : EncoderState} {rest written : List ℕ} (result : CoderResult) →
       EncoderCall now left last 0 after (last_answer result) rest written → ReplacingEncoderCall before source last free after result rest bytes found
   referencing_done none {after} {rest} {written} result c =
       rw (nil_from_length written (omega (arith, c.fits)), append-nil bytes) at (referencing_end (omega arith) result c)

@@ -6,11 +6,11 @@ use Rattle.std.specs.Char.{IsScalar}
 use Rattle.legacy_base.specs.declared.results.DecodeEvent.{DecodeEvent}
 use Rattle.legacy_base.specs.{declared.results.DecoderResult.DecoderResult, declared.results.DecoderResult.TheVariants.{InputEmpty, OutputFull, Malformed}}
 use Rattle.legacy_base.specs.{Events.shift, Grammar.{Grammar, events_of}, States.DecoderState, DecoderActs.LacksRoom}
-use Rattle.legacy_base.specs.{DecoderActs.{full_room_in, release_room_in}, Lengths.{query_form, replacement_units, answer_units, room}}
+use Rattle.legacy_base.specs.{DecoderActs.{full_need_in, release_need_in}, Lengths.{query_form, replacement_units, answer_units, total_need}}
 use Rattle.legacy_base.specs.Calls.{Progress, DecoderCall, may_report_end, out_events}
-use Rattle.legacy_text.specs.EncodingForm.{EncodingForm, code_units, all_code_units, total_unit_count, bmp_room}
+use Rattle.legacy_text.specs.EncodingForm.{EncodingForm, code_units, all_code_units, total_unit_count, bmp_need}
 use Rattle.legacy_text.proofs.CodeUnits.{encode_3, all_code_units-append}
-use Rattle.legacy_base.proofs.{Enough.room-answer, Progress.{stay, at_less, after_that}}
+use Rattle.legacy_base.proofs.{Enough.total_need-answer, Progress.{stay, at_less, after_that}}
 use Rattle.legacy_codecs.specs.Replacing.{replaced_scalars, has_malformed, replacing_query, may_replace_end, ReplacingDecoderCall}
 use Rattle.legacy_codecs.proofs.Replaced.{replaced-append, replaced-shift, replaced-of_scalars, malformed_less}
 use Rattle.legacy_codecs.proofs.Replaced.{has_malformed-append, has_malformed-shift, has_malformed-of_scalars}
@@ -60,17 +60,17 @@ is_empty result h = grind arith
 
 -- ---- the room for U+FFFD
 
-pub replacement_count : (form : EncodingForm) → length (code_units form 0xFFFD) ≡ bmp_room form
+pub replacement_count : (form : EncodingForm) → length (code_units form 0xFFFD) ≡ bmp_need form
 replacement_count form = grind (arith, encode_3)
 
-counted_units : (form : EncodingForm) → replacement_units (replacing_query form) ≡ bmp_room form
+counted_units : (form : EncodingForm) → replacement_units (replacing_query form) ≡ bmp_need form
 counted_units form = grind arith
 
 query_form-is : (form : EncodingForm) → query_form (replacing_query form) ≡ form
 query_form-is form = grind arith
 
 -- after a malformed sequence U+FFFD has room
-malformed_least : (form : EncodingForm) (g : Grammar) (b : Bool) → bmp_room form ≤ cond b (release_room_in form g) (full_room_in form g)
+malformed_least : (form : EncodingForm) (g : Grammar) (b : Bool) → bmp_need form ≤ cond b (release_need_in form g) (full_need_in form g)
 malformed_least form g b = grind arith
 
 pub replacement_fits : {form : EncodingForm} {before : DecoderState} {source : List ℕ} {last : Bool} {free : ℕ} {after : DecoderState} {a b read : ℕ}
@@ -97,7 +97,8 @@ pub record Replaces (form : EncodingForm) (before : DecoderState) (source : List
   pub untouched : LacksRoom form before source last free → (read ≡ 0) × (written ≡ []) × (found ≡ false) × (now ≡ before)
   pub unfound : found ≡ false → (read ≡ 0) × (written ≡ []) × (now ≡ before)
   pub lowers : (more : ℕ) → (IsTrue last → more ≡ 0) →
-      room (replacing_query form) now (length (drop read source) + more) + length written ≤ room (replacing_query form) before (length source + more)
+      total_need (replacing_query form) now (length (drop read source) + more) + length written
+      ≤ total_need (replacing_query form) before (length source + more)
 
 pub replaces_start : (form : EncodingForm) (before : DecoderState) (source : List ℕ) (last : Bool) (free : ℕ) (old : List ℕ) →
     Replaces form before source last free before 0 false old old free
@@ -167,9 +168,9 @@ module _ {form : EncodingForm} {before : DecoderState} {source : List ℕ} {last
     within_after : read + count ≤ length source
     within_after = let w = c.within in let v = r.within in omega (arith, length-drop read source)
 
-    lowers_after : (more : ℕ) → (IsTrue last → more ≡ 0) → room (replacing_query form) after (length (drop (read + count) source) + more) +
+    lowers_after : (more : ℕ) → (IsTrue last → more ≡ 0) → total_need (replacing_query form) after (length (drop (read + count) source) + more) +
         (total_unit_count form scalars + answer_units (replacing_query form) answer) + length r.written
-        ≤ room (replacing_query form) before (length source + more)
+        ≤ total_need (replacing_query form) before (length source + more)
     lowers_after more h =
         let one = r.lowers more h in
         let two = rw (drop-drop count read source) at (c.lowers (replacing_query form) (query_form-is form) more h) in
@@ -236,7 +237,7 @@ module _ {form : EncodingForm} {before : DecoderState} {source : List ℕ} {last
         let long = length-append r.written units in
         let query = replacing_query form in
         let low = rw (add-zero (length (drop read source)), add-zero (length source)) at (r.lowers 0 (λ _. refl)) in
-        let wide : room query before (length source) ≤ free → result ≡ coder.InputEmpty =
+        let wide : total_need query before (length source) ≤ free → result ≡ coder.InputEmpty =
         λ h. is_empty result (c.suffices query (query_form-is form) (omega (arith, low, r.fits))) in
         let left_now : left - total_unit_count form scalars ≡ free - length (r.written ++ units) = omega (arith, r.fits, long, c.fits) in (
           r.written ++ units,
@@ -260,7 +261,7 @@ module _ {form : EncodingForm} {before : DecoderState} {source : List ℕ} {last
             full_at_once = λ h. let full = full_so c h in (is_full result full.0, full.1, full.2, full.3, full.4);
             lowers = λ more h. omega (arith, lowers_after c more h, long);
             suffices = wide;
-            enough = λ n k h e f. wide (omega (arith, room-answer query before (length source) n k h e));
+            enough = λ n k h e f. wide (omega (arith, total_need-answer query before (length source) n k h e));
           },
           contents_now scalars stepped_is,
         )

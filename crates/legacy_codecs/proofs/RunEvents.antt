@@ -6,9 +6,9 @@ use Rattle.legacy_base.specs.{declared.results.DecoderResult.DecoderResult, decl
 use Rattle.legacy_base.specs.{Events.shift, Grammar.events_of, States.DecoderState, Calls.out_events}
 use Rattle.legacy_text.specs.EncodingForm.{EncodingForm}
 use Rattle.legacy_base.proofs.{Shifts.{shift-append, shift-shift, shift-zero}, Progress.end_report-last}
-use Rattle.legacy_codecs.specs.{Pieces.{joined, RunPlace, is_none, place_before, place_behind}, Runs.{is_input_empty, Reaches, placed_event, placed, IsRun}}
+use Rattle.legacy_codecs.specs.{Pieces.{joined, RunPlace, is_none, place_before, place_after}, Runs.{is_input_empty, Reaches, placed_event, placed, IsRun}}
 use Rattle.legacy_codecs.specs.{Runs.{IsBeginning, HasNoneLeft, FinishedRun, CutsDoNotMatter}, Runs.Reaches.{begun, called}}
-use Rattle.legacy_codecs.proofs.Places.{last_empty, place_before-state, place_behind-state}
+use Rattle.legacy_codecs.proofs.RunDrivers.{last_empty, place_before-state, place_after-state}
 
 pub placed-append : (h : ℕ) (a b : List DecodeEvent) → placed h (a ++ b) ≡ placed h a ++ placed h b
 unfolding placed
@@ -28,16 +28,16 @@ abbrev pub events_ahead : RunPlace DecoderState → List DecodeEvent
 events_ahead p = events_of p.state.grammar (ahead p)
 
 -- the place after a call
-abbrev pub behind : RunPlace DecoderState → DecoderState → DecoderResult → ℕ → RunPlace DecoderState
-behind p after answer read = place_behind p after (is_input_empty answer) (drop read p.piece)
+abbrev pub place_after_call : RunPlace DecoderState → DecoderState → DecoderResult → ℕ → RunPlace DecoderState
+place_after_call p after answer read = place_after p after (is_input_empty answer) (drop read p.piece)
 
 pub place_before-ahead : (s : DecoderState) (pieces : List (List ℕ)) → events_ahead (place_before s pieces) ≡ events_of s.grammar (s.held ++ joined pieces)
 place_before-ahead s pieces = grind arith
 
 -- after a call the same bytes are ahead, without those that it is done with
-place_behind-ahead : (p : RunPlace DecoderState) (after : DecoderState) (answer : DecoderResult) (read : ℕ) → (answer ≡ InputEmpty → read ≡ length p.piece) →
-    after.held ++ (drop read p.piece ++ joined p.later) ≡ ahead (behind p after answer read)
-place_behind-ahead p after answer read h = grind (arith, drop_of_length-le)
+place_after-ahead : (p : RunPlace DecoderState) (after : DecoderState) (answer : DecoderResult) (read : ℕ) → (answer ≡ InputEmpty → read ≡ length p.piece) →
+    after.held ++ (drop read p.piece ++ joined p.later) ≡ ahead (place_after_call p after answer read)
+place_after-ahead p after answer read h = grind (arith, drop_of_length-le)
 
 module _ {form : EncodingForm} {from : RunPlace DecoderState} {lengths : List ℕ} where
   -- the events up to a place, and then those of what is ahead, are all events
@@ -46,12 +46,12 @@ module _ {form : EncodingForm} {from : RunPlace DecoderState} {lengths : List �
   Reaches-events begun = sym (shift-zero (events_ahead from))
   Reaches-events (called calls events passed p r free e after answer read scalars c) =
       let out = out_events (length p.state.held + read) scalars answer in
-      let next = behind p after answer read in
+      let next = place_after_call p after answer read in
       let one : events_ahead p ≡ out ++ shift c.passed (events_of after.grammar (after.held ++ (drop read p.piece ++ joined p.later))) =
       c.progress.events (joined p.later) (λ l. inl (ap joined (last_empty p.later (end_report-last (is_none p.later) answer (drop read p.piece) l)))) in
       let two : events_of after.grammar (after.held ++ (drop read p.piece ++ joined p.later)) ≡ events_ahead next =
-      ap (λ l. events_of after.grammar l) (place_behind-ahead p after answer read (λ q. (c.input_empty q).0))
-      ∙ ap (λ (s : DecoderState). events_of s.grammar (ahead next)) (sym (place_behind-state p after (is_input_empty answer) (drop read p.piece))) in
+      ap (λ l. events_of after.grammar l) (place_after-ahead p after answer read (λ q. (c.input_empty q).0))
+      ∙ ap (λ (s : DecoderState). events_of s.grammar (ahead next)) (sym (place_after-state p after (is_input_empty answer) (drop read p.piece))) in
       Reaches-events r ∙ rw (one, two, shift-append, shift-shift, append_assoc) refl
 
   -- a finished run is past all pieces, and nothing is left

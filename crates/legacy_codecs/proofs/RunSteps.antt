@@ -8,7 +8,7 @@ use Rattle.legacy_base.specs.{Events.shift, States.DecoderState, Calls.{DecoderC
 use Rattle.legacy_text.specs.EncodingForm.{EncodingForm}
 use Rattle.legacy_base.proofs.Shifts.{shift-append, shift-scalars}
 use Rattle.legacy_codecs.specs.{Pieces.{RunPlace, is_none, ends_run}, Runs.{is_input_empty, Reaches, IsRun, placed}, Runs.Reaches.{begun, called}}
-use Rattle.legacy_codecs.proofs.{Places.{place_behind-state, pieces-length, place_at}, RunEvents.{behind, placed-append, placed-scalars}}
+use Rattle.legacy_codecs.proofs.{RunDrivers.{place_after-state, pieces-length, place_at}, RunEvents.{place_after_call, placed-append, placed-scalars}}
 
 -- A run in progress: its calls lead to the place `p`, gave these events, and read `total` bytes.
 pub record Running (form : EncodingForm) (from : RunPlace DecoderState) (lengths : List ℕ) (calls : ℕ) (items : List DecodeEvent) (total : ℕ) (finished : Bool)
@@ -25,45 +25,46 @@ unfolding placed
 running_start form from lengths = record { events = []; passed = 0; reaches = begun; items_are = refl; passed_is = omega arith; bytes = omega arith }
 
 -- the report of a call that ends after `total` bytes
-abbrev pub reported_behind : ℕ → DecoderResult → List DecodeEvent
-reported_behind total InputEmpty = []
-reported_behind total OutputFull = []
-reported_behind total (Malformed a b) = Bad (total - (a + b)) a ∷ []
+abbrev pub reported_after : ℕ → DecoderResult → List DecodeEvent
+reported_after total InputEmpty = []
+reported_after total OutputFull = []
+reported_after total (Malformed a b) = Bad (total - (a + b)) a ∷ []
 
 -- it is the report of the law of a call, with places counted from the first byte of the run
 reported-placed : (h passed held total read : ℕ) (after : DecoderState) (answer : DecoderResult) → HoldsBack (held + read) after answer →
-    passed + held ≡ h + total → placed h (shift passed (reported_events (held + read) answer)) ≡ reported_behind (total + read) answer
+    passed + held ≡ h + total → placed h (shift passed (reported_events (held + read) answer)) ≡ reported_after (total + read) answer
 unfolding placed
 reported-placed h passed held total read after answer h1 h2 = grind arith
 
 -- after a call at most as many bytes are unread as before it
-place_behind-bytes : (p : RunPlace DecoderState) (after : DecoderState) (answer : DecoderResult) (read : ℕ) → read ≤ length p.piece →
+place_after-bytes : (p : RunPlace DecoderState) (after : DecoderState) (answer : DecoderResult) (read : ℕ) → read ≤ length p.piece →
     (answer ≡ InputEmpty → read ≡ length p.piece) →
-    read + (length (behind p after answer read).piece + sum_by length (behind p after answer read).later) ≤ length p.piece + sum_by length p.later
-place_behind-bytes p after answer read h h1 = grind (arith, pieces-length, length-drop)
+    read + (length (place_after_call p after answer read).piece + sum_by length (place_after_call p after answer read).later)
+    ≤ length p.piece + sum_by length p.later
+place_after-bytes p after answer read h h1 = grind (arith, pieces-length, length-drop)
 
 -- one more call, with the next of the lengths
 module _ {form : EncodingForm} {from : RunPlace DecoderState} {lengths : List ℕ} {calls : ℕ} {items : List DecodeEvent} {total : ℕ} {p : RunPlace DecoderState}
     (r : Running form from lengths calls items total false p)
     {free : ℕ} (given : slice_get lengths calls ≡ Some free) {after : DecoderState} {answer : DecoderResult} {read : ℕ} {scalars : List ℕ}
     (c : DecoderCall form p.state p.piece (is_none p.later) free after answer read scalars) where
-  items_behind : (items ++ map Scalar scalars) ++ reported_behind (total + read) answer
+  items_after : (items ++ map Scalar scalars) ++ reported_after (total + read) answer
       ≡ placed (length from.state.held) (r.events ++ shift r.passed (out_events (length p.state.held + read) scalars answer))
-  items_behind = grind (arith, reported-placed, placed-append, shift-append, shift-scalars, placed-scalars, append_assoc)
+  items_after = grind (arith, reported-placed, placed-append, shift-append, shift-scalars, placed-scalars, append_assoc)
 
-  call_behind : Running form from lengths (calls + 1) ((items ++ map Scalar scalars) ++ reported_behind (total + read) answer) (total + read)
-      (ends_run p (is_input_empty answer)) (behind p after answer read)
-  call_behind = record {
+  call_after : Running form from lengths (calls + 1) ((items ++ map Scalar scalars) ++ reported_after (total + read) answer) (total + read)
+      (ends_run p (is_input_empty answer)) (place_after_call p after answer read)
+  call_after = record {
     events = r.events ++ shift r.passed (out_events (length p.state.held + read) scalars answer);
     passed = r.passed + c.passed;
     reaches = called calls r.events r.passed p r.reaches free given after answer read scalars c;
-    items_are = items_behind;
+    items_are = items_after;
     passed_is =
-        let state : length (behind p after answer read).state.held ≡ length after.held =
-        ap (λ (s : DecoderState). length s.held) (place_behind-state p after (is_input_empty answer) (drop read p.piece)) in
+        let state : length (place_after_call p after answer read).state.held ≡ length after.held =
+        ap (λ (s : DecoderState). length s.held) (place_after-state p after (is_input_empty answer) (drop read p.piece)) in
         let w = c.within in
         omega (arith, c.progress.counts, r.passed_is, length-drop read p.piece);
-    bytes = let b = place_behind-bytes p after answer read c.within (λ e. (c.input_empty e).0) in omega (arith, r.bytes);
+    bytes = let b = place_after-bytes p after answer read c.within (λ e. (c.input_empty e).0) in omega (arith, r.bytes);
   }
 
 -- one more call, with its inputs and outputs given by equations
@@ -74,10 +75,10 @@ pub running_call : {form : EncodingForm} {from : RunPlace DecoderState} {lengths
     Running form from lengths calls items total false p → slice_get lengths calls ≡ Some free →
     DecoderCall form p.state unread last free after given_back read scalars →
     unread ≡ p.piece → last ≡ is_none p.later → given_back ≡ answer →
-    items' ≡ (items ++ map Scalar scalars) ++ reported_behind (total + read) answer → finished ≡ ends_run p (is_input_empty answer) →
-    p' ≡ behind p after answer read →
+    items' ≡ (items ++ map Scalar scalars) ++ reported_after (total + read) answer → finished ≡ ends_run p (is_input_empty answer) →
+    p' ≡ place_after_call p after answer read →
     Running form from lengths (calls + 1) items' (total + read) finished p'
-running_call r given c u l a i f q = let c' = rw (u, l, a) at c in rw (i, f, q) (call_behind r given c')
+running_call r given c u l a i f q = let c' = rw (u, l, a) at c in rw (i, f, q) (call_after r given c')
 
 pub is_run : {form : EncodingForm} {from : RunPlace DecoderState} {lengths : List ℕ} {calls : ℕ} {items : List DecodeEvent} {total : ℕ} {finished : Bool}
     {p : RunPlace DecoderState}

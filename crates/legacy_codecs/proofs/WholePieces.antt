@@ -26,9 +26,9 @@ utf8_of bytes cs h e =
 -- ---- a call
 
 -- what was written is at the front of the buffer
-pub front_of_buffer : (written count : ℕ) (output behind : List ℕ) → written ≤ length output → length output ≡ count →
-    take written (take count (output ++ behind)) ≡ take written output
-front_of_buffer written count output behind h e = take-take written count (output ++ behind) (omega (arith, h, e)) ∙ take-append-le written output behind h
+pub front_of_buffer : (written count : ℕ) (output others : List ℕ) → written ≤ length output → length output ≡ count →
+    take written (take count (output ++ others)) ≡ take written output
+front_of_buffer written count output others h e = take-take written count (output ++ others) (omega (arith, h, e)) ∙ take-append-le written output others h
 
 module _ {form : EncodingForm} {before : DecoderState} {source : List ℕ} {last : Bool} {free : ℕ} {after : DecoderState} {answer : CoderResult} {read : ℕ}
     {written : List ℕ} {found : Bool}

@@ -9,7 +9,7 @@ use Rattle.legacy_base.specs.declared.results.EncoderResult.TheVariants.{InputEm
 use Rattle.legacy_text.specs.Texts.{unit_scalars}
 use Rattle.legacy_base.specs.Encoders.{EncoderState, encoded, end_bytes}
 use Rattle.legacy_base.specs.EncoderCalls.{EncoderCall, reported}
-use Rattle.legacy_codecs.specs.Pieces.{joined, AreAmple, RunPlace, is_none, place_before, place_behind, ends_run}
+use Rattle.legacy_codecs.specs.Pieces.{joined, AreAmple, RunPlace, is_none, place_before, place_after, ends_run}
 
 -- the scalars of each piece in UTF-8
 abbrev pub chars_of : List (Bor (List ℕ)) → List (List ℕ)
@@ -36,7 +36,7 @@ pub data EncodeReaches (from : RunPlace EncoderState) (lengths : List ℕ) : ℕ
       (after : EncoderState) (answer : EncoderResult) (left bytes : List ℕ) →
       EncoderCall p.state p.piece (is_none p.later) free after answer left bytes →
       EncodeReaches from lengths (calls + 1) (events ++ (map Byte bytes ++ reported answer))
-      (ends_run p (is_input_empty answer)) (place_behind p after (is_input_empty answer) left)
+      (ends_run p (is_input_empty answer)) (place_after p after (is_input_empty answer) left)
 
 -- ---- the result of a run
 

@@ -1,5 +1,5 @@
 -- What a run of a decoder or an encoder over a whole input is.
-pub mod Scalars
+pub mod ScalarBuffers
 pub mod Pieces
 pub mod Runs
 pub mod EncodeRuns

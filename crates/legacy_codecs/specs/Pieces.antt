@@ -43,9 +43,9 @@ place_before state [] = record { state = state; piece = []; later = [] }
 place_before state (p ∷ ps) = record { state = state; piece = p; later = ps }
 
 -- The place after a call: after InputEmpty the next piece follows, and otherwise the unread rest is passed again.
-abbrev pub place_behind : {State : Type 0} → RunPlace State → State → (input_empty : Bool) → (unread : List ℕ) → RunPlace State
-place_behind p after true unread = place_before after p.later
-place_behind p after false unread = record { state = after; piece = unread; later = p.later }
+abbrev pub place_after : {State : Type 0} → RunPlace State → State → (input_empty : Bool) → (unread : List ℕ) → RunPlace State
+place_after p after true unread = place_before after p.later
+place_after p after false unread = record { state = after; piece = unread; later = p.later }
 
 -- a run ends at InputEmpty on the last piece
 abbrev pub ends_run : {State : Type 0} → RunPlace State → (input_empty : Bool) → Bool

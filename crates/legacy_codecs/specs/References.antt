@@ -14,8 +14,8 @@ abbrev pub reference : ℕ → List ℕ
 reference c = codes "&#" ++ decimal c ++ codes ";"
 
 -- the length of the longest reference, `&#1114111;`
-abbrev pub reference_room : ℕ
-reference_room = 10
+abbrev pub reference_need : ℕ
+reference_need = 10
 
 -- the bytes that are written for an event: for an unmappable scalar its reference
 abbrev pub event_bytes : EncodeEvent → List ℕ
@@ -51,12 +51,12 @@ Gives wrote_end before source after left out =
 -- Ten of the free bytes stay free after each byte of an encoded scalar, and are free before each reference.
 unfoldable pub KeepsReserve : ℕ → List EncodeEvent → Type 0
 KeepsReserve free [] = Unit {0}
-KeepsReserve free (Byte b ∷ events) = (1 + reference_room ≤ free) × KeepsReserve (free - 1) events
-KeepsReserve free (Unmappable c ∷ events) = (reference_room ≤ free) × KeepsReserve (free - length (reference c)) events
+KeepsReserve free (Byte b ∷ events) = (1 + reference_need ≤ free) × KeepsReserve (free - 1) events
+KeepsReserve free (Unmappable c ∷ events) = (reference_need ≤ free) × KeepsReserve (free - length (reference c)) events
 
--- the next act and a reference after it need more room than is free
+-- the next act and a reference after it need more than is free
 abbrev pub LacksReferenceRoom : EncoderState → List ℕ → Bool → ℕ → Type 0
-LacksReferenceRoom state unread last free = free < encoder_need state unread last + reference_room
+LacksReferenceRoom state unread last free = free < encoder_need state unread last + reference_need
 
 -- A call from the state `before` over the scalars `source` with `free` bytes free. It returns a result, goes to the
 -- state `after`, leaves the scalars `left`, and writes `bytes`. `found` is whether it found an unmappable scalar.
@@ -90,4 +90,4 @@ pub record ReplacingEncoderCall (before : EncoderState) (source : List ℕ) (las
       (answer ≡ OutputFull) × (left ≡ source) × (bytes ≡ []) × (found ≡ false) × (after ≡ before)
   -- with ten bytes more than the length queried for the source, OutputFull is returned only after an unmappable scalar
   pub enough : (form : EncodingForm) (n k : ℕ) → total_unit_count form source ≤ n → encoder_answer form before n ≡ Some k →
-      k + reference_room ≤ free → answer ≡ OutputFull → IsTrue found
+      k + reference_need ≤ free → answer ≡ OutputFull → IsTrue found

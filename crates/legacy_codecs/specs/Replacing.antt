@@ -8,8 +8,8 @@ use Rattle.legacy_text.specs.EncodingForm.{EncodingForm, Utf8, Utf16, all_code_u
 use Rattle.legacy_base.specs.Grammar.{events_of}
 use Rattle.legacy_base.specs.Profile.{is_empty}
 use Rattle.legacy_base.specs.States.{DecoderState, may_hold, rests}
-use Rattle.legacy_base.specs.DecoderActs.{LacksRoom, full_room_in}
-use Rattle.legacy_base.specs.Lengths.{LengthQuery, to_utf16, to_utf8, query_answer, room}
+use Rattle.legacy_base.specs.DecoderActs.{LacksRoom, full_need_in}
+use Rattle.legacy_base.specs.Lengths.{LengthQuery, to_utf16, to_utf8, query_answer, total_need}
 use Rattle.legacy_base.specs.Calls.{Progress}
 use Rattle.legacy_codecs.specs.declared.results.CoderResult.{CoderResult}
 use Rattle.legacy_codecs.specs.declared.results.CoderResult.TheVariants.{InputEmpty, OutputFull}
@@ -60,7 +60,7 @@ pub record ReplacingDecoderCall (form : EncodingForm) (before : DecoderState) (s
   -- the held-back bytes are some that the codec may hold back
   pub allowed : IsTrue (may_hold after.grammar after.held)
   -- if a byte was read, nothing was malformed and bytes are held back, there is room for reading a byte past ASCII
-  pub room_held : 0 < read → found ≡ false → after.held ≢ [] → full_room_in form before.grammar ≤ free - length written
+  pub room_held : 0 < read → found ≡ false → after.held ≢ [] → full_need_in form before.grammar ≤ free - length written
   -- the written scalars are Unicode scalar values
   pub scalar : All IsScalar (replaced_scalars out)
   -- the code units are those of the events, with U+FFFD for each malformed sequence
@@ -74,11 +74,11 @@ pub record ReplacingDecoderCall (form : EncodingForm) (before : DecoderState) (s
   pub output_full : answer ≡ OutputFull → LacksRoom form after (drop read source) last (free - length written)
   -- if the next act lacks its room as the call begins, it returns OutputFull and does nothing
   pub full_at_once : LacksRoom form before source last free → (answer ≡ OutputFull) × (read ≡ 0) × (written ≡ []) × (found ≡ false) × (after ≡ before)
-  -- the room that is still needed is lowered by at least what was written
+  -- the need falls by at least what was written
   pub lowers : (more : ℕ) → (IsTrue last → more ≡ 0) →
-      room (replacing_query form) after (length (drop read source) + more) + length written
-      ≤ room (replacing_query form) before (length source + more)
-  -- with the room free that the source needs, the result is InputEmpty
-  pub suffices : room (replacing_query form) before (length source) ≤ free → answer ≡ InputEmpty
+      total_need (replacing_query form) after (length (drop read source) + more) + length written
+      ≤ total_need (replacing_query form) before (length source + more)
+  -- if what the source needs is free, the result is InputEmpty
+  pub suffices : total_need (replacing_query form) before (length source) ≤ free → answer ≡ InputEmpty
   -- with the length free that was queried for at least the source, the result is InputEmpty
   pub enough : (n k : ℕ) → length source ≤ n → query_answer (replacing_query form) before n ≡ Some k → k ≤ free → answer ≡ InputEmpty

@@ -4,12 +4,12 @@ use Rattle.legacy_base.specs.declared.results.DecodeEvent.{DecodeEvent}
 use Rattle.legacy_base.specs.declared.results.DecodeEvent.TheVariants.{Scalar, Bad}
 use Rattle.legacy_base.specs.declared.results.DecoderResult.{DecoderResult}
 use Rattle.legacy_base.specs.declared.results.DecoderResult.TheVariants.{InputEmpty, OutputFull, Malformed}
-use Rattle.legacy_text.specs.EncodingForm.{EncodingForm, wide_room}
+use Rattle.legacy_text.specs.EncodingForm.{EncodingForm, wide_need}
 use Rattle.legacy_base.specs.Events.{shift}
 use Rattle.legacy_base.specs.Grammar.{events_of}
 use Rattle.legacy_base.specs.States.{DecoderState}
 use Rattle.legacy_base.specs.Calls.{DecoderCall, out_events}
-use Rattle.legacy_codecs.specs.Pieces.{joined, AreAmple, RunPlace, is_none, place_before, place_behind, ends_run}
+use Rattle.legacy_codecs.specs.Pieces.{joined, AreAmple, RunPlace, is_none, place_before, place_after, ends_run}
 
 -- the call returned InputEmpty
 abbrev pub is_input_empty : DecoderResult → Bool
@@ -30,7 +30,7 @@ pub data Reaches (form : EncodingForm) (from : RunPlace DecoderState) (lengths :
       (after : DecoderState) (answer : DecoderResult) (read : ℕ) (scalars : List ℕ) →
       (c : DecoderCall form p.state p.piece (is_none p.later) free after answer read scalars) →
       Reaches form from lengths (calls + 1) (events ++ shift passed (out_events (length p.state.held + read) scalars answer))
-      (passed + c.passed) (ends_run p (is_input_empty answer)) (place_behind p after (is_input_empty answer) (drop read p.piece))
+      (passed + c.passed) (ends_run p (is_input_empty answer)) (place_after p after (is_input_empty answer) (drop read p.piece))
 
 -- the event with its place counted from the first byte after the `held` ones; an earlier place is 0
 abbrev pub placed_event : ℕ → DecodeEvent → DecodeEvent
@@ -71,7 +71,7 @@ HasNoneLeft state = events_of state.grammar state.held ≡ []
 -- Each output has room for any scalar, and there are at least as many as the whole input has events and pieces.
 abbrev pub HasAmpleLengths : EncodingForm → DecoderState → List (List ℕ) → List ℕ → Type 0
 HasAmpleLengths form before pieces lengths =
-    AreAmple (wide_room form) (length (events_of before.grammar (before.held ++ joined pieces))) pieces lengths
+    AreAmple (wide_need form) (length (events_of before.grammar (before.held ++ joined pieces))) pieces lengths
 
 -- ---- runs of the same bytes
 

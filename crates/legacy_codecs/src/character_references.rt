@@ -10,7 +10,7 @@ use crate::results::CoderResult;
 use legacy_base::{EncoderResult, RawEncoder, Source, Utf8Source, Utf16Source};
 
 /// The length in bytes of the longest reference, `&#1114111;`.
-const REFERENCE_ROOM: usize = 10;
+const REFERENCE_NEED: usize = 10;
 
 /// The greatest number of digits of a scalar's number.
 const DIGITS: usize = 7;
@@ -19,8 +19,8 @@ const DIGITS: usize = 7;
 ///
 /// Returns the place of the first digit.
 #[tactic(auto, using(crate::proofs::ReferenceTexts::decimal_lengths))]
-fn put_digits(text: &mut [u8; REFERENCE_ROOM], end: usize, number: u32) -> usize
-    requires end { end ≤ REFERENCE_ROOM }
+fn put_digits(text: &mut [u8; REFERENCE_NEED], end: usize, number: u32) -> usize
+    requires end { end ≤ REFERENCE_NEED }
     requires room { DIGITS ≤ end }
     requires number { number < 10 ^ 7 }
     ensures place { end ≤ result + DIGITS }
@@ -40,12 +40,12 @@ fn put_digits(text: &mut [u8; REFERENCE_ROOM], end: usize, number: u32) -> usize
 }
 
 /// Writes the reference of the scalar at the end of the array, and returns where it begins.
-fn make_reference(text: &mut [u8; REFERENCE_ROOM], c: char) -> usize
-    ensures place { result ≤ REFERENCE_ROOM }
+fn make_reference(text: &mut [u8; REFERENCE_NEED], c: char) -> usize
+    ensures place { result ≤ REFERENCE_NEED }
     ensures reference { drop result text.new ≡ reference c }
 {
-    text[REFERENCE_ROOM - 1] = b';';
-    let digits = put_digits(text, REFERENCE_ROOM - 1, c as u32);
+    text[REFERENCE_NEED - 1] = b';';
+    let digits = put_digits(text, REFERENCE_NEED - 1, c as u32);
     text[digits - 1] = b'#';
     text[digits - 2] = b'&';
     digits - 2
@@ -53,14 +53,14 @@ fn make_reference(text: &mut [u8; REFERENCE_ROOM], c: char) -> usize
 
 /// Writes the reference of the scalar at a place, and returns the place after it.
 fn put_reference(dst: &mut [u8], at: usize, c: char) -> usize
-    requires { at + REFERENCE_ROOM ≤ length dst.old }
+    requires { at + REFERENCE_NEED ≤ length dst.old }
     ensures end { result ≡ at + length (reference c) }
     ensures within { result ≤ length dst.new }
     ensures bytes { take result dst.new ≡ take at dst.old ++ reference c }
 {
-    let mut text = [0; REFERENCE_ROOM];
+    let mut text = [0; REFERENCE_NEED];
     let start = make_reference(&mut text, c);
-    let end = at + (REFERENCE_ROOM - start);
+    let end = at + (REFERENCE_NEED - start);
     dst[at..end].copy_from_slice(&text[start..]);
     end
 }
@@ -75,16 +75,16 @@ fn encode_from<E: RawEncoder, S: Source>(
     at: usize,
     last: bool,
 ) -> (EncoderResult, usize)
-    requires { at + REFERENCE_ROOM ≤ length dst.old }
+    requires { at + REFERENCE_NEED ≤ length dst.old }
     ensures call { (bytes : List ℕ) × EncoderCall (E.state encoder.old) (S.left src.old) last
-        (length dst.old - REFERENCE_ROOM - at) (E.state encoder.new) result.0 (S.left src.new) bytes
+        (length dst.old - REFERENCE_NEED - at) (E.state encoder.new) result.0 (S.left src.new) bytes
         × (take result.1 dst.new ≡ take at dst.old ++ bytes)
         × (result.1 ≡ at + length bytes) }
-    ensures room { result.1 + REFERENCE_ROOM ≤ length dst.new }
+    ensures room { result.1 + REFERENCE_NEED ≤ length dst.new }
     ensures passed { S.passed src.new + total_unit_count S.form (S.left src.new)
         ≡ S.passed src.old + total_unit_count S.form (S.left src.old) }
 {
-    let end = dst.len() - REFERENCE_ROOM;
+    let end = dst.len() - REFERENCE_NEED;
     let (answer, written) = encoder.step(src, &mut dst[at..end], last);
     (answer, at + written)
 }
@@ -107,7 +107,7 @@ fn encode_replacing<E: RawEncoder, S: Source>(
 {
     let mut written: usize = 0;
     let mut replaced = false;
-    'calls: while dst.len() - written >= REFERENCE_ROOM {
+    'calls: while dst.len() - written >= REFERENCE_NEED {
         let (answer, end) = encode_from(encoder, src, dst, written, last);
         written = end;
         match answer {

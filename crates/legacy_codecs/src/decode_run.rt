@@ -8,7 +8,7 @@ ghost use Rattle.legacy_codecs.specs.Pieces.{contents_of, place_before, IsTooLon
 ghost use Rattle.legacy_codecs.specs.RunResults.{RunDecodes};
 ghost use Rattle.legacy_codecs.specs.Runs.{IsRun};
 
-use crate::scalars::{OutputForm, ScalarBuffer, Utf8Form, Utf16Form};
+use crate::scalar_buffer::{OutputForm, ScalarBuffer, Utf8Form, Utf16Form};
 use crate::shared_by_runs::{RunError, is_last, longest, push_items, push_within, room_for_events};
 use legacy_base::{DecodeEvent, DecoderResult, RawDecoder};
 use std::alloc::Global;
@@ -57,9 +57,9 @@ fn call_once<D: RawDecoder, F: OutputForm>(
 fn malformed_event(total: usize, length: u8, back: u8) -> DecodeEvent
     ensures { result ≡ DecodeEvent.Bad (total - (length + back)) length }
 {
-    let behind = usize::from(length) + usize::from(back);
+    let distance = usize::from(length) + usize::from(back);
     DecodeEvent::Bad {
-        place: total.saturating_sub(behind),
+        place: total.saturating_sub(distance),
         length: usize::from(length),
     }
 }

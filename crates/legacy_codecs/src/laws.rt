@@ -96,7 +96,7 @@ pub fn queried_length_suffices()
     ensures replacing_utf16 { ReplacingQueriedLengthSuffices Utf16 }
     ensures replacing_utf8 { ReplacingQueriedLengthSuffices Utf8 }
 {
-    // Each call lowers the room that the rest needs by at least what it writes.
+    // Each call lowers what the rest needs by at least what it writes.
 }
 
 /// Shows that two finished runs over the same bytes return the same events.
@@ -120,7 +120,7 @@ pub fn encode_queried_length_suffices()
     ensures from_utf16 { EncodeQueriedLengthSuffices Utf16 }
     ensures from_utf8 { EncodeQueriedLengthSuffices Utf8 }
 {
-    // Each byte that a call writes lowers the room that the rest of the text needs.
+    // Each byte that a call writes lowers what the rest of the text needs.
 }
 
 /// Shows that two finished runs over the same scalars return the same events.

@@ -12,7 +12,7 @@ pub mod laws;
 mod malformed;
 mod replacing;
 mod results;
-mod scalars;
+mod scalar_buffer;
 mod shared_by_runs;
 mod source_texts;
 mod whole;
@@ -42,6 +42,6 @@ pub use legacy_single_byte::{
 pub use malformed::{MalformedSequence, malformed_sequences};
 pub use replacing::{decode_replacing_utf8, decode_replacing_utf16};
 pub use results::CoderResult;
-pub use scalars::{OutputForm, ScalarBuffer, Utf8Form, Utf16Form};
+pub use scalar_buffer::{OutputForm, ScalarBuffer, Utf8Form, Utf16Form};
 pub use shared_by_runs::RunError;
 pub use whole::{SizedError, decode_piece, decode_whole, encode_whole, transcode};

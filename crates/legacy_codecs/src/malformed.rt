@@ -23,9 +23,9 @@ fn sequence_at(read: usize, length: u8, back: u8) -> MalformedSequence
     ensures place { result.place ≡ read - (length + back) }
     ensures length { result.length ≡ length }
 {
-    let behind = usize::from(length) + usize::from(back);
+    let distance = usize::from(length) + usize::from(back);
     MalformedSequence {
-        place: read.saturating_sub(behind),
+        place: read.saturating_sub(distance),
         length: usize::from(length),
     }
 }
@@ -56,10 +56,10 @@ pub fn malformed_sequences<D: RawDecoder>(
     ensures too_long { (result ≡ Err SizedError.TooLong)
         ↔ query_answer to_utf8_without_replacement (D.state decoder.old) (length input.now) ≡ None }
 {
-    let Some(room) = decoder.max_utf8_buffer_length_without_replacement(input.len()) else {
+    let Some(need) = decoder.max_utf8_buffer_length_without_replacement(input.len()) else {
         return Err(SizedError::TooLong);
     };
-    let Ok(mut text) = vec![in alloc; 0; room] else {
+    let Ok(mut text) = vec![in alloc; 0; need] else {
         return Err(SizedError::Memory);
     };
     let mut found = Vec::new(alloc);

@@ -66,7 +66,7 @@ fn total_length<P: Piece>(pieces: &[P]) -> Option<usize>
 }
 
 /// Returns the sum of the lengths and their number, or `None` if it exceeds `usize::MAX`.
-fn total_room(lengths: &[usize]) -> Option<usize>
+fn event_capacity(lengths: &[usize]) -> Option<usize>
     ensures { SomeIff result (sum lengths.now + length lengths.now < 2 ^ 64)
         (sum lengths.now + length lengths.now) }
 {
@@ -95,10 +95,10 @@ pub(crate) fn room_for_events<P: Piece, T: Copy>(
     if total_length(pieces).is_none() {
         return Err(RunError::TooLong);
     }
-    let Some(room) = total_room(lengths) else {
+    let Some(capacity) = event_capacity(lengths) else {
         return Err(RunError::TooLong);
     };
-    let Ok(events) = Vec::with_capacity(alloc, room) else {
+    let Ok(events) = Vec::with_capacity(alloc, capacity) else {
         return Err(RunError::Memory);
     };
     Ok(events)

@@ -90,9 +90,9 @@ pub fn decode_piece<D: RawDecoder>(
     output: &mut [u8],
     last: bool,
 ) -> usize
-    requires { (bytes : ℕ) × (room : ℕ) × (length piece.now ≤ bytes)
-        × (query_answer to_utf8 (D.state decoder.old) bytes ≡ Some room)
-        × (room ≤ length output.old) }
+    requires { (bytes : ℕ) × (need : ℕ) × (length piece.now ≤ bytes)
+        × (query_answer to_utf8 (D.state decoder.old) bytes ≡ Some need)
+        × (need ≤ length output.old) }
     ensures within { result ≤ length output.new }
     ensures text { TextGoesOn Utf8 last (D.state decoder.old) piece.now (D.state decoder.new)
         (take result output.new) }

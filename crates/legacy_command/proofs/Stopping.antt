@@ -4,7 +4,7 @@ use Rattle.std.specs.Io.KnownBytes.{Keeps}
 use Rattle.legacy_base.specs.{declared.results.DecodeEvent.DecodeEvent, Encoders.EncoderState, States.DecoderState}
 use Rattle.legacy_streams.specs.{declared.recode.RecodeError.RecodeError, declared.recode.RecodeError.TheVariants.{Read, Write}}
 use Rattle.legacy_streams.specs.Streams.{AppendsFront, AppendsAtLeast, DecodesAll, DecodesBeginning, DecodesPartly}
-use Rattle.legacy_streams.specs.Encoding.{EncodesAll, EncodesBeginning, EncodesPartly, EncodesUpTo}
+use Rattle.legacy_streams.specs.TextEncoding.{EncodesAll, EncodesBeginning, EncodesPartly, EncodesUpTo}
 use Rattle.legacy_command.specs.{declared.words.OutputKind.TheVariants.{Lines, Text}, declared.host.Program.Program}
 use Rattle.legacy_command.specs.{declared.host.Program.TheVariants.{Recode, Encode}, Host.IsStoppedBy, Program.{Untouched, RecodesInput, RecodesSome}}
 use Rattle.legacy_command.specs.Program.{EncodesSome}

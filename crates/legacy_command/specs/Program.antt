@@ -18,7 +18,7 @@ use Rattle.legacy_command.specs.Words.{output_kind, words_after_option, codec_of
 use Rattle.legacy_command.specs.IndexTexts.{text_given, AreWellFormed}
 use Rattle.legacy_streams.specs.Recoding.{RecodesAll, RecodesBeginning, RecodesPartly}
 use Rattle.legacy_streams.specs.Text.{WritesAll, WritesBeginning, WritesPartly}
-use Rattle.legacy_streams.specs.Encoding.{EncodesAll, EncodesBeginning, EncodesPartly}
+use Rattle.legacy_streams.specs.TextEncoding.{EncodesAll, EncodesBeginning, EncodesPartly}
 
 -- The input was read to its end, and the lines of all its events, or its text, were written, from a decoder in this
 -- state.

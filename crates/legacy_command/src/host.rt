@@ -7,7 +7,7 @@ ghost use Rattle.legacy_command.specs.IndexTexts.{contents_of};
 ghost use Rattle.legacy_command.specs.Host.{codec_asked, IsDoneBy, IsDone, IsStoppedBy, IsStopped};
 
 use crate::arguments::{ArgumentsError, arguments, status_of};
-use crate::encoding::{encoder_in, run_encode};
+use crate::encode_program::{encoder_in, run_encode};
 use crate::program::run;
 use crate::words::{codec_in, request};
 use std::alloc::{Alloc, AllocError, Allocator, Global};

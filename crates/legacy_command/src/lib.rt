@@ -2,7 +2,7 @@
 #![tactic(auto)]
 
 pub mod arguments;
-pub mod encoding;
+pub mod encode_program;
 mod given_indexes;
 pub mod host;
 pub mod program;

@@ -1,18 +1,19 @@
 -- Common sequences that are read ahead within a call in progress.
+use Rattle.std.proofs.lemmas.List.{take_rest}
 use Rattle.std.proofs.lemmas.{List.{drop_more, length-map, take-append-drop, length-take-le, nil_from_length, get_or-drop}, Bool.{cases_lt, true≢false}}
 use Rattle.std.proofs.Common.{◌≡◌, ◌∙◌, ◌+◌, ◌<◌, List, [], ◌∷◌, drop, arith, append_assoc, append-nil, true, subst}
 use Rattle.std.proofs.Common.{◌≤◌, length-append, Some, Option, ℕ, ◌-◌, ◌++◌, length, take, ap, get_or, length-drop, Bool, None}
-use Rattle.legacy_text.specs.{EncodingForm.{EncodingForm, unit_count, all_code_units, total_unit_count, wide_room}, declared.destination.Destination.Ghosts}
+use Rattle.legacy_text.specs.{EncodingForm.{EncodingForm, unit_count, all_code_units, total_unit_count, wide_need}, declared.destination.Destination.Ghosts}
 use Rattle.{legacy_text.proofs.CodeUnits.{all_code_units-append, total_unit_count-append}, legacy_base.specs.States.{DecoderState, new_state, rests}}
 use Rattle.legacy_base.specs.{Grammar.Grammar, DecoderActs.HadRoom, Calls.IsDecoderCall, declared.results.DecoderResult.DecoderResult}
-use Rattle.legacy_base.proofs.{Shifts.shift-zero, GrammarLaws.{rests-none, may_none}, Rooms.{lacks_small, full_most}, SameUnits.some_unit}
+use Rattle.legacy_base.proofs.{Shifts.shift-zero, GrammarLaws.{rests-none, may_none}, Needs.{lacks_small, full_most}, SameUnits.some_unit}
 use Rattle.legacy_decoder_engine.specs.{ReadAhead.{Yields, ReadsTo}, Moves.{HoldsBytes, HasMalformedByte, WritesFed, EndsAt, fed_scalars}}
-use Rattle.legacy_decoder_engine.proofs.{CallUnderWay.{Going, going_then, going_feed, held_going, call_then, call_ends}, WrittenReads.rest_of}
+use Rattle.legacy_decoder_engine.proofs.{CallUnderWay.{Going, going_then, going_feed, held_going, call_then, call_ends}}
 
-wide_most : (form : EncodingForm) → wide_room form ≤ 4
+wide_most : (form : EncodingForm) → wide_need form ≤ 4
 wide_most form = grind arith
 
--- scalars that leave three free code units were written with the full room of any act
+-- scalars that leave three free code units were written with room for any act
 ample : (form : EncodingForm) (g : Grammar) (previous : Option ℕ) (free : ℕ) (cs : List ℕ) → total_unit_count form cs + 3 ≤ free
     → HadRoom form g previous free cs
 unfolding HadRoom
@@ -46,10 +47,10 @@ module _ {D : Type 0} {T : Ghosts D} {s next : DecoderState} {source : List ℕ}
       record {
         within = reads.within;
         passed = r;
-        progress = grind (arith, length-drop, take-append-drop r source, append_assoc, yields.events, reads.rooms.codec);
+        progress = grind (arith, length-drop, take-append-drop r source, append_assoc, yields.events, reads.needs.codec);
         resting = rw none' (rests-none next.grammar);
         allowed = rw none' (may_none next.grammar);
-        rooms = reads.rooms;
+        needs = reads.needs;
         held = grind arith;
         had = rw resting (ample _ _ None _ ds (omega arith));
         released = grind (arith, true≢false);
@@ -79,7 +80,7 @@ module _ {D : Type 0} (T : Ghosts D) {last : Bool} {before : DecoderState} {sour
   pub read_going : {r : ℕ} → ReadsTo T now next (take (length source - read) (drop read source)) r old new
       → IsUnderWay T last before source first next (read + r) new
   read_going {r} reads =
-      let reads : ReadsTo T now next (drop read source) r old new = subst (λ l. ReadsTo T now next l r old new) (rest_of source read) reads in
+      let reads : ReadsTo T now next (drop read source) r old new = subst (λ l. ReadsTo T now next l r old new) (take_rest source read) reads in
       let going : Going T.form last before source (T.room first) next (read + r) (i.0 ++ reads.writes.scalars) =
       grind (arith, cases_lt 0 r, some_going reads {last = last}, going_then i.1 _ i.3, reads.stays, reads_nothing reads, append-nil i.0) in
       writes_on reads.writes.scalars going reads.writes.written reads.writes.room reads.writes.loan
@@ -103,11 +104,11 @@ module _ {D : Type 0} (T : Ghosts D) {last : Bool} {before : DecoderState} {sour
       → IsUnderWay T last before source first after (read + r + h) new
   front_going {r = r} {h} reads within holds =
       let j = read_going reads in
-      (j.0, held_going j.1 _ j.3 h (rw (rest_of source (read + r)) at within) (rw (rest_of source (read + r)) at holds), j.2, j.3, j.4)
+      (j.0, held_going j.1 _ j.3 h (rw (take_rest source (read + r)) at within) (rw (take_rest source (read + r)) at holds), j.2, j.3, j.4)
 
 -- a malformed byte in the rest of a source is one of the source
 pub left_malformed : {state : DecoderState} {at : ℕ} (source : List ℕ) (read : ℕ) → HasMalformedByte state (take (length source - read) (drop read source)) at
     → HasMalformedByte state source (read + at)
 left_malformed {state} {at} source read has =
-    let here = rw (rest_of source read, length-drop read source, get_or-drop read source at 0) at has in
+    let here = rw (take_rest source read, length-drop read source, get_or-drop read source at 0) at has in
     (omega (arith, here.0), here.1)

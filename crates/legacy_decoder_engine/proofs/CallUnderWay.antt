@@ -6,30 +6,32 @@ use Rattle.std.{proofs.{lemmas.Bool.{true≢false, Decides.nat_tests}, Math.Nat.
 use Rattle.legacy_text.{specs.EncodingForm.{EncodingForm, unit_count, total_unit_count}, proofs.CodeUnits.total_unit_count-append}
 use Rattle.legacy_base.specs.{declared.results.DecoderResult.{TheVariants.{InputEmpty, OutputFull, Malformed}, DecoderResult}, Grammar.{Grammar, events_of}}
 use Rattle.legacy_base.specs.{declared.results.DecodeEvent.TheVariants.{Scalar, Bad}, States.{DecoderState, may_hold, rests}, DecoderActs.{LacksRoom, HadRoom}}
-use Rattle.legacy_base.specs.{DecoderActs.{HadRooms, malformed_room, full_room_in, release_room_in}, Lengths.{LengthQuery, query_form, replacement_units, room}}
+use Rattle.legacy_base.specs.DecoderActs.{HadRooms, malformed_need, full_need_in, release_need_in}
+use Rattle.legacy_base.specs.Lengths.{LengthQuery, query_form, replacement_units, total_need}
 use Rattle.legacy_base.specs.{Lengths.query_answer, Calls.{Progress, DecoderCall, IsMalformedSequence, IsMalformed, HoldsBack, reported_events, may_report_end}}
-use Rattle.legacy_base.{specs.Events.shift, proofs.{Rooms.{HadRooms-released, room_needed-release, room_needed-read, room_needed-report}, Shifts.shift-scalars}}
-use Rattle.legacy_base.proofs.{Progress.{stay, at_last, behind, after_that}, Rooms.{HadRooms-append, HadRooms-none, room_needed-none}, Enough.room-answer}
+use Rattle.legacy_base.{specs.Events.shift, proofs.{Needs.{HadRooms-released, need_in-release, need_in-read, need_in-report}, Shifts.shift-scalars}}
+use Rattle.legacy_base.proofs.{Progress.{stay, at_last, more_follows, after_that}, Needs.{HadRooms-append, HadRooms-none, need_in-none}}
+use Rattle.legacy_base.proofs.Enough.{total_need-answer}
 use Rattle.legacy_decoder_engine.specs.{declared.moves.Fed.{TheVariants.{Nothing, MalformedSequence}, Fed}, Moves.RevealsMalformed}
-use Rattle.legacy_decoder_engine.specs.Moves.{SameRooms, Feeds, Releases, Reports, Finishes, IsCovered, HoldsBytes, EndsAt, read_room, fed_scalars, unread_byte}
+use Rattle.legacy_decoder_engine.specs.Moves.{SameNeeds, Feeds, Releases, Reports, Finishes, IsCovered, HoldsBytes, EndsAt, read_need, fed_scalars, unread_byte}
 
-pub same_rooms : (g : Grammar) → SameRooms g g
-same_rooms g = record { codec = refl; full = λ form. refl; report = λ form. refl; wants = λ p c. refl }
+pub same_needs : (g : Grammar) → SameNeeds g g
+same_needs g = record { codec = refl; full = λ form. refl; report = λ form. refl; wants = λ p c. refl }
 
-pub both_rooms : (g h k : Grammar) → SameRooms g h → SameRooms h k → SameRooms g k
-both_rooms g h k a b = grind arith
+pub both_needs : (g h k : Grammar) → SameNeeds g h → SameNeeds h k → SameNeeds g k
+both_needs g h k a b = grind arith
 
 pub holds_none : (form : EncodingForm) (free : ℕ) (state : DecoderState) → HoldsBytes form free state [] state
 unfolding HoldsBytes
 holds_none form free state = refl
 
 pub holds_more : (form : EncodingForm) (free : ℕ) (a b c : DecoderState) (bytes : List ℕ) (byte : ℕ) → HoldsBytes form free a bytes b → Feeds b byte c Nothing
-    → read_room form b byte ≤ free → HoldsBytes form free a (bytes ++ byte ∷ []) c
+    → read_need form b byte ≤ free → HoldsBytes form free a (bytes ++ byte ∷ []) c
 unfolding HoldsBytes
 holds_more form free a b c [] byte e feeds room = grind (arith, nat_tests)
 holds_more form free a b c (x ∷ bytes) byte held feeds room = (held.0, held.1, held.2, holds_more form free held.0 b c bytes byte held.3 feeds room)
 
-HadRoom-same : (form : EncodingForm) (g h : Grammar) (previous : Option ℕ) (free : ℕ) (cs : List ℕ) → SameRooms g h → HadRoom form h previous free cs
+HadRoom-same : (form : EncodingForm) (g h : Grammar) (previous : Option ℕ) (free : ℕ) (cs : List ℕ) → SameNeeds g h → HadRoom form h previous free cs
     → HadRoom form g previous free cs
 unfolding HadRoom
 HadRoom-same form g h previous free [] s a = tt
@@ -43,15 +45,15 @@ pub record Going (form : EncodingForm) (last : Bool) (before : DecoderState) (so
   pub progress : Progress false before source passed now (drop read source) (map Scalar scalars)
   pub resting : rests now.grammar now.held ≡ true
   pub allowed : may_hold now.grammar now.held ≡ true
-  pub rooms : SameRooms before.grammar now.grammar
-  pub held : 0 < read → now.held ≢ [] → full_room_in form before.grammar ≤ free - total_unit_count form scalars
+  pub needs : SameNeeds before.grammar now.grammar
+  pub held : 0 < read → now.held ≢ [] → full_need_in form before.grammar ≤ free - total_unit_count form scalars
   pub had : HadRooms form before free scalars
   pub released : rests before.grammar before.held ≡ false → scalars ≢ []
   pub fits : total_unit_count form scalars ≤ free
   pub scalar : All IsScalar scalars
   pub once : LacksRoom form before source last free → (read ≡ 0) × (scalars ≡ []) × (now ≡ before)
   pub lowers : (query : LengthQuery) → query_form query ≡ form → (more : ℕ) →
-      room query now (length (drop read source) + more) + total_unit_count form scalars ≤ room query before (length source + more)
+      total_need query now (length (drop read source) + more) + total_unit_count form scalars ≤ total_need query before (length source + more)
 
 -- a call that writes nothing; without a malformed sequence nothing changes
 abbrev Ends : EncodingForm → Bool → DecoderState → List ℕ → ℕ → DecoderState → DecoderResult → ℕ → Type 0
@@ -60,26 +62,26 @@ Ends form last s source free next answer n = DecoderCall form s source last free
 module _ {form : EncodingForm} {last : Bool} where
   module _ {s : DecoderState} {free : ℕ} where
     pub going_start : {source : List ℕ} → rests s.grammar s.held ≡ true → may_hold s.grammar s.held ≡ true → Going form last s source free s 0 []
-    going_start {source} r m = grind (arith, stay false s source, HadRooms-none, All-nil, true≢false, same_rooms)
+    going_start {source} r m = grind (arith, stay false s source, HadRooms-none, All-nil, true≢false, same_needs)
 
-    pub going_release : {source : List ℕ} {now : DecoderState} {c : ℕ} → rests s.grammar s.held ≡ false → release_room_in form s.grammar ≤ free
+    pub going_release : {source : List ℕ} {now : DecoderState} {c : ℕ} → rests s.grammar s.held ≡ false → release_need_in form s.grammar ≤ free
         → Releases s now c → Going form last s source free now 0 (c ∷ [])
     going_release {source} {now} {c} r enough h =
-        let progress = behind source h.progress in
-        grind (arith, progress, HadRooms-released, All-cons, All-nil, room_needed-release, length-append)
+        let progress = more_follows source h.progress in
+        grind (arith, progress, HadRooms-released, All-cons, All-nil, need_in-release, length-append)
 
     fed_going : {byte : ℕ} {rest : List ℕ} {next : DecoderState} (fed : Fed) → rests s.grammar s.held ≡ true → Feeds s byte next fed
-        → (RevealsMalformed fed → ⊥) → read_room form s byte ≤ free → Going form last s (byte ∷ rest) free next 1 (fed_scalars fed)
+        → (RevealsMalformed fed → ⊥) → read_need form s byte ≤ free → Going form last s (byte ∷ rest) free next 1 (fed_scalars fed)
     fed_going (MalformedSequence a b unread) r f sound enough = absurd (sound tt)
     fed_going {byte} {rest} {next} fed r f sound enough =
-        let needs = room_needed-read form s byte rest last r in
+        let needs = need_in-read form s byte rest last r in
         record {
           within = omega arith;
           passed = f.passed;
-          progress = behind rest f.progress;
+          progress = more_follows rest f.progress;
           resting = f.holds;
           allowed = f.allowed;
-          rooms = f.rooms;
+          needs = f.needs;
           held = λ a ne. grind (arith, f.full form (inr ne));
           had = rw r (f.had form free enough);
           released = grind arith;
@@ -95,11 +97,11 @@ module _ {form : EncodingForm} {last : Bool} where
     call_full : {source : List ℕ} → may_hold s.grammar s.held ≡ true → IsCovered s → LacksRoom form s source last free
         → DecoderCall form s source last free s OutputFull 0 []
     call_full {source} m c lacks =
-        let never : (query : LengthQuery) → query_form query ≡ form → room query s (length source) ≤ free → OutputFull ≢ OutputFull =
+        let never : (query : LengthQuery) → query_form query ≡ form → total_need query s (length source) ≤ free → OutputFull ≢ OutputFull =
         λ query q enough e. grind (arith, c.covers query source last) in
         let enough : (query : LengthQuery) → query_form query ≡ form → (n k : ℕ) → length source ≤ n → query_answer query s n ≡ Some k → k ≤ free
         → OutputFull ≢ OutputFull =
-        λ query q n k le answered most. never query q (omega (arith, room-answer query s (length source) n k le answered)) in
+        λ query q n k le answered most. never query q (omega (arith, total_need-answer query s (length source) n k le answered)) in
         let none = stay false s source in
         grind (arith, All-nil, sub-zero, HadRooms-none)
 
@@ -108,29 +110,29 @@ module _ {form : EncodingForm} {last : Bool} where
         → DecoderCall form s [] last free s InputEmpty 0 []
     call_done m r events =
         let none = stay false s [] in
-        grind (arith, All-nil, sub-zero, HadRooms-none, room_needed-none)
+        grind (arith, All-nil, sub-zero, HadRooms-none, need_in-none)
 
     -- a malformed sequence is reported, after `n` more bytes
     call_malformed : {source : List ℕ} {next : DecoderState} {a b : ℕ} (n passed : ℕ) → n ≤ length source → may_hold next.grammar next.held ≡ true
         → IsMalformedSequence (passed + length next.held) next a b
         → Progress (may_report_end last (Malformed a b) (drop n source)) s source passed next (drop n source) (Bad (passed - a) a ∷ [])
-        → (LacksRoom form s source last free → ⊥) → malformed_room form s.grammar n ≤ free
+        → (LacksRoom form s source last free → ⊥) → malformed_need form s.grammar n ≤ free
         → ((query : LengthQuery) → query_form query ≡ form → (more : ℕ) → (IsTrue last → more ≡ 0)
-        → room query next (length (drop n source) + more) + replacement_units query ≤ room query s (length source + more))
+        → total_need query next (length (drop n source) + more) + replacement_units query ≤ total_need query s (length source + more))
         → DecoderCall form s source last free next (Malformed a b) n []
     call_malformed {source} {next} {a} {b} n passed within allowed f progress had room lowers =
         grind (arith, nat_tests, length-drop, All-nil, sub-zero, HadRooms-none)
 
     -- the next byte reveals a malformed sequence, and is read or not
     call_fed : {byte : ℕ} {rest : List ℕ} {next : DecoderState} {a b n : ℕ} (unread : Bool) → rests s.grammar s.held ≡ true
-        → Feeds s byte next (MalformedSequence a b unread) → n ≡ (if unread then 0 else 1) → read_room form s byte ≤ free
+        → Feeds s byte next (MalformedSequence a b unread) → n ≡ (if unread then 0 else 1) → read_need form s byte ≤ free
         → DecoderCall form s (byte ∷ rest) last free next (Malformed a b) n []
     call_fed {byte} {rest} {next} {a} {b} {n} unread r f read enough =
         let left_is : drop n (byte ∷ rest) ≡ unread_byte byte (MalformedSequence a b unread) ++ rest = grind arith in
         let full = f.full form (inl tt) in
-        let needs = room_needed-read form s byte rest last r in
-        let room : malformed_room form s.grammar n ≤ free = grind (arith, nat_tests) in
-        call_malformed n f.passed (grind arith) f.allowed f.holds (at_last (rw left_is (behind rest f.progress))) (grind arith) room
+        let needs = need_in-read form s byte rest last r in
+        let room : malformed_need form s.grammar n ≤ free = grind (arith, nat_tests) in
+        call_malformed n f.passed (grind arith) f.allowed f.holds (at_last (rw left_is (more_follows rest f.progress))) (grind arith) room
         (λ query q more z. grind (arith, f.lowers query (length rest + more), ap length left_is, length-append))
 
     -- the call ends at the next byte
@@ -138,21 +140,21 @@ module _ {form : EncodingForm} {last : Bool} where
         → may_hold s.grammar s.held ≡ true → EndsAt form free s byte next answer n → Ends form last s (byte ∷ rest) free next answer n
     call_ends InputEmpty r m ends = absurd ends
     call_ends {byte} {rest} OutputFull r m ends =
-        rw (ends.0, ends.1) (call_full m ends.3 (omega (arith, ends.2, room_needed-read form s byte rest last r)), inr refl)
+        rw (ends.0, ends.1) (call_full m ends.3 (omega (arith, ends.2, need_in-read form s byte rest last r)), inr refl)
     call_ends (Malformed a b) r m ends = (call_fed ends.0 r ends.1 ends.2 ends.3, inl tt)
 
     -- the held-back bytes are reported at the end of input
     call_report : {next : DecoderState} {a b : ℕ} → last ≡ true → rests s.grammar s.held ≡ true → events_of s.grammar s.held ≢ []
-        → release_room_in form s.grammar ≤ free → Reports s next a b → DecoderCall form s [] last free next (Malformed a b) 0 []
-    call_report {next} {a} {b} end r some enough f = grind (arith, call_malformed {source = []} {next = next} {a = a} {b = b} 0 f.passed, room_needed-report)
+        → release_need_in form s.grammar ≤ free → Reports s next a b → DecoderCall form s [] last free next (Malformed a b) 0 []
+    call_report {next} {a} {b} end r some enough f = grind (arith, call_malformed {source = []} {next = next} {a = a} {b = b} 0 f.passed, need_in-report)
 
     call_finish : {next : DecoderState} (answer : DecoderResult) → rests s.grammar s.held ≡ true → may_hold s.grammar s.held ≡ true
         → Finishes form s last free next answer → Ends form last s [] free next answer 0
-    call_finish answer h h1 h2 = grind (arith, call_done, call_full, room_needed-report, call_report)
+    call_finish answer h h1 h2 = grind (arith, call_done, call_full, need_in-report, call_report)
 
     pub call_full_release : {source : List ℕ} → IsCovered s → may_hold s.grammar s.held ≡ true → rests s.grammar s.held ≡ false
-        → free < release_room_in form s.grammar → DecoderCall form s source last free s OutputFull 0 []
-    call_full_release {source} c m r lacks = grind (arith, nat_tests, call_full, room_needed-release)
+        → free < release_need_in form s.grammar → DecoderCall form s source last free s OutputFull 0 []
+    call_full_release {source} c m r lacks = grind (arith, nat_tests, call_full, need_in-release)
 
   -- ---- what follows on a call in progress
 
@@ -175,10 +177,10 @@ module _ {form : EncodingForm} {last : Bool} where
           progress = rw (← drop-drop n read source, map-append Scalar scalars ds, ← shift-scalars a.passed ds) (after_that a.progress b.progress);
           resting = b.resting;
           allowed = b.allowed;
-          rooms = both_rooms _ _ _ a.rooms b.rooms;
-          held = λ h ne. omega (arith, b.held some ne, a.rooms.full form, units);
+          needs = both_needs _ _ _ a.needs b.needs;
+          held = λ h ne. omega (arith, b.held some ne, a.needs.full form, units);
           had = HadRooms-append form _ _ scalars ds a.released a.had
-              (HadRoom-same form _ now.grammar None _ ds a.rooms (rw (← left_is) (rw a.resting at b.had)));
+              (HadRoom-same form _ now.grammar None _ ds a.needs (rw (← left_is) (rw a.resting at b.had)));
           released = λ e z. grind (arith, nil_from_length, length-append, ap length z, a.released e);
           fits = omega arith;
           scalar = All-append IsScalar scalars ds a.scalar b.scalar;
@@ -195,10 +197,10 @@ module _ {form : EncodingForm} {last : Bool} where
         let seen : a.passed + (length now.held + n) ≡ length before.held + (read + n) = omega (arith, a.progress.counts, length-drop read source, a.within) in
         let reported : (shift a.passed (reported_events (length now.held + n) answer) ≡ reported_events (length before.held + (read + n)) answer)
         × HoldsBack (length before.held + (read + n)) next answer = grind (arith, c.malformed_sequence) in
-        let full = a.rooms.full form in
+        let full = a.needs.full form in
         let l = length-drop read source in
         let was_held : n ≤ 0 → IsMalformed answer → now.held ≢ [] = grind arith in
-        let suffices : (query : LengthQuery) → query_form query ≡ form → room query before (length source) ≤ free → answer ≢ OutputFull =
+        let suffices : (query : LengthQuery) → query_form query ≡ form → total_need query before (length source) ≤ free → answer ≢ OutputFull =
         λ query q enough. let k = a.lowers query q 0 in grind (arith, c.suffices query q) in
         record {
           within = omega arith;
@@ -211,16 +213,16 @@ module _ {form : EncodingForm} {last : Bool} where
           input_empty = λ e. grind (arith, c.input_empty e);
           output_full = λ e. rw (← drop-drop n read source) (omega (arith, c.output_full e));
           full_at_once = λ l. grind (arith, c.full_at_once (still l), a.once l);
-          room_after_malformed = λ m. grind (arith, nat_tests, c.room_after_malformed m, a.rooms.report form, was_held);
+          room_after_malformed = λ m. grind (arith, nat_tests, c.room_after_malformed m, a.needs.report form, was_held);
           room_held = λ p ne. grind (arith, nat_tests, c.room_held, was_held);
           had_room = a.had;
           lowers = λ query q more z. rw (← drop-drop n read source) (omega (arith, a.lowers query q more, c.lowers query q more z));
           suffices = suffices;
-          enough = λ query q n k le answered most. suffices query q (omega (arith, room-answer query before (length source) n k le answered));
+          enough = λ query q n k le answered most. suffices query q (omega (arith, total_need-answer query before (length source) n k le answered));
         }
 
     pub going_feed : {next : DecoderState} (fed : Fed) → read < length source → Feeds now (get_or source read 0) next fed → (RevealsMalformed fed → ⊥)
-        → read_room form now (get_or source read 0) ≤ left → Going form last before source free next (read + 1) (scalars ++ fed_scalars fed)
+        → read_need form now (get_or source read 0) ≤ left → Going form last before source free next (read + 1) (scalars ++ fed_scalars fed)
     going_feed fed h f sound enough = going_then (rw (drop_more source read 0 h) (fed_going fed a.resting f sound enough)) (omega arith)
 
     pub call_end : {next : DecoderState} {answer : DecoderResult} → read ≡ length source → Finishes form now last left next answer

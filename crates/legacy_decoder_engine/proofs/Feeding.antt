@@ -1,14 +1,14 @@
--- A machine that agrees with its grammar and keeps its rooms makes the moves that the loop requires.
+-- A machine that agrees with its grammar and keeps its needs makes the moves that the loop requires.
 use Rattle.std.{proofs.Common.{◌≡◌, ◌≢◌, ℕ, suc, List, [], ◌++◌, refl, ap, append-nil, length-append, true, ◌&&◌, Some, ◌∙◌}, specs.Char.{IsScalar, is_ascii}}
 use Rattle.std.proofs.{Common.{◌≤◌, ◌∷◌, length, arith, length-drop, drop_of_length-le, All, drop, false, ◌⊎◌, None}, Math.Seq.drop-length}
 use Rattle.std.proofs.lemmas.{List.{drop-append-le, nil_from_length, Elements.{All-nil, All-cons}}, Bool.Decides.nat_tests}
-use Rattle.{legacy_text.specs.EncodingForm.{EncodingForm, Utf8, Utf16, unit_count, total_unit_count, bmp_room}, legacy_tables.specs.Unicode.{IsByte, AreBytes}}
+use Rattle.{legacy_text.specs.EncodingForm.{EncodingForm, Utf8, Utf16, unit_count, total_unit_count, bmp_need}, legacy_tables.specs.Unicode.{IsByte, AreBytes}}
 use Rattle.legacy_base.specs.{States.{rests, may_hold, state_of}, declared.results.DecodeEvent.TheVariants.Scalar, Calls.Progress, Fronts.{reads, malformed}}
-use Rattle.legacy_base.specs.{Lengths.{LengthQuery, to_utf16, to_utf8, query_form, room}, Grammar.{Grammar, events_of}, DecoderActs.takes}
-use Rattle.legacy_base.{specs.DecoderActs.{has_marks, act_room, full_room, has_short_ascii, has_reported, full_room_in, HadRoom}, proofs.Rooms.release-full}
+use Rattle.legacy_base.specs.{Lengths.{LengthQuery, to_utf16, to_utf8, query_form, total_need}, Grammar.{Grammar, events_of}, DecoderActs.takes}
+use Rattle.legacy_base.{specs.DecoderActs.{has_marks, act_need, full_need, has_short_ascii, has_reported, full_need_in, HadRoom}, proofs.Needs.release-full}
 use Rattle.{legacy_base.proofs.GrammarLaws.{may_none, rests-none}, legacy_decoder_engine.specs.{Moves.{Feeds, fed_scalars, Reports}, Feeding.{fed_of, Took}}}
-use Rattle.legacy_decoder_engine.specs.{Moves.{IsCovered, read_room, Releases, FeedsMalformedByte}, Steps.{Step, step_held, step_length, StepMeets, finish}}
-use Rattle.legacy_decoder_engine.{specs.{Shown.IsShown, StatesAfterSteps.{IsOneOrMarked, Settles}}, proofs.{RoomMoves.all_needs, CallUnderWay.same_rooms}}
+use Rattle.legacy_decoder_engine.specs.{Moves.{IsCovered, read_need, Releases, FeedsMalformedByte}, Steps.{Step, step_held, step_length, StepMeets, finish}}
+use Rattle.legacy_decoder_engine.{specs.{Shown.IsShown, StatesAfterSteps.{IsOneOrMarked, Settles}}, proofs.{NeedMoves.all_needs, CallUnderWay.same_needs}}
 use Rattle.legacy_decoder_engine.specs.{Steps.DecoderMachine, StepUnits.{units, step_units}, declared.moves.Fed.{Fed, TheVariants.MalformedSequence}}
 
 -- the code units of scalars, counted one by one
@@ -16,13 +16,13 @@ pub units-total : (form : EncodingForm) (cs : List ℕ) → units (unit_count fo
 units-total form [] = refl
 units-total form (c ∷ cs) = grind (arith, nat_tests, length-append, units-total form cs)
 
--- a byte needs less than the full room only if it is ASCII and nothing is held back; then it is its own scalar
+-- a byte needs less than the full need only if it is ASCII and nothing is held back; then it is its own scalar
 module _ (narrow wide : ℕ) {g : Grammar} {m : DecoderMachine} (shown : IsShown g m) (b : ℕ) (unreported : has_reported g ≡ false) where
-  short_or_usual : (held : List ℕ) → (full_room narrow wide g ≤ act_room narrow wide (state_of g held) (takes b))
+  short_or_usual : (held : List ℕ) → (full_need narrow wide g ≤ act_need narrow wide (state_of g held) (takes b))
       ⊎ (((has_short_ascii g && is_ascii b) ≡ true) × (m.step held b ≡ finish (reads 1 (b ∷ []))))
   short_or_usual held = grind (arith, nat_tests)
 
-had_usual : (form : EncodingForm) (g : Grammar) (free : ℕ) (cs : List ℕ) → IsOneOrMarked (has_marks g) cs → full_room_in form g ≤ free
+had_usual : (form : EncodingForm) (g : Grammar) (free : ℕ) (cs : List ℕ) → IsOneOrMarked (has_marks g) cs → full_need_in form g ≤ free
     → HadRoom form g None free cs
 unfolding HadRoom
 had_usual form g free cs h h1 = grind (arith, nat_tests)
@@ -31,23 +31,23 @@ pub all_dropped : (n : ℕ) (held : List ℕ) (b : ℕ) → n ≡ suc (length he
 all_dropped n held b e = grind (arith, drop_of_length-le, length-append)
 
 module _ {g : Grammar} {m : DecoderMachine} (shown : IsShown g m) (held : List ℕ) (may : may_hold g held ≡ true) (bytes : AreBytes held) where
-  -- no next act needs more than the room of a query
+  -- no next act needs more than the total need of a query
   pub covered : IsCovered (state_of g held)
   covered = record {
-    covers = λ query. let rooms = shown.rooms query in
-        all_needs _ _ (room query (state_of g held)) g m shown.meets (rests-none g) held may (λ b n. rooms.reads_covered held b n may)
-        (λ n. rooms.holds_covered held n may);
+    covers = λ query. let needs = shown.needs query in
+        all_needs _ _ (total_need query (state_of g held)) g m shown.meets (rests-none g) held may (λ b n. needs.reads_covered held b n may)
+        (λ n. needs.holds_covered held n may);
   }
 
   module _ (b : ℕ) (byte : IsByte b) (resting : rests g held ≡ true) where
     facts : (s : Step) → m.step held b ≡ s → StepMeets g held b s (m.to held b) × Settles (m.to held b) held b s
     facts s e = rw (← e) (shown.meets.steps held b may resting, shown.settles held b may resting)
 
-    fits_step : (form : EncodingForm) (s : Step) → m.step held b ≡ s → step_units (unit_count form) (bmp_room form) s ≤ read_room form (state_of g held) b
-    fits_step Utf8 s e = rw e at ((shown.rooms to_utf8).step_fits held b may resting bytes byte)
-    fits_step Utf16 s e = rw e at ((shown.rooms to_utf16).step_fits held b may resting bytes byte)
+    fits_step : (form : EncodingForm) (s : Step) → m.step held b ≡ s → step_units (unit_count form) (bmp_need form) s ≤ read_need form (state_of g held) b
+    fits_step Utf8 s e = rw e at ((shown.needs to_utf8).step_fits held b may resting bytes byte)
+    fits_step Utf16 s e = rw e at ((shown.needs to_utf16).step_fits held b may resting bytes byte)
 
-    had_is : (form : EncodingForm) (free : ℕ) (s : Step) → m.step held b ≡ s → read_room form (state_of g held) b ≤ free
+    had_is : (form : EncodingForm) (free : ℕ) (s : Step) → m.step held b ≡ s → read_need form (state_of g held) b ≤ free
         → HadRoom form g None free (fed_scalars (fed_of s held b))
     unfolding HadRoom
     had_is form free (finish (reads n cs)) e le = grind (arith, short_or_usual, had_usual, facts)
@@ -58,10 +58,10 @@ module _ {g : Grammar} {m : DecoderMachine} (shown : IsShown g m) (held : List �
     step_feeds (finish (reads n (c ∷ d ∷ x ∷ cs))) e scalar = absurd (facts _ e).1.1
     step_feeds s e scalar = record {
       passed = step_length s;
-      progress = grind (arith, drop-append-le, facts s e, length-drop, append-nil, (shown.same_rooms held b).codec);
+      progress = grind (arith, drop-append-le, facts s e, length-drop, append-nil, (shown.same_needs held b).codec);
       holds = grind (arith, facts s e, all_dropped, rests-none);
       allowed = (facts s e).0.allowed;
-      rooms = shown.same_rooms held b;
+      needs = shown.same_needs held b;
       empties = grind (arith, facts s e, all_dropped);
       report = λ form. release-full form g;
       full = λ form h. grind (arith, nat_tests, all_dropped, facts s e);
@@ -69,7 +69,7 @@ module _ {g : Grammar} {m : DecoderMachine} (shown : IsShown g m) (held : List �
       had = λ form free. had_is form free s e;
       scalar = scalar;
       lowers = λ query n.
-          let pays = rw e at ((shown.rooms query).step_pays held b n may resting bytes byte) in
+          let pays = rw e at ((shown.needs query).step_pays held b n may resting bytes byte) in
           omega (arith, pays, units-total (query_form query) (fed_scalars (fed_of s held b)));
     }
 
@@ -79,8 +79,8 @@ module _ {g : Grammar} {m : DecoderMachine} (shown : IsShown g m) (held : List �
   pub releases : (n c : ℕ) → rests g held ≡ false → m.pending held ≡ Some (n, c) → IsScalar c → Releases (state_of g held) (state_of g (drop n held)) c
   releases n c r e scalar =
       let progress : Progress false (state_of g held) [] n (state_of g (drop n held)) [] (Scalar c ∷ []) = grind (arith, append-nil) in
-      let pays = λ (query : LengthQuery). rw e at ((shown.rooms query).write_pays held may r bytes) in
-      grind (arith, same_rooms, pays to_utf8, pays to_utf16, pays)
+      let pays = λ (query : LengthQuery). rw e at ((shown.needs query).write_pays held may r bytes) in
+      grind (arith, same_needs, pays to_utf8, pays to_utf16, pays)
 
   pub reports_all : rests g held ≡ true → held ≢ [] → Reports (state_of g held) (state_of g []) (length held) 0
   reports_all r some = by_held held may r some where
@@ -99,7 +99,7 @@ module _ {g : Grammar} {m : DecoderMachine} (shown : IsShown g m) (held : List �
           };
           holds = grind (arith, shown.meets.few (x ∷ xs) m);
           allowed = may_none g;
-          lowers = λ query. (shown.rooms query).report_pays x xs m r';
+          lowers = λ query. (shown.needs query).report_pays x xs m r';
         }
 
   -- at the end of input there is nothing to report if no bytes are held back

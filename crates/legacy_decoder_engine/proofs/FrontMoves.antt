@@ -24,9 +24,9 @@ fits_trail front may held scalars t h h1 h2 = grind (arith, drop_of_length-le, l
 
 module _ (g : Grammar) (front : ℕ → List ℕ → Front) (ev_is : (bytes : List ℕ) → events_of g bytes ≡ cut front 0 0 bytes) where
   -- the events of the front, and then those of the bytes after it
-  ev_front : (bytes behind : List ℕ) (f : Front) → HasFront front bytes f → 0 < front_length f → drop (front_length f) bytes ≡ behind →
-      events_of g bytes ≡ front_events 0 f ++ shift (front_length f) (events_of g behind)
-  ev_front bytes behind f h pos e = rw (ev_is bytes, ev_is behind) (grind (arith, cut-front))
+  ev_front : (bytes after : List ℕ) (f : Front) → HasFront front bytes f → 0 < front_length f → drop (front_length f) bytes ≡ after →
+      events_of g bytes ≡ front_events 0 f ++ shift (front_length f) (events_of g after)
+  ev_front bytes after f h pos e = rw (ev_is bytes, ev_is after) (grind (arith, cut-front))
 
   -- if the events of a list begin with a malformed sequence of n bytes, its front is that sequence
   front_reported : (b : ℕ) (rest : List ℕ) (n : ℕ) (f : Front) → front b rest ≡ f → 0 < front_length f

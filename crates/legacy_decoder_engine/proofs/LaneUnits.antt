@@ -2,14 +2,14 @@
 use Rattle.std.proofs.Common.{◌≡◌, ◌≢◌, ◌∙◌, ℕ, zero, suc, ◌+◌, ◌-◌, ◌*◌, ◌%◌, ◌^◌, ◌<◌, ◌≤◌, cond, ltb, leb, eqb, All, List, [], ◌∷◌, ◌++◌, length, get_or}
 use Rattle.std.proofs.Common.{map, take, drop, replicate, bit_and, bit_or, refl, sym, ap, arith, w8, w16, Fits, append-nil, length-append}
 use Rattle.std.proofs.lemmas.{Bool.{cases_lt, Decides.nat_tests}, Nat.and_mask, Grind.flat_map-append, List.Sums.{sum_by-append, count_by-le-length}}
-use Rattle.std.proofs.lemmas.List.{take-take, take-append-drop, take-append-le, take_more, length-take, length-take-le, length-drop, length-map}
+use Rattle.std.proofs.lemmas.List.{take_rest, take-take, take-append-drop, take-append-le, take_more, length-take, length-take-le, length-drop, length-map}
 use Rattle.std.proofs.lemmas.List.{get_or-take, get_or-drop, get_or-map, Folds.sum_by-replicate, Elements.All-from_get_or}
 use Rattle.std.proofs.lemmas.Simd.{tops_compared, zip2_splat, get_or-sel_l, bitmask_splat, bit_mask_l, ones-mask_l, length-chunk, chunk-drop}
 use Rattle.std.proofs.{lemmas.Simd.{get_or-chunk, get_or-put_chunk_below, get_or-put_chunk_at}, Math.Seq.{take-append_seam, take-add}}
 use Rattle.std.specs.{Char.IsScalar, Int.bit_at, Int.RustNames.count_ones}
 use Rattle.legacy_text.specs.{declared.destination.Destination.Ghosts, EncodingForm.{EncodingForm, all_code_units, total_unit_count}}
 use Rattle.{legacy_base.specs.{Grammar.Grammar, States.new_state}, legacy_decoder_engine.proofs.{LanePlaces.mask_if, JoinedReads.reads_written}}
-use Rattle.legacy_decoder_engine.proofs.WrittenReads.{rest_of, yields_none, yields_more, writes_then, all_short}
+use Rattle.legacy_decoder_engine.proofs.WrittenReads.{yields_none, yields_more, writes_then, all_short}
 use Rattle.legacy_decoder_engine.specs.LaneCodes.{ascii_count, unit_at, ArePairs, ArePlaces, AreLanes, IsLane, IsForm, AreForms, AreWritten}
 use Rattle.legacy_decoder_engine.specs.{ReadAhead.{HasAscii, Yields, ReadsAhead}, PickedForms.{form_of, forms_of}}
 use lib.Lanes.{Each1, zip2, sel_l, top, mask_l, chunk, put_chunk, number_l, digits_l}
@@ -122,7 +122,7 @@ module _ (g : Grammar) (pointer : ℕ → ℕ) (last at most : ℕ) (codes kept 
     (lanes : AreLanes pointer last most codes kept places)
     (forms : AreForms g pointer (take (length kept - at) (drop at kept)) (take (length places - at) (drop at places)) us) where
   forms_there : AreForms g pointer (drop at kept) (drop at places) us
-  forms_there = rw (rest_of kept at, rest_of places at) at forms
+  forms_there = rw (take_rest kept at, take_rest places at) at forms
 
   lanes_there : AreLanes pointer last 8 (drop at codes) (drop at kept) (drop at places)
   lanes_there k h = rw (get_or-drop at codes k 0, get_or-drop at kept k 0, get_or-drop at places k 0) (lanes (at + k) (omega arith))

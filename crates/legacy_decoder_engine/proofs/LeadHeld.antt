@@ -1,6 +1,6 @@
 -- The moves of a decoder with leads, by the lead that it holds back.
 use Rattle.legacy_base.specs.{States.{state_of, may_hold}, Grammar.{Grammar, events_of}}
-use Rattle.legacy_decoder_engine.proofs.{CallUnderWay.same_rooms, WrittenReads.writes_none, YieldedForms.{has_ascii, pair_yields, ascii_is}}
+use Rattle.legacy_decoder_engine.proofs.{CallUnderWay.same_needs, WrittenReads.writes_none, YieldedForms.{has_ascii, pair_yields, ascii_is}}
 use Rattle.legacy_decoder_engine.specs.{declared.moves.Fed.Fed, ReadAhead.{Yields, HasAscii}, Moves.{IsCovered, Feeds, Reports}, Steps.Step, Feeding.Took}
 use Rattle.legacy_decoder_engine.specs.{Shown.IsShown, LeadMachines.{two_byte_machine, two_byte_step}, LeadCodecs.{IsLeadCodec, held_bytes, lead_state}}
 use Rattle.legacy_tables.specs.{Unicode.{IsByte, AreBytes}, AcceptedTables.AcceptedIndexes, Indexes.FlatIndexes}
@@ -48,4 +48,4 @@ module _ {L : Type 0} {grammar : FlatIndexes → Grammar} {is_lead_byte : ℕ �
   pub reports : (lead : L) → Reports (lead_state grammar byte tables (Some lead)) (lead_state grammar byte tables None) 1 0
   reports lead = feeding.reports_all shown _ (may (Some lead)) (are_bytes (Some lead)) (is.rests_is tables.flat _) (λ e. cc)
 
-pub ruleset moves = (covered, feeds, ends_none, ends_some, reports, same_rooms, writes_none)
+pub ruleset moves = (covered, feeds, ends_none, ends_some, reports, same_needs, writes_none)

@@ -12,7 +12,7 @@ pub mod OneByteShown
 pub mod CommonPairs
 pub mod PairPlaces
 pub mod Widths
-pub mod RoomMoves
+pub mod NeedMoves
 pub mod SettledSteps
 pub mod TwoByteCosts
 pub mod TwoByteMeets

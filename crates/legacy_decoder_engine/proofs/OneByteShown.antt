@@ -2,7 +2,7 @@
 use Rattle.std.proofs.Common.{◌≤◌, length, true, ◌≡◌, ℕ, ◌<◌, List, [], ◌∷◌, Bool, cond, Option, option_to_list, ap, arith}
 use Rattle.std.{proofs.lemmas.Bool.{cond_both, false≢true, ltb-true}, specs.{Char.is_ascii, Option.IfSome}}
 use Rattle.legacy_decoder_engine.{specs.{Steps.{ReportMeets, Step, finish, no_pending, DecoderMachine, Meets}, Shown.IsShown}, proofs.SettledSteps.one_option}
-use Rattle.legacy_decoder_engine.proofs.{SettledSteps.or_settles, CallUnderWay.same_rooms, FrontMoves.fits_meets, RoomMoves.{HasCosts, sloped_rooms}}
+use Rattle.legacy_decoder_engine.proofs.{SettledSteps.or_settles, CallUnderWay.same_needs, FrontMoves.fits_meets, NeedMoves.{HasCosts, sloped_needs}}
 use Rattle.{legacy_tables.specs.Unicode.IsByte, legacy_base.{specs.Fronts.{Front, reads, malformed, reads_or, cut}, proofs.Cuts.cut-nil}}
 use Rattle.legacy_base.specs.{Grammar.{Grammar, profile, events_of}, States.may_hold, Profile.{Profile, byte_profile, is_empty, weightless}}
 
@@ -42,4 +42,4 @@ module _ (g : Grammar) (front : ℕ → List ℕ → Front) (found : ℕ → Opt
   costs = grind (arith, may_is, false≢true, cond_both, ltb-true)
 
   pub one_byte_shown : IsShown g machine
-  one_byte_shown = grind (arith, sloped_rooms, meets, costs, false≢true, may_is, cond_both, or_settles, one_option, same_rooms)
+  one_byte_shown = grind (arith, sloped_needs, meets, costs, false≢true, may_is, cond_both, or_settles, one_option, same_needs)

@@ -1,11 +1,11 @@
 -- The code units of scalars in UTF-8 and UTF-16, and the scalars of indexes.
 use Rattle.std.proofs.Common.{◌≡◌, [], ◌∷◌, ℕ, ◌<◌, ◌≤◌, List, get_or, Option, arith, option_to_list}
 use Rattle.std.proofs.lemmas.{Bool.{cases_lt, Decides.nat_tests}, List.{Elements.All-get_or, get_or_past}}
-use Rattle.{legacy_text.specs.EncodingForm.{EncodingForm, unit_count, bmp_room, wide_room}, legacy_tables.specs.Indexes.idx}
+use Rattle.{legacy_text.specs.EncodingForm.{EncodingForm, unit_count, bmp_need, wide_need}, legacy_tables.specs.Indexes.idx}
 use Rattle.legacy_text.proofs.CodeUnits.{encode_2, length-code_units-ascii, length-code_units-bmp, length-code_units-wide}
 use Rattle.legacy_decoder_engine.specs.StepUnits.{units, IsWidth, IsNarrowIndex}
 
-pub width_of : (form : EncodingForm) → IsWidth (unit_count form) (bmp_room form) (wide_room form)
+pub width_of : (form : EncodingForm) → IsWidth (unit_count form) (bmp_need form) (wide_need form)
 width_of form = grind (arith, length-code_units-ascii, length-code_units-bmp, length-code_units-wide, encode_2, cases_lt)
 
 narrow_entry : (index : List ℕ) (p : ℕ) → IsNarrowIndex index → get_or index p 0 < 0x1_0000

@@ -1,12 +1,13 @@
 -- Laws of the bytes that are read ahead and of the scalars written for them.
 use Rattle.std.proofs.Common.{add-zero, ◌≡◌, ℕ, ◌<◌, [], ◌∷◌, ◌++◌, length, take, drop, get_or, refl, sym, arith, suc, ◌+◌, ◌-◌, ◌*◌, ◌≤◌, List, append_assoc}
-use Rattle.std.proofs.{Common.{append-nil, length-append, IsAscii}, lemmas.List.{map-append, take_more, take_all, length-drop, Elements.{All-append, All-nil}}}
+use Rattle.std.proofs.Common.{append-nil, length-append, IsAscii}
+use Rattle.std.proofs.lemmas.List.{take_rest, map-append, take_more, length-drop, Elements.{All-append, All-nil}}
 use Rattle.std.{proofs.Math.Seq.take-add, specs.Char.IsScalar}
-use Rattle.legacy_text.specs.{EncodingForm.{EncodingForm, code_units, all_code_units, bmp_room, total_unit_count}, declared.destination.Destination.Ghosts}
+use Rattle.legacy_text.specs.{EncodingForm.{EncodingForm, code_units, all_code_units, bmp_need, total_unit_count}, declared.destination.Destination.Ghosts}
 use Rattle.legacy_text.proofs.CodeUnits.{all_code_units-append, total_unit_count-append, code_units_ascii, length-code_units-bmp, length-code_units-wide}
 use Rattle.legacy_base.specs.{Grammar.Grammar, States.DecoderState}
 use Rattle.legacy_base.proofs.{Shifts.{shift-append, shift-zero, shift-shift, shift-scalars}, SameUnits.some_unit}
-use Rattle.legacy_decoder_engine.{specs.ReadAhead.{HasAscii, YieldsTo, Yields, WritesTo, Writes, ReadsAhead}, proofs.CallUnderWay.same_rooms}
+use Rattle.legacy_decoder_engine.{specs.ReadAhead.{HasAscii, YieldsTo, Yields, WritesTo, Writes, ReadsAhead}, proofs.CallUnderWay.same_needs}
 
 pub yields_none : (g : Grammar) → Yields g [] []
 yields_none g = grind (arith, shift-zero, All-nil, add-zero)
@@ -45,7 +46,7 @@ all_short form (c ∷ cs) small = grind (arith, length-append, short form c (sma
 pub three_fit : (form : EncodingForm) (c room : ℕ) → c < 65536 → 3 ≤ room → length (code_units form c) ≤ room
 three_fit form c room h k = omega (arith, short form c h)
 
-pub one_unit : (form : EncodingForm) (c : ℕ) → bmp_room form ≡ 1 → c < 65536 → length (code_units form c) ≡ 1
+pub one_unit : (form : EncodingForm) (c : ℕ) → bmp_need form ≡ 1 → c < 65536 → length (code_units form c) ≡ 1
 one_unit form c room h = omega (arith, length-code_units-bmp form c h, some_unit form c)
 
 pub take_two : (src : List ℕ) (at : ℕ) → at + 1 < length src → take (at + 2) src ≡ take at src ++ get_or src at 0 ∷ get_or src (at + 1) 0 ∷ []
@@ -56,15 +57,12 @@ take_four : (src : List ℕ) (at : ℕ) → at + 3 < length src
 take_four src at h = grind (arith, take_two src (at + 2), take_two src at, append_assoc)
 
 -- the rest of a source, as the code takes it
-pub rest_of : (source : List ℕ) (at : ℕ) → take (length source - at) (drop at source) ≡ drop at source
-rest_of source at = take_all _ (drop at source) (omega (arith, length-drop at source))
-
 module _ {D : Type 0} (T : Ghosts D) where
   pub writes_none : (g : Grammar) (old : D) → Writes T g [] old old
   writes_none g old = record { scalars = []; yields = yields_none g; written = sym (append-nil (T.contents old)); room = add-zero (T.room old); loan = refl }
 
   pub reads_none : (state : DecoderState) (source : List ℕ) (old : D) → ReadsAhead T state source 0 old old
-  reads_none state source old = grind (arith, same_rooms, writes_none)
+  reads_none state source old = grind (arith, same_needs, writes_none)
 
   pub writes_then : {g h k : Grammar} {xs ys : List ℕ} {x y z : D} → WritesTo T g h xs x y → WritesTo T h k ys y z → WritesTo T g k (xs ++ ys) x z
   writes_then {g} {h} {k} {xs} {ys} a b =
@@ -96,12 +94,12 @@ module _ {D : Type 0} (T : Ghosts D) where
 
     pub writes_next : (src : List ℕ) (at r : ℕ) → Writes T g (take at src) x y → Writes T g (take r (take (length src - at) (drop at src))) y z
         → Writes T g (take (at + r) src) x z
-    writes_next src at r a b = grind (arith, take-add, writes_then, rest_of)
+    writes_next src at r a b = grind (arith, take-add, writes_then, take_rest)
 
   pub writes_ascii : (g : Grammar) (old new : D) (bytes : List ℕ) → HasAscii g → IsAscii bytes → T.contents new ≡ T.contents old ++ bytes
       → T.room new + length bytes ≡ T.room old → T.loan new ≡ T.loan old → Writes T g bytes old new
   writes_ascii g old new bytes law ascii contents room loan = grind (arith, all_code_units_ascii, yields_ascii g law bytes ascii)
 
-pub ruleset no_bytes = (same_rooms, writes_none)
+pub ruleset no_bytes = (same_needs, writes_none)
 
 pub ruleset one_by_one = (writes_none, writes_one, writes_two, three_fit, short)

@@ -5,7 +5,7 @@ use Rattle.std.specs.Char.{IsScalar, is_ascii}
 use Rattle.legacy_tables.specs.Unicode.{IsByte, AreBytes}
 use Rattle.legacy_text.specs.EncodingForm.{total_unit_count}
 use Rattle.legacy_base.specs.{declared.results.DecodeEvent.TheVariants.Scalar, Events.shift, Fronts.reads, Grammar.{Grammar, events_of}, States.rests}
-use Rattle.legacy_base.specs.{States.{may_hold, state_of}, Lengths.{LengthQuery, query_form, room}}
+use Rattle.legacy_base.specs.{States.{may_hold, state_of}, Lengths.{LengthQuery, query_form, total_need}}
 use Rattle.legacy_base.proofs.GrammarLaws.{may_none, rests-none}
 use Rattle.legacy_decoder_engine.specs.{ReadAhead.{Yields, HasAscii}, Shown.IsShown, Steps.{hold, finish, DecoderMachine}}
 use Rattle.legacy_decoder_engine.proofs.Feeding.{units-total, all_dropped}
@@ -21,15 +21,15 @@ Leads g m held b (next ∷ rest) c =
     × Leads g m (held ++ b ∷ []) next rest c
 
 module _ {g : Grammar} {m : DecoderMachine} (shown : IsShown g m) where
-  -- the events of such bytes, and the room that they save
+  -- the events of such bytes, and the need that they save
   leads : (held : List ℕ) (b : ℕ) (rest : List ℕ) (c : ℕ) → may_hold g held ≡ true → rests g held ≡ true → AreBytes held → Leads g m held b rest c
       → ((more : List ℕ) → events_of g (held ++ (b ∷ rest ++ more)) ≡ Scalar c ∷ shift (length held + length (b ∷ rest)) (events_of g more))
       × ((query : LengthQuery) (n : ℕ)
-      → room query (state_of g []) n + total_unit_count (query_form query) (c ∷ []) ≤ room query (state_of g held) (n + length (b ∷ rest)))
+      → total_need query (state_of g []) n + total_unit_count (query_form query) (c ∷ []) ≤ total_need query (state_of g held) (n + length (b ∷ rest)))
   leads held b [] c may resting bytes l = (
     λ more. grind (arith, all_dropped),
     λ query n.
-        let pays = rw (l.1, l.2, all_dropped (suc (length held)) held b refl, add-zero n) at ((shown.rooms query).step_pays held b n may resting bytes l.0) in
+        let pays = rw (l.1, l.2, all_dropped (suc (length held)) held b refl, add-zero n) at ((shown.needs query).step_pays held b n may resting bytes l.0) in
         omega (arith, pays, units-total (query_form query) (c ∷ [])),
   )
   leads held b (next ∷ rest) c may resting bytes l =
@@ -39,7 +39,7 @@ module _ {g : Grammar} {m : DecoderMachine} (shown : IsShown g m) where
             cc (append_assoc held (b ∷ []) (next ∷ rest ++ more), later.0 more),
         λ query n.
             let k = n + length (next ∷ rest) in
-            let pays = rw (l.1, l.2, add-zero k) at ((shown.rooms query).step_pays held b k may resting bytes l.0) in
+            let pays = rw (l.1, l.2, add-zero k) at ((shown.needs query).step_pays held b k may resting bytes l.0) in
             let e : n + length (b ∷ next ∷ rest) ≡ k + 1 = omega arith in
             rw e (omega arith),
       )

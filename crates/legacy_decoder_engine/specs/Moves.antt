@@ -2,28 +2,29 @@
 use Rattle.std.specs.Prelude.{◌≡◌, ◌≢◌, ℕ, ◌+◌, ◌-◌, ◌<◌, ◌≤◌, List, [], ◌∷◌, ◌++◌, length, map, true, false, IsTrue, Bool, Option, None, ◌⊎◌, All}
 use Rattle.std.specs.{Prelude.{if◌then◌else◌, get_or}, Char.IsScalar}
 use Rattle.legacy_base.specs.declared.results.DecoderResult.{TheVariants.{InputEmpty, OutputFull, Malformed}, DecoderResult}
-use Rattle.legacy_base.specs.{declared.results.DecodeEvent.{DecodeEvent, TheVariants.{Scalar, Bad}}, Lengths.{LengthQuery, query_form, replacement_units, room}}
+use Rattle.legacy_base.specs.declared.results.DecodeEvent.{DecodeEvent, TheVariants.{Scalar, Bad}}
+use Rattle.legacy_base.specs.Lengths.{LengthQuery, query_form, replacement_units, total_need}
 use Rattle.legacy_base.specs.{States.{DecoderState, may_hold, rests}, Grammar.{Grammar, as_new, events_of}, Calls.{Progress, IsMalformedSequence}}
-use Rattle.legacy_base.specs.DecoderActs.{act_room, full_room_in, release_room_in, room_needed, wants_full_room, HadRoom}
-use Rattle.legacy_text.specs.{EncodingForm.{EncodingForm, unit_count, all_code_units, total_unit_count, bmp_room}, declared.destination.Destination.Ghosts}
-use Rattle.{legacy_text.specs.EncodingForm.wide_room, legacy_decoder_engine.specs.declared.moves.Fed.{TheVariants.{Nothing, One, Two, MalformedSequence}, Fed}}
-use Rattle.legacy_decoder_engine.specs.declared.moves.Room.{Room, TheVariants.{Narrow, Wide, Nothing as NoRoom, Unit as OneUnit}}
+use Rattle.legacy_base.specs.DecoderActs.{act_need, full_need_in, release_need_in, need_in, wants_full_need, HadRoom}
+use Rattle.legacy_text.specs.{EncodingForm.{EncodingForm, unit_count, all_code_units, total_unit_count, bmp_need}, declared.destination.Destination.Ghosts}
+use Rattle.{legacy_text.specs.EncodingForm.wide_need, legacy_decoder_engine.specs.declared.moves.Fed.{TheVariants.{Nothing, One, Two, MalformedSequence}, Fed}}
+use Rattle.legacy_decoder_engine.specs.declared.moves.Need.{Need, TheVariants.{Narrow, Wide, Nothing as NoNeed, Unit as OneUnit}}
 use Rattle.legacy_base.specs.DecoderActs as acts
 
--- the number of code units of an amount of room
-abbrev pub room_units : EncodingForm → Room → ℕ
-room_units form NoRoom = 0
-room_units form OneUnit = 1
-room_units form Narrow = bmp_room form
-room_units form Wide = wide_room form
+-- the number of code units of a need
+abbrev pub need_units : EncodingForm → Need → ℕ
+need_units form NoNeed = 0
+need_units form OneUnit = 1
+need_units form Narrow = bmp_need form
+need_units form Wide = wide_need form
 
--- the room for reading a byte
-abbrev pub read_room : EncodingForm → DecoderState → ℕ → ℕ
-read_room form state byte = act_room (bmp_room form) (wide_room form) state (acts.takes byte)
+-- the need of reading a byte
+abbrev pub read_need : EncodingForm → DecoderState → ℕ → ℕ
+read_need form state byte = act_need (bmp_need form) (wide_need form) state (acts.takes byte)
 
--- the room of a length query is enough for the next act
+-- the total need of a length query is enough for the next act
 pub record IsCovered (state : DecoderState) : Type 0 where
-  pub covers : (query : LengthQuery) (unread : List ℕ) (last : Bool) → room_needed (query_form query) state unread last ≤ room query state (length unread)
+  pub covers : (query : LengthQuery) (unread : List ℕ) (last : Bool) → need_in (query_form query) state unread last ≤ total_need query state (length unread)
 
 -- ---- reading a byte
 
@@ -59,12 +60,12 @@ abbrev pub RevealsMalformed : Fed → Type 0
 RevealsMalformed (MalformedSequence sequence back unread) = Unit {0}
 RevealsMalformed fed = ⊥
 
--- two grammars are of the same codec, and need the same room for the same scalars
-pub record SameRooms (before after : Grammar) : Type 0 where
+-- two grammars are of the same codec, and have the same needs for the same scalars
+pub record SameNeeds (before after : Grammar) : Type 0 where
   pub codec : as_new after ≡ as_new before
-  pub full : (form : EncodingForm) → full_room_in form after ≡ full_room_in form before
-  pub report : (form : EncodingForm) → release_room_in form after ≡ release_room_in form before
-  pub wants : (previous : Option ℕ) (c : ℕ) → wants_full_room after previous c ≡ wants_full_room before previous c
+  pub full : (form : EncodingForm) → full_need_in form after ≡ full_need_in form before
+  pub report : (form : EncodingForm) → release_need_in form after ≡ release_need_in form before
+  pub wants : (previous : Option ℕ) (c : ℕ) → wants_full_need after previous c ≡ wants_full_need before previous c
 
 -- the result of reading a byte if no held-back scalar is to be written
 pub record Feeds (before : DecoderState) (byte : ℕ) (after : DecoderState) (fed : Fed) : Type 0 where
@@ -73,19 +74,19 @@ pub record Feeds (before : DecoderState) (byte : ℕ) (after : DecoderState) (fe
   pub progress : Progress false before (byte ∷ []) passed after (unread_byte byte fed) (map Scalar (fed_scalars fed) ++ fed_malformed passed fed)
   pub holds : FedHolds passed after fed
   pub allowed : may_hold after.grammar after.held ≡ true
-  pub rooms : SameRooms before.grammar after.grammar
+  pub needs : SameNeeds before.grammar after.grammar
   -- a byte that gives a scalar leaves nothing held back
   pub empties : fed_scalars fed ≢ [] → after.held ≡ []
-  -- a malformed sequence and a held-back byte need the full room, and a report needs no more
-  pub report : (form : EncodingForm) → release_room_in form before.grammar ≤ full_room_in form before.grammar
-  pub full : (form : EncodingForm) → (RevealsMalformed fed ⊎ (after.held ≢ [])) → full_room_in form before.grammar ≤ read_room form before byte
-  -- the scalars fit into the room for reading the byte, and have the room that they need
-  pub fits : (form : EncodingForm) → total_unit_count form (fed_scalars fed) ≤ read_room form before byte
-  pub had : (form : EncodingForm) (free : ℕ) → read_room form before byte ≤ free → HadRoom form before.grammar None free (fed_scalars fed)
+  -- a malformed sequence and a held-back byte have the full need, and a report needs no more
+  pub report : (form : EncodingForm) → release_need_in form before.grammar ≤ full_need_in form before.grammar
+  pub full : (form : EncodingForm) → (RevealsMalformed fed ⊎ (after.held ≢ [])) → full_need_in form before.grammar ≤ read_need form before byte
+  -- the scalars have at most the code units that reading the byte needs, and had room
+  pub fits : (form : EncodingForm) → total_unit_count form (fed_scalars fed) ≤ read_need form before byte
+  pub had : (form : EncodingForm) (free : ℕ) → read_need form before byte ≤ free → HadRoom form before.grammar None free (fed_scalars fed)
   pub scalar : All IsScalar (fed_scalars fed)
-  -- the room still needed falls by what is written
-  pub lowers : (query : LengthQuery) (n : ℕ) → room query after (n + length (unread_byte byte fed)) +
-      (total_unit_count (query_form query) (fed_scalars fed) + fed_units query fed) ≤ room query before (n + 1)
+  -- the total need falls by what is written
+  pub lowers : (query : LengthQuery) (n : ℕ) → total_need query after (n + length (unread_byte byte fed)) +
+      (total_unit_count (query_form query) (fed_scalars fed) + fed_units query fed) ≤ total_need query before (n + 1)
 
 -- a byte that is malformed by itself if nothing is held back, whatever bytes follow; it leaves the state unchanged
 abbrev pub FeedsMalformedByte : DecoderState → ℕ → Type 0
@@ -99,14 +100,14 @@ HasMalformedByte state source at = (at < length source) × FeedsMalformedByte st
 unfoldable pub HoldsBytes : EncodingForm → ℕ → DecoderState → List ℕ → DecoderState → Type 0
 HoldsBytes form free before [] after = after ≡ before
 HoldsBytes form free before (byte ∷ bytes) after =
-    (mid : DecoderState) × Feeds before byte mid Nothing × (read_room form before byte ≤ free) × HoldsBytes form free mid bytes after
+    (mid : DecoderState) × Feeds before byte mid Nothing × (read_need form before byte ≤ free) × HoldsBytes form free mid bytes after
 
 -- a byte that was read within a call, with what it gave written
 pub record WritesFed {D : Type 0} (T : Ghosts D) (before : DecoderState) (byte : ℕ) (after : DecoderState) (old new : D) : Type 0 where
   pub fed : Fed
   pub feeds : Feeds before byte after fed
   pub sound : RevealsMalformed fed → ⊥
-  pub enough : read_room T.form before byte ≤ T.room old
+  pub enough : read_need T.form before byte ≤ T.room old
   pub written : T.contents new ≡ T.contents old ++ all_code_units T.form (fed_scalars fed)
   pub room : T.room new + total_unit_count T.form (fed_scalars fed) ≡ T.room old
   pub loan : T.loan new ≡ T.loan old
@@ -116,10 +117,10 @@ pub record WritesFed {D : Type 0} (T : Ghosts D) (before : DecoderState) (byte :
 abbrev pub EndsAt : EncodingForm → ℕ → DecoderState → ℕ → DecoderState → DecoderResult → ℕ → Type 0
 EndsAt form free before byte after InputEmpty read = ⊥
 EndsAt form free before byte after OutputFull read =
-    (after ≡ before) × (read ≡ 0) × (free < read_room form before byte) × IsCovered before
+    (after ≡ before) × (read ≡ 0) × (free < read_need form before byte) × IsCovered before
 EndsAt form free before byte after (Malformed sequence back) read =
     (unread : Bool) × Feeds before byte after (MalformedSequence sequence back unread) × (read ≡ (if unread then 0 else 1))
-    × (read_room form before byte ≤ free)
+    × (read_need form before byte ≤ free)
 
 -- ---- writing a held-back scalar
 
@@ -129,10 +130,10 @@ pub record Releases (before : DecoderState) (after : DecoderState) (c : ℕ) : T
   pub progress : Progress false before [] passed after [] (Scalar c ∷ [])
   pub resting : IsTrue (rests after.grammar after.held)
   pub allowed : may_hold after.grammar after.held ≡ true
-  pub rooms : SameRooms before.grammar after.grammar
-  pub fits : (form : EncodingForm) → unit_count form c ≤ release_room_in form before.grammar
+  pub needs : SameNeeds before.grammar after.grammar
+  pub fits : (form : EncodingForm) → unit_count form c ≤ release_need_in form before.grammar
   pub scalar : IsScalar c
-  pub lowers : (query : LengthQuery) (n : ℕ) → room query after n + unit_count (query_form query) c ≤ room query before n
+  pub lowers : (query : LengthQuery) (n : ℕ) → total_need query after n + unit_count (query_form query) c ≤ total_need query before n
 
 -- ---- the end of input
 
@@ -144,7 +145,7 @@ pub record Reports (before : DecoderState) (after : DecoderState) (sequence back
   pub progress : Progress true before [] passed after [] (Bad (passed - sequence) sequence ∷ [])
   pub holds : IsMalformedSequence (passed + length after.held) after sequence back
   pub allowed : may_hold after.grammar after.held ≡ true
-  pub lowers : (query : LengthQuery) → room query after 0 + replacement_units query ≤ room query before 0
+  pub lowers : (query : LengthQuery) → total_need query after 0 + replacement_units query ≤ total_need query before 0
 
 -- ---- the end of a call
 
@@ -153,6 +154,6 @@ pub record Reports (before : DecoderState) (after : DecoderState) (sequence back
 abbrev pub Finishes : EncodingForm → DecoderState → Bool → ℕ → DecoderState → DecoderResult → Type 0
 Finishes form before last free after InputEmpty = (after ≡ before) × (IsTrue last → events_of before.grammar before.held ≡ [])
 Finishes form before last free after OutputFull =
-    (after ≡ before) × (last ≡ true) × (events_of before.grammar before.held ≢ []) × (free < release_room_in form before.grammar) × IsCovered before
+    (after ≡ before) × (last ≡ true) × (events_of before.grammar before.held ≢ []) × (free < release_need_in form before.grammar) × IsCovered before
 Finishes form before last free after (Malformed length back) =
-    (last ≡ true) × (events_of before.grammar before.held ≢ []) × (release_room_in form before.grammar ≤ free) × Reports before after length back
+    (last ≡ true) × (events_of before.grammar before.held ≢ []) × (release_need_in form before.grammar ≤ free) × Reports before after length back

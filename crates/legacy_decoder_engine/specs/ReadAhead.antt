@@ -2,16 +2,16 @@
 use Rattle.std.specs.{Prelude.{◌≡◌, ℕ, ◌+◌, ◌<◌, ◌≤◌, List, [], ◌∷◌, ◌++◌, length, map, take, All}, Char.IsScalar}
 use Rattle.legacy_text.specs.{declared.destination.Destination.Ghosts, EncodingForm.{Utf8, all_code_units, total_unit_count}}
 use Rattle.legacy_base.specs.{declared.results.DecodeEvent.TheVariants.Scalar, Events.shift, Grammar.{Grammar, events_of}, States.{DecoderState, new_state}}
-use Rattle.legacy_base.specs.Lengths.{LengthQuery, query_form, room}
-use Rattle.legacy_decoder_engine.specs.{declared.common_forms.CommonForm.{TheVariants.{Single, Pair, Other}, CommonForm}, Moves.SameRooms}
+use Rattle.legacy_base.specs.Lengths.{LengthQuery, query_form, total_need}
+use Rattle.legacy_decoder_engine.specs.{declared.common_forms.CommonForm.{TheVariants.{Single, Pair, Other}, CommonForm}, Moves.SameNeeds}
 
 -- Whatever bytes follow, the events of the bytes in the first grammar are these scalars, and then the events of the
--- following bytes in the second grammar. The room still needed falls by what is written.
+-- following bytes in the second grammar. The total need falls by what is written.
 pub record YieldsTo (before after : Grammar) (bytes scalars : List ℕ) : Type 0 where
   pub events : (more : List ℕ) → events_of before (bytes ++ more) ≡ map Scalar scalars ++ shift (length bytes) (events_of after more)
   pub scalar : All IsScalar scalars
   pub lowers : (query : LengthQuery) (n : ℕ) →
-      room query (new_state after) n + total_unit_count (query_form query) scalars ≤ room query (new_state before) (n + length bytes)
+      total_need query (new_state after) n + total_unit_count (query_form query) scalars ≤ total_need query (new_state before) (n + length bytes)
 
 -- the same without a change of the grammar
 abbrev pub Yields : Grammar → List ℕ → List ℕ → Type 0
@@ -50,13 +50,13 @@ Writes T grammar bytes old new = WritesTo T grammar grammar bytes old new
 
 -- Bytes at the front of the source were read, and their scalars were written. If any were read, nothing is held back
 -- before and after them, at least four code units were free before them, and at least three are free after them. Both
--- states need the same room.
+-- states have the same needs.
 pub record ReadsTo {D : Type 0} (T : Ghosts D) (before after : DecoderState) (source : List ℕ) (read : ℕ) (old new : D) : Type 0 where
   pub within : read ≤ length source
   pub idle : 0 < read → before.held ≡ []
   pub empties : 0 < read → after.held ≡ []
   pub stays : read ≡ 0 → after ≡ before
-  pub rooms : SameRooms before.grammar after.grammar
+  pub needs : SameNeeds before.grammar after.grammar
   pub writes : WritesTo T before.grammar after.grammar (take read source) old new
   pub slack : 0 < read → 3 ≤ T.room new
   pub had : 0 < read → 4 ≤ T.room old

@@ -1,11 +1,11 @@
 -- The states after the steps of a decoder.
 use Rattle.std.specs.Prelude.{ℕ, suc, ◌≡◌, List, [], ◌∷◌, ◌++◌, Bool, true, ◌&&◌, length, Some}
-use Rattle.legacy_base.specs.{Fronts.reads, Grammar.Grammar, States.rests, DecoderActs.{has_marks, is_mark_behind}}
+use Rattle.legacy_base.specs.{Fronts.reads, Grammar.Grammar, States.rests, DecoderActs.{has_marks, is_mark_after}}
 use Rattle.legacy_decoder_engine.specs.Steps.{Step, hold, finish}
 
 -- at most one scalar, or a letter and its mark
 abbrev pub IsOneOrMarked : Bool → List ℕ → Type 0
-IsOneOrMarked marks (c ∷ d ∷ []) = (marks && is_mark_behind (Some c) d) ≡ true
+IsOneOrMarked marks (c ∷ d ∷ []) = (marks && is_mark_after (Some c) d) ≡ true
 IsOneOrMarked marks (c ∷ d ∷ e ∷ scalars) = ⊥
 IsOneOrMarked marks scalars = Unit {0}
 

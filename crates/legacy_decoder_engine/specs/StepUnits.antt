@@ -1,6 +1,6 @@
 -- The code units that a move of a decoder writes, and their bounds.
 use Rattle.std.specs.Prelude.{ℕ, ◌+◌, ◌*◌, ◌<◌, ◌≤◌, ◌≡◌, List, [], ◌∷◌, true, false, drop, length, All, Option, Some, None}
-use Rattle.{legacy_tables.specs.Unicode.{IsByte, AreBytes}, legacy_base.specs.DecoderActs.{takes, writes, act_room}}
+use Rattle.{legacy_tables.specs.Unicode.{IsByte, AreBytes}, legacy_base.specs.DecoderActs.{takes, writes, act_need}}
 use Rattle.legacy_base.specs.{Grammar.Grammar, States.{DecoderState, state_of, may_hold, rests}, Fronts.{reads, malformed}}
 use Rattle.legacy_decoder_engine.specs.Steps.{Step, hold, finish, leave, step_held, DecoderMachine}
 
@@ -37,7 +37,7 @@ pub record IsWidth (len : ℕ → ℕ) (narrow wide : ℕ) : Type 0 where
 abbrev pub IsNarrowIndex : List ℕ → Type 0
 IsNarrowIndex index = All (λ c. c < 0x1_0000) index
 
--- The bounds of what a step writes: the room for reading the byte, and the room that n fewer bytes save. `wt` is the
+-- The bounds of what a step writes: the need of reading the byte, and the need that n fewer bytes save. `wt` is the
 -- weight of the held-back bytes. The last bound counts no malformed sequence: `slope` for each byte pays for twice the
 -- code units written.
 pub record Cost (len : ℕ → ℕ) (narrow at_most : ℕ) (wt : List ℕ → ℕ) (slope : ℕ) (held : List ℕ) (b : ℕ) (s : Step) : Type 0 where
@@ -45,24 +45,26 @@ pub record Cost (len : ℕ → ℕ) (narrow at_most : ℕ) (wt : List ℕ → �
   pub pays : step_units len narrow s + narrow * (wt (step_held s held b) + step_left s) ≤ narrow * (wt held + 1)
   pub pays_without : 2 * step_units len 0 s + slope * (wt (step_held s held b) + step_left s) ≤ slope * (wt held + 1)
 
--- a held-back scalar in the first k bytes has its room, and the room needed falls by its code units
+-- a held-back scalar in the first k bytes has its room, and the total need falls by its code units
 abbrev pub WritePays : (ℕ → ℕ) → ℕ → ℕ → (DecoderState → ℕ → ℕ) → Grammar → List ℕ → Option (ℕ × ℕ) → Type 0
-WritePays len narrow wide room g held None = Unit {0}
-WritePays len narrow wide room g held (Some (k, c)) =
-    (len c ≤ act_room narrow wide (state_of g held) writes)
-    × ((n : ℕ) → room (state_of g (drop k held)) n + len c ≤ room (state_of g held) n)
+WritePays len narrow wide total_need g held None = Unit {0}
+WritePays len narrow wide total_need g held (Some (k, c)) =
+    (len c ≤ act_need narrow wide (state_of g held) writes)
+    × ((n : ℕ) → total_need (state_of g (drop k held)) n + len c ≤ total_need (state_of g held) n)
 
--- Each move has its room, and lowers the room still needed by what it writes (and by `report` for a malformed sequence).
--- That room covers reading a byte, and writing or reporting the held-back bytes.
-pub record RoomMeets (len : ℕ → ℕ) (narrow wide report : ℕ) (room : DecoderState → ℕ → ℕ) (g : Grammar) (m : DecoderMachine) : Type 0 where
+-- Each move has its room, and lowers the total need by what it writes (and by `report` for a malformed sequence).
+-- The total need covers reading a byte, and writing or reporting the held-back bytes.
+pub record MeetsNeeds (len : ℕ → ℕ) (narrow wide report : ℕ) (total_need : DecoderState → ℕ → ℕ) (g : Grammar) (m : DecoderMachine) : Type 0 where
   pub step_fits : (held : List ℕ) (b : ℕ) → may_hold g held ≡ true → rests g held ≡ true → AreBytes held → IsByte b →
-      step_units len narrow (m.step held b) ≤ act_room narrow wide (state_of g held) (takes b)
+      step_units len narrow (m.step held b) ≤ act_need narrow wide (state_of g held) (takes b)
   pub step_pays : (held : List ℕ) (b n : ℕ) → may_hold g held ≡ true → rests g held ≡ true → AreBytes held → IsByte b →
-      room (state_of (m.to held b) (step_held (m.step held b) held b)) (n + step_left (m.step held b)) + step_units len report (m.step held b) ≤ room
-      (state_of g held) (n + 1)
-  pub write_pays : (held : List ℕ) → may_hold g held ≡ true → rests g held ≡ false → AreBytes held → WritePays len narrow wide room g held (m.pending held)
+      total_need (state_of (m.to held b) (step_held (m.step held b) held b)) (n + step_left (m.step held b)) + step_units len report (m.step held b)
+      ≤ total_need (state_of g held) (n + 1)
+  pub write_pays : (held : List ℕ) → may_hold g held ≡ true → rests g held ≡ false → AreBytes held
+      → WritePays len narrow wide total_need g held (m.pending held)
   pub report_pays : (b : ℕ) (held : List ℕ) → may_hold g (b ∷ held) ≡ true → rests g (b ∷ held) ≡ true
-      → room (state_of g []) 0 + report ≤ room (state_of g (b ∷ held)) 0
-  pub reads_covered : (held : List ℕ) (b n : ℕ) → may_hold g held ≡ true → 0 < n → act_room narrow wide (state_of g held) (takes b) ≤ room (state_of g held) n
+      → total_need (state_of g []) 0 + report ≤ total_need (state_of g (b ∷ held)) 0
+  pub reads_covered : (held : List ℕ) (b n : ℕ) → may_hold g held ≡ true → 0 < n
+      → act_need narrow wide (state_of g held) (takes b) ≤ total_need (state_of g held) n
   pub holds_covered : (held : List ℕ) (n : ℕ) → may_hold g held ≡ true → 0 < length held
-      → act_room narrow wide (state_of g held) writes ≤ room (state_of g held) n
+      → act_need narrow wide (state_of g held) writes ≤ total_need (state_of g held) n

@@ -106,7 +106,7 @@ fn read_turns<F: FrontForms, T: Destination>(
 pub(crate) const FOUR_BYTES: usize = 8;
 
 /// The code units that are free before four forms, so that three are free after them.
-pub(crate) const FOUR_ROOM: usize = 12 + SLACK;
+pub(crate) const FOUR_NEED: usize = 12 + SLACK;
 
 /// Reads at most four forms from the front, up to an uncommon one or past two ASCII bytes in a row.
 ///

@@ -3,22 +3,22 @@ ghost use Rattle.std.specs.Prelude.{◌≡◌, ℕ, ◌+◌, ◌<◌, ◌≤◌,
 ghost use Rattle.legacy_text.specs.EncodingForm.{all_code_units, total_unit_count};
 ghost use Rattle.legacy_base.specs.{States.rests, Calls.{IsDecoderCall, IsMalformedByte}};
 ghost use Rattle.legacy_decoder_engine.specs.ReadAhead.{ReadsTo};
-ghost use Rattle.legacy_decoder_engine.specs.Moves.{room_units, fed_scalars, FeedsMalformedByte, HasMalformedByte, WritesFed, EndsAt, Finishes};
+ghost use Rattle.legacy_decoder_engine.specs.Moves.{need_units, fed_scalars, FeedsMalformedByte, HasMalformedByte, WritesFed, EndsAt, Finishes};
 
-use crate::moves::{DecoderMoves, Fed, Room};
+use crate::moves::{DecoderMoves, Fed, Need};
 use legacy_base::{DecoderResult, Destination};
 
-/// Returns whether the output has this room.
+/// Returns whether the output has room for this need.
 #[inline(always)]
-fn has_room<T: Destination>(dst: &T, room: Room) -> bool
-    ensures some { result ≡ true → room_units T.form room ≤ T.room dst.now }
-    ensures none { result ≡ false → T.room dst.now < room_units T.form room }
+fn has_room<T: Destination>(dst: &T, need: Need) -> bool
+    ensures some { result ≡ true → need_units T.form need ≤ T.room dst.now }
+    ensures none { result ≡ false → T.room dst.now < need_units T.form need }
 {
-    match room {
-        Room::Nothing => true,
-        Room::Unit => dst.free() >= 1,
-        Room::Narrow => dst.free() >= T::narrow(),
-        Room::Wide => dst.free() >= T::wide(),
+    match need {
+        Need::Nothing => true,
+        Need::Unit => dst.free() >= 1,
+        Need::Narrow => dst.free() >= T::narrow(),
+        Need::Wide => dst.free() >= T::wide(),
     }
 }
 
@@ -54,7 +54,7 @@ fn read_byte<D: DecoderMoves, T: Destination>(
         (WritesFed T.Destination (D.state decoder.old) byte (D.state decoder.new) dst.old dst.new)
         (λ ended. EndsAt T.form (T.room dst.old) (D.state decoder.old) byte (D.state decoder.new) ended.0 ended.1 × (dst.new ≡ dst.old)) }
 {
-    if !has_room(dst, decoder.reading_room(byte)) {
+    if !has_room(dst, decoder.reading_need(byte)) {
         return Some((DecoderResult::OutputFull, 0));
     }
     let fed = decoder.feed(byte);
@@ -112,7 +112,7 @@ fn report_malformed<D: DecoderMoves, T: Destination>(
     requires { FeedsMalformedByte (D.state decoder.old) byte }
     ensures { EndsAt T.form (T.room dst.now) (D.state decoder.old) byte (D.state decoder.new) result.0 result.1 }
 {
-    if !has_room(dst, decoder.reading_room(byte)) {
+    if !has_room(dst, decoder.reading_need(byte)) {
         return (DecoderResult::OutputFull, 0);
     }
     decoder.after_malformed();
@@ -128,7 +128,7 @@ fn finish<D: DecoderMoves, T: Destination>(decoder: &mut D, dst: &T, last: bool)
     if !last || !decoder.has_report() {
         return DecoderResult::InputEmpty;
     }
-    if !has_room(dst, decoder.release_room()) {
+    if !has_room(dst, decoder.release_need()) {
         return DecoderResult::OutputFull;
     }
     match decoder.report() {
@@ -157,7 +157,7 @@ pub fn drive_decoder<D: DecoderMoves, T: Destination>(
     ensures loan { T.loan dst.new ≡ T.loan dst.old }
 {
     if !decoder.rests() {
-        if !has_room(dst, decoder.release_room()) {
+        if !has_room(dst, decoder.release_need()) {
             return (DecoderResult::OutputFull, 0);
         }
         let Some(scalar) = decoder.release() else {

@@ -4,15 +4,15 @@
 ghost use Rattle.std.specs.Prelude.{◌≡◌, ℕ, List, [], ◌∷◌, Bool, true, length};
 ghost use Rattle.legacy_tables.specs.Indexes.{FlatIndexes};
 ghost use Rattle.legacy_text.specs.EncodingForm.{EncodingForm};
-ghost use Rattle.legacy_base.specs.{States.{is_neutral, new_state}, DecoderActs.{full_room_in, release_room_in}, Formulas.{Formula, number, ◌⊕◌}};
+ghost use Rattle.legacy_base.specs.{States.{is_neutral, new_state}, DecoderActs.{full_need_in, release_need_in}, Formulas.{Formula, number, ◌⊕◌}};
 ghost use Rattle.legacy_base.specs.{Lengths.{answer, utf16_formula, utf8_formula, utf8_without_replacement_formula}, Fronts.malformed};
-ghost use Rattle.legacy_decoder_engine.specs.{Steps.{Step, finish, trail_step}, LeadMachines.two_byte_step, Moves.room_units, Feeding.Took};
+ghost use Rattle.legacy_decoder_engine.specs.{Steps.{Step, finish, trail_step}, LeadMachines.two_byte_step, Moves.need_units, Feeding.Took};
 ghost use Rattle.legacy_decoder_engine.specs.LeadCodecs.{IsLeadCodec, held_bytes, lead_state};
 
 use crate::drive::{count_malformed_bytes, drive_decoder};
 use crate::lane_blocks::read_by_tables;
 use crate::lane_codec::LaneCodec;
-use crate::moves::{DecoderMoves, Fed, Room};
+use crate::moves::{DecoderMoves, Fed, Need};
 use crate::near_malformed::AFTER_MALFORMED;
 use legacy_base::{DecoderStep, Destination, RawDecoder, Tables};
 use std::cell::Cell;
@@ -42,10 +42,10 @@ pub trait LeadCodec: LaneCodec {
     fn read_pair(tables: &Tables<'_>, lead: Self::Lead, trail: u8) -> Fed
         ensures { Took (trail_step 1 (scalars tables.now.flat (byte_of lead) trail) trail) (byte_of lead ∷ []) trail result [] };
 
-    /// Returns the room of every act except reading ASCII with nothing held back.
-    fn room() -> Room
-        ensures reads { (form : EncodingForm) (flat : FlatIndexes) → room_units form result ≡ full_room_in form (Self.grammar flat) }
-        ensures writes { (form : EncodingForm) (flat : FlatIndexes) → room_units form result ≡ release_room_in form (Self.grammar flat) };
+    /// Returns the need of every act except reading ASCII with nothing held back.
+    fn need() -> Need
+        ensures reads { (form : EncodingForm) (flat : FlatIndexes) → need_units form result ≡ full_need_in form (Self.grammar flat) }
+        ensures writes { (form : EncodingForm) (flat : FlatIndexes) → need_units form result ≡ release_need_in form (Self.grammar flat) };
 
     /// Returns `max_utf16_buffer_length` if `held` bytes are held back.
     fn utf16_length(byte_length: usize, held: usize) -> Option<usize>
@@ -145,16 +145,16 @@ impl<'a, C: LeadCodec> DecoderMoves for LeadDecoder<'a, C> {
     }
 
     #[inline]
-    fn reading_room(&self, byte: u8) -> Room {
+    fn reading_need(&self, byte: u8) -> Need {
         if byte < 0x80 && self.held.is_none() {
-            return Room::Unit;
+            return Need::Unit;
         }
-        C::room()
+        C::need()
     }
 
     #[inline]
-    fn release_room(&self) -> Room {
-        C::room()
+    fn release_need(&self) -> Need {
+        C::need()
     }
 
     #[inline]

@@ -1,22 +1,22 @@
 //! The small moves of each decoder, and the text that it reads ahead of them.
 ghost use Rattle.std.specs.Prelude.{◌≡◌, ◌≢◌, ◌≤◌, [], length, take, true, false, MatchOption};
 ghost use Rattle.legacy_text.specs.EncodingForm.{EncodingForm};
-ghost use Rattle.legacy_base.specs.{Grammar.events_of, States.{DecoderState, may_hold, rests}, DecoderActs.release_room_in};
+ghost use Rattle.legacy_base.specs.{Grammar.events_of, States.{DecoderState, may_hold, rests}, DecoderActs.release_need_in};
 ghost use Rattle.legacy_decoder_engine.specs.ReadAhead.{ReadsTo};
-ghost use Rattle.legacy_decoder_engine.specs.Moves.{room_units, read_room, IsCovered, Releases, Feeds, FeedsMalformedByte, Reports, HoldsBytes};
+ghost use Rattle.legacy_decoder_engine.specs.Moves.{need_units, read_need, IsCovered, Releases, Feeds, FeedsMalformedByte, Reports, HoldsBytes};
 
 use legacy_base::Destination;
 
-/// An amount of room in the output, in free code units of its encoding form.
+/// What an act needs free in the output, in code units of its encoding form.
 #[derive(Clone, Copy)]
-pub enum Room {
+pub enum Need {
     /// No code unit.
     Nothing,
     /// One code unit.
     Unit,
-    /// Room for any scalar up to U+FFFF.
+    /// The code units of any scalar up to U+FFFF.
     Narrow,
-    /// Room for any scalar.
+    /// The code units of any scalar.
     Wide,
 }
 
@@ -35,7 +35,7 @@ pub enum Fed {
     MalformedSequence { length: u8, back: u8, unread: bool },
 }
 
-/// The moves of a decoder, of which `drive_decoder` makes its calls, with the room that each needs.
+/// The moves of a decoder, of which `drive_decoder` makes its calls, with what each needs free.
 pub trait DecoderMoves {
     /// The grammar and the held-back bytes.
     ghost state: { Self → DecoderState };
@@ -47,16 +47,16 @@ pub trait DecoderMoves {
         ensures is { result ≡ rests (state self.now).grammar (state self.now).held }
         ensures allowed { may_hold (state self.now).grammar (state self.now).held ≡ true };
 
-    /// Returns the room that reading a byte needs, whatever its result. Nothing changes.
-    fn reading_room(&self, byte: u8) -> Room
-        ensures units { (form : EncodingForm) → room_units form result ≡ read_room form (state self.now) byte }
+    /// Returns what reading a byte needs, whatever its result. Nothing changes.
+    fn reading_need(&self, byte: u8) -> Need
+        ensures units { (form : EncodingForm) → need_units form result ≡ read_need form (state self.now) byte }
         ensures covered { IsCovered (state self.now) };
 
-    /// Returns the room that writing a held-back scalar needs, or a report at the end of the input.
+    /// Returns what writing a held-back scalar needs, or a report at the end of the input.
     ///
     /// Nothing changes.
-    fn release_room(&self) -> Room
-        ensures units { (form : EncodingForm) → room_units form result ≡ release_room_in form (state self.now).grammar }
+    fn release_need(&self) -> Need
+        ensures units { (form : EncodingForm) → need_units form result ≡ release_need_in form (state self.now).grammar }
         ensures covered { IsCovered (state self.now) };
 
     /// Removes and returns the held-back scalar that is to be written first.

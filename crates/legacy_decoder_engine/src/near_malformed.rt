@@ -3,7 +3,7 @@
 ghost use Rattle.legacy_base.specs.States.{new_state};
 ghost use Rattle.legacy_decoder_engine.specs.ReadAhead.{ReadsAhead};
 
-use crate::common_forms::{FOUR_BYTES, FOUR_ROOM, read_four};
+use crate::common_forms::{FOUR_BYTES, FOUR_NEED, read_four};
 use crate::lane_blocks::{LaneBlocks, LaneForms, begins_uncommon, read_last};
 use crate::lane_codec::LaneCodec;
 use crate::read_ahead::{read_ascii_nearby, read_short_block};
@@ -31,7 +31,7 @@ pub(crate) fn read_without_lanes<C: LaneCodec, T: Destination>(
     }
     let forms = LaneForms::<C>::new(blocks.tables);
     while at < AFTER_MALFORMED {
-        if src.len() - at < FOUR_BYTES || dst.free() < FOUR_ROOM {
+        if src.len() - at < FOUR_BYTES || dst.free() < FOUR_NEED {
             return at + read_last(blocks, &src[at..], dst);
         }
         if C::begins_longer(src[at], src[at + 1]) {

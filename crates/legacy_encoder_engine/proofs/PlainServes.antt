@@ -1,15 +1,17 @@
--- The codecs without modes: their rooms are enough for their scalars, and each move writes the code of its scalar.
+-- The codecs without modes: their needs are enough for their scalars, and each move writes the code of its scalar.
 use Rattle.std.proofs.Common.{◌/◌, ◌%◌, ◌≡◌, ◌∙◌, ℕ, ◌+◌, ◌-◌, ◌≤◌, ◌<◌, List, [], ◌∷◌, ◌++◌, length, refl, sym, ap, subst, arith, Bool, false, Some}
 use Rattle.std.proofs.{Common.{Option, cond, option_map, ltb}, lemmas.Bool.{cases_lt, lt-ltb, le-ltb}, lemmas.Bool.Decides.nat_tests}
 use Rattle.legacy_text.specs.{EncodingForm.{EncodingForm, Utf8, Utf16, unit_count}, UnitCodes.IsNoSurrogate}
-use Rattle.legacy_base.specs.{Encoders.{Codec, encoder_profile, EncoderState, new_encoder, code, encoded, scalar_room}, declared.modes.EncoderMode.{EncoderMode, TheVariants.Ascii}}
-use Rattle.legacy_base.specs.{EncoderProfile.{EncoderProfile, differs, plain_encoder}, EncodeEvents.{code_events, code_length, plain_events}, Lengths.{Formula, number}}
+use Rattle.legacy_base.specs.Encoders.{Codec, encoder_profile, EncoderState, new_encoder, code, encoded, scalar_need}
+use Rattle.legacy_base.specs.declared.modes.EncoderMode.{EncoderMode, TheVariants.Ascii}
+use Rattle.legacy_base.specs.{EncoderProfile.{EncoderProfile, differs, plain_encoder}, EncodeEvents.{code_events, code_length, plain_events}}
+use Rattle.legacy_base.specs.Lengths.{Formula, number}
 use Rattle.legacy_base.specs.Lengths.{value}
 use Rattle.legacy_text.proofs.CodeUnits.{encoding}
 use Rattle.legacy_base.proofs.SameUnits.{some_unit}
 use Rattle.legacy_encoder_engine.specs.{declared.moves.EncoderMove.TheVariants.{One, Two}, declared.moves.EncoderMove.EncoderMove}
 use Rattle.legacy_encoder_engine.specs.Moves.{Moves, IsCode, is_escape, move_bytes, move_report, wants_escape}
-use Rattle.legacy_encoder_engine.specs.{ProfileSuffices.{mode_room, Serves}, UnfinishedCall.{PutsCode, ReadsByte}, UnitTurns.{HasUnitCode, ReadsUnit}}
+use Rattle.legacy_encoder_engine.specs.{ProfileSuffices.{mode_need, Serves}, UnfinishedCall.{PutsCode, ReadsByte}, UnitTurns.{HasUnitCode, ReadsUnit}}
 use Rattle.legacy_encoder_engine.specs.PlainCodecs.{HasPlainLengths, IsPlainCodec, HasByte}
 use Rattle.legacy_encoder_engine.proofs.{CallUnderWay.state_stays}
 
@@ -32,14 +34,14 @@ module _ (code : ℕ → Option (List ℕ)) (past most : ℕ) (from_utf8 from_ut
   one c a = let e = ap code_length (same c a) in omega arith
 
   low : (mode : EncoderMode) (c : ℕ) (form : EncodingForm) (t : ℕ)
-      → mode_room P form mode t + code_length (code c) ≤ mode_room P form mode (unit_count form c + t)
+      → mode_need P form mode t + code_length (code c) ≤ mode_need P form mode (unit_count form c + t)
   low mode c Utf16 t =
       let l = f.low16 (unit_count Utf16 c) t (code_length (code c)) (some_unit Utf16 c) in let s = f.fits in grind (arith, cases_lt c 128, one, short)
   low mode c Utf8 t =
       let l = f.ascii8 (unit_count Utf8 c) t (code_length (code c)) (some_unit Utf8 c) in
       let m = f.low8 (unit_count Utf8 c) t (code_length (code c)) in grind (arith, cases_lt c 128, two_units, one, short)
 
-  enough : (mode : EncoderMode) (c : ℕ) (form : EncodingForm) (t : ℕ) → cond (ltb c 128) 1 past ≤ mode_room P form mode (unit_count form c + t)
+  enough : (mode : EncoderMode) (c : ℕ) (form : EncodingForm) (t : ℕ) → cond (ltb c 128) 1 past ≤ mode_need P form mode (unit_count form c + t)
   enough mode c Utf16 t =
       let l = f.enough16 (unit_count Utf16 c) t (some_unit Utf16 c) in let s = f.fits in grind arith
   enough mode c Utf8 t =
@@ -72,7 +74,7 @@ module _ (code : ℕ → Option (List ℕ)) (past most : ℕ) (from_utf8 from_ut
 -- the state writes the scalar c as its code, or reports r
 pub record WritesHere (state : EncoderState) (r c : ℕ) : Type 0 where
   pub law : (more : List ℕ) (ended : Bool) → encoded state (c ∷ more) ended ≡ code_events r (code state c) ++ encoded state more ended
-  pub fits : code_length (code state c) ≤ scalar_room state c
+  pub fits : code_length (code state c) ≤ scalar_need state c
   pub asks : wants_escape state c ≡ false
 
 module _ (state : EncoderState) (r c : ℕ) (here : WritesHere state r c) where
@@ -80,15 +82,15 @@ module _ (state : EncoderState) (r c : ℕ) (here : WritesHere state r c) where
   pub here_moves : (move : EncoderMove) → IsCode (code state c) r move → Moves state c state move
   here_moves move e = grind (arith, here.law, here.fits, here.asks, state_stays state c here.asks)
 
--- a profile without modes, with `past` bytes of room for a scalar past ASCII
+-- a profile without modes, in which a scalar past ASCII needs `past` bytes
 record ActsPlainly (p : EncoderProfile) (past : ℕ) : Type 0 where
   law : (c : ℕ) (more : List ℕ) (ended : Bool) → p.events Ascii (c ∷ more) ended ≡ code_events c (p.code c) ++ p.events Ascii more ended
   mode : (c : ℕ) → p.mode_for Ascii c ≡ Ascii
-  room : (c : ℕ) → p.scalar_room c ≡ cond (ltb c 128) 1 past
+  need : (c : ℕ) → p.scalar_need c ≡ cond (ltb c 128) 1 past
 
 acts : (code : ℕ → Option (List ℕ)) (past : ℕ) (from_utf8 from_utf16 : Formula → Formula) → ActsPlainly (plain_encoder code past from_utf8 from_utf16) past
 unfolding plain_events
-acts code past from_utf8 from_utf16 = record { law = λ c more ended. refl; mode = λ c. refl; room = λ c. refl }
+acts code past from_utf8 from_utf16 = record { law = λ c more ended. refl; mode = λ c. refl; need = λ c. refl }
 
 module _ (codec : Codec) (past : ℕ) (p : IsPlainCodec codec past) where
   abbrev S : EncoderState
@@ -103,18 +105,18 @@ module _ (codec : Codec) (past : ℕ) (p : IsPlainCodec codec past) where
   code_is : (c : ℕ) → code S c ≡ p.code c
   code_is c = ap (λ (q : EncoderProfile). q.code c) p.profile_is
 
-  -- the room of ASCII scalars and of other scalars
-  pub ascii_room : (c : ℕ) → c < 128 → scalar_room S c ≡ 1
-  ascii_room c h = acts_plainly.room c ∙ rw (lt-ltb c 128 h) refl
+  -- the need of ASCII scalars and of other scalars
+  pub ascii_need : (c : ℕ) → c < 128 → scalar_need S c ≡ 1
+  ascii_need c h = acts_plainly.need c ∙ rw (lt-ltb c 128 h) refl
 
-  pub room_past_ascii : (c : ℕ) → 128 ≤ c → scalar_room S c ≡ past
-  room_past_ascii c h = acts_plainly.room c ∙ rw (le-ltb c 128 h) refl
+  pub need_past_ascii : (c : ℕ) → 128 ≤ c → scalar_need S c ≡ past
+  need_past_ascii c h = acts_plainly.need c ∙ rw (le-ltb c 128 h) refl
 
-  pub widest_room : (c : ℕ) → scalar_room S c ≤ past
-  widest_room c = let room = acts_plainly.room c in let fits = p.lengths.fits in grind arith
+  pub widest_need : (c : ℕ) → scalar_need S c ≤ past
+  widest_need c = let need = acts_plainly.need c in let fits = p.lengths.fits in grind arith
 
-  fits : (c : ℕ) → code_length (code S c) ≤ scalar_room S c
-  fits c = grind (arith, code_is c, p.ascii c, cases_lt c 128, ascii_room c, room_past_ascii c, p.short c, p.lengths.fits)
+  fits : (c : ℕ) → code_length (code S c) ≤ scalar_need S c
+  fits c = grind (arith, code_is c, p.ascii c, cases_lt c 128, ascii_need c, need_past_ascii c, p.short c, p.lengths.fits)
 
   -- a move that writes the code of its scalar is correct
   pub plain_moves : (c : ℕ) (move : EncoderMove) → IsCode (code S c) c move → Moves S c S move
@@ -124,10 +126,10 @@ module _ (codec : Codec) (past : ℕ) (p : IsPlainCodec codec past) where
   plain_code c low = code_is c ∙ p.ascii c low
 
   pub plain_ascii : (c : ℕ) → c < 128 → ReadsByte S 0 c c
-  plain_ascii c low = grind (arith, ascii_room c, plain_moves c (One c), plain_code c)
+  plain_ascii c low = grind (arith, ascii_need c, plain_moves c (One c), plain_code c)
 
   pub plain_byte : (c byte : ℕ) → HasByte codec past c byte → ReadsByte S 0 c byte
-  plain_byte c byte is = record { fits = let room = widest_room c in omega (arith, is.0); moves = plain_moves c (One byte) is.1 }
+  plain_byte c byte is = record { fits = let need = widest_need c in omega (arith, is.0); moves = plain_moves c (One byte) is.1 }
 
   -- the bytes of a code unit
   module _ (c both : ℕ) (bmp : IsNoSurrogate c) (own : HasUnitCode codec c both) where
@@ -149,7 +151,7 @@ module _ (codec : Codec) (past : ℕ) (p : IsPlainCodec codec past) where
 
   -- the bytes of a code fit
   pub plain_fits : (c : ℕ) (move : EncoderMove) → IsCode (code S c) c move → length (move_bytes move) ≤ past
-  plain_fits c move is = let room = widest_room c in let moves = plain_moves c move is in omega (arith, moves.fits)
+  plain_fits c move is = let need = widest_need c in let moves = plain_moves c move is in omega (arith, moves.fits)
 
 -- ---- the lengths of codes
 
@@ -163,7 +165,7 @@ short_map f o n h = grind arith
 pub short_past : (c : ℕ) (a b : Option (List ℕ)) (n : ℕ) → 128 ≤ c → code_length b ≤ n → code_length (cond (ltb c 128) a b) ≤ n
 short_past c a b n h q = rw (le-ltb c 128 h) q
 
-pub ruleset plain_steps = (plain_serves, ascii_room, room_past_ascii, widest_room)
+pub ruleset plain_steps = (plain_serves, ascii_need, need_past_ascii, widest_need)
 
 pub ruleset put_steps = (plain_fits, plain_code)
 

@@ -4,7 +4,7 @@ use Rattle.std.proofs.{Common.{append-nil, length-append, false, IsAscii}, lemma
 use Rattle.std.proofs.lemmas.List.{take-append-drop}
 use Rattle.legacy_text.specs.{EncodingForm.{EncodingForm, code_units, all_code_units, total_unit_count}, NextScalars.IsFirst, UnitCodes.WritesCodes}
 use Rattle.legacy_text.proofs.CodeUnits.{length-code_units-ascii, total_unit_count-append}
-use Rattle.legacy_base.specs.Encoders.{EncoderState, encoder_profile, scalar_room}
+use Rattle.legacy_base.specs.Encoders.{EncoderState, encoder_profile, scalar_need}
 use Rattle.legacy_encoder_engine.specs.{declared.moves.EncoderMove.EncoderMove, Moves.{Moves, move_bytes, move_report, is_escape}, UnfinishedCall.KeepsOn}
 use Rattle.legacy_encoder_engine.specs.{UnfinishedCall.{EncodesAhead, PutsCode, ReadsByte}, ProfileSuffices.Serves}
 use Rattle.legacy_encoder_engine.proofs.CallUnderWay.{underway_read, first_units}
@@ -22,9 +22,9 @@ module _ (state : EncoderState) (free : ℕ) where
   module _ (serves : Serves (encoder_profile state.codec)) where
     pub keeps_move : (left bytes : List ℕ) (c : ℕ) (rest : List ℕ) (move : EncoderMove)
         → left ≡ c ∷ rest → Moves state c state move → is_escape move ≡ false → move_report move ≡ []
-        → scalar_room state c ≤ free - length bytes → KeepsOn state free left bytes rest (bytes ++ move_bytes move)
+        → scalar_need state c ≤ free - length bytes → KeepsOn state free left bytes rest (bytes ++ move_bytes move)
     keeps_move left bytes c rest move at f plain silent room = record {
-      keeps = λ before source last u. underway_read before source last free state left bytes u serves c rest at state move f room plain silent;
+      keeps = λ before source last u. underway_read u serves at f room plain silent;
     }
 
     -- scalars are read with one byte each, if `room` bytes more are free
@@ -42,10 +42,10 @@ module _ (state : EncoderState) (free : ℕ) where
           let others = bytes_on front bytes (front ++ rest) (old ++ b ∷ []) rest (omega arith) (λ k h. codes (suc k) (omega arith)) refl (omega arith) in
           subst (λ l. KeepsOn state free left old rest l) (append_assoc old (b ∷ []) bytes) (keeps_then first others)
 
-      pub keeps_codes : (gives : ℕ → ℕ → Type 0) → ((c byte : ℕ) → gives c byte → ReadsByte state room c byte)
-          → (left : List ℕ) (n : ℕ) (old new : List ℕ) → n ≤ length left
+      pub keeps_codes : {gives : ℕ → ℕ → Type 0} → ((c byte : ℕ) → gives c byte → ReadsByte state room c byte)
+          → {left : List ℕ} {n : ℕ} {old new : List ℕ} → n ≤ length left
           → length old + n + room ≤ free → WritesCodes gives left n old new → KeepsOn state free left old (drop n left) new
-      keeps_codes gives reads left n old new within fits w =
+      keeps_codes reads {left} {n} {old} within fits w =
           let long = length-take-le n left within in
           let each : (k : ℕ) → k < length (take n left) → ReadsByte state room (get_or (take n left) k 0) (get_or w.bytes k 0) = λ k h.
           let below : k < n = omega (arith, h, long) in
@@ -65,9 +65,9 @@ ascii_count form left n within ascii = ascii_units form (take n left) ascii ∙ 
 
 -- ---- loops
 
-pub encodes_none : (state : EncoderState) (form : EncodingForm) (free : ℕ) (left : List ℕ) (passed : ℕ) (bytes : List ℕ) (at : ℕ) → at ≤ free
+pub encodes_none : {state : EncoderState} {form : EncodingForm} {free : ℕ} {left : List ℕ} {passed : ℕ} {bytes : List ℕ} {at : ℕ} → at ≤ free
     → EncodesAhead state form free left passed bytes at left passed bytes at
-encodes_none state form free left passed bytes at within = record { keeps = keeps_none state free left bytes; start = omega arith; end = within; units = refl }
+encodes_none within = record { keeps = keeps_none _ _ _ _; start = omega arith; end = within; units = refl }
 
 pub encodes_then : {state : EncoderState} {form : EncodingForm} {free free' passed passed' passed'' at at' at'' : ℕ}
     {left left' left'' bytes bytes' bytes'' : List ℕ}
@@ -86,7 +86,7 @@ pub encodes_codes : {state : EncoderState} (form : EncodingForm) (free room : �
     → EncodesAhead state form free left passed old at left' passed' new (at + n)
 encodes_codes form free room serves reads {left} passed {n = n} within rest units writes long fits =
     record {
-      keeps = rw rest (keeps_codes _ _ serves room _ reads _ _ _ _ within (omega arith) writes);
+      keeps = rw rest (keeps_codes _ _ serves room reads within (omega arith) writes);
       start = omega arith;
       end = omega arith;
       units = rw rest (omega (arith, units, rw (take-append-drop n left) at (total_unit_count-append form (take n left) (drop n left))));
@@ -99,18 +99,19 @@ pub encodes_ascii : {state : EncoderState} (form : EncodingForm) (free room : �
     → ((k : ℕ) → k < length (take n left) → ReadsByte state room (get_or (take n left) k 0) (get_or (take n left) k 0)) → length old ≡ at → at + n + room ≤ free
     → EncodesAhead state form free left passed old at left' passed' new (at + n)
 encodes_ascii {state} form free room serves {left} passed {n = n} within rest ascii units written reads =
-    encodes_codes {state = state} form free room serves (λ c byte code. code) passed within rest (units ∙ ap (λ k. passed + k) (sym (ascii_count form left n within ascii)))
-    (record {
+    let long = length-take-le n left within in
+    let passed_is = units ∙ ap (λ k. passed + k) (sym (ascii_count form left n within ascii)) in
+    encodes_codes {state = state} form free room serves (λ c byte code. code) passed within rest passed_is (record {
       bytes = take n left;
       new_is = written;
-      count = length-take-le n left within;
-      each = λ k h. subst (λ c. ReadsByte state room c (get_or (take n left) k 0)) (get_or-take n left k 0 h) (reads k (omega (arith, h, length-take-le n left within)));
+      count = long;
+      each = λ k h. subst (λ c. ReadsByte state room c (get_or (take n left) k 0)) (get_or-take n left k 0 h) (reads k (omega (arith, h, long)));
     })
 
 -- one more scalar
 pub encodes_put : {state : EncoderState} (form : EncodingForm) {free passed passed' passed'' start at end c n room : ℕ}
     {left left' left'' bytes bytes' bytes'' : List ℕ}
-    (serves : Serves (encoder_profile state.codec)) → scalar_room state c ≤ room
+    (serves : Serves (encoder_profile state.codec)) → scalar_need state c ≤ room
     → EncodesAhead state form free left passed bytes start left' passed' bytes' at → IsFirst form left' c n → PutsCode state c bytes' at bytes'' end
     → left'' ≡ drop 1 left' → passed'' ≡ passed' + n → length bytes' ≡ at → at + room ≤ free
     → EncodesAhead state form free left passed bytes start left'' passed'' bytes'' end

@@ -2,7 +2,7 @@
 use Rattle.std.proofs.Common.{◌≡◌, ◌∙◌, ℕ, suc, ◌+◌, ◌<◌, ◌≤◌, List, [], ◌∷◌, ◌++◌, length, take, get_or, refl, sym, ap, subst, arith, append_assoc}
 use Rattle.std.proofs.{Math.Seq.{take-suc, take-append-add}, lemmas.Bool.cases_lt, lemmas.List.{length-take-le, take-take}}
 use Rattle.std.proofs.lemmas.Grind.{common_steps}
-use Rattle.legacy_base.specs.Encoders.{EncoderState, encoder_profile, scalar_room}
+use Rattle.legacy_base.specs.Encoders.{EncoderState, encoder_profile, scalar_need}
 use Rattle.legacy_encoder_engine.specs.{ProfileSuffices.Serves, UnitTurns.{PutsUnits, ReadsUnit, two_bytes}}
 use Rattle.legacy_text.{specs.{EncodingForm.EncodingForm, UnitTurns.TakesUnits}, proofs.CodeUnits.total_unit_count-append}
 use Rattle.legacy_encoder_engine.specs.UnfinishedCall.{EncodesAhead, KeepsOn}
@@ -23,7 +23,7 @@ module _ (state : EncoderState) (free : ℕ) where
   pub units_more : (serves : Serves (encoder_profile state.codec)) (units old bytes new : List ℕ) (k c both count : ℕ)
       → PutsUnits state free (take k units) old bytes
       → k < length units → get_or units k 0 ≡ c → ReadsUnit state c both count
-      → length bytes + scalar_room state c ≤ free → new ≡ bytes ++ take count (two_bytes both)
+      → length bytes + scalar_need state c ≤ free → new ≡ bytes ++ take count (two_bytes both)
       → PutsUnits state free (take (k + 1) units) old new
   units_more serves units old bytes new k c both count before within is own room new_is =
       let units_are : take (suc k) units ≡ take k units ++ c ∷ [] = take-suc units k 0 within ∙ ap (λ x. take k units ++ x ∷ []) is in

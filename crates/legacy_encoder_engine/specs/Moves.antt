@@ -1,7 +1,7 @@
 -- The moves of an encoder, of which its calls consist.
 use Rattle.std.specs.Prelude.{◌≡◌, ℕ, ◌≤◌, List, [], ◌∷◌, ◌++◌, length, map, Bool, true, false, IsTrue, Option, Some, None, ◌⊎◌}
 use Rattle.legacy_base.specs.declared.results.{EncodeEvent.EncodeEvent, EncodeEvent.TheVariants.Byte}
-use Rattle.legacy_base.specs.Encoders.{EncoderState, encoder_profile, code, encoded, end_bytes, scalar_room}
+use Rattle.legacy_base.specs.Encoders.{EncoderState, encoder_profile, code, encoded, end_bytes, scalar_need}
 use Rattle.legacy_base.specs.{Beginnings.BeginsWith, EncodeEvents.code_length, EncoderProfile.differs}
 use Rattle.legacy_encoder_engine.specs.declared.moves.EncoderMove.TheVariants.{One, Two, Four, Escape, Unmappable}
 use Rattle.legacy_encoder_engine.specs.declared.moves.EncoderMove.{EncoderMove}
@@ -44,7 +44,7 @@ pub record Moves (before : EncoderState) (c : ℕ) (after : EncoderState) (move 
       encoded before (c ∷ more) ended ≡ map Byte (move_bytes move) ++ (move_report move ++ encoded after (unread_scalar move c ++ more) ended)
   -- the bytes are the code of the scalar, or an escape
   pub own : is_escape move ≡ false → code_length (code before c) ≡ length (move_bytes move)
-  pub fits : length (move_bytes move) ≤ scalar_room before c
+  pub fits : length (move_bytes move) ≤ scalar_need before c
   -- an escape goes to the mode of the scalar; the scalar is read in the current mode
   pub asks : is_escape move ≡ wants_escape before c
   pub goes : after ≡ state_for before c

@@ -3,7 +3,7 @@ use Rattle.std.specs.Prelude.{◌≡◌, ℕ, ◌+◌, ◌<◌, ◌≤◌, List,
 use Rattle.legacy_base.specs.{EncodeEvents.code_length, EncoderProfile.plain_encoder, Encoders.Codec, Encoders.encoder_profile}
 use Rattle.legacy_base.specs.Lengths.{Formula, number, value}
 
--- Two length formulas are enough for codes of at most `most` bytes, one byte for ASCII, and `past` bytes of room past
+-- Two length formulas are enough for codes of at most `most` bytes, one byte for ASCII, and a need of `past` bytes past
 -- ASCII. They are compared for u + t code units, u of which are those of a scalar.
 pub record HasPlainLengths (past most : ℕ) (from_utf8 from_utf16 : Formula → Formula) : Type 0 where
   pub fits : (1 ≤ most) × (most ≤ past)
@@ -13,7 +13,7 @@ pub record HasPlainLengths (past most : ℕ) (from_utf8 from_utf16 : Formula →
   pub low8 : (u t own : ℕ) → 2 ≤ u → own ≤ most → value (from_utf8 (number t)) + own ≤ value (from_utf8 (number (u + t)))
   pub enough8 : (u t : ℕ) → 2 ≤ u → past ≤ value (from_utf8 (number (u + t)))
 
--- a codec without modes in which ASCII is itself and a scalar past ASCII needs `past` bytes of room
+-- a codec without modes in which ASCII is itself and a scalar past ASCII needs `past` bytes
 pub record IsPlainCodec (codec : Codec) (past : ℕ) : Type 0 where
   pub code : ℕ → Option (List ℕ)
   pub from_utf8 : Formula → Formula
@@ -25,6 +25,6 @@ pub record IsPlainCodec (codec : Codec) (past : ℕ) : Type 0 where
   pub short : (c : ℕ) → 0x80 ≤ c → code_length (code c) ≤ most
   pub lengths : HasPlainLengths past most from_utf8 from_utf16
 
--- the code of the scalar c is this byte, and one byte of room is enough for each scalar
+-- the code of the scalar c is this byte, and no scalar needs more than one byte
 abbrev pub HasByte : Codec → ℕ → ℕ → ℕ → Type 0
 HasByte codec past c byte = (past ≡ 1) × ((encoder_profile codec).code c ≡ Some (byte ∷ []))

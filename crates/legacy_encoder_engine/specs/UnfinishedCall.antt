@@ -2,17 +2,17 @@
 use Rattle.std.specs.Prelude.{◌≡◌, ℕ, suc, ◌+◌, ◌<◌, ◌≤◌, List, [], ◌∷◌, ◌++◌, length, map, take, slice_index, Bool, false, ◌⊎◌}
 use Rattle.legacy_base.specs.declared.results.EncodeEvent.TheVariants.{Byte}
 use Rattle.legacy_text.specs.EncodingForm.{EncodingForm, total_unit_count}
-use Rattle.legacy_base.specs.Encoders.{EncoderState, code, encoded, scalar_room, encoder_room}
+use Rattle.legacy_base.specs.Encoders.{EncoderState, code, encoded, scalar_need, encoder_total_need}
 use Rattle.legacy_base.specs.{EncodeEvents.code_length, EncoderCalls.EncoderLacksRoom, EncoderCalls.bytes_before}
 use Rattle.legacy_encoder_engine.specs.Moves.{Moves, wants_escape, is_escape, move_report, move_bytes}
 use Rattle.legacy_encoder_engine.specs.declared.moves.{EncoderMove.EncoderMove, EncoderMove.TheVariants.One}
 use Rattle.legacy_text.specs.declared.text_cursor.TextCursor as cursors
 use Rattle.legacy_text.specs.declared.text_source.Source as sources
 
--- the bytes written lower the room that is still needed
+-- the bytes written lower the need
 pub record Lowers (before : EncoderState) (source : List ℕ) (now : EncoderState) (left bytes : List ℕ) : Type 0 where
   pub low : (form : EncodingForm) (more : ℕ)
-      → encoder_room form now (total_unit_count form left + more) + length bytes ≤ encoder_room form before (total_unit_count form source + more)
+      → encoder_total_need form now (total_unit_count form left + more) + length bytes ≤ encoder_total_need form before (total_unit_count form source + more)
 
 -- the same after an escape, counting the scalar that it was written for
 pub record LowersEscaped (before : EncoderState) (source : List ℕ) (now : EncoderState) (left bytes : List ℕ) : Type 0 where
@@ -21,9 +21,9 @@ pub record LowersEscaped (before : EncoderState) (source : List ℕ) (now : Enco
   pub at : left ≡ c ∷ rest
   pub settled : wants_escape now c ≡ false
   pub low : (form : EncodingForm) (more : ℕ)
-      → encoder_room form now (total_unit_count form rest + more) + code_length (code now c) + length bytes
-      ≤ encoder_room form before (total_unit_count form source + more)
-  pub enough : (form : EncodingForm) → scalar_room now c + length bytes ≤ encoder_room form before (total_unit_count form source)
+      → encoder_total_need form now (total_unit_count form rest + more) + code_length (code now c) + length bytes
+      ≤ encoder_total_need form before (total_unit_count form source + more)
+  pub enough : (form : EncodingForm) → scalar_need now c + length bytes ≤ encoder_total_need form before (total_unit_count form source)
 
 -- A call began in the state `before`, with the scalars `source` and `free` free bytes. It is now in the state `now`,
 -- with the scalars `left` left and `bytes` written. An escape may have been written for the next scalar, so the law of
@@ -34,7 +34,7 @@ pub record Underway (before : EncoderState) (source : List ℕ) (last : Bool) (f
   pub events : (more : List ℕ) (ended : Bool)
       → encoded before (taken ++ (take 1 left ++ more)) ended ≡ map Byte bytes ++ encoded now (take 1 left ++ more) ended
   pub same : now.codec ≡ before.codec
-  pub had_room : (k : ℕ) → k < length taken → bytes_before before (take k taken) (slice_index taken k) + scalar_room before (slice_index taken k) ≤ free
+  pub had_room : (k : ℕ) → k < length taken → bytes_before before (take k taken) (slice_index taken k) + scalar_need before (slice_index taken k) ≤ free
   pub fits : length bytes ≤ free
   -- if the first act lacked room, nothing was done
   pub once : EncoderLacksRoom before source last free → (left ≡ source) × (bytes ≡ []) × (now ≡ before)
@@ -67,7 +67,7 @@ EncodesFrom S state src dst at src' dst' at' =
 
 -- the scalar c is read in this state, with this byte
 pub record ReadsByte (state : EncoderState) (room c byte : ℕ) : Type 0 where
-  pub fits : scalar_room state c ≤ suc room
+  pub fits : scalar_need state c ≤ suc room
   pub moves : Moves state c state (One byte)
 
 -- The bytes of the scalar c are appended to earlier bytes, which end at `at`, and end at `end`. The state is unchanged.

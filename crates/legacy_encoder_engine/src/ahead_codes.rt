@@ -1,6 +1,6 @@
 //! The codes that an encoder reads ahead of its moves.
 ghost use Rattle.std.specs.Prelude.{◌≡◌, ℕ, ◌+◌, ◌≤◌, true, length, take, MatchOption};
-ghost use Rattle.legacy_base.specs.Encoders.{EncoderState, encoder_profile, scalar_room};
+ghost use Rattle.legacy_base.specs.Encoders.{EncoderState, encoder_profile, scalar_need};
 ghost use Rattle.legacy_encoder_engine.specs.Guesses.{IsGuess};
 ghost use Rattle.legacy_encoder_engine.specs.ProfileSuffices.{Serves};
 ghost use Rattle.legacy_encoder_engine.specs.UnfinishedCall.{EncodesBy, PutsCode};
@@ -17,19 +17,19 @@ pub trait AheadCodes {
     ghost state: { Self → EncoderState };
 
     /// The number of free bytes that is enough for each scalar.
-    ghost room: { ℕ };
+    ghost need: { ℕ };
 
     /// Returns the number of free bytes that is enough for each scalar.
     fn widest(&self) -> usize
-        ensures is { result ≡ room }
-        ensures fits { (c : ℕ) → scalar_room (state self.now) c ≤ room }
+        ensures is { result ≡ need }
+        ensures fits { (c : ℕ) → scalar_need (state self.now) c ≤ need }
         ensures serves { Serves (encoder_profile (state self.now).codec) };
 
     /// Writes the bytes of the next scalar, and returns the place after them.
     ///
     /// The result is `None` if the scalar is left to the moves. `guess` may change.
     fn put_code(&self, guess: &mut RangePart, dst: &mut [u8], at: usize, c: char) -> Option<usize>
-        requires room { at + room ≤ length dst.old }
+        requires room { at + need ≤ length dst.old }
         requires guess { IsGuess (state self.now).codec guess.old }
         ensures puts { MatchOption result (take at dst.new ≡ take at dst.old)
             (λ end. PutsCode (state self.now) c (take at dst.old) at (take end dst.new) end) }
@@ -44,7 +44,7 @@ pub trait AheadCodes {
         at: usize,
         c: char,
     ) -> Option<usize>
-        requires room { at + room ≤ length dst.old }
+        requires room { at + need ≤ length dst.old }
         requires past { 0x80 ≤ c }
         requires guess { IsGuess (state self.now).codec guess.old }
         ensures puts { MatchOption result (take at dst.new ≡ take at dst.old)

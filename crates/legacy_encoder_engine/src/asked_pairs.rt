@@ -16,7 +16,8 @@ pub trait PairEntries {
         ensures { right self.now c result };
 
     /// A number that is not a scalar value has the entry 0.
-    ghost others: { (entries : Self) → (code : ℕ) → (IsScalar code → ⊥) → right entries code 0 };
+    ghost others: { (entries : Self) → (number : ℕ) → (IsScalar number → ⊥) →
+        right entries number 0 };
 }
 
 // The entry of an ASCII scalar is its byte. Past ASCII it has the lead in the low byte and the trail
@@ -43,10 +44,10 @@ impl<C: PlainCodes> PairEntries for C {
 }
 
 /// Returns the entry of a number, which is 0 if it is not a scalar value.
-fn entry_at<E: PairEntries>(entries: &E, code: u32) -> u16
-    ensures { E.right entries.now code result }
+fn entry_at<E: PairEntries>(entries: &E, number: u32) -> u16
+    ensures { E.right entries.now number result }
 {
-    match char::from_u32(code) {
+    match char::from_u32(number) {
         Some(c) => entries.pair_entry(c),
         None => 0,
     }
@@ -61,9 +62,9 @@ pub fn ask_pairs<E: PairEntries>(entries: &E, pairs: &mut [u16], first: u32, end
     ensures outside { (c : ℕ) → IsOutside first end c →
         slice_index pairs.new c ≡ slice_index pairs.old c }
 {
-    let mut code = first;
-    while code < end {
-        pairs[code as usize] = entry_at(entries, code);
-        code += 1;
+    let mut number = first;
+    while number < end {
+        pairs[number as usize] = entry_at(entries, number);
+        number += 1;
     }
 }

@@ -66,8 +66,8 @@ impl<'a, C: PastPairs> PlainCodes for WithPairs<'a, C> {
     ghost plain = { λ e. C.plain e.codes.now };
 
     #[inline(always)]
-    fn past_room(&self) -> usize {
-        self.codes.past_room()
+    fn past_need(&self) -> usize {
+        self.codes.past_need()
     }
 
     #[inline(always)]
@@ -77,11 +77,11 @@ impl<'a, C: PastPairs> PlainCodes for WithPairs<'a, C> {
 
     #[inline(always)]
     fn pair_of(&self, c: char) -> Option<(u8, u8)> {
-        let code = c as usize;
-        if code >= PAIR_ROOM {
+        let scalar = c as usize;
+        if scalar >= PAIR_ROOM {
             return None;
         }
-        let entry = self.pairs[code];
+        let entry = self.pairs[scalar];
         if entry == 0 {
             return None;
         }
@@ -90,8 +90,8 @@ impl<'a, C: PastPairs> PlainCodes for WithPairs<'a, C> {
 
     #[inline(always)]
     fn four_of(&self, guess: &mut RangePart, c: char) -> Option<(u8, u8, u8, u8)> {
-        let code = c as usize;
-        if code >= PAIR_ROOM || self.pairs[code] != 0 {
+        let scalar = c as usize;
+        if scalar >= PAIR_ROOM || self.pairs[scalar] != 0 {
             return None;
         }
         self.codes.four_past_pairs(guess, c)
@@ -146,7 +146,7 @@ impl<'a, C: FillsPairs> EncodesPairs for PairEncoder<'a, C, Tables<'a>> {
 
     #[inline]
     fn fill_pairs(&self, pairs: &mut [u16]) {
-        C::fill(self.tables, pairs)
+        C::fill(self, pairs)
     }
 }
 
@@ -204,8 +204,8 @@ impl<'a, E: EncodesPairs> PlainCodes for CachedEncoder<'a, E> {
     ghost plain = { λ e. E.plain e.encoder.now };
 
     #[inline]
-    fn past_room(&self) -> usize {
-        self.encoder.past_room()
+    fn past_need(&self) -> usize {
+        self.encoder.past_need()
     }
 
     #[inline]

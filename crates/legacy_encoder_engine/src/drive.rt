@@ -90,7 +90,7 @@ pub fn drive_encoder<E: EncoderMoves, S: Source>(
     loop {
         written = encoder.read_ahead(src, dst, written);
         let Some(c) = src.peek() else { break };
-        if dst.len() - written < encoder.room(c) {
+        if dst.len() - written < encoder.need(c) {
             return (EncoderResult::OutputFull, written);
         }
         let step = encoder.next(c);

@@ -1,6 +1,6 @@
 //! The small moves of each encoder, and the text that it reads ahead of them.
 ghost use Rattle.std.specs.Prelude.{◌≡◌, ◌≤◌, [], ◌∷◌, length, true, false, option_map};
-ghost use Rattle.legacy_base.specs.Encoders.{EncoderState, encoder_profile, is_pending, scalar_room};
+ghost use Rattle.legacy_base.specs.Encoders.{EncoderState, encoder_profile, is_pending, scalar_need};
 ghost use Rattle.legacy_base.specs.Iso2022Jp.{escape_to};
 ghost use Rattle.legacy_encoder_engine.specs.Moves.{Moves, Finishes, IsCode, is_escape, move_bytes, move_report};
 ghost use Rattle.legacy_encoder_engine.specs.ProfileSuffices.{Serves};
@@ -65,7 +65,7 @@ impl EncoderMove {
 
 /// The moves of an encoder, of which `drive_encoder` makes its calls.
 ///
-/// They come with the room that each needs.
+/// They come with what each needs free.
 pub trait EncoderMoves {
     /// The codec with its lists, and the mode of the encoder.
     ghost state: { Self → EncoderState };
@@ -73,8 +73,8 @@ pub trait EncoderMoves {
     /// Returns the number of free bytes that the next move needs if this scalar is next.
     ///
     /// It is enough whatever the move is. Nothing changes.
-    fn room(&self, c: char) -> usize
-        ensures bytes { result ≡ scalar_room (state self.now) c }
+    fn need(&self, c: char) -> usize
+        ensures bytes { result ≡ scalar_need (state self.now) c }
         ensures serves { Serves (encoder_profile (state self.now).codec) };
 
     /// Makes and returns the next move if this scalar is next.

@@ -44,17 +44,18 @@ pub trait PairCodec {
 /// A codec of ASCII and pairs that can list the codes of all scalars below U+10000.
 // `ask_pairs` is generic over the codec, and a method of `PairCodec` cannot call it: hence this
 // trait.
-pub trait FillsPairs: PairCodec {
+pub trait FillsPairs: PairCodec + Sized {
     /// Fills a list of 65,536 entries, as `EncodesPairs::fill_pairs` does.
-    fn fill<V: EncoderTables>(tables: &V, entries: &mut [u16])
+    fn fill<V: EncoderTables>(encoder: &PairEncoder<'_, Self, V>, entries: &mut [u16])
         requires { length entries.old ≡ 65536 }
-        ensures { AreAllPairsOf (Self.codec (V.indexes tables.now).flat) entries.new };
+        ensures { AreAllPairsOf (Self.codec (V.indexes encoder.now.tables.now).flat) entries.new };
 }
 
 /// The encoder of a codec of ASCII and pairs, by one kind of tables.
 #[derive(Drop)]
 pub struct PairEncoder<'a, C: PairCodec, V: EncoderTables> {
-    pub(crate) tables: &'a V,
+    /// The tables in which scalars are looked up.
+    pub tables: &'a V,
     codec: PhantomData<C>,
 }
 
@@ -82,7 +83,7 @@ impl<'a, C: PairCodec, V: EncoderTables> PlainCodes for PairEncoder<'a, C, V> {
         (C.pairs (V.indexes e.tables.now).flat) };
 
     #[inline]
-    fn past_room(&self) -> usize {
+    fn past_need(&self) -> usize {
         2
     }
 

@@ -29,11 +29,11 @@ impl<C: PlainEncoder> EncoderMoves for C {
 
     #[inline]
     #[tactic(auto, using(crate::proofs::PlainServes::plain_steps))]
-    fn room(&self, c: char) -> usize {
+    fn need(&self, c: char) -> usize {
         if (c as u32) < 0x80 {
             1
         } else {
-            self.past_room()
+            self.past_need()
         }
     }
 
@@ -59,12 +59,12 @@ impl<C: PlainEncoder> EncoderMoves for C {
 impl<C: PlainCodes> AheadCodes for C {
     ghost state = { λ codes. new_encoder (C.codec codes) };
 
-    ghost room = { C.past };
+    ghost need = { C.past };
 
     #[inline(always)]
     #[tactic(auto, using(crate::proofs::PlainServes::plain_steps))]
     fn widest(&self) -> usize {
-        self.past_room()
+        self.past_need()
     }
 
     #[inline(always)]

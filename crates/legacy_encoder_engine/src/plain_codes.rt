@@ -24,7 +24,7 @@ pub trait PlainCodes {
     /// Returns the number of free bytes that a scalar past ASCII needs, mapped or not.
     ///
     /// ASCII needs one.
-    fn past_room(&self) -> usize
+    fn past_need(&self) -> usize
         ensures { result ≡ past };
 
     /// Returns the bytes of a scalar, or the scalar itself as unmappable.

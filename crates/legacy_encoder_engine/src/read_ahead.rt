@@ -3,7 +3,7 @@
 //! They leave scalars without bytes and small outputs to the moves.
 ghost use Rattle.std.specs.Prelude.{◌≡◌, ℕ, ◌+◌, ◌<◌, ◌≤◌, length, take, IfSome, MatchOption};
 ghost use Rattle.legacy_text.specs.NextScalars.{IsFirst};
-ghost use Rattle.legacy_base.specs.Encoders.{encoder_profile, scalar_room};
+ghost use Rattle.legacy_base.specs.Encoders.{encoder_profile, scalar_need};
 ghost use Rattle.legacy_encoder_engine.specs.Guesses.{IsGuess};
 ghost use Rattle.legacy_encoder_engine.specs.ProfileSuffices.{Serves};
 ghost use Rattle.legacy_encoder_engine.specs.UnfinishedCall.{EncodesBy, EncodesFrom, KeepsOn};
@@ -27,7 +27,7 @@ fn put_ten<C: AheadCodes>(
     units: [u16; 10],
 ) -> Option<usize>
     requires room { start + 32 ≤ length dst.old }
-    requires fits { (c : ℕ) → scalar_room (C.state codes.now) c ≤ 12 }
+    requires fits { (c : ℕ) → scalar_need (C.state codes.now) c ≤ 12 }
     requires serves { Serves (encoder_profile (C.state codes.now).codec) }
     ensures { MatchOption result (take start dst.new ≡ take start dst.old)
         (λ end. (start + 10 ≤ end) × (end ≤ start + 20)
@@ -117,8 +117,8 @@ fn read_past_ascii<C: AheadCodes, S: TextCursor>(
     c: char,
     count: usize,
 ) -> Option<usize>
-    requires room { at + C.room ≤ length dst.old }
-    requires fits { scalar_room (C.state codes.now) c ≤ C.room }
+    requires room { at + C.need ≤ length dst.old }
+    requires fits { scalar_need (C.state codes.now) c ≤ C.need }
     requires serves { Serves (encoder_profile (C.state codes.now).codec) }
     requires past { 0x80 ≤ c }
     requires front { IsFirst S.form (S.left src.old) c count }

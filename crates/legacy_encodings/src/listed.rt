@@ -46,15 +46,15 @@ macro_rules! match_listed {
 }
 
 /// An encoder of ASCII and pairs, with a list of its pairs.
-type ListedPairs<'a, 'b, C> = CachedEncoder<'b, PairEncoder<'a, C, Tables<'a>>>;
+type ListedPairEncoder<'a, 'b, C> = CachedEncoder<'b, PairEncoder<'a, C, Tables<'a>>>;
 
-// The functions over `ListedPairs` are generic over the codec, so that what these types meet is
-// proved once, and not for each of the four codecs.
+// The functions over `ListedPairEncoder` are generic over the codec, so that what these types meet
+// is proved once, and not for each of the four codecs.
 
 /// Calls an encoder of ASCII and pairs.
 #[inline(always)]
 fn step_pairs<C: FillsPairs, S: Source>(
-    coder: &mut ListedPairs<'_, '_, C>,
+    coder: &mut ListedPairEncoder<'_, '_, C>,
     src: &mut S,
     dst: &mut [u8],
     last: bool,
@@ -73,7 +73,7 @@ fn step_pairs<C: FillsPairs, S: Source>(
 /// Does a task with an encoder of ASCII and pairs.
 #[inline(always)]
 fn lend_pairs<C: FillsPairs, T: EncoderTask>(
-    coder: &mut ListedPairs<'_, '_, C>,
+    coder: &mut ListedPairEncoder<'_, '_, C>,
     task: &T,
     output: &mut [u8],
 ) -> usize
@@ -86,7 +86,7 @@ fn lend_pairs<C: FillsPairs, T: EncoderTask>(
 /// Returns the answer of an encoder of ASCII and pairs to the query for UTF-16.
 #[inline(always)]
 fn pairs_from_utf16<C: FillsPairs>(
-    coder: &ListedPairs<'_, '_, C>,
+    coder: &ListedPairEncoder<'_, '_, C>,
     u16_length: usize,
 ) -> Option<usize>
     ensures { result ≡ encoder_answer Utf16
@@ -98,7 +98,7 @@ fn pairs_from_utf16<C: FillsPairs>(
 /// Returns the answer of an encoder of ASCII and pairs to the query for UTF-8.
 #[inline(always)]
 fn pairs_from_utf8<C: FillsPairs>(
-    coder: &ListedPairs<'_, '_, C>,
+    coder: &ListedPairEncoder<'_, '_, C>,
     byte_length: usize,
 ) -> Option<usize>
     ensures { result ≡ encoder_answer Utf8
@@ -111,7 +111,7 @@ fn pairs_from_utf8<C: FillsPairs>(
 fn list_pairs<'a, 'b, C: FillsPairs>(
     encoder: &'b PairEncoder<'a, C, Tables<'a>>,
     room: &'b mut [u16],
-) -> ListedPairs<'a, 'b, C>
+) -> ListedPairEncoder<'a, 'b, C>
     requires { 65536 ≤ length room.old }
     ensures { new_encoder (C.codec result.encoder.now.tables.now.flat)
         ≡ new_encoder (C.codec encoder.now.tables.now.flat) }

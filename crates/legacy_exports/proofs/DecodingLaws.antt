@@ -8,12 +8,12 @@ use Rattle.legacy_base.specs.declared.results.DecodeEvent.{DecodeEvent}
 use Rattle.legacy_base.specs.declared.results.DecodeEvent.TheVariants.{Scalar, Bad}
 use Rattle.legacy_base.specs.declared.results.DecoderResult.{DecoderResult}
 use Rattle.legacy_base.specs.declared.results.DecoderResult.TheVariants.{InputEmpty, OutputFull, Malformed}
-use Rattle.legacy_base.specs.{Events.shift, Grammar.{Grammar, events_of, as_new}, States.{DecoderState, rests}, DecoderActs.{LacksRoom, full_room_in}}
+use Rattle.legacy_base.specs.{Events.shift, Grammar.{Grammar, events_of, as_new}, States.{DecoderState, rests}, DecoderActs.{LacksRoom, full_need_in}}
 use Rattle.legacy_base.specs.Calls.{Progress, DecoderCall, IsMalformedSequence, may_report_end, out_events}
-use Rattle.legacy_text.specs.EncodingForm.{EncodingForm, code_units, all_code_units, bmp_room}
+use Rattle.legacy_text.specs.EncodingForm.{EncodingForm, code_units, all_code_units, bmp_need}
 use Rattle.legacy_text.proofs.CodeUnits.{all_code_units-append}
 use Rattle.legacy_base.proofs.Shifts.{shift-append}
-use Rattle.legacy_base.proofs.Progress.{stay, at_less, behind, after_that}
+use Rattle.legacy_base.proofs.Progress.{stay, at_less, more_follows, after_that}
 use Rattle.legacy_codecs.specs.Replacing.{replaced_scalars, has_malformed, may_replace_end, ReplacingDecoderCall}
 use Rattle.legacy_codecs.specs.declared.results.CoderResult.{CoderResult}
 use Rattle.legacy_codecs.proofs.Replaced.{replaced-append, replaced-shift, replaced-of_scalars, has_malformed-append, has_malformed-shift, length-shift}
@@ -42,7 +42,7 @@ replacing_decodes c = record {
 -- it found a malformed sequence, or has room for the bytes held back
 replacing_held : {form : EncodingForm} {before : DecoderState} {source : List ℕ} {last : Bool} {free : ℕ} {after : DecoderState} {answer : CoderResult}
     {read : ℕ} {written : List ℕ} {found : Bool} (c : ReplacingDecoderCall form before source last free after answer read written found) →
-    0 < read → after.held ≢ [] → IsTrue (has_malformed c.out) ⊎ (full_room_in form before.grammar ≤ free - length written)
+    0 < read → after.held ≢ [] → IsTrue (has_malformed c.out) ⊎ (full_need_in form before.grammar ≤ free - length written)
 replacing_held c some held =
     elim (cases_Bool (has_malformed c.out)) [ inl found ↦ inl found | inr none ↦ inr (c.room_held some (c.found_is ∙ none) held) ]
 
@@ -106,8 +106,8 @@ raw_decodes {before = before} {source} {last} {after = after} {answer} {read} {s
 quiet : (form : EncodingForm) (scalars units : List ℕ) → units ≡ all_code_units form scalars → units ≡ all_code_units form (scalars ++ [])
 quiet form scalars units e = rw (append-nil scalars) e
 
-some_room : (form : EncodingForm) → 1 ≤ bmp_room form
-some_room form = grind arith
+some_need : (form : EncodingForm) → 1 ≤ bmp_need form
+some_need form = grind arith
 
 module _ {form : EncodingForm} {before : DecoderState} {source : List ℕ} {last : Bool} {free : ℕ} {after : DecoderState} {read : ℕ}
     {scalars units : List ℕ} where
@@ -137,7 +137,7 @@ module _ {form : EncodingForm} {before : DecoderState} {source : List ℕ} {last
   raw_malformed {a} {b} marked e f c =
       let one : all_code_units form (0xFFFD ∷ []) ≡ code_units form 0xFFFD = append-nil (code_units form 0xFFFD) in
       let all : marked ≡ all_code_units form (scalars ++ 0xFFFD ∷ []) = rw (all_code_units-append form scalars (0xFFFD ∷ []), one, ← e) f in
-      let some : 1 ≤ length marked = omega (arith, ap length f, length-append units (code_units form 0xFFFD), replacement_count form, some_room form) in
+      let some : 1 ≤ length marked = omega (arith, ap length f, length-append units (code_units form 0xFFFD), replacement_count form, some_need form) in
       let reported = ends_malformed before after read scalars a b c.malformed_sequence in
       record {
         decodes = raw_decodes marked all c;
@@ -148,7 +148,7 @@ module _ {form : EncodingForm} {before : DecoderState} {source : List ℕ} {last
 
   -- U+FFFD has room after a malformed sequence
   pub raw_roomless : {a b : ℕ} → units ≡ all_code_units form scalars → DecoderCall form before source last free after (Malformed a b) read scalars →
-      free < length units + bmp_room form → ⊥
+      free < length units + bmp_need form → ⊥
   raw_roomless e c lacks = let fits = replacement_fits c in omega (arith, fits, ap length e, replacement_count form, lacks)
 
 -- ---- calls one after another
@@ -156,7 +156,7 @@ module _ {form : EncodingForm} {before : DecoderState} {source : List ℕ} {last
 -- the same progress if more source follows, or none after the last piece
 progress_ahead : (ended : Bool) {s t : DecoderState} {xs ys : List ℕ} {n : ℕ} {out : List DecodeEvent} (zs : List ℕ) →
     (IsTrue ended → zs ≡ []) → Progress ended s xs n t ys out → Progress ended s (xs ++ zs) n t (ys ++ zs) out
-progress_ahead false zs h p = behind zs p
+progress_ahead false zs h p = more_follows zs p
 progress_ahead true {xs} {ys} zs h p = rw (h refl, append-nil xs, append-nil ys) p
 
 -- a malformed sequence at the end of the input, found by the calls before or by this one
@@ -267,12 +267,12 @@ none_later end source h = grind (arith, drop_all, nat_tests)
 pub at_length : (end : ℕ) (source : List ℕ) → end ≡ length source → IsTrue (nat_eq end (length source))
 at_length end source e = grind (arith, nat_tests)
 
--- a byte past ASCII needs the same room as long as the codec stays
-full-as_new : (form : EncodingForm) (g : Grammar) → full_room_in form (as_new g) ≡ full_room_in form g
+-- a byte past ASCII needs the same as long as the codec stays
+full-as_new : (form : EncodingForm) (g : Grammar) → full_need_in form (as_new g) ≡ full_need_in form g
 full-as_new form g = grind arith
 
-same_room : (form : EncodingForm) (g h : Grammar) → as_new g ≡ as_new h → full_room_in form g ≡ full_room_in form h
-same_room form g h e = sym (full-as_new form g) ∙ ap (full_room_in form) e ∙ full-as_new form h
+same_need : (form : EncodingForm) (g h : Grammar) → as_new g ≡ as_new h → full_need_in form g ≡ full_need_in form h
+same_need form g h e = sym (full-as_new form g) ∙ ap (full_need_in form) e ∙ full-as_new form h
 
 none_or_some : (n : ℕ) → (n ≡ 0) ⊎ (0 < n)
 none_or_some n = grind arith
@@ -363,8 +363,8 @@ module _ {kind : DecoderKind} {form : EncodingForm} {before : DecoderState} {sou
     held_now some held = elim (c.room_held some held) [
       | inl found ↦ inl (by_it found)
       | inr enough ↦
-          let same = same_room form now.grammar before.grammar k.decodes.progress.codec in
-          let fits : full_room_in form before.grammar ≤ total - length all = omega (arith, enough, same, rest, ap length e, length-append done units) in
+          let same = same_need form now.grammar before.grammar k.decodes.progress.codec in
+          let fits : full_need_in form before.grammar ≤ total - length all = omega (arith, enough, same, rest, ap length e, length-append done units) in
           inr (record { stage = after; earlier = all; decodes = more; rested = inl refl; room = fits })
     ]
 

@@ -118,13 +118,13 @@ module _ {kind : Replacement} {ended : Bool} {before : EncoderState} {text : Lis
     out = r.out ++ c.out;
     gives = λ more end h.
         let all = encoded before (text ++ more) end in
-        let behind = encoded now (piece ++ (later ++ more)) end in
+        let others = encoded now (piece ++ (later ++ more)) end in
         let last = encoded after (left ++ (later ++ more)) end in
-        let first : all ≡ r.out ++ behind = r.gives more end (λ f. absurd (false≢true f))
+        let first : all ≡ r.out ++ others = r.gives more end (λ f. absurd (false≢true f))
         ∙ ap (λ l. r.out ++ encoded now l end) (append_assoc piece later more) in
-        let second : behind ≡ c.out ++ last = c.gives (later ++ more) end (λ e. elim (h e) [
+        let second : others ≡ c.out ++ last = c.gives (later ++ more) end (λ e. elim (h e) [
           | inl n ↦ inl (rw (none e) n.0, n.1)
-          | inr g ↦ inr (begins_later r.out c.out behind (rw first at g))
+          | inr g ↦ inr (begins_later r.out c.out others (rw first at g))
         ]) in
         first ∙ ap (λ l. r.out ++ l) second ∙ sym (append_assoc r.out c.out last)
         ∙ ap (λ l. (r.out ++ c.out) ++ encoded after l end) (sym (append_assoc left later more));

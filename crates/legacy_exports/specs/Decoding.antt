@@ -5,7 +5,7 @@ use Rattle.legacy_base.specs.declared.results.DecodeEvent.{DecodeEvent}
 use Rattle.legacy_base.specs.declared.results.DecodeEvent.TheVariants.{Bad}
 use Rattle.legacy_base.specs.Grammar.{events_of}
 use Rattle.legacy_base.specs.States.{DecoderState, may_hold, rests}
-use Rattle.legacy_base.specs.DecoderActs.{LacksRoom, full_room_in}
+use Rattle.legacy_base.specs.DecoderActs.{LacksRoom, full_need_in}
 use Rattle.legacy_base.specs.Calls.{Progress}
 use Rattle.legacy_codecs.specs.Replacing.{replaced_scalars, has_malformed, may_replace_end}
 use Rattle.legacy_codecs.specs.declared.results.CoderResult.{CoderResult}
@@ -79,7 +79,7 @@ pub record DecodingCall (kind : DecoderKind) (form : EncodingForm) (before : Dec
   pub replaced : end ≡ Replaced → FoundMalformed kind before after read decodes.out
   -- if a byte was read and bytes are held back, there is room for reading a byte past ASCII, or a sequence was malformed
   pub room_held : 0 < read → after.held ≢ [] →
-      FoundMalformed kind before after read decodes.out ⊎ (full_room_in form before.grammar ≤ free - length written)
+      FoundMalformed kind before after read decodes.out ⊎ (full_need_in form before.grammar ≤ free - length written)
 
 -- ---- conversions
 
@@ -89,7 +89,7 @@ pub record HadFullRoom (form : EncodingForm) (source : List ℕ) (free : ℕ) (b
   pub earlier : List ℕ
   pub decodes : Decodes form true before source stage read earlier
   pub rested : (stage ≡ after) ⊎ IsTrue (rests stage.grammar stage.held)
-  pub room : full_room_in form before.grammar ≤ free - length earlier
+  pub room : full_need_in form before.grammar ≤ free - length earlier
 
 -- a stage with these bytes read, whose events end with a malformed sequence; the bytes after it are those held back
 pub record HadReport (form : EncodingForm) (source : List ℕ) (before : DecoderState) (read : ℕ) (written : List ℕ) : Type 0 where

@@ -3,7 +3,7 @@ use Rattle.std.specs.Prelude.{◌≡◌, ℕ, ◌+◌, ◌-◌, ◌<◌, ◌≤�
 use Rattle.legacy_base.specs.declared.results.EncodeEvent.{EncodeEvent}
 use Rattle.legacy_base.specs.declared.results.EncodeEvent.TheVariants.{Byte, Unmappable}
 use Rattle.legacy_base.specs.Encoders.{EncoderState, end_bytes, encoder_need}
-use Rattle.legacy_codecs.specs.References.{reference, reference_room, Gives}
+use Rattle.legacy_codecs.specs.References.{reference, reference_need, Gives}
 use Rattle.legacy_encodings.specs.Coders.{encoder_of}
 use Rattle.legacy_exports.specs.NewCoders.{HoldsByNumber}
 use Rattle.legacy_exports.specs.Repeated.{RepeatsFrom}
@@ -35,7 +35,7 @@ bytes_of_events kind events = flat_map (bytes_of_event kind) events
 -- the free bytes that a call keeps for a reference
 abbrev pub kept_room : Replacement → ℕ
 kept_room question_mark = 0
-kept_room numeric_reference = reference_room
+kept_room numeric_reference = reference_need
 
 -- ---- one call
 

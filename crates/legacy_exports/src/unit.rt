@@ -1,6 +1,6 @@
 //! The code units of the outputs.
 ghost use Rattle.std.specs.Prelude.{◌≡◌, ◌+◌, ◌<◌, ◌≤◌, ℕ, List, ◌++◌, length, take, MatchOption};
-ghost use Rattle.legacy_text.specs.EncodingForm.{EncodingForm, bmp_room, code_units};
+ghost use Rattle.legacy_text.specs.EncodingForm.{EncodingForm, bmp_need, code_units};
 
 /// A code unit of an output: a byte of UTF-8, or a code unit of UTF-16.
 pub trait CodeUnit: Copy {
@@ -12,8 +12,8 @@ pub trait CodeUnit: Copy {
 
     /// Writes U+FFFD at a place, and returns the place after it, or `None` if it has no room.
     fn replace(output: &mut [Self], at: usize) -> Option<usize>
-        ensures room { MatchOption result (length output.old < at + bmp_room form)
-            (λ end. (end ≡ at + bmp_room form) × (end ≤ length output.new)) }
+        ensures room { MatchOption result (length output.old < at + bmp_need form)
+            (λ end. (end ≡ at + bmp_need form) × (end ≤ length output.new)) }
         ensures text { MatchOption result (output.new ≡ output.old) (λ end.
             units (take end output.new) ≡ units (take at output.old) ++ code_units form 0xFFFD) };
 

@@ -3,13 +3,13 @@ use Rattle.std.proofs.Common.{◌≡◌, ℕ, ◌≤◌, Bool, true, false, List
 use Rattle.std.proofs.{Common.{subst, inl, arith}, lemmas.Bool.Decides.nat_tests}
 use Rattle.std.specs.Option.{unwrap_or}
 use Rattle.legacy_index_files.specs.{declared.index_line.LineKind.TheVariants.{Skipped, Entry}, IndexLine.run_of}
-use Rattle.legacy_index_files.specs.IndexLine.{behind_run, is_blank, past_blanks, says_nothing, is_digit, digits_at, past_digits, number_at}
-use Rattle.legacy_index_files.specs.{IndexLine.{past_mark, value_digits, entry_behind, entry_at, line_kind}, IndexGrammar.Passes}
+use Rattle.legacy_index_files.specs.IndexLine.{after_run, is_blank, past_blanks, says_nothing, is_digit, digits_at, past_digits, number_at}
+use Rattle.legacy_index_files.specs.{IndexLine.{past_mark, value_digits, entry_after, entry_at, line_kind}, IndexGrammar.Passes}
 use Rattle.legacy_index_files.specs.IndexGrammar.{EndsRun, IsNumber, HasValue, HasEntry, IsEntryLine, SaysNothing, IsSkippedLine, IsOfKind}
 
 -- ---- runs
 
-pub run_parts : (test : ℕ → Bool) (bs : List ℕ) → bs ≡ run_of test bs ++ behind_run test bs
+pub run_parts : (test : ℕ → Bool) (bs : List ℕ) → bs ≡ run_of test bs ++ after_run test bs
 run_parts test [] = refl
 run_parts test (b ∷ bs) = grind (arith, run_parts test bs)
 
@@ -17,7 +17,7 @@ pub run_passes : (test : ℕ → Bool) (bs : List ℕ) → Passes test (run_of t
 run_passes test [] = tt
 run_passes test (b ∷ bs) = grind (arith, run_passes test bs)
 
-pub run_ends : (test : ℕ → Bool) (bs : List ℕ) → EndsRun test (behind_run test bs)
+pub run_ends : (test : ℕ → Bool) (bs : List ℕ) → EndsRun test (after_run test bs)
 run_ends test [] = tt
 run_ends test (b ∷ bs) = grind (arith, run_ends test bs)
 
@@ -26,10 +26,10 @@ run_of-append test [] [] h e = refl
 run_of-append test [] (y ∷ ys) h e = grind arith
 run_of-append test (x ∷ xs) ys h e = grind (arith, run_of-append test xs ys)
 
-pub behind_run-append : (test : ℕ → Bool) (xs ys : List ℕ) → Passes test xs → EndsRun test ys → behind_run test (xs ++ ys) ≡ ys
-behind_run-append test [] [] h e = refl
-behind_run-append test [] (y ∷ ys) h e = grind arith
-behind_run-append test (x ∷ xs) ys h e = grind (arith, behind_run-append test xs ys)
+pub after_run-append : (test : ℕ → Bool) (xs ys : List ℕ) → Passes test xs → EndsRun test ys → after_run test (xs ++ ys) ≡ ys
+after_run-append test [] [] h e = refl
+after_run-append test [] (y ∷ ys) h e = grind arith
+after_run-append test (x ∷ xs) ys h e = grind (arith, after_run-append test xs ys)
 
 -- ---- numbers
 
@@ -38,11 +38,11 @@ pub number_sound : (radix : ℕ) (bs : List ℕ) (n : ℕ × List ℕ) → numbe
 number_sound radix bs n h =
     grind (arith, nat_tests, run_passes (is_digit radix) bs)
 
-pub number_complete : (radix : ℕ) (digits behind : List ℕ) (n : ℕ) → IsNumber radix digits n → EndsRun (is_digit radix) behind
-    → number_at radix (digits ++ behind) ≡ Some (n, behind)
-number_complete radix digits behind n h e =
-    let run = run_of-append (is_digit radix) digits behind h.are_digits e in
-    let rest = behind_run-append (is_digit radix) digits behind h.are_digits e in
+pub number_complete : (radix : ℕ) (digits after : List ℕ) (n : ℕ) → IsNumber radix digits n → EndsRun (is_digit radix) after
+    → number_at radix (digits ++ after) ≡ Some (n, after)
+number_complete radix digits after n h e =
+    let run = run_of-append (is_digit radix) digits after h.are_digits e in
+    let rest = after_run-append (is_digit radix) digits after h.are_digits e in
     grind (arith, nat_tests)
 
 -- ---- a value
@@ -55,7 +55,7 @@ mark_sound (b ∷ c ∷ more) digits h = grind (arith, nat_tests)
 digits_complete : (blanks digits : List ℕ) → 1 ≤ length blanks → Passes is_blank blanks
     → value_digits (blanks ++ (0x30 ∷ 0x78 ∷ digits)) ≡ Some digits
 digits_complete [] digits some blank = absurd (omega arith)
-digits_complete (b ∷ bs) digits some blank = grind (arith, behind_run-append is_blank bs (0x30 ∷ 0x78 ∷ digits))
+digits_complete (b ∷ bs) digits some blank = grind (arith, after_run-append is_blank bs (0x30 ∷ 0x78 ∷ digits))
 
 -- ---- an entry
 
@@ -67,7 +67,7 @@ value_sound (b ∷ bs) digits n marked numbered =
     record {
       blanks = b ∷ run_of is_blank bs;
       digits = digits_at 16 digits;
-      behind = past_digits 16 digits;
+      after = past_digits 16 digits;
       parts = grind (arith, run_parts is_blank bs, mark_sound (past_blanks bs) digits found.1, run_parts (is_digit 16) digits);
       some = omega arith;
       are_blanks = (found.0, run_passes is_blank bs);
@@ -75,8 +75,8 @@ value_sound (b ∷ bs) digits n marked numbered =
       ends = run_ends (is_digit 16) digits;
     }
 
-entry_behind_sound : (pointer : ℕ) (bytes : List ℕ) (entry : ℕ × ℕ) → entry_behind (pointer, bytes) ≡ Some entry → HasValue bytes entry.1
-entry_behind_sound pointer bytes entry h =
+entry_after_sound : (pointer : ℕ) (bytes : List ℕ) (entry : ℕ × ℕ) → entry_after (pointer, bytes) ≡ Some entry → HasValue bytes entry.1
+entry_after_sound pointer bytes entry h =
     let digits = unwrap_or (value_digits bytes) [] in
     let marked : value_digits bytes ≡ Some digits = grind arith in
     let numbered : number_at 16 digits ≡ Some (entry.1, past_digits 16 digits) = grind arith in
@@ -84,14 +84,14 @@ entry_behind_sound pointer bytes entry h =
 
 entry_sound : (bytes : List ℕ) (entry : ℕ × ℕ) → entry_at bytes ≡ Some entry → HasEntry bytes entry.0 entry.1
 entry_sound bytes entry h =
-    let behind = past_digits 10 bytes in
-    let numbered : number_at 10 bytes ≡ Some (entry.0, behind) = grind arith in
+    let after = past_digits 10 bytes in
+    let numbered : number_at 10 bytes ≡ Some (entry.0, after) = grind arith in
     record {
       digits = digits_at 10 bytes;
-      behind = behind;
+      after = after;
       parts = run_parts (is_digit 10) bytes;
-      number = (number_sound 10 bytes (entry.0, behind) numbered).0;
-      has_value = entry_behind_sound entry.0 behind entry (grind arith);
+      number = (number_sound 10 bytes (entry.0, after) numbered).0;
+      has_value = entry_after_sound entry.0 after entry (grind arith);
     }
 
 -- a blank is no digit, and ends a run of digits
@@ -102,20 +102,20 @@ blank_ends b h = grind (arith, nat_tests)
 digit_ends : (b : ℕ) → is_digit 10 b ≡ true → (is_blank b ≡ false) × (nat_eq b 0x0D ≡ false) × (nat_eq b 0x23 ≡ false)
 digit_ends b h = grind (arith, nat_tests)
 
-value_ends : (bytes : List ℕ) (blanks behind : List ℕ) → bytes ≡ blanks ++ behind → 1 ≤ length blanks → Passes is_blank blanks
+value_ends : (bytes : List ℕ) (blanks after : List ℕ) → bytes ≡ blanks ++ after → 1 ≤ length blanks → Passes is_blank blanks
     → EndsRun (is_digit 10) bytes
-value_ends bytes [] behind parts some blank = absurd (omega arith)
-value_ends bytes (b ∷ bs) behind parts some blank = subst (EndsRun (is_digit 10)) (sym parts) (blank_ends b blank.0)
+value_ends bytes [] after parts some blank = absurd (omega arith)
+value_ends bytes (b ∷ bs) after parts some blank = subst (EndsRun (is_digit 10)) (sym parts) (blank_ends b blank.0)
 
-value_complete : (bytes : List ℕ) (value pointer : ℕ) → HasValue bytes value → entry_behind (pointer, bytes) ≡ Some (pointer, value)
+value_complete : (bytes : List ℕ) (value pointer : ℕ) → HasValue bytes value → entry_after (pointer, bytes) ≡ Some (pointer, value)
 value_complete bytes value pointer h =
-    grind (arith, digits_complete h.blanks (h.digits ++ h.behind), number_complete 16 h.digits h.behind value h.number h.ends)
+    grind (arith, digits_complete h.blanks (h.digits ++ h.after), number_complete 16 h.digits h.after value h.number h.ends)
 
 entry_complete : (bytes : List ℕ) (pointer value : ℕ) → HasEntry bytes pointer value → entry_at bytes ≡ Some (pointer, value)
 entry_complete bytes pointer value h =
     let v = h.has_value in
-    let ends = value_ends h.behind v.blanks _ v.parts v.some v.are_blanks in
-    grind (arith, number_complete 10 h.digits h.behind pointer h.number ends, value_complete h.behind value pointer v)
+    let ends = value_ends h.after v.blanks _ v.parts v.some v.are_blanks in
+    grind (arith, number_complete 10 h.digits h.after pointer h.number ends, value_complete h.after value pointer v)
 
 -- ---- a line
 
@@ -138,14 +138,14 @@ digit_here : (b : ℕ) (bs : List ℕ) → is_digit 10 b ≡ true → IsBody fal
 digit_here b [] h = grind (arith, digit_ends b)
 digit_here b (c ∷ more) h = grind (arith, digit_ends b)
 
-entry_here : (bytes digits behind : List ℕ) → bytes ≡ digits ++ behind → 1 ≤ length digits → Passes (is_digit 10) digits → IsBody false bytes
-entry_here bytes [] behind parts some h = absurd (omega arith)
-entry_here bytes (b ∷ bs) behind parts some h = subst (IsBody false) (sym parts) (digit_here b (bs ++ behind) h.0)
+entry_here : (bytes digits after : List ℕ) → bytes ≡ digits ++ after → 1 ≤ length digits → Passes (is_digit 10) digits → IsBody false bytes
+entry_here bytes [] after parts some h = absurd (omega arith)
+entry_here bytes (b ∷ bs) after parts some h = subst (IsBody false) (sym parts) (digit_here b (bs ++ after) h.0)
 
 skipped_sound : (line : List ℕ) → line_kind line ≡ Skipped → IsSkippedLine line
 skipped_sound line h = record {
   blanks = run_of is_blank line;
-  behind = past_blanks line;
+  after = past_blanks line;
   parts = run_parts is_blank line;
   are_blanks = run_passes is_blank line;
   nothing = nothing_sound (past_blanks line) (grind arith);
@@ -154,7 +154,7 @@ skipped_sound line h = record {
 entry_line_sound : (line : List ℕ) (pointer value : ℕ) → line_kind line ≡ Entry pointer value → IsEntryLine line pointer value
 entry_line_sound line pointer value h = record {
   blanks = run_of is_blank line;
-  behind = past_blanks line;
+  after = past_blanks line;
   parts = run_parts is_blank line;
   are_blanks = run_passes is_blank line;
   entry = entry_sound (past_blanks line) (pointer, value) (grind arith);
@@ -162,16 +162,16 @@ entry_line_sound line pointer value h = record {
 
 skipped_complete : (line : List ℕ) → IsSkippedLine line → line_kind line ≡ Skipped
 skipped_complete line h =
-    let here = nothing_here h.behind h.nothing in
-    let rest : past_blanks line ≡ h.behind = rw h.parts (behind_run-append is_blank h.blanks h.behind h.are_blanks here.ends) in
+    let here = nothing_here h.after h.nothing in
+    let rest : past_blanks line ≡ h.after = rw h.parts (after_run-append is_blank h.blanks h.after h.are_blanks here.ends) in
     rw (rest, here.says) refl
 
 entry_line_complete : (line : List ℕ) (pointer value : ℕ) → IsEntryLine line pointer value → line_kind line ≡ Entry pointer value
 entry_line_complete line pointer value h =
     let entry = h.entry in
-    let here = entry_here h.behind entry.digits entry.behind entry.parts entry.number.some entry.number.are_digits in
-    let rest : past_blanks line ≡ h.behind = rw h.parts (behind_run-append is_blank h.blanks h.behind h.are_blanks here.ends) in
-    rw (rest, here.says, entry_complete h.behind pointer value entry) refl
+    let here = entry_here h.after entry.digits entry.after entry.parts entry.number.some entry.number.are_digits in
+    let rest : past_blanks line ≡ h.after = rw h.parts (after_run-append is_blank h.blanks h.after h.are_blanks here.ends) in
+    rw (rest, here.says, entry_complete h.after pointer value entry) refl
 
 pub kind_by_grammar : (line : List ℕ) → IsOfKind line (line_kind line)
 kind_by_grammar line = record {

@@ -11,17 +11,17 @@ pub fills_entry : (entries : List (ℕ × ℕ)) (values : List ℕ) (pointer val
 fills_entry entries values pointer value p within = grind (arith, nat_tests, common_steps)
 
 -- writing the entry of a line before those of the later lines
-pub record FillsLine (name : EncoderIndex) (rest behind : List ℕ) (values : List ℕ) (pointer value : ℕ) : Type 0 where
-  pub room : table_length (file_entries name (lines behind)) ≤ length values
+pub record FillsLine (name : EncoderIndex) (rest after : List ℕ) (values : List ℕ) (pointer value : ℕ) : Type 0 where
+  pub room : table_length (file_entries name (lines after)) ≤ length values
   pub within : pointer < length values
-  pub at_each : (p : ℕ) → unwrap_or (last_value (file_entries name (lines behind)) p) (get_or (set values pointer value) p 0)
+  pub at_each : (p : ℕ) → unwrap_or (last_value (file_entries name (lines after)) p) (get_or (set values pointer value) p 0)
       ≡ unwrap_or (last_value (file_entries name (lines rest)) p) (get_or values p 0)
 
-pub fills_line : (name : EncoderIndex) (line rest behind values : List ℕ) (pointer value : ℕ) → lines rest ≡ line ∷ lines behind
+pub fills_line : (name : EncoderIndex) (line rest after values : List ℕ) (pointer value : ℕ) → lines rest ≡ line ∷ lines after
     → Entry pointer value ≡ says name line → table_length (file_entries name (lines rest)) ≤ length values
-    → FillsLine name rest behind values pointer value
-fills_line name line rest behind values pointer value first said fits =
-    let others = file_entries name (lines behind) in
+    → FillsLine name rest after values pointer value
+fills_line name line rest after values pointer value first said fits =
+    let others = file_entries name (lines after) in
     let split : file_entries name (lines rest) ≡ (pointer, value) ∷ others =
     ap (file_entries name) first ∙ ap (λ kind. with_entry kind others) (sym said) in
     grind (arith, split, fills_entry others values pointer value)

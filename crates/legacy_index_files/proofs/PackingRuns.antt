@@ -5,7 +5,7 @@ use Rattle.std.proofs.lemmas.List.{length_push, length-take, get_or-take}
 use Rattle.std.specs.Option.{option_or}
 use Rattle.legacy_tables.specs.{declared.tables.packed.PackedPart.PackedPart, declared.tables.packed.Run.Run, Indexes.idx, PointerRuns.{run_at, run_end}}
 use Rattle.legacy_tables.specs.{PointerRuns.{run_scalar, runs_scalar, is_run_in_order, run_fault_from}, Packed.{differs_at, run_difference, runs_fault}}
-use Rattle.legacy_tables.proofs.{FirstPlaces.find-none, PackedRuns.{no_run, outside-behind, runs_next, runs_over}}
+use Rattle.legacy_tables.proofs.{FirstPlaces.find-none, PackedRuns.{no_run, outside-after, runs_next, runs_over}}
 use Rattle.legacy_index_files.specs.Packing.{AreLongest, GivesIndex}
 
 scalar-push : (runs : List Run) (run : Run) (p : ℕ) → runs_scalar (runs ++ run ∷ []) p ≡ option_or (runs_scalar runs p) (run_scalar run p)
@@ -88,14 +88,14 @@ scalar-first : (runs : List Run) (n p : ℕ) → n < length runs → (run_at run
 scalar-first [] n p h low high before = absurd (omega arith)
 scalar-first (run ∷ runs) zero p h low high before = grind (arith, nat_tests)
 scalar-first (run ∷ runs) (suc n) p h low high before =
-    rw (outside-behind run p (before 0 (omega arith)))
+    rw (outside-after run p (before 0 (omega arith)))
     (scalar-first runs n p (omega arith) low high (λ k l. before (suc k) (omega arith)))
 
 module _ (limit scalars : ℕ) (index : List ℕ) (runs : List Run) (made : GivesIndex limit index runs) (below : AreBelow scalars index)
     (few : scalars ≤ 0x11_0000) where
   -- the last scalar of a run is an entry of the index
   in_order : (n before : ℕ) → n < length runs → before ≤ (run_at runs n).pointer → is_run_in_order before limit (run_at runs n) ≡ true
-  in_order n before h behind =
+  in_order n before h after =
       let some = made.longest.some n no_run h in
       let p = (run_at runs n).pointer + ((run_at runs n).length - 1) in
       let last = scalar-first runs n p h (omega arith) (omega arith) (λ k l. let r = made.longest.rising k n no_run l h in omega arith) in
@@ -103,10 +103,10 @@ module _ (limit scalars : ℕ) (index : List ℕ) (runs : List Run) (made : Give
 
   ordered_from : (n place before : ℕ) → place + n ≡ length runs → (place < length runs → before ≤ (run_at runs place).pointer)
       → run_fault_from place before limit (drop place runs) ≡ None
-  ordered_from zero place before e behind = runs_over limit runs place before (omega arith)
-  ordered_from (suc n) place before e behind =
+  ordered_from zero place before e after = runs_over limit runs place before (omega arith)
+  ordered_from (suc n) place before e after =
       runs_next limit runs place before (omega arith)
-      ∙ rw (in_order place before (omega arith) (behind (omega arith)))
+      ∙ rw (in_order place before (omega arith) (after (omega arith)))
       (ordered_from n (place + 1) (run_end (run_at runs place)) (omega arith) (λ h. made.longest.rising place (place + 1) no_run (omega arith) h))
 
   no_difference : (k : ℕ) → k < limit → differs_at runs index k ≡ false

@@ -24,9 +24,9 @@ run_of test [] = []
 run_of test (b ∷ bs) = if test b then b ∷ run_of test bs else []
 
 -- the bytes after the longest beginning whose bytes pass a test
-abbrev pub behind_run : (ℕ → Bool) → List ℕ → List ℕ
-behind_run test [] = []
-behind_run test (b ∷ bs) = if test b then behind_run test bs else b ∷ bs
+abbrev pub after_run : (ℕ → Bool) → List ℕ → List ℕ
+after_run test [] = []
+after_run test (b ∷ bs) = if test b then after_run test bs else b ∷ bs
 
 -- ---- blanks
 
@@ -36,7 +36,7 @@ is_blank b = b == 0x20 || b == 0x09
 
 -- the bytes after the blanks at the beginning
 abbrev pub past_blanks : List ℕ → List ℕ
-past_blanks bs = behind_run is_blank bs
+past_blanks bs = after_run is_blank bs
 
 -- after its blanks, a skipped line is empty, a single carriage return, or a comment
 abbrev pub says_nothing : List ℕ → Bool
@@ -56,18 +56,18 @@ digits_at radix bs = run_of (is_digit radix) bs
 
 -- the bytes after the digits of a radix at the beginning
 abbrev pub past_digits : ℕ → List ℕ → List ℕ
-past_digits radix bs = behind_run (is_digit radix) bs
+past_digits radix bs = after_run (is_digit radix) bs
 
 -- the number of digits that follow the digits of n
-abbrev pub number_behind : ℕ → ℕ → List ℕ → ℕ
-number_behind radix n [] = n
-number_behind radix n (b ∷ bs) = number_behind radix (n * radix + digit_value b) bs
+abbrev pub number_after : ℕ → ℕ → List ℕ → ℕ
+number_after radix n [] = n
+number_after radix n (b ∷ bs) = number_after radix (n * radix + digit_value b) bs
 
 -- the number of 1 to 6 digits at the beginning, with the bytes after them; none if there are fewer or more digits
 abbrev pub number_at : ℕ → List ℕ → Option (ℕ × List ℕ)
 number_at radix bs =
     if nat_le 1 (length (digits_at radix bs)) && nat_le (length (digits_at radix bs)) 6
-    then Some (number_behind radix 0 (digits_at radix bs), past_digits radix bs)
+    then Some (number_after radix 0 (digits_at radix bs), past_digits radix bs)
     else None
 
 -- ---- entries
@@ -87,12 +87,12 @@ abbrev pub entry_with : ℕ → List ℕ → Option (ℕ × ℕ)
 entry_with pointer digits = elim (number_at 16 digits) [ None ↦ None | Some value ↦ Some (pointer, value.0) ]
 
 -- the pointer, with the value after at least one blank and `0x`
-abbrev pub entry_behind : ℕ × List ℕ → Option (ℕ × ℕ)
-entry_behind pointer = elim (value_digits pointer.1) [ None ↦ None | Some digits ↦ entry_with pointer.0 digits ]
+abbrev pub entry_after : ℕ × List ℕ → Option (ℕ × ℕ)
+entry_after pointer = elim (value_digits pointer.1) [ None ↦ None | Some digits ↦ entry_with pointer.0 digits ]
 
 -- the entry at the beginning: 1 to 6 decimal digits, at least one blank, `0x`, and 1 to 6 hexadecimal digits
 abbrev pub entry_at : List ℕ → Option (ℕ × ℕ)
-entry_at body = elim (number_at 10 body) [ None ↦ None | Some pointer ↦ entry_behind pointer ]
+entry_at body = elim (number_at 10 body) [ None ↦ None | Some pointer ↦ entry_after pointer ]
 
 -- the kind of a line by its entry, if any
 abbrev pub kind_of_entry : Option (ℕ × ℕ) → LineKind

@@ -63,17 +63,17 @@ fn is_skipped(body: &[u8]) -> bool
 fn parse_entry(body: &[u8]) -> Option<(u32, u32)>
     ensures { result ≡ entry_at body.now }
 {
-    let (pointer, behind) = parse_number(body, 10)?;
-    let digits = skip_to_value(behind)?;
+    let (pointer, after) = parse_number(body, 10)?;
+    let digits = skip_to_value(after)?;
     let (value, _) = parse_number(digits, 16)?;
     Some((pointer, value))
 }
 
 /// Returns the bytes after at least one blank and `0x`, or `None` if the bytes begin otherwise.
-fn skip_to_value(behind: &[u8]) -> Option<&[u8]>
-    ensures { option_copied result ≡ value_digits behind.now }
+fn skip_to_value(after: &[u8]) -> Option<&[u8]>
+    ensures { option_copied result ≡ value_digits after.now }
 {
-    let (first, rest) = behind.split_first()?;
+    let (first, rest) = after.split_first()?;
     if !is_blank_byte(*first) {
         return None;
     }
@@ -95,7 +95,7 @@ fn parse_number(bytes: &[u8], radix: u32) -> Option<(u32, &[u8])>
     let mut rest = bytes;
     let mut value = 0;
     let mut count = 0;
-    while let Some((first, behind)) = rest.split_first() {
+    while let Some((first, after)) = rest.split_first() {
         let Some(digit) = (*first as char).to_digit(radix) else {
             break;
         };
@@ -104,7 +104,7 @@ fn parse_number(bytes: &[u8], radix: u32) -> Option<(u32, &[u8])>
         }
         value = value * radix + digit;
         count += 1;
-        rest = behind;
+        rest = after;
     }
     if count == 0 {
         None
@@ -118,11 +118,11 @@ fn skip_blanks(bytes: &[u8]) -> &[u8]
     ensures { result.now ≡ past_blanks bytes.now }
 {
     let mut rest = bytes;
-    while let Some((first, behind)) = rest.split_first() {
+    while let Some((first, after)) = rest.split_first() {
         if !is_blank_byte(*first) {
             break;
         }
-        rest = behind;
+        rest = after;
     }
     rest
 }

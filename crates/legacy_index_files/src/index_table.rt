@@ -22,14 +22,14 @@ pub(crate) fn check_lines(name: EncoderIndex, text: &[u8]) -> Result<usize, usiz
     let mut number = 0;
     let mut length = 0;
     while !rest.is_empty() {
-        let (line, behind) = split_line(rest);
+        let (line, after) = split_line(rest);
         number += 1;
         match read_line(name, line) {
             LineKind::Skipped => {}
             LineKind::Entry(pointer, _) => length = length.max(pointer as usize + 1),
             LineKind::Malformed => return Err(number),
         }
-        rest = behind;
+        rest = after;
     }
     Ok(length)
 }
@@ -82,14 +82,14 @@ pub(crate) fn read_ranges(alloc: Global, text: &[u8]) -> Result<Vec<(u16, u16)>,
     let mut ranges = Vec::new(alloc);
     let mut rest = text;
     while !rest.is_empty() {
-        let (line, behind) = split_line(rest);
+        let (line, after) = split_line(rest);
         if let LineKind::Entry(pointer, value) = read_line(
             EncoderIndex::Of(FileIndex::Ranges),
             line,
         ) {
             ranges.push((pointer as u16, value as u16))?;
         }
-        rest = behind;
+        rest = after;
     }
     Ok(ranges)
 }
@@ -104,11 +104,11 @@ fn fill<E: Entry>(values: &mut [E], name: EncoderIndex, text: &[u8])
 {
     let mut rest = text;
     while !rest.is_empty() {
-        let (line, behind) = split_line(rest);
+        let (line, after) = split_line(rest);
         if let LineKind::Entry(pointer, value) = read_line(name, line) {
             E::put(values, pointer as usize, value as usize);
         }
-        rest = behind;
+        rest = after;
     }
 }
 

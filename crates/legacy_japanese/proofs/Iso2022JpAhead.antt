@@ -1,19 +1,21 @@
 -- The text that the ISO-2022-JP decoder reads ahead, and the escapes in it.
+use Rattle.std.proofs.lemmas.List.{take_rest}
 use Rattle.std.proofs.Common.{◌≡◌, ◌≢◌, ◌∙◌, ℕ, suc, ◌+◌, ◌-◌, ◌*◌, ◌%◌, ◌^◌, ◌<◌, ◌≤◌, Bool, false, cond, ltb, Some, List, [], ◌∷◌, ◌++◌, length, map, take}
 use Rattle.std.proofs.{Common.{drop, get_or, replicate, w8, w64, IsAscii, sym, ap, arith, append-nil, length-drop}, Math.Seq.{drop-cons, take-add}}
 use Rattle.std.proofs.lemmas.{Bool.{Decides.nat_tests, cases_lt, ne_eqb}, Grind.common_steps, List.Elements.{All-nil, All-cons}, Str.Ascii.IsAscii-from_all}
 use Rattle.std.proofs.lemmas.{List.{length-take-le, length-map, get_or-map, take-take, drop-drop}, Nat.Bits.{bit_at-trailing_zeros, bit_at-zero}}
 use Rattle.std.{proofs.lemmas.Simd.{bit_mask_l, bitmask_splat, mask_l-lt, zip2_splat}, specs.{Char.IsScalar, Int.trailing_zeros, Prelude.All}}
 use Rattle.legacy_text.specs.declared.destination.Destination.{Ghosts}
-use Rattle.legacy_base.specs.{declared.modes.DecoderMode.{DecoderMode, TheVariants.{Ascii, TwoByte}}, Iso2022Jp.{iso_2022_jp_front, esc}, Grammar.{iso_2022_jp, events_of}, States.DecoderState}
+use Rattle.legacy_base.specs.{declared.modes.DecoderMode.{DecoderMode, TheVariants.{Ascii, TwoByte}}, Iso2022Jp.{iso_2022_jp_front, esc}}
+use Rattle.legacy_base.specs.{Grammar.{iso_2022_jp, events_of}, States.DecoderState}
 use Rattle.legacy_base.proofs.{Iso2022JpFronts.{step_one, step_two}, Iso2022JpParts.no_escape, Shifts.{shift-append, shift-shift, shift-scalars}}
 use Rattle.legacy_tables.{specs.{AcceptedTables.AcceptedIndexes, Indexes.idx}, proofs.Accepted.length-jis0208}
 use Rattle.legacy_japanese.specs.declared.iso_2022_jp.bytes.{Escape.Escape}
 use Rattle.legacy_japanese.specs.Iso2022JpAhead.{IsAsciiText, begun_state, HasEscape, jis_place}
 use Rattle.legacy_japanese.specs.Iso2022JpMachine.{mode_of, second_of, third_of}
-use Rattle.legacy_japanese.proofs.{Iso2022JpRooms.{entry_narrow, one_fits, room-falls, times_one, same_rooms}, Iso2022JpStep.{events_in, escape_alone}}
+use Rattle.legacy_japanese.proofs.{Iso2022JpNeeds.{entry_narrow, one_fits, total_need-falls, times_one, same_needs}, Iso2022JpStep.{events_in, escape_alone}}
 use Rattle.legacy_decoder_engine.specs.ReadAhead.{Yields, IsPair, ReadsAhead, YieldsTo, ReadsTo}
-use Rattle.legacy_decoder_engine.proofs.{WrittenReads.{yields_none, yields_more, all_code_units_ascii, rest_of}, PairPlaces.idx_past}
+use Rattle.legacy_decoder_engine.proofs.{WrittenReads.{yields_none, yields_more, all_code_units_ascii}, PairPlaces.idx_past}
 use Rattle.legacy_decoder_engine.proofs.{JoinedReads.{reads_more, reads_then, reads_written}, AheadInCalls.reads_nothing}
 use lib.Lanes.{mask_l, zip2, top}
 
@@ -21,7 +23,7 @@ use lib.Lanes.{mask_l, zip2, top}
 
 pub ascii_text_yields : (jis0208 : List ℕ) (b : ℕ) → IsAsciiText b → Yields (iso_2022_jp jis0208 Ascii) (b ∷ []) (b ∷ [])
 unfolding events_of iso_2022_jp_front
-ascii_text_yields jis0208 b h = grind (arith, nat_tests, step_one, ne_eqb, All-cons, All-nil, room-falls, times_one, one_fits)
+ascii_text_yields jis0208 b h = grind (arith, nat_tests, step_one, ne_eqb, All-cons, All-nil, total_need-falls, times_one, one_fits)
 
 ascii_text_bytes : (jis0208 : List ℕ) (bytes : List ℕ) → All IsAsciiText bytes → Yields (iso_2022_jp jis0208 Ascii) bytes bytes
 ascii_text_bytes jis0208 [] h = yields_none (iso_2022_jp jis0208 Ascii)
@@ -33,7 +35,8 @@ ascii_text_bytes jis0208 (b ∷ bytes) h = yields_more (iso_2022_jp jis0208 Asci
 pair_yield : (jis0208 : List ℕ) (a b c : ℕ) → 0x21 ≤ a → a ≤ 0x7E → 0x21 ≤ b → b ≤ 0x7E → c < 0x1_0000 → IsScalar c
     → idx jis0208 ((a - 0x21) * 94 + (b - 0x21)) ≡ Some c → IsPair (iso_2022_jp jis0208 TwoByte) a b c
 unfolding events_of iso_2022_jp_front
-pair_yield jis0208 a b c low high low' high' narrow scalar is = grind (arith, nat_tests, step_two, ne_eqb, All-cons, All-nil, room-falls, times_one, one_fits)
+pair_yield jis0208 a b c low high low' high' narrow scalar is =
+    grind (arith, nat_tests, step_two, ne_eqb, All-cons, All-nil, total_need-falls, times_one, one_fits)
 
 -- the scalar of two bytes, by the sum of their places
 pub placed_scalar : (tables : AcceptedIndexes) (a b c : ℕ) → idx tables.flat.jis0208 (jis_place 94 a + jis_place 1 b) ≡ Some c
@@ -56,7 +59,7 @@ pub reads_ascii_text_block : {D : Type 0} (T : Ghosts D) (jis0208 source : List 
     → ReadsAhead T (begun_state jis0208 Ascii) source at old mid → ReadsAhead T (begun_state jis0208 Ascii) source (at + count) old new
 reads_ascii_text_block T jis0208 source {old} {mid} {new} at count long enough most text contents room loan front =
     let rest : List ℕ = take (length source - at) (drop at source) in
-    let within : count ≤ length rest = grind (arith, rest_of, length-drop) in
+    let within : count ≤ length rest = grind (arith, take_rest, length-drop) in
     let all = rw (take-take count 64 rest most) at text in
     let same = all_code_units_ascii T.form (take count rest) (ascii_text _ all) in
     let yields = ascii_text_bytes jis0208 (take count rest) all in
@@ -97,7 +100,7 @@ escape_yields : (jis0208 : List ℕ) (mode : DecoderMode) (e : Escape) (x : ℕ)
     → YieldsTo (iso_2022_jp jis0208 mode) (iso_2022_jp jis0208 (mode_of e)) (esc ∷ second_of e ∷ third_of e ∷ x ∷ bytes) ds
 unfolding events_of
 escape_yields jis0208 mode e x bytes ds alone yields =
-    grind (arith, events_in, escape_alone, no_escape, ne_eqb, shift-append, shift-scalars, shift-shift, room-falls)
+    grind (arith, events_in, escape_alone, no_escape, ne_eqb, shift-append, shift-scalars, shift-shift, total_need-falls)
 
 -- the bytes of a text after three others, and those of an escape and the text after it
 bytes_after_escape : (source : List ℕ) (read : ℕ) → 3 < length source → 0 < read
@@ -117,19 +120,19 @@ module _ {D : Type 0} {T : Ghosts D} where
       → ReadsTo T (begun_state jis0208 first) (begun_state jis0208 next) source (at + (3 + read)) old new
   reads_on jis0208 first mode next e source {old} {mid} {new} at read is has some front reads =
       let S : List ℕ = take (length source - at) (drop at source) in
-      let rest : take (length source - (at + 3)) (drop (at + 3) source) ≡ drop 3 S = rest_of source (at + 3) ∙ sym (drop-drop 3 at source)
-      ∙ ap (drop 3) (sym (rest_of source at)) in
+      let rest : take (length source - (at + 3)) (drop (at + 3) source) ≡ drop 3 S = take_rest source (at + 3) ∙ sym (drop-drop 3 at source)
+      ∙ ap (drop 3) (sym (take_rest source at)) in
       let text = rw (is, rest) at reads in
-      let behind = rw (bytes_after_escape S read has.within some) at text.writes.yields in
+      let later = rw (bytes_after_escape S read has.within some) at text.writes.yields in
       let yields : YieldsTo (iso_2022_jp jis0208 mode) (iso_2022_jp jis0208 (mode_of e)) (take (3 + read) S) text.writes.scalars =
-      rw (escape_bytes e S read has some) (escape_yields jis0208 mode e _ _ _ has.alone behind) in
+      rw (escape_bytes e S read has some) (escape_yields jis0208 mode e _ _ _ has.alone later) in
       let both : ReadsTo T (begun_state jis0208 mode) (begun_state jis0208 (mode_of e)) S (3 + read) mid new =
-      grind (arith, same_rooms, length-drop, yields, text) in
+      grind (arith, same_needs, length-drop, yields, text) in
       rw is (reads_then front both)
 
   -- text, after which nothing was read
-  pub reads_end : {before after other : DecoderState} {source behind : List ℕ} {old mid new : D} {at read : ℕ} → read ≡ 0 →
+  pub reads_end : {before after other : DecoderState} {source later : List ℕ} {old mid new : D} {at read : ℕ} → read ≡ 0 →
       ReadsTo T before after source at old mid
-      → ReadsAhead T other behind read mid new
+      → ReadsAhead T other later read mid new
       → ReadsTo T before after source at old new
   reads_end none front reads = let nothing = reads_nothing reads none in grind (arith, append-nil)

@@ -1,14 +1,15 @@
 -- The length formulas of the ISO-2022-JP encoder are enough for its scalars and escapes. Its moves, by its tables and by a list of pairs.
-use Rattle.std.proofs.Common.{◌≡◌, ℕ, ◌+◌, ◌<◌, ◌≤◌, ◌/◌, ◌%◌, List, arith, Bool, true, false, [], ◌∷◌, ◌++◌, length, refl, IsTrue, Some, map, ◌⊎◌, IsAscii, get_or}
+use Rattle.std.proofs.Common.{◌≡◌, ℕ, ◌+◌, ◌<◌, ◌≤◌, ◌/◌, ◌%◌, List, arith, Bool, true, false, [], ◌∷◌, ◌++◌, length, refl, IsTrue, Some, map, ◌⊎◌}
+use Rattle.std.proofs.Common.{IsAscii, get_or}
 use Rattle.std.{specs.List.list_any, proofs.lemmas.List.Folds.list_any_at}
 use Rattle.{std.proofs.lemmas.Bool.Decides.nat_tests, legacy_tables.specs.Indexes.FlatIndexes, legacy_text.specs.UnitCodes.IsNoSurrogate}
 use Rattle.{legacy_text.specs.EncodingForm.{EncodingForm, Utf8}, legacy_base.specs.{EncodeEvents.code_events, Beginnings.BeginsWith}}
 use Rattle.legacy_base.specs.{EncoderProfile.{EncoderProfile, differs}, Encoders.{encoder_profile, iso_2022_jp, is_pending}}
 use Rattle.legacy_base.specs.Iso2022Jp.{iso_2022_jp_encoder, iso_2022_jp_code, iso_2022_jp_reported, is_two_byte_scalar, is_roman_scalar, is_mode_control}
-use Rattle.legacy_base.{specs.{Iso2022Jp.{mode_behind, escape_to}, declared.results.EncodeEvent.EncodeEvent}, proofs.SameUnits.some_unit}
+use Rattle.legacy_base.{specs.{Iso2022Jp.{mode_after_text, escape_to}, declared.results.EncodeEvent.EncodeEvent}, proofs.SameUnits.some_unit}
 use Rattle.legacy_base.proofs.Iso2022JpEncoding.{code-short, text_events, text_events-here, text_events-escape, text_events-end, text_events-open, mode_for}
 use Rattle.legacy_base.proofs.Iso2022JpEncoding.{mode_by, mode_for-by, mode_for-twice, code_by}
-use Rattle.legacy_encoder_engine.specs.{Moves.{is_escape, move_bytes, move_report, Moves, Finishes}, ProfileSuffices.{Serves, mode_room}}
+use Rattle.legacy_encoder_engine.specs.{Moves.{is_escape, move_bytes, move_report, Moves, Finishes}, ProfileSuffices.{Serves, mode_need}}
 use Rattle.legacy_encoder_engine.specs.{UnfinishedCall.{PutsCode, ReadsByte}, UnitTurns.{ReadsUnit, two_bytes}}
 use Rattle.legacy_encoder_engine.specs.declared.moves.EncoderMove.{EncoderMove, TheVariants.{One, Two}}
 use Rattle.legacy_encoder_engine.proofs.PlainServes.{two_units, differs-same, here_moves}
@@ -24,8 +25,8 @@ module _ (jis0208 katakana_index : List ℕ) where
   -- an escape to the mode that the scalar needs, and then the scalar's bytes
   escape_by : (pair keeps romans : Bool) (mode : EncoderMode) (form : EncodingForm) (t u own : ℕ) → differs mode (mode_by pair keeps romans mode) ≡ true
       → own ≤ 2 → (pair ≡ false → own ≤ 1) → 1 ≤ u → (form ≡ Utf8 → pair ≡ true → 2 ≤ u) → (form ≡ Utf8 → romans ≡ true → 2 ≤ u)
-      → (mode_room encoder form (mode_by pair keeps romans mode) t + (3 + own) ≤ mode_room encoder form mode (u + t))
-      × (6 ≤ mode_room encoder form mode (u + t))
+      → (mode_need encoder form (mode_by pair keeps romans mode) t + (3 + own) ≤ mode_need encoder form mode (u + t))
+      × (6 ≤ mode_need encoder form mode (u + t))
   escape_by pair keeps romans mode form t u own e o n p q r = grind arith
 
   -- no scalar of two-byte or Roman mode is ASCII
@@ -119,7 +120,7 @@ module _ (flat : FlatIndexes) where
     pair = Two (both % 256) (both / 256)
 
     pub asks_listed : (mode : EncoderMode) → Asks flat mode c TwoByte pair
-    unfolding mode_behind
+    unfolding mode_after_text
     asks_listed mode = record { mode_is = rw is.1 refl; code_is = is.1 }
 
     pub puts_listed : (old bytes : List ℕ) (at : ℕ) → bytes ≡ old ++ two_bytes both → PutsCode (state_in flat TwoByte) c old at bytes (at + 2)

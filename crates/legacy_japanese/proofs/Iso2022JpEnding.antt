@@ -5,7 +5,7 @@ use Rattle.legacy_base.proofs.{Beginnings.no_sooner, Iso2022JpFronts.{step_end, 
 use Rattle.legacy_base.{proofs.Shifts.shift-shift, specs.{Beginnings.BeginsWith, Events.shift, Grammar.{iso_2022_jp, events_of}, Lengths.replacement_units}}
 use Rattle.legacy_base.specs.{Iso2022Jp.{esc, escape_mode, part_mode, iso_2022_jp_front}, States.{is_two_byte_mode, rests}}
 use Rattle.{legacy_base.specs.declared.results.DecodeEvent.{DecodeEvent, TheVariants.{Scalar, Bad}}, legacy_decoder_engine.specs.Moves.{Releases, Reports}}
-use Rattle.legacy_japanese.proofs.Iso2022JpRooms.{same_rooms, room-falls, replacement_fits, times_one, held_allowed, held_rests, single_narrow}
+use Rattle.legacy_japanese.proofs.Iso2022JpNeeds.{same_needs, total_need-falls, replacement_fits, times_one, held_allowed, held_rests, single_narrow}
 use Rattle.legacy_japanese.proofs.Iso2022JpStep.{MeetsEnd, ended, escape_alone, escaped, events_in, in_range_plain, second_kept}
 use Rattle.legacy_japanese.specs.Iso2022JpMachine.{bytes_held, finish, is_held, is_resting, mode_of, second_of, single, state_in, third_of}
 use Rattle.legacy_japanese.specs.{Iso2022JpMachine.weight_of, declared.iso_2022_jp.bytes.{Escape.Escape, Held.{Held, TheVariants.{Byte, Begun}}}}
@@ -21,7 +21,7 @@ pub record SoundEnd (held : Held) (new_mode : DecoderMode) (new_held : Held) : T
   pub suffix : drop (ended held new_held) (bytes_held held) ≡ bytes_held new_held
   pub fits : length (bytes_held new_held) + 1 ≤ length (bytes_held held)
   pub short : length (bytes_held new_held) ≤ 3
-  pub room : weight_of new_held + 1 ≤ weight_of held
+  pub need : weight_of new_held + 1 ≤ weight_of held
 
 abbrev pub EndsSound : Held → Option (DecoderMode × Held) → Type 0
 EndsSound held None = Unit {0}
@@ -49,7 +49,7 @@ module _ (jis0208 : List ℕ) where
   pub released : (mode : DecoderMode) (b c : ℕ) → is_held mode (Byte b) ≡ true → Some c ≡ single mode b
       → Releases (state_in jis0208 mode (Byte b)) (state_in jis0208 mode (Begun None Nothing)) c
   unfolding events_of
-  released mode b c h h1 = grind (arith, write_law, same_rooms, single_narrow, length-code_units-bmp, room-falls, times_one)
+  released mode b c h h1 = grind (arith, write_law, same_needs, single_narrow, length-code_units-bmp, total_need-falls, times_one)
 
   -- ---- the end of the input
 
@@ -90,12 +90,12 @@ module _ (jis0208 : List ℕ) where
       → (more ≡ []) ⊎ BeginsWith (events_in jis0208 mode (esc ∷ second_of e ∷ third_of e ∷ esc ∷ rest ++ more)) (Bad 3 1 ∷ [])
       → events_in jis0208 mode (esc ∷ second_of e ∷ third_of e ∷ esc ∷ rest ++ more) ≡ Bad 3 1 ∷ shift 4 (events_in jis0208 (mode_of e) (rest ++ more))
   whole_end mode e rest more none h =
-      let behind = esc ∷ rest ++ more in
-      let alone : part_mode behind ≡ None = elim h [
+      let after = esc ∷ rest ++ more in
+      let alone : part_mode after ≡ None = elim h [
         | inl z ↦ rw (z, append-nil rest) none
-        | inr g ↦ let first = sym (escaped jis0208 mode e behind) ∙ g.1 in grind (arith, first)
+        | inr g ↦ let first = sym (escaped jis0208 mode e after) ∙ g.1 in grind (arith, first)
       ] in
-      rw (escape_alone jis0208 mode e behind alone, step_no_escape jis0208 (mode_of e) (rest ++ more) alone, shift-shift 3 1) refl
+      rw (escape_alone jis0208 mode e after alone, step_no_escape jis0208 (mode_of e) (rest ++ more) alone, shift-shift 3 1) refl
 
   end_law : (mode : DecoderMode) (held : Held) → is_held mode held ≡ true → is_resting mode held ≡ true → MeetsEnd jis0208 mode held (finish mode held)
   unfolding part_mode
@@ -123,7 +123,7 @@ module _ (jis0208 : List ℕ) where
   end_facts mode held None law sound = law
   end_facts mode held (Some o) law sound =
       let fits = sound.fits in
-      let fewer = sound.room in (
+      let fewer = sound.need in (
         record {
           passed = ended held o.1;
           holding = λ none. (let e = ap length none in absurd (omega arith));
@@ -135,7 +135,7 @@ module _ (jis0208 : List ℕ) where
           };
           holds = record { some = omega arith; few = omega arith; near = sound.short; held = refl; within = omega arith };
           allowed = held_allowed jis0208 o.0 o.1 sound.kept;
-          lowers = λ query. room-falls query jis0208 mode o.0 held o.1 0 0 1 (replacement_units query) (omega arith) (replacement_fits query);
+          lowers = λ query. total_need-falls query jis0208 mode o.0 held o.1 0 0 1 (replacement_units query) (omega arith) (replacement_fits query);
         },
         λ none. (let all = law [] (inl refl) in let e = sym none ∙ ap (events_in jis0208 mode) (sym (append-nil (bytes_held held))) ∙ all in cc),
       )

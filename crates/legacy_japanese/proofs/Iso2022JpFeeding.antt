@@ -4,13 +4,13 @@ use Rattle.std.proofs.Common.{◌≡◌, ◌∙◌, ℕ, ◌+◌, ◌<◌, ◌�
 use Rattle.legacy_base.specs.{Grammar.{iso_2022_jp, events_of}, States.{DecoderState, rests}, DecoderActs.HadRoom, Lengths.query_form, Iso2022Jp.esc}
 use Rattle.legacy_decoder_engine.specs.Moves.{fed_scalars, fed_units, unread_byte, Feeds, FeedsMalformedByte, HoldsBytes}
 use Rattle.{legacy_decoder_engine.specs.declared.moves.Fed.{TheVariants.{Nothing as Kept, One, Two}, Fed}, legacy_tables.specs.AcceptedTables.AcceptedIndexes}
-use Rattle.legacy_japanese.proofs.Iso2022JpRooms.{read_room-is, one_fits, room-falls, replacement_fits, times_one, held_allowed, held_rests, same_rooms}
-use Rattle.legacy_japanese.proofs.{Iso2022JpRooms.{single_narrow, entry_narrow}, Iso2022JpStep.{done, step_events, IsStep, read_step}}
+use Rattle.legacy_japanese.proofs.Iso2022JpNeeds.{read_need-is, one_fits, total_need-falls, replacement_fits, times_one, held_allowed, held_rests, same_needs}
+use Rattle.legacy_japanese.proofs.{Iso2022JpNeeds.{single_narrow, entry_narrow}, Iso2022JpStep.{done, step_events, IsStep, read_step}}
 use Rattle.legacy_japanese.specs.Iso2022JpMachine.{bytes_held, is_held, malformed, read, second_of, third_of, state_in}
 use Rattle.legacy_japanese.specs.declared.iso_2022_jp.bytes.{Start.TheVariants.{Nothing, EscapeByte, Dollar, Paren}, Held.TheVariants.Begun, Escape.Escape}
 use Rattle.legacy_base.specs.declared.modes.DecoderMode.{DecoderMode}
 use Rattle.legacy_japanese.specs.{declared.iso_2022_jp.bytes.{Start.Start, Held.Held}, Iso2022JpAhead.{begun_state, BeginsEscape}}
-use Rattle.legacy_text.specs.EncodingForm.{total_unit_count, EncodingForm, bmp_room}
+use Rattle.legacy_text.specs.EncodingForm.{total_unit_count, EncodingForm, bmp_need}
 
 -- at most one scalar, which is not above U+FFFF
 abbrev IsNarrow : Fed → Type 0
@@ -37,8 +37,8 @@ module _ (tables : AcceptedIndexes) (mode : DecoderMode) (held : Held) (byte : �
   feeds =
       let law = step.law in
       let fits = step.fits in
-      let lower = step.room in
-      let room = λ (form : EncodingForm). read_room-is form tables.flat.jis0208 mode held byte in
+      let lower = step.need in
+      let need = λ (form : EncodingForm). read_need-is form tables.flat.jis0208 mode held byte in
       let small : IsNarrow o.0 = rw is (narrow tables mode held byte) in
       record {
         passed = done held byte o;
@@ -50,14 +50,15 @@ module _ (tables : AcceptedIndexes) (mode : DecoderMode) (held : Held) (byte : �
         };
         holds = step.holds;
         allowed = held_allowed tables.flat.jis0208 o.1 o.2 step.kept;
-        rooms = same_rooms tables.flat.jis0208 mode o.1;
+        needs = same_needs tables.flat.jis0208 mode o.1;
         empties = step.empties;
         report = λ form. omega arith;
-        full = λ form some. rw (room form) (omega arith);
-        fits = λ form. rw (room form) (grind (arith, one_fits));
-        had = λ form free enough. let e = room form in grind arith;
+        full = λ form some. rw (need form) (omega arith);
+        fits = λ form. rw (need form) (grind (arith, one_fits));
+        had = λ form free enough. let e = need form in grind arith;
         scalar = grind (arith, All-cons, All-nil);
-        lowers = λ query n. room-falls query tables.flat.jis0208 mode o.1 held o.2 (n + 1) (n + length (unread_byte byte o.0)) (length (step_events 0 o.0))
+        lowers = λ query n. total_need-falls query tables.flat.jis0208 mode o.1 held o.2 (n + 1) (n + length (unread_byte byte o.0))
+            (length (step_events 0 o.0))
             (total_unit_count (query_form query) (fed_scalars o.0) + fed_units query o.0) (omega arith)
             (grind (arith, times_one, one_fits, replacement_fits));
       }
@@ -74,7 +75,7 @@ malformed_byte tables mode byte past =
 abbrev second_start : Escape → Start
 second_start e = cond (second_of e == 0x24) Dollar Paren
 
-module _ (form : EncodingForm) (free : ℕ) (enough : bmp_room form ≤ free) (tables : AcceptedIndexes) (mode : DecoderMode) where
+module _ (form : EncodingForm) (free : ℕ) (enough : bmp_need form ≤ free) (tables : AcceptedIndexes) (mode : DecoderMode) where
   abbrev state : Held → DecoderState
   state = state_in tables.flat.jis0208 mode
 
@@ -86,7 +87,7 @@ module _ (form : EncodingForm) (free : ℕ) (enough : bmp_room form ≤ free) (t
   holds_byte start byte held bytes next is rest = (
     state held,
     feeds tables mode (Begun None start) byte (Kept, mode, held) refl (held_rests tables.flat.jis0208 mode (Begun None start) refl) is,
-    rw (read_room-is form tables.flat.jis0208 mode (Begun None start) byte) enough,
+    rw (read_need-is form tables.flat.jis0208 mode (Begun None start) byte) enough,
     rest,
   )
 

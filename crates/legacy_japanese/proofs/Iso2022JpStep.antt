@@ -68,7 +68,7 @@ module _ (jis0208 : List ℕ) where
     pub fits : length (bytes_held o.2 ++ unread_byte b o.0) ≤ suc (length (bytes_held held))
     pub holds : FedHolds (done held b o) (state_in jis0208 o.1 o.2) o.0
     pub empties : fed_scalars o.0 ≢ [] → bytes_held o.2 ≡ []
-    pub room : (weight_of o.2 + length (unread_byte b o.0)) + length (step_events 0 o.0) ≤ suc (weight_of held)
+    pub need : (weight_of o.2 + length (unread_byte b o.0)) + length (step_events 0 o.0) ≤ suc (weight_of held)
 
   -- ---- after a whole escape
 
@@ -82,9 +82,10 @@ module _ (jis0208 : List ℕ) where
   escape_alone mode e more h = rw (escaped mode e more, h)
 
   -- a step after a whole escape is the step without it in its mode, if no valid escape follows directly
-  behind_step : (mode : DecoderMode) (e : Escape) (s : Start) (b : ℕ) (o : Fed × DecoderMode × Held) → ((more : List ℕ) → part_mode (start_bytes s ++ b ∷ more) ≡ None)
+  after_step : (mode : DecoderMode) (e : Escape) (s : Start) (b : ℕ) (o : Fed × DecoderMode × Held)
+      → ((more : List ℕ) → part_mode (start_bytes s ++ b ∷ more) ≡ None)
       → IsStep (mode_of e) (Begun None s) b o → IsStep mode (Begun (Some e) s) b o
-  behind_step mode e s b o alone step =
+  after_step mode e s b o alone step =
       let further : done (Begun (Some e) s) b o ≡ suc (suc (suc (done (Begun None s) b o))) = omega (arith, step.fits) in
       let law = λ (more : List ℕ). rw (step.law more) at (escape_alone mode e (start_bytes s ++ b ∷ more) (alone more)) in
       grind (arith, law, shift-append, shift-shift, further, step)
@@ -111,17 +112,18 @@ module _ (jis0208 : List ℕ) where
   start_step mode None s b = let kept = second_kept mode in grind (arith, nat_tests, step_no_escape, shift-none)
   start_step mode (Some e) Nothing b = cond_both (b == esc) _ _ (IsStep mode (Begun (Some e) Nothing) b)
       (λ h. rw (eqb-true b esc h) (grind (arith, shift-none)))
-      (λ h. behind_step mode e Nothing b (read_in_mode (mode_of e) b) (λ more. no_escape b more h) (in_mode_step (mode_of e) b h))
+      (λ h. after_step mode e Nothing b (read_in_mode (mode_of e) b) (λ more. no_escape b more h) (in_mode_step (mode_of e) b h))
   start_step mode (Some e) EscapeByte b = cond_both (b == 0x24) _ _ (IsStep mode (Begun (Some e) EscapeByte) b)
       (λ h. rw (eqb-true b 0x24 h) (grind (arith, shift-none)))
       (λ h. cond_both (b == 0x28) _ _ (IsStep mode (Begun (Some e) EscapeByte) b)
       (λ i. rw (eqb-true b 0x28 i) (grind (arith, shift-none)))
       (λ i. let none : (more : List ℕ) → part_mode (esc ∷ b ∷ more) ≡ None = grind (arith, nat_tests) in
-      behind_step mode e EscapeByte b _ none (grind (arith, none, step_no_escape))))
+      after_step mode e EscapeByte b _ none (grind (arith, none, step_no_escape))))
   start_step mode (Some e) s b =
       let all = escaped mode e in let kept = second_kept (mode_of e) in grind (arith, nat_tests, all, step_no_escape, shift-shift, shift-none)
 
   -- The main theorem of the machine: each byte read is a correct step, if the held-back bytes rest.
-  pub read_step : (mode : DecoderMode) (held : Held) (b : ℕ) → is_held mode held ≡ true → is_resting mode held ≡ true → IsStep mode held b (read jis0208 mode held b)
+  pub read_step : (mode : DecoderMode) (held : Held) (b : ℕ) → is_held mode held ≡ true → is_resting mode held ≡ true
+      → IsStep mode held b (read jis0208 mode held b)
   read_step mode (Byte l) b h r = lead_step mode l b h r
   read_step mode (Begun e s) b h r = start_step mode e s b

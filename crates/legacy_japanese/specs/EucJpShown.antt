@@ -2,12 +2,12 @@
 use Rattle.std.proofs.{Common.{◌≡◌, ℕ, ◌+◌, ◌-◌, ◌*◌, ◌≤◌, List, [], ◌∷◌, true, cond, refl, inl, ◌∙◌, arith}, lemmas.Bool.{false≢true, ltb-true}}
 use Rattle.std.{proofs.lemmas.Bool.Decides.nat_tests, specs.Char.is_ascii}
 use Rattle.legacy_base.specs.EucJp.{euc_jp_front, euc_jp_katakana, euc_jp_second, euc_jp_third, euc_jp_pair, euc_jp_scalars, euc_jp_weight}
-use Rattle.legacy_base.specs.{Fronts.{Front, cut}, Grammar.{Grammar, euc_jp, events_of}, DecoderActs.{act_room, takes}, States.{euc_jp_may_hold, state_of}}
+use Rattle.legacy_base.specs.{Fronts.{Front, cut}, Grammar.{Grammar, euc_jp, events_of}, DecoderActs.{act_need, takes}, States.{euc_jp_may_hold, state_of}}
 use Rattle.{legacy_base.proofs.{Cuts.cut-nil, FrontLaws.euc_jp_front-of}, legacy_decoder_engine.specs.Steps.{DecoderMachine, end_events, Meets}}
 use Rattle.legacy_decoder_engine.specs.{StepUnits.{units, IsWidth, IsNarrowIndex, Cost}, StatesAfterSteps.Settles, Shown.IsShown, ReadAhead.HasAscii}
 use Rattle.legacy_decoder_engine.proofs.{YieldedForms.{has_ascii, ascii_is}, FrontMoves.{Fits, fits_test, fits_trail, fits_meets, end_meets, report_meets}}
-use Rattle.legacy_decoder_engine.proofs.{SettledSteps.{one_test, one_option, settles_test, trail_settles}, CallUnderWay.same_rooms, Widths.narrow_idx_units}
-use Rattle.legacy_decoder_engine.proofs.{RoomMoves.{first_room, held_room_is, HasCosts, sloped_rooms}, TwoByteCosts.{cost_test, units_test, katakana_below}}
+use Rattle.legacy_decoder_engine.proofs.{SettledSteps.{one_test, one_option, settles_test, trail_settles}, CallUnderWay.same_needs, Widths.narrow_idx_units}
+use Rattle.legacy_decoder_engine.proofs.{NeedMoves.{first_need, held_need_is, HasCosts, sloped_needs}, TwoByteCosts.{cost_test, units_test, katakana_below}}
 use Rattle.{legacy_japanese.specs.EucJpMachine.euc_jp_machine, legacy_tables.specs.AcceptedTables.AcceptedIndexes}
 use Rattle.legacy_tables.proofs.Accepted.{jis0208-below, jis0212-below}
 
@@ -41,15 +41,15 @@ module _ (tables : AcceptedIndexes) where
   all_end [] h = ev_is [] ∙ cut-nil front
   all_end (b ∷ held) h = end_meets g front ev_is b held (grind (arith, nat_tests, false≢true))
 
-  -- ---- the room of each step
+  -- ---- the need of each step
 
-  -- the room that a byte needs
+  -- what a byte needs
   abbrev most : List ℕ → ℕ → ℕ → ℕ
   most [] b narrow = cond (is_ascii b) 1 narrow
   most (a ∷ held) b narrow = narrow
 
-  room_is : (narrow wide : ℕ) (held : List ℕ) (b : ℕ) → act_room narrow wide (state_of g held) (takes b) ≡ most held b narrow
-  room_is narrow wide held b = grind (arith, first_room, held_room_is)
+  need_is : (narrow wide : ℕ) (held : List ℕ) (b : ℕ) → act_need narrow wide (state_of g held) (takes b) ≡ most held b narrow
+  need_is narrow wide held b = grind (arith, first_need, held_need_is)
 
   module _ (len : ℕ → ℕ) (narrow wide : ℕ) (w : IsWidth len narrow wide) where
     pair_units : (index : List ℕ) (lead b : ℕ) → IsNarrowIndex index → units len (euc_jp_scalars index lead b) ≤ narrow
@@ -75,13 +75,13 @@ module _ (tables : AcceptedIndexes) where
       } in
       let costs : HasCosts g machine euc_jp_weight 3 = record {
         to_is = λ held b. refl;
-        cost = λ len narrow wide w held b h r bytes byte. rw (room_is narrow wide held b) (costs len narrow wide w held b h);
+        cost = λ len narrow wide w held b h r bytes byte. rw (need_is narrow wide held b) (costs len narrow wide w held b h);
       } in record {
         meets = meets;
-        rooms = λ query. sloped_rooms g machine euc_jp_weight 3 meets costs (grind arith) query;
+        needs = λ query. sloped_needs g machine euc_jp_weight 3 meets costs (grind arith) query;
         settles = λ held b h r. settles held b h;
         write_settles = λ held h. tt;
-        same_rooms = λ held b. same_rooms g;
+        same_needs = λ held b. same_needs g;
         same_marks = λ held b. refl;
         ascii_first = λ s b a. rw a refl;
         swallows = inl refl;

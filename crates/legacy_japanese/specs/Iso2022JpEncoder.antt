@@ -1,7 +1,7 @@
 -- The state of the ISO-2022-JP encoder between two calls, and its moves.
 use Rattle.std.proofs.Common.{◌≡◌, ◌≢◌, ℕ, ◌+◌, ◌*◌, ◌/◌, ◌%◌, [], ◌∷◌, Some, arith}
 use Rattle.{legacy_tables.specs.Indexes.FlatIndexes, legacy_text.specs.UnitCodes.IsNoSurrogate}
-use Rattle.legacy_base.specs.Iso2022Jp.{iso_2022_jp_code, iso_2022_jp_reported, mode_behind}
+use Rattle.legacy_base.specs.Iso2022Jp.{iso_2022_jp_code, iso_2022_jp_reported, mode_after_text}
 use Rattle.legacy_base.specs.{declared.modes.EncoderMode.EncoderMode, Encoders.{EncoderState, iso_2022_jp}}
 use Rattle.legacy_encoder_engine.specs.{Moves.IsCode, UnitTurns.two_bytes, declared.moves.EncoderMove.EncoderMove}
 
@@ -13,7 +13,7 @@ state_in flat mode = record { codec = iso_2022_jp flat.jis0208 flat.katakana; mo
 
 -- In `mode` the scalar c needs the mode `new`, in which `move` encodes it.
 pub record Asks (flat : FlatIndexes) (mode : EncoderMode) (c : ℕ) (new : EncoderMode) (move : EncoderMove) : Type 0 where
-  pub mode_is : mode_behind flat.jis0208 flat.katakana mode (c ∷ []) ≡ new
+  pub mode_is : mode_after_text flat.jis0208 flat.katakana mode (c ∷ []) ≡ new
   pub code_is : IsCode (iso_2022_jp_code flat.jis0208 flat.katakana c) (iso_2022_jp_reported c) move
 
 -- ---- a list of pairs, each with its lead in the low byte and its trail in the high byte

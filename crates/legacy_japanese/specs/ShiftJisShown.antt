@@ -6,7 +6,7 @@ use Rattle.{legacy_base.specs.Fronts.{Front, reads, malformed}, legacy_tables.{s
 use Rattle.legacy_decoder_engine.specs.{Steps.{Step, hold, finish}, StepUnits.{units, IsWidth, IsNarrowIndex}}
 use Rattle.legacy_decoder_engine.{specs.LeadCodecs.IsLeadCodec, proofs.TwoByteMeets.{IsFirstStep, ascii, other, IsTwoByte, step_front, first_test, front_test}}
 use Rattle.legacy_decoder_engine.proofs.{Widths.narrow_idx_units, SettledSteps.{one_test, one_option}, TwoByteCosts.katakana_below}
-use Rattle.legacy_decoder_engine.proofs.TwoByteShown.{HasTwoByteRooms, lead_codec}
+use Rattle.legacy_decoder_engine.proofs.TwoByteShown.{HasTwoByteNeeds, lead_codec}
 
 -- the step at a byte if nothing is held back
 abbrev pub shift_jis_first : ℕ → Step
@@ -46,8 +46,8 @@ is : (jis0208 : List ℕ) → IsTwoByte (shift_jis jis0208) (shift_jis_front jis
 unfolding shift_jis_front shift_jis_pair
 is jis0208 = grind (arith, front_is, one_test, one_option)
 
-rooms : (jis0208 : List ℕ) → IsNarrowIndex jis0208 → HasTwoByteRooms (shift_jis jis0208) (shift_jis_pair_scalars jis0208) 6
-rooms jis0208 accepted =
+needs : (jis0208 : List ℕ) → IsNarrowIndex jis0208 → HasTwoByteNeeds (shift_jis jis0208) (shift_jis_pair_scalars jis0208) 6
+needs jis0208 accepted =
     let pairs = λ (len : ℕ → ℕ) (narrow wide : ℕ) (w : IsWidth len narrow wide) (a b : ℕ).
     scalar_units len narrow wide w jis0208 accepted (shift_jis_pointer a b) in
     grind (arith, pairs)
@@ -55,5 +55,5 @@ rooms jis0208 accepted =
 pub shift_jis_codec : IsLeadCodec (λ flat. shift_jis flat.jis0208) is_shift_jis_lead shift_jis_first (λ flat. shift_jis_pair_scalars flat.jis0208)
 shift_jis_codec =
     lead_codec (λ flat. shift_jis flat.jis0208) (λ flat. shift_jis_front flat.jis0208) is_shift_jis_lead shift_jis_first
-    (λ flat. shift_jis_pair_scalars flat.jis0208) (λ flat. is flat.jis0208) 6 first_is (λ flat accepted. rooms flat.jis0208 (jis0208-below flat accepted))
+    (λ flat. shift_jis_pair_scalars flat.jis0208) (λ flat. is flat.jis0208) 6 first_is (λ flat accepted. needs flat.jis0208 (jis0208-below flat accepted))
     (λ b h. grind (arith, nat_tests))

@@ -6,7 +6,7 @@ use Rattle.legacy_base.specs.{EucKr.euc_kr, EucKr.euc_kr_pointer, LeadForms.lead
 use Rattle.legacy_base.specs.Profile.{is_lead}
 use Rattle.legacy_decoder_engine.specs.{StepUnits.units, StepUnits.IsWidth, StepUnits.IsNarrowIndex, LeadCodecs.IsLeadCodec, LeadMachines.lead_first}
 use Rattle.legacy_decoder_engine.specs.StatesAfterSteps.{IsOneOrMarked}
-use Rattle.legacy_decoder_engine.proofs.{SettledSteps.one_option, Widths.narrow_idx_units, TwoByteShown.HasTwoByteRooms, TwoByteShown.lead_codec}
+use Rattle.legacy_decoder_engine.proofs.{SettledSteps.one_option, Widths.narrow_idx_units, TwoByteShown.HasTwoByteNeeds, TwoByteShown.lead_codec}
 use Rattle.legacy_decoder_engine.proofs.TwoByteMeets.{IsTwoByte, is_lead-past, lead_byte_below, lead_first_is, lead_front_is}
 
 one : (index : List ℕ) (pointer : Option ℕ) → IsOneOrMarked false (pointer_scalars index pointer)
@@ -20,12 +20,12 @@ is : (index : List ℕ) → IsTwoByte (euc_kr index) (lead_front is_lead euc_kr_
 unfolding lead_front lead_pair
 is index = grind (arith, lead_front_is, one)
 
-rooms : (index : List ℕ) → IsNarrowIndex index → HasTwoByteRooms (euc_kr index) (pair_scalars euc_kr_pointer index) 3
-rooms index below =
+needs : (index : List ℕ) → IsNarrowIndex index → HasTwoByteNeeds (euc_kr index) (pair_scalars euc_kr_pointer index) 3
+needs index below =
     let pairs = λ (len : ℕ → ℕ) (narrow wide : ℕ) (w : IsWidth len narrow wide) (a b : ℕ). scalar_units len narrow wide w index below (euc_kr_pointer a b) in
     grind (arith, pairs)
 
 pub euc_kr_codec : IsLeadCodec (λ flat. euc_kr flat.euc_kr) is_lead (lead_first is_lead) (λ flat. pair_scalars euc_kr_pointer flat.euc_kr)
 euc_kr_codec = lead_codec (λ flat. euc_kr flat.euc_kr) (λ flat. lead_front is_lead euc_kr_pointer flat.euc_kr) is_lead (lead_first is_lead)
     (λ flat. pair_scalars euc_kr_pointer flat.euc_kr) (λ flat. is flat.euc_kr) 3 (lead_first_is is_lead is_lead-past 3 (omega arith))
-    (λ flat accepted. rooms flat.euc_kr (narrow_index flat accepted EucKr refl).0) (lead_byte_below is_lead is_lead-past)
+    (λ flat accepted. needs flat.euc_kr (narrow_index flat accepted EucKr refl).0) (lead_byte_below is_lead is_lead-past)

@@ -1,8 +1,8 @@
 -- The machine of the replacement decoder agrees with its grammar, and its moves hold nothing back.
 use Rattle.std.proofs.{Common.{◌≡◌, ℕ, [], Bool, true, refl, arith}, lemmas.{Bool.false≢true, List.Elements.All-nil}}
 use Rattle.legacy_base.specs.{Grammar.{replacement, events_of}, Lengths.{LengthQuery, query_form}, Replacement.replacement_events, States.state_of}
-use Rattle.legacy_decoder_engine.proofs.{CallUnderWay.same_rooms, OneByteShown.{few_held, no_report}, RoomMoves.{no_short_room, cond_most}, Widths.width_of}
-use Rattle.legacy_decoder_engine.specs.{Feeding.fed_of, Moves.{IsCovered, Feeds}, Shown.{KeepsRooms, IsShown}, Steps.Meets, declared.moves.Fed.Fed}
+use Rattle.legacy_decoder_engine.proofs.{CallUnderWay.same_needs, OneByteShown.{few_held, no_report}, NeedMoves.{no_short_need, cond_most}, Widths.width_of}
+use Rattle.legacy_decoder_engine.specs.{Feeding.fed_of, Moves.{IsCovered, Feeds}, Shown.{KeepsNeeds, IsShown}, Steps.Meets, declared.moves.Fed.Fed}
 use Rattle.{legacy_miscellaneous.specs.ReplacementMachine.{replacement_first, replacement_machine}, legacy_tables.specs.Unicode.IsByte}
 use Rattle.legacy_decoder_engine.proofs.Feeding as moves
 
@@ -11,11 +11,11 @@ module _ (reported : Bool) where
   unfolding events_of replacement_events
   meets = grind (arith, few_held, no_report, false≢true)
 
-  rooms : (query : LengthQuery) → KeepsRooms query (replacement reported) (replacement_machine reported)
-  rooms query = let w = width_of (query_form query) in grind (arith, no_short_room, cond_most, false≢true)
+  needs : (query : LengthQuery) → KeepsNeeds query (replacement reported) (replacement_machine reported)
+  needs query = let w = width_of (query_form query) in grind (arith, no_short_need, cond_most, false≢true)
 
   shown : IsShown (replacement reported) (replacement_machine reported)
-  shown = grind (arith, meets, rooms, false≢true, same_rooms)
+  shown = grind (arith, meets, needs, false≢true, same_needs)
 
   pub covered : IsCovered (state_of (replacement reported) [])
   covered = moves.covered shown [] refl (All-nil IsByte)

@@ -1,14 +1,14 @@
 -- What the x-user-defined decoder reads ahead.
 use Rattle.std.proofs.Common.{◌≡◌, true, ℕ, zero, suc, ◌+◌, ◌-◌, ◌%◌, ◌<◌, ◌≤◌, ◌^◌, ◌==◌, List, [], ◌++◌, bit_and, bit_xor, refl, arith, IsAscii, length, take}
 use Rattle.std.proofs.{Common.{All, drop, get_or}, lemmas.Bool.{agree_below_at, eqb-true, Decides.nat_tests}}
-use Rattle.std.proofs.lemmas.List.{Elements.{All-nil, All-from_get_or}, take_all, take_more, get_or-drop, length-drop}
+use Rattle.std.proofs.lemmas.List.{take_rest, Elements.{All-nil, All-from_get_or}, take_all, take_more, get_or-drop, length-drop}
 use Rattle.std.specs.Char.{IsScalar}
 use Rattle.legacy_tables.specs.Unicode.{IsByte}
 use Rattle.legacy_base.specs.{States.new_state, Grammar.user_defined}
 use Rattle.legacy_text.specs.{declared.destination.Destination.Ghosts, EncodingForm.{all_code_units, code_units, total_unit_count}}
 use Rattle.legacy_decoder_engine.specs.{declared.moves.Fed.TheVariants.One, ReadAhead.{Yields, IsSingle, HasAscii, ReadsAhead}, Moves.Feeds}
 use Rattle.legacy_decoder_engine.proofs.{YieldedForms.{ascii_is, single_yields, has_ascii}, JoinedReads.{reads_more, reads_written, reads_ascii}}
-use Rattle.legacy_decoder_engine.proofs.WrittenReads.{all_short, yields_none, yields_more, rest_of, short, reads_none, three_fit, writes_none, writes_one}
+use Rattle.legacy_decoder_engine.proofs.WrittenReads.{all_short, yields_none, yields_more, short, reads_none, three_fit, writes_none, writes_one}
 use Rattle.legacy_miscellaneous.{specs.UserDefinedMachine.unit_of_byte, proofs.UserDefinedShown.user_defined_shown}
 use Rattle.legacy_decoder_engine.proofs.Feeding as moves
 
@@ -46,7 +46,7 @@ units_yield source units (suc r) bytes within room are =
 
 -- each byte of the rest of a source is a byte
 pub rest_bytes : (source : List ℕ) (at : ℕ) → ((k : ℕ) → get_or source k 0 < 2 ^ 8) → (k : ℕ) → get_or (take (length source - at) (drop at source)) k 0 < 2 ^ 8
-rest_bytes source at bytes k = grind (arith, rest_of, get_or-drop)
+rest_bytes source at bytes k = grind (arith, take_rest, get_or-drop)
 
 -- the units of eight bytes are scalars
 pub units_scalar : (source units : List ℕ) → ((k : ℕ) → get_or source k 0 < 2 ^ 8) → length units ≡ 8 →
@@ -62,7 +62,7 @@ pub eight_read : {D : Type 0} (T : Ghosts D) (source units : List ℕ) (at free 
 eight_read T source units at free bytes there count are before is enough contents room loan =
     let low = rest_bytes source at bytes in
     let rest : List ℕ = take (length source - at) (drop at source) in
-    let long : 8 ≤ length rest = rw (rest_of source at, length-drop at source) there in
+    let long : 8 ≤ length rest = rw (take_rest source at, length-drop at source) there in
     let few = all_short T.form units (λ k h. rw (are k (omega (arith, h, count))) (unit_below (get_or rest k 0) (low k))) in
     let all : take 8 units ≡ units = take_all 8 units (omega (arith, count)) in
     let yields = units_yield rest units 8 low long (omega (arith, count)) are in

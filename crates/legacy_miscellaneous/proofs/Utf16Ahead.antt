@@ -1,12 +1,13 @@
 -- What the UTF-16 decoders read ahead.
+use Rattle.std.proofs.lemmas.List.{take_rest}
 use Rattle.std.proofs.Common.{rules, ◌≡◌, ℕ, zero, suc, ◌+◌, ◌-◌, ◌*◌, ◌<◌, ◌≤◌, List, ◌++◌, Bool, length, take, drop, get_or, sym, arith, refl}
 use Rattle.std.proofs.lemmas.{Bool.Decides.nat_tests, List.{Elements.All-get_or, take_more, length-take-le, length-drop, get_or-take, get_or-drop, take_all}}
 use Rattle.std.specs.{Prelude.IsAscii, Char.IsScalar}
-use Rattle.legacy_text.{specs.EncodingForm.{bmp_room, code_units, all_code_units, total_unit_count}, proofs.Ascii.ascii_front}
+use Rattle.legacy_text.{specs.EncodingForm.{bmp_need, code_units, all_code_units, total_unit_count}, proofs.Ascii.ascii_front}
 use Rattle.legacy_text.specs.declared.destination.Destination.{Ghosts}
 use Rattle.{legacy_tables.specs.Unicode.IsByte, legacy_base.specs.{Grammar.utf16, Utf16.unit_of, States.new_state}}
 use Rattle.legacy_decoder_engine.{specs.ReadAhead.{Yields, IsPair, Writes, ReadsAhead}, proofs.{YieldedForms.pair_yields, JoinedReads.reads_written}}
-use Rattle.legacy_decoder_engine.proofs.WrittenReads.{yields_none, yields_more, take_two, writes_two, rest_of, writes_next, all_code_units_ascii, all_short}
+use Rattle.legacy_decoder_engine.proofs.WrittenReads.{yields_none, yields_more, take_two, writes_two, writes_next, all_code_units_ascii, all_short}
 use Rattle.legacy_decoder_engine.proofs.WrittenReads.{one_unit, short, three_fit, writes_none, reads_none}
 use Rattle.legacy_miscellaneous.{specs.Utf16Decoder.{HasAsciiUnits, AreUnitsBelow, unit_at}, proofs.Utf16Held.{unit_below, utf16_shown}}
 use Rattle.legacy_miscellaneous.proofs.UserDefinedAhead.{rest_bytes}
@@ -69,7 +70,7 @@ ascii_block be source block n narrow below long =
 -- a unit of the rest of a source
 pub unit_after : (be : Bool) (source : List ℕ) (at from k : ℕ) → from ≡ 2 * at
     → unit_at be (take (length source - from) (drop from source)) k ≡ unit_at be source (at + k)
-unit_after be source at from k e = grind (arith, rest_of source from, get_or-drop)
+unit_after be source at from k e = grind (arith, take_rest source from, get_or-drop)
 
 -- The units of the first `group` groups of eight are written, each as at most three code units.
 pub record EightsWritten {D : Type 0} (T : Ghosts D) (be : Bool) (source : List ℕ) (eights group : ℕ) (old new : D) : Type 0 where
@@ -87,7 +88,7 @@ eight_more {T = T} {be} {source} units {old} {mid} {new} {eights} {group} bytes 
     let at = 16 * group in
     let rest : List ℕ = take (length source - at) (drop at source) in
     let low = rest_bytes source at bytes in
-    let longer : 2 * 8 ≤ length rest = grind (arith, rest_of, length-drop) in
+    let longer : 2 * 8 ≤ length rest = grind (arith, take_rest, length-drop) in
     let few = all_short T.form units (λ k h. rw ((are k (omega (arith, h, long))).0) (unit_below be _ _ (low (2 * k)) (low (2 * k + 1)))) in
     let more = writes_next T source at 16 before.writes (writes_units T be rest units 8 low longer long are contents room loan) in
     let place : at + 16 ≡ 16 * (group + 1) = omega arith in grind (arith, before, few, more)
@@ -128,7 +129,7 @@ module _ {D : Type 0} {T : Ghosts D} {be : Bool} {source : List ℕ} {at : ℕ} 
       let bytes : 2 * at ≡ 32 = omega (arith, all, before.within) in
       reads_written long (rw bytes at before.writes) (omega (arith, before.room, before.within, enough)) (omega (arith, enough))
 
-  module _ (form : bmp_room T.form ≡ 1) (below : at < 16) (bytes : (k : ℕ) → IsByte (get_or source k 0)) (c : ℕ) (is : c ≡ unit_at be source at) where
+  module _ (form : bmp_need T.form ≡ 1) (below : at < 16) (bytes : (k : ℕ) → IsByte (get_or source k 0)) (c : ℕ) (is : c ≡ unit_at be source at) where
     one_only : length (code_units T.form c) ≡ 1
     one_only = one_unit T.form c form (rw is (unit_below be _ _ (bytes (2 * at)) (bytes (2 * at + 1))))
 

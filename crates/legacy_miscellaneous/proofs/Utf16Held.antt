@@ -3,12 +3,12 @@ use Rattle.std.proofs.{Common.{◌≡◌, ◌≢◌, ℕ, ◌+◌, ◌-◌, ◌*
 use Rattle.std.{proofs.lemmas.{Bool.Decides.nat_tests, List.Elements.{All-nil, All-cons}}, specs.Char.Utf16.{is_high_surrogate, is_low_surrogate}}
 use Rattle.{legacy_tables.specs.Unicode.{IsByte, AreBytes}, legacy_base.specs.{Fronts.{front_length, cut}, Grammar.{utf16, events_of}, Utf16.unit_of}}
 use Rattle.legacy_base.{specs.{Utf16.utf16_events, States.{utf16_may_hold, rests, state_of}, Lengths.{LengthQuery, query_form}}, proofs.Cuts.cut-nil}
-use Rattle.{legacy_text.specs.EncodingForm.{unit_count, bmp_room, wide_room}, legacy_miscellaneous.specs.{Utf16Fronts.utf16_front, Utf16Machine.utf16_step}}
+use Rattle.{legacy_text.specs.EncodingForm.{unit_count, bmp_need, wide_need}, legacy_miscellaneous.specs.{Utf16Fronts.utf16_front, Utf16Machine.utf16_step}}
 use Rattle.legacy_miscellaneous.specs.{Utf16Machine.utf16_machine, declared.utf16.held_bytes.Held.{Held, TheVariants.{Nothing, Pending}}}
 use Rattle.legacy_miscellaneous.{specs.{declared.utf16.held_bytes.UnitScalar.UnitScalar, Utf16Decoder.held_bytes}, proofs.Utf16Cut.utf16_cut}
-use Rattle.legacy_decoder_engine.specs.{Steps.{WriteMeets, end_events, Meets, step_held}, StepUnits.{step_units, step_left, IsWidth}, Shown.KeepsRooms}
+use Rattle.legacy_decoder_engine.specs.{Steps.{WriteMeets, end_events, Meets, step_held}, StepUnits.{step_units, step_left, IsWidth}, Shown.KeepsNeeds}
 use Rattle.legacy_decoder_engine.specs.{Shown.IsShown, declared.moves.Fed.Fed, Moves.{IsCovered, Feeds, Releases, Reports}, Feeding.Took}
-use Rattle.legacy_decoder_engine.proofs.{FrontMoves.{Fits, fits_meets, write_meets, end_meets, report_meets}, CallUnderWay.same_rooms, Widths.width_of}
+use Rattle.legacy_decoder_engine.proofs.{FrontMoves.{Fits, fits_meets, write_meets, end_meets, report_meets}, CallUnderWay.same_needs, Widths.width_of}
 use Rattle.legacy_decoder_engine.proofs.Feeding as moves
 
 high_not_low : (u : ℕ) → is_high_surrogate u ≡ true → is_low_surrogate u ≡ false
@@ -49,7 +49,7 @@ module _ (be : Bool) where
       let steps = fits_meets (utf16 be) (utf16_front be) ev_is (utf16_may_hold be) (λ held. refl) in
       let reports = report_meets (utf16 be) (utf16_front be) ev_is in grind (arith, steps, fits, written, all_end, reports, some_front, false≢true)
 
-  -- ---- the rooms: a step writes at most `narrow` code units for each two bytes by which the input and the held-back bytes decrease
+  -- ---- the needs: a step writes at most `narrow` code units for each two bytes by which the input and the held-back bytes decrease
 
   module _ (len : ℕ → ℕ) (narrow wide : ℕ) (w : IsWidth len narrow wide) where
     halved : (held : List ℕ) (b : ℕ) → utf16_may_hold be held ≡ true → AreBytes held → IsByte b
@@ -57,14 +57,14 @@ module _ (be : Bool) where
         (step_units len narrow s ≤ wide) × (left ≤ length held + 1) × (step_units len narrow s ≤ narrow * ((length held + 1 - left) / 2))
     halved held b h bytes byte = grind (arith, unit_below, bytes 0 0, false≢true)
 
-  rooms : (query : LengthQuery) → KeepsRooms query (utf16 be) (utf16_machine be)
-  rooms query =
+  needs : (query : LengthQuery) → KeepsNeeds query (utf16 be) (utf16_machine be)
+  needs query =
       let w = width_of (query_form query) in
-      let few = halved (unit_count (query_form query)) (bmp_room (query_form query)) (wide_room (query_form query)) w in
+      let few = halved (unit_count (query_form query)) (bmp_need (query_form query)) (wide_need (query_form query)) w in
       grind (arith, few, unit_below, false≢true)
 
   pub utf16_shown : IsShown (utf16 be) (utf16_machine be)
-  utf16_shown = grind (arith, meets, rooms, same_rooms, false≢true)
+  utf16_shown = grind (arith, meets, needs, same_needs, false≢true)
 
   -- ---- the moves
 

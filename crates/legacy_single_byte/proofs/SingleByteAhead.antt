@@ -1,8 +1,9 @@
 -- What the single-byte decoders read ahead.
-use Rattle.std.proofs.lemmas.List.{get_or_past, take_all, take_more, take-take, get_or-take, get_or-drop, length-drop, length-take-le, Elements.All-from_get_or}
+use Rattle.std.proofs.lemmas.List.{take_rest, get_or_past, take_all, take_more, take-take, get_or-take, get_or-drop, length-drop, length-take-le}
+use Rattle.std.proofs.lemmas.List.Elements.{All-from_get_or}
 use Rattle.std.proofs.Common.{rules, IsAscii, ◌≡◌, ℕ, List, ◌+◌, ◌-◌, ◌≤◌, ◌<◌, ◌^◌, ◌++◌, zero, suc, length, take, drop, get_or, Some, refl, arith, All}
 use Rattle.std.{proofs.{lemmas.Bool.Decides.nat_tests, Math.Seq.take-append_seam}, specs.Char.IsScalar}
-use Rattle.legacy_decoder_engine.proofs.WrittenReads.{yields_none, yields_more, writes_none, writes_one, writes_next, writes_ascii, rest_of, short, three_fit}
+use Rattle.legacy_decoder_engine.proofs.WrittenReads.{yields_none, yields_more, writes_none, writes_one, writes_next, writes_ascii, short, three_fit}
 use Rattle.legacy_decoder_engine.{proofs.WrittenReads.{one_unit, reads_none}, specs.ReadAhead.{Yields, IsSingle, HasAscii, Writes, ReadsAhead}}
 use Rattle.legacy_decoder_engine.proofs.{YieldedForms.{single_yields, has_ascii, ascii_is}, JoinedReads.reads_written}
 use Rattle.legacy_single_byte.{specs.ByteEntries.{IsByteEntry, AreByteEntries}, proofs.SingleByteShown.shown}
@@ -18,7 +19,7 @@ small x h = search rules
 pub ascii_there : (source : List ℕ) (at n m : ℕ) → at + n ≤ 64 → n ≤ m → ((k : ℕ) → k < m → at + k < 64 → get_or source (at + k) 0 < 128)
     → IsAscii (take n (take (length source - at) (drop at source)))
 ascii_there source at n m few most ascii =
-    rw (rest_of source at) (ascii_front (drop at source) n (λ k h. rw (get_or-drop at source k 0) (ascii k (omega arith) (omega arith))))
+    rw (take_rest source at) (ascii_front (drop at source) n (λ k h. rw (get_or-drop at source k 0) (ascii k (omega arith) (omega arith))))
 
 module _ (table : AcceptedTable) where
   -- the scalar at a place is at most U+FFFF
@@ -45,7 +46,7 @@ module _ (table : AcceptedTable) where
   ascii_next T source at n m {old} {mid} {new} few long most before ascii contents room loan =
       let front = ascii_there source at n m few most ascii in
       let law : HasAscii (single_byte table.entries) = has_ascii (shown table) (λ b. refl) (λ b h. let a = ascii_is b h in rw a refl) in
-      let size : length (take n (take (length source - at) (drop at source))) ≡ n = grind (arith, rest_of, length-drop, length-take-le) in
+      let size : length (take n (take (length source - at) (drop at source))) ≡ n = grind (arith, take_rest, length-drop, length-take-le) in
       writes_next T source at n before (writes_ascii T _ mid new _ law front contents (omega (arith, size)) loan)
 
   -- ---- several bytes at once, by their entries

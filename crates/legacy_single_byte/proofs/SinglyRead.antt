@@ -1,6 +1,6 @@
 -- Bytes that are read one by one are written.
 use Rattle.std.proofs.Common.{◌≡◌, ℕ, ◌+◌, ◌*◌, ◌<◌, ◌≤◌, List, ◌++◌, arith, get_or, length, take}
-use Rattle.legacy_text.specs.{declared.destination.Destination.Ghosts, EncodingForm.{bmp_room, code_units}}
+use Rattle.legacy_text.specs.{declared.destination.Destination.Ghosts, EncodingForm.{bmp_need, code_units}}
 use Rattle.legacy_base.specs.{Grammar.Grammar, States.new_state}
 use Rattle.legacy_decoder_engine.{specs.ReadAhead.{IsSingle, Writes, ReadsAhead}, proofs.JoinedReads.reads_front}
 use Rattle.legacy_decoder_engine.proofs.WrittenReads.{one_unit, short, writes_none, writes_one}
@@ -9,7 +9,7 @@ use Rattle.legacy_decoder_engine.proofs.WrittenReads.{one_unit, short, writes_no
 pub record AreSingly {D : Type 0} (T : Ghosts D) (g : Grammar) (src : List ℕ) (most at : ℕ) (x y : D) : Type 0 where
   pub within : at ≤ most
   pub room : T.room x ≤ T.room y + 3 * at
-  pub narrow : bmp_room T.form ≡ 1 → T.room x ≤ T.room y + at
+  pub narrow : bmp_need T.form ≡ 1 → T.room x ≤ T.room y + at
   pub writes : Writes T g (take at src) x y
 
 pub none_singly : {D : Type 0} (T : Ghosts D) (g : Grammar) (src : List ℕ) (most : ℕ) (x : D) → AreSingly T g src most 0 x x

@@ -6,8 +6,8 @@ use Rattle.legacy_base.specs.{EucJp.{euc_jp_second, euc_jp_pair, euc_jp_front}, 
 use Rattle.legacy_base.proofs.FrontLaws.{euc_jp_front-of}
 use Rattle.legacy_tables.specs.{Unicode.{is_katakana_byte, katakana_of}}
 use Rattle.legacy_standard.specs.{Processing.{all_read, process}, EucJp.{euc_jp_state, euc_jp_initial, euc_jp_handler}}
-use Rattle.legacy_standard.proofs.{Turns.{goes_on, error_at_end}, Fronts.{Reads, whole, by_test, one, malformed_one, trailing, third_trailing}}
-use Rattle.legacy_standard.proofs.{Fronts.{lead_alone, pair}, Turns.{Proceeds, IsDecodedBy}}
+use Rattle.legacy_standard.proofs.{Turns.{goes_on, error_at_end}, HandledFronts.{Reads, whole, by_test, one, malformed_one, trailing, third_trailing}}
+use Rattle.legacy_standard.proofs.{HandledFronts.{lead_alone, pair}, Turns.{Proceeds, IsDecodedBy}}
 
 module _ (jis0208 jis0212 : List ℕ) where
   abbrev Has : List ℕ → Front → Type 0

@@ -8,8 +8,9 @@ use Rattle.legacy_tables.specs.Indexes.{range}
 use Rattle.legacy_standard.specs.{Queue.{Item, byte, Handled, returns, code_point_or_error}, Gb18030.Gb18030}
 use Rattle.legacy_standard.specs.Gb18030.{gb18030_state, gb18030_initial, gb18030_handler}
 use Rattle.legacy_standard.specs.Processing.{all_read}
-use Rattle.legacy_standard.proofs.{LeadHandled.lead-some, Turns.{goes_on, gives, error_at, error_at_end}, Fronts.{Reads, whole, by_test, one, malformed_one}}
-use Rattle.legacy_standard.proofs.{Fronts.{trailing, lead_alone}, Turns.{Proceeds, IsDecodedBy}}
+use Rattle.legacy_standard.proofs.{LeadHandled.lead-some, Turns.{goes_on, gives, error_at, error_at_end}}
+use Rattle.legacy_standard.proofs.HandledFronts.{Reads, whole, by_test, one, malformed_one}
+use Rattle.legacy_standard.proofs.{HandledFronts.{trailing, lead_alone}, Turns.{Proceeds, IsDecodedBy}}
 
 digit-some : (b : ℕ) → is_ascii_digit b ≡ true → (b == 0) ≡ false
 digit-some b h = grind (arith, nat_tests)
@@ -23,35 +24,35 @@ module _ (index : List ℕ) (ranges : List (ℕ × ℕ)) where
 
   module _ (b : ℕ) (h : is_ascii b ≡ false) (k : (b == 0x80) ≡ false) (l : is_lead b ≡ true) where
     -- the steps for a lead and a digit, and for a lead after them
-    behind_two : {s place : ℕ} {rest : List ℕ} {es : List DecodeEvent} → is_ascii_digit s ≡ true →
+    after_two : {s place : ℕ} {rest : List ℕ} {es : List DecodeEvent} → is_ascii_digit s ≡ true →
         Proceeds handler all_read (gb18030_state b s 0) place 2 rest es → Proceeds handler all_read gb18030_initial place 0 (b ∷ s ∷ rest) es
     unfolding gb18030_handler
-    behind_two d at = goes_on {t = gb18030_state b 0 0} (rw (h, k, l) refl) (goes_on (rw (lead-some b l, d) refl) at)
+    after_two d at = goes_on {t = gb18030_state b 0 0} (rw (h, k, l) refl) (goes_on (rw (lead-some b l, d) refl) at)
 
-    behind_three : {s t place : ℕ} {rest : List ℕ} {es : List DecodeEvent} → is_ascii_digit s ≡ true → is_lead t ≡ true →
+    after_three : {s t place : ℕ} {rest : List ℕ} {es : List DecodeEvent} → is_ascii_digit s ≡ true → is_lead t ≡ true →
         Proceeds handler all_read (gb18030_state b s t) place 3 rest es → Proceeds handler all_read gb18030_initial place 0 (b ∷ s ∷ t ∷ rest) es
     unfolding gb18030_handler
-    behind_three {s} d m at = behind_two d (goes_on (rw (digit-some s d, m) refl) at)
+    after_three {s} d m at = after_two d (goes_on (rw (digit-some s d, m) refl) at)
 
     -- the byte after three bytes
     fourth-reads : (s t : ℕ) (rest : List ℕ) → is_ascii_digit s ≡ true → is_lead t ≡ true → Has (b ∷ s ∷ t ∷ rest) (gb18030_fourth ranges b s t rest)
     unfolding gb18030_fourth gb18030_handler
-    fourth-reads s t [] d m = record { go = λ place es after. behind_three d m (error_at_end [] (rw (lead-some b l) refl) after) }
+    fourth-reads s t [] d m = record { go = λ place es after. after_three d m (error_at_end [] (rw (lead-some b l) refl) after) }
     fourth-reads s t (u ∷ rest) d m = by_test (is_ascii_digit u) _ _
         (λ e. by_code (range ranges (gb18030_range_pointer b s t u)) (grind arith))
-        (λ e. record { go = λ place es after. behind_three d m (error_at (s ∷ t ∷ u ∷ []) (rw (lead-some t m, e) refl) after) })
+        (λ e. record { go = λ place es after. after_three d m (error_at (s ∷ t ∷ u ∷ []) (rw (lead-some t m, e) refl) after) })
       where
         by_code : (o : Option ℕ) → handler (gb18030_state b s t) (byte u) ≡ returns (code_point_or_error o) gb18030_initial →
             Has (b ∷ s ∷ t ∷ u ∷ rest) (reads_or 4 (option_to_list o) (malformed 4))
-        by_code None e = record { go = λ place es after. behind_three d m (error_at [] e after) }
-        by_code (Some c) e = record { go = λ place es after. behind_three d m (gives (c ∷ []) e after) }
+        by_code None e = record { go = λ place es after. after_three d m (error_at [] e after) }
+        by_code (Some c) e = record { go = λ place es after. after_three d m (gives (c ∷ []) e after) }
 
     -- the byte after two bytes
     third-reads : (s : ℕ) (rest : List ℕ) → is_ascii_digit s ≡ true → Has (b ∷ s ∷ rest) (gb18030_third ranges b s rest)
     unfolding gb18030_third gb18030_handler
-    third-reads s [] d = record { go = λ place es after. behind_two d (error_at_end [] (rw (lead-some b l) refl) after) }
+    third-reads s [] d = record { go = λ place es after. after_two d (error_at_end [] (rw (lead-some b l) refl) after) }
     third-reads s (t ∷ rest) d = by_test (is_lead t) _ _ (fourth-reads s t rest d)
-        (λ m. record { go = λ place es after. behind_two d (error_at (s ∷ t ∷ []) (rw (digit-some s d, m) refl) after) })
+        (λ m. record { go = λ place es after. after_two d (error_at (s ∷ t ∷ []) (rw (digit-some s d, m) refl) after) })
 
     -- the byte after one byte
     second-reads : (rest : List ℕ) → Has (b ∷ rest) (gb18030_second index ranges b rest)

@@ -3,7 +3,7 @@ use Rattle.std.proofs.Common.{◌≡◌, ◌∙◌, ℕ, Bool, cond, List, [], �
 use Rattle.std.proofs.{lemmas.Bool.{cases_Bool, false≢true}, lemmas.Bool.Decides.nat_tests}
 use Rattle.std.specs.{Prelude.{◌==◌, ◌||◌}, Int.is_in_range, Char.is_ascii}
 use Rattle.legacy_base.specs.declared.{results.EncodeEvent.EncodeEvent, modes.EncoderMode.{EncoderMode, TheVariants.{Ascii, Roman, TwoByte}}}
-use Rattle.legacy_base.specs.Iso2022Jp.{mode_behind, settled_mode, iso_2022_jp_code, iso_2022_jp_pointer_of, iso_2022_jp_reported, escape_to}
+use Rattle.legacy_base.specs.Iso2022Jp.{mode_after_text, settled_mode, iso_2022_jp_code, iso_2022_jp_pointer_of, iso_2022_jp_reported, escape_to}
 use Rattle.legacy_base.proofs.Iso2022JpEncoding.{text_events, text_events-here, text_events-escape, text_events-end, mode_for, mode_for-twice}
 use Rattle.legacy_tables.specs.Pointers.{euc_jp_pointer_of, minus_as_hyphen}
 use Rattle.legacy_standard.specs.{TextQueue.{TextItem, scalar, TextHandled, bytes, returns, restores}, Iso2022JpEncoder.{Iso2022JpEncoderState, ascii}}
@@ -78,7 +78,7 @@ module _ (index katakana_index : List ℕ) where
   needs_no_index c = is_ascii c || (c == 0xA5 || c == 0x203E)
 
   unindexed-acts : (c : ℕ) → needs_no_index c ≡ true → (mode : EncoderMode) → handler (state_of mode) (scalar c) ≡ acts mode (home mode c) c c
-  unfolding iso_2022_jp_encodes iso_2022_jp_code mode_behind settled_mode
+  unfolding iso_2022_jp_encodes iso_2022_jp_code mode_after_text settled_mode
   unindexed-acts c h mode = grind (arith, nat_tests)
 
   -- ---- scalars that are looked up
@@ -123,7 +123,7 @@ module _ (index katakana_index : List ℕ) where
 
     module _ (c : ℕ) (p : needs_no_index c ≡ false) (l : Looked c) where
       by_pointer : (mode : EncoderMode) → at_pointer (state_of mode) (euc_jp_pointer_of index l.set) l.set ≡ acts mode (home mode c) c l.set
-      unfolding iso_2022_jp_code mode_behind settled_mode
+      unfolding iso_2022_jp_code mode_after_text settled_mode
       by_pointer mode = grind (arith, nat_tests, l.pointer_is, l.same)
 
       -- the result of the handler for c and for the scalar that replaces it

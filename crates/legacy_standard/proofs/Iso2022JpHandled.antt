@@ -77,11 +77,11 @@ at_rest m l flag = record { state = state_of m; output_state = state_of m; leadi
 abbrev started : DecoderMode → ℕ → Bool → Iso2022Jp
 started m l flag = record { state = escape_start; output_state = state_of m; leading = l; output = flag }
 
-abbrev behind_two : DecoderMode → ℕ → Bool → Iso2022Jp
-behind_two m l flag = record { state = escape; output_state = state_of m; leading = l; output = flag }
+abbrev after_two : DecoderMode → ℕ → Bool → Iso2022Jp
+after_two m l flag = record { state = escape; output_state = state_of m; leading = l; output = flag }
 
-abbrev behind_lead : ℕ → Iso2022Jp
-behind_lead l = record { state = trailing_byte; output_state = leading_byte; leading = l; output = false }
+abbrev after_lead : ℕ → Iso2022Jp
+after_lead l = record { state = trailing_byte; output_state = leading_byte; leading = l; output = false }
 
 -- the events before those of the list: if the output flag is set and a valid escape follows, an error for the escape
 -- before it
@@ -123,7 +123,7 @@ module _ (jis0208 : List ℕ) where
 
   -- The third byte of an escape. A valid escape switches to its mode; otherwise the two bytes are restored.
   third : (m : DecoderMode) (flag : Bool) (pos a b : ℕ) (more : List ℕ) → Below (suc (suc (length more))) → (o : Option DecoderMode) → escape_mode a b ≡ o →
-      Gives jis0208 (behind_two m a flag) 1 (pos + 2) (b ∷ more) (again flag pos (esc ∷ a ∷ b ∷ more) ++ events m pos (esc ∷ a ∷ b ∷ more))
+      Gives jis0208 (after_two m a flag) 1 (pos + 2) (b ∷ more) (again flag pos (esc ∷ a ∷ b ∷ more) ++ events m pos (esc ∷ a ∷ b ∷ more))
   unfolding iso_2022_jp_handler part_mode
   third m flag pos a b more below None e =
       let state_is : escape_state a b ≡ None = grind arith in
@@ -139,12 +139,12 @@ module _ (jis0208 : List ℕ) where
       ])
 
   -- the bytes after an escape byte
-  behind_escape_byte : (m : DecoderMode) (l : ℕ) (flag : Bool) (pos : ℕ) (rest : List ℕ) → Below (length rest) →
+  after_escape_byte : (m : DecoderMode) (l : ℕ) (flag : Bool) (pos : ℕ) (rest : List ℕ) → Below (length rest) →
       Gives jis0208 (started m l flag) 0 (pos + 1) rest (again flag pos (esc ∷ rest) ++ events m pos (esc ∷ rest))
   unfolding iso_2022_jp_handler part_mode
-  behind_escape_byte m l flag pos [] below =
+  after_escape_byte m l flag pos [] below =
       rw (none-outs m flag pos [] refl) (out-error_at_end 0 (below.decodes _ l _ _ _ (omega arith)) refl (omega arith) (omega arith) refl (omega arith))
-  behind_escape_byte m l flag pos (a ∷ rest) below = elim (cases_Bool (a == 0x24 || a == 0x28)) [
+  after_escape_byte m l flag pos (a ∷ rest) below = elim (cases_Bool (a == 0x24 || a == 0x28)) [
     | inl h ↦ out-continue (second rest below) (rw h refl) (omega arith) (omega arith)
     | inr h ↦
         let next : Decodes m l false (pos + 1) (a ∷ rest) = below.decodes _ _ _ _ _ (omega arith) in
@@ -152,7 +152,7 @@ module _ (jis0208 : List ℕ) where
   ]
     where
       second : (rest : List ℕ) → Below (length (a ∷ rest)) →
-          Gives jis0208 (behind_two m a flag) 1 (pos + 2) rest (again flag pos (esc ∷ a ∷ rest) ++ events m pos (esc ∷ a ∷ rest))
+          Gives jis0208 (after_two m a flag) 1 (pos + 2) rest (again flag pos (esc ∷ a ∷ rest) ++ events m pos (esc ∷ a ∷ rest))
       second [] below =
           rw (none-outs m flag pos (a ∷ []) refl)
           (out-error_at_end 0 (below.decodes _ 0 _ _ _ (omega arith)) refl (omega arith) (omega arith) refl (omega arith))
@@ -215,17 +215,17 @@ module _ (jis0208 : List ℕ) where
       (returned m l pos 1 _ (below.decodes _ l _ _ _ (omega arith)) (own-handler m l flag b unescaped h) refl (own-extent m l (byte b)) refl)
 
   -- the byte after a lead byte
-  behind_lead_byte : (flag : Bool) (pos b : ℕ) (more : List ℕ) → (b == esc) ≡ false → is_in_range 0x21 0x7E b ≡ true → Below (length more) →
-      Gives jis0208 (behind_lead b) 1 (pos + 1) more (again flag pos (b ∷ more) ++ events TwoByte pos (b ∷ more))
+  after_lead_byte : (flag : Bool) (pos b : ℕ) (more : List ℕ) → (b == esc) ≡ false → is_in_range 0x21 0x7E b ≡ true → Below (length more) →
+      Gives jis0208 (after_lead b) 1 (pos + 1) more (again flag pos (b ∷ more) ++ events TwoByte pos (b ∷ more))
   unfolding iso_2022_jp_handler iso_2022_jp_front
-  behind_lead_byte flag pos b [] unescaped lead below =
+  after_lead_byte flag pos b [] unescaped lead below =
       rw (one-outs TwoByte flag pos b [] None unescaped refl)
       (out-error_at_end 0 (below.decodes _ b _ _ _ (omega arith)) refl (omega arith) (omega arith) refl (omega arith))
-  behind_lead_byte flag pos b (t ∷ rest) unescaped lead below = elim (cases_eq t esc) [
+  after_lead_byte flag pos b (t ∷ rest) unescaped lead below = elim (cases_eq t esc) [
     | inl is ↦
         let shorter : Below (length rest) = record { decodes = λ m l flag pos bytes h. below.decodes m l flag pos bytes (omega arith) } in
         rw (one-outs TwoByte flag pos b (t ∷ rest) None unescaped (rw is refl), is)
-        (out-error 1 [] (behind_escape_byte TwoByte b false (pos + 1) rest shorter) refl (omega arith) (omega arith) refl (omega arith))
+        (out-error 1 [] (after_escape_byte TwoByte b false (pos + 1) rest shorter) refl (omega arith) (omega arith) refl (omega arith))
     | inr other ↦
         let unescaped_t = ne_eqb t esc other in
         let o : Option ℕ = cond (is_in_range 0x21 0x7E t) (idx jis0208 ((b - 0x21) * 94 + (t - 0x21))) None in
@@ -237,7 +237,7 @@ module _ (jis0208 : List ℕ) where
       Decodes m l flag pos (b ∷ more)
   unfolding iso_2022_jp_handler
   lead_byte TwoByte l flag pos b more unescaped below h =
-      out-continue (behind_lead_byte flag pos b more unescaped h below) (rw (unescaped, h) refl) (omega arith) refl
+      out-continue (after_lead_byte flag pos b more unescaped h below) (rw (unescaped, h) refl) (omega arith) refl
   lead_byte _ l flag pos b more unescaped below h = absurd (false≢true h)
 
   -- ---- whole lists
@@ -249,7 +249,7 @@ module _ (jis0208 : List ℕ) where
   first : (m : DecoderMode) (l : ℕ) (flag : Bool) (pos b : ℕ) (more : List ℕ) → Below (length more) → Decodes m l flag pos (b ∷ more)
   unfolding iso_2022_jp_handler
   first m l flag pos b more below = elim (cases_eq b esc) [
-    | inl is ↦ rw is (out-continue (behind_escape_byte m l flag pos more below) (grind arith) (omega arith) refl)
+    | inl is ↦ rw is (out-continue (after_escape_byte m l flag pos more below) (grind arith) (omega arith) refl)
     | inr other ↦
         let unescaped = ne_eqb b esc other in
         elim (cases_Bool (is_lead m b)) [

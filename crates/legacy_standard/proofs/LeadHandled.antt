@@ -10,7 +10,7 @@ use Rattle.legacy_base.proofs.FrontLaws.{lead_front-of, big5_front-of, shift_jis
 use Rattle.legacy_tables.specs.{Unicode.is_katakana_byte}
 use Rattle.legacy_standard.specs.{Queue.{Handled, lead_handler}, EucKr.{euc_kr_handler, euc_kr_trailing}}
 use Rattle.legacy_standard.specs.{Big5.{big5_handler, big5_trailing}, ShiftJis.shift_jis_handler}
-use Rattle.legacy_standard.proofs.{Fronts.{Reads, whole, by_test, one, malformed_one, returns_scalars, pair}, Turns.IsDecodedBy}
+use Rattle.legacy_standard.proofs.{HandledFronts.{Reads, whole, by_test, one, malformed_one, returns_scalars, pair}, Turns.IsDecodedBy}
 
 pub lead-some : (b : ℕ) → is_lead b ≡ true → (b == 0) ≡ false
 lead-some b h = grind (arith, nat_tests)

@@ -1,6 +1,6 @@
 -- Proofs that the handlers give the events of the grammars and encoders.
 pub mod Turns
-pub mod Fronts
+pub mod HandledFronts
 pub mod SingleByteHandled
 pub mod LeadHandled
 pub mod EucJpHandled

@@ -6,7 +6,7 @@ use Rattle.legacy_base.specs.Grammar.{events_of}
 use Rattle.legacy_base.proofs.FrontLaws.{single_byte_front-of, user_defined_front-of}
 use Rattle.legacy_tables.specs.Indexes.{idx}
 use Rattle.legacy_standard.specs.{Queue.{byte, returns, code_point_or_error}, SingleByte.single_byte_handler, UserDefined.user_defined_handler}
-use Rattle.legacy_standard.proofs.{Fronts.{Reads, whole, by_test, one, malformed_one}, Turns.IsDecodedBy}
+use Rattle.legacy_standard.proofs.{HandledFronts.{Reads, whole, by_test, one, malformed_one}, Turns.IsDecodedBy}
 
 module _ (table : List ℕ) where
   past_ascii : {b : ℕ} {rest : List ℕ} (o : Option ℕ) → single_byte_handler table tt (byte b) ≡ returns (code_point_or_error o) tt →

@@ -81,10 +81,10 @@ module _ (is_utf16be : Bool) where
   all_bytes i (a ∷ b ∷ c ∷ []) all =
       by_high i a b (c ∷ []) (λ h. rw h (over_high h (goes_on refl (error_at_end [] refl (at_end refl))))) (goes_on refl (error_at_end [] refl (at_end refl)))
   all_bytes i (a ∷ b ∷ c ∷ d ∷ rest) all =
-      let behind_b : AreBytes (c ∷ d ∷ rest) = All-tail IsByte b (c ∷ d ∷ rest) (All-tail IsByte a (b ∷ c ∷ d ∷ rest) all) in
-      let behind_d : AreBytes rest = All-tail IsByte d rest (All-tail IsByte c (d ∷ rest) behind_b) in
-      let other = all_bytes (i + 1) (c ∷ d ∷ rest) behind_b in
-      let after = all_bytes (i + 2) rest behind_d in
+      let after_b : AreBytes (c ∷ d ∷ rest) = All-tail IsByte b (c ∷ d ∷ rest) (All-tail IsByte a (b ∷ c ∷ d ∷ rest) all) in
+      let after_d : AreBytes rest = All-tail IsByte d rest (All-tail IsByte c (d ∷ rest) after_b) in
+      let other = all_bytes (i + 1) (c ∷ d ∷ rest) after_b in
+      let after = all_bytes (i + 2) rest after_d in
       by_high i a b (c ∷ d ∷ rest) (λ t. high_more i a b c d rest (all 2 0 (omega arith)) (all 3 0 (omega arith)) t after other) other
 
   pub utf16_handled : IsDecodedBy (utf16 is_utf16be) (utf16_handler is_utf16be) utf16_initial

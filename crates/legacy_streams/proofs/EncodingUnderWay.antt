@@ -10,8 +10,8 @@ use Rattle.legacy_base.proofs.EncoderLaws.{end-encoded}
 use Rattle.legacy_codecs.specs.{declared.results.CoderResult.CoderResult, declared.results.CoderResult.TheVariants.InputEmpty, References.event_bytes}
 use Rattle.legacy_codecs.specs.References.{ReplacingEncoderCall}
 use Rattle.legacy_codecs.proofs.WholeTexts.{wrote_last}
-use Rattle.legacy_streams.specs.{Utf8Texts.{lossy_text, IsChunk, IsCutCharacter}, Encoding.{EncodesUpTo, EncodesText, EncodesFront, EncodesPiece}}
-use Rattle.legacy_streams.specs.Encoding.{EncodesPieceFront, EncodesAll, EncodesBeginning, EncodesPartly, DecodesTo, EncodesBytes, Sends, end_scalars}
+use Rattle.legacy_streams.specs.{Utf8Texts.{lossy_text, IsChunk, IsCutCharacter}, TextEncoding.{EncodesUpTo, EncodesText, EncodesFront, EncodesPiece}}
+use Rattle.legacy_streams.specs.TextEncoding.{EncodesPieceFront, EncodesAll, EncodesBeginning, EncodesPartly, DecodesTo, EncodesBytes, Sends, end_scalars}
 use Rattle.legacy_streams.proofs.Utf8Pieces.{cut_chunk, malformed_chunk, malformed_back, text_of_cut, text_of_none, utf8_cases}
 
 -- ---- bytes that wait

@@ -96,13 +96,13 @@ pub first_line : (o units : List ℕ) (c n : ℕ) {a : List ℕ} → Some c ≡ 
     → unit_scalars (drop n units) ≡ drop 1 (unit_scalars units) → a ≡ o ++ event_line (Scalar c)
     → a ++ scalar_lines (unit_scalars (drop n units)) ≡ o ++ scalar_lines (unit_scalars units)
 unfolding event_lines
-first_line o units c n e behind p = grind (arith, append_assoc, first_cons)
+first_line o units c n e after p = grind (arith, append_assoc, first_cons)
 
 -- the first scalar has n code units: bounds of n, and the scalars after it
 pub record FirstUnits (units : List ℕ) (n : ℕ) : Type 0 where
   pub some : 0 < n
   pub within : n ≤ length units
-  pub behind : unit_scalars (drop n units) ≡ drop 1 (unit_scalars units)
+  pub after : unit_scalars (drop n units) ≡ drop 1 (unit_scalars units)
 
 pub first_units : (units : List ℕ) (c n : ℕ) → ((i : ℕ) → get_or units i 0 < 65536) → 0 < length units → Some c ≡ slice_get (unit_scalars units) 0
     → (c < 65536 → n ≡ 1) → (65536 ≤ c → n ≡ 2) → FirstUnits units n
@@ -112,13 +112,13 @@ first_units units c n bound h e short long =
     record {
       some = elim (cases_lt c 65536) [ inl l ↦ omega (arith, short l) | inr l ↦ omega (arith, long l) ];
       within = omega (arith, step.within);
-      behind = rw z at step.behind;
+      after = rw z at step.after;
     }
 
 -- after all units there are no scalars
-pub none_behind : (units : List ℕ) → None ≡ slice_get (unit_scalars units) 0
+pub none_after : (units : List ℕ) → None ≡ slice_get (unit_scalars units) 0
     → scalar_lines (unit_scalars (drop (length units) units)) ≡ scalar_lines (unit_scalars units)
-none_behind units e = ap scalar_lines (scalars_end units (length units) (omega arith) ∙ sym (none_left (unit_scalars units) e))
+none_after units e = ap scalar_lines (scalars_end units (length units) (omega arith) ∙ sym (none_left (unit_scalars units) e))
 
 -- after the last unit no lines are left
 pub all_lines : (o l units : List ℕ) (at : ℕ) → length units ≤ at → l ++ scalar_lines (unit_scalars (drop at units)) ≡ o → l ≡ o

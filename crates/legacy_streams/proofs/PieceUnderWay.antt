@@ -7,7 +7,8 @@ use Rattle.legacy_base.specs.{declared.results.DecodeEvent.DecodeEvent, declared
 use Rattle.legacy_base.specs.{declared.results.DecoderResult.DecoderResult, declared.results.DecoderResult.TheVariants.{InputEmpty, OutputFull, Malformed}}
 use Rattle.legacy_base.specs.{Events.shift, Grammar.events_of, States.DecoderState, Calls.{Progress, DecoderCall, IsMalformedByte, reported_events, out_events}}
 use Rattle.legacy_text.specs.EncodingForm.{Utf16, total_unit_count}
-use Rattle.legacy_base.proofs.{Shifts.{shift-append, shift-scalars}, Progress.{stay, after_that, at_less, at_last, end_report-last, behind}, Rooms.lacks_small}
+use Rattle.legacy_base.proofs.{Shifts.{shift-append, shift-scalars}, Progress.{stay, after_that, at_less, at_last, end_report-last, more_follows}}
+use Rattle.legacy_base.proofs.Needs.{lacks_small}
 use Rattle.legacy_codecs.proofs.{RunEvents.{placed-append, placed-scalars}, Replaced.length-shift}
 use Rattle.legacy_codecs.specs.Runs.{placed}
 use Rattle.legacy_streams.proofs.{Whole.{Joins, front_of, front_after}, EventLines.{event_lines-append, event_lines-none}}
@@ -186,7 +187,7 @@ unfolding malformed_events
 malformed_way last state bytes zero few malformed_byte = stay last state bytes
 malformed_way last state [] (suc count) few malformed_byte = absurd (omega arith)
 malformed_way last state (b ∷ bytes) (suc count) few malformed_byte =
-    let first = at_last {ended = last} (behind bytes (malformed_byte 0 (omega arith)).progress) in
+    let first = at_last {ended = last} (more_follows bytes (malformed_byte 0 (omega arith)).progress) in
     let rest = malformed_way last state bytes count (omega arith) (λ k l. malformed_byte (suc k) (omega arith)) in
     let all : 1 + count ≡ suc count = omega arith in
     rw (shifted_malformed 1 0 count, all) at (after_that first rest)

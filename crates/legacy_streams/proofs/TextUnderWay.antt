@@ -4,7 +4,7 @@ use Rattle.std.proofs.{Common.{Bool, false, ◌||◌, Option, inl}, KnownBytes.{
 use Rattle.std.specs.Io.KnownBytes.{Appends}
 use Rattle.legacy_base.specs.{declared.results.DecodeEvent.DecodeEvent, Events.shift, Grammar.events_of, States.DecoderState, Calls.Progress}
 use Rattle.legacy_text.specs.EncodingForm.{Utf8, all_code_units}
-use Rattle.legacy_base.proofs.{Progress.{stay, at_less, after_that}, Rooms.lacks_small}
+use Rattle.legacy_base.proofs.{Progress.{stay, at_less, after_that}, Needs.lacks_small}
 use Rattle.legacy_text.proofs.CodeUnits.{all_code_units-append}
 use Rattle.legacy_codecs.specs.{declared.results.CoderResult.CoderResult, declared.results.CoderResult.TheVariants.{InputEmpty, OutputFull}}
 use Rattle.legacy_codecs.specs.Replacing.{replaced_scalars, has_malformed, ReplacingDecoderCall}

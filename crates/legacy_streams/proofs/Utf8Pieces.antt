@@ -176,8 +176,8 @@ malformed_longer malformed more k valid e =
         (cases_lt (length malformed) width)
 
 -- no text begins after the longest text
-pub behind_text : (bs : List ℕ) (n : ℕ) → IsValidUpTo bs n → IsValidUpTo (drop n bs) 0
-behind_text bs n valid = record {
+pub after_text : (bs : List ℕ) (n : ℕ) → IsValidUpTo bs n → IsValidUpTo (drop n bs) 0
+after_text bs n valid = record {
   short = omega (arith, valid.short, length-drop n bs);
   front = ([], (refl, refl));
   longest = λ m above w. valid.longest (n + m) (omega arith) (rw (take-add n m bs) (IsUtf8-append (take n bs) (take m (drop n bs)) valid.front w));
@@ -220,7 +220,7 @@ module _ {rest valid invalid : List ℕ} (k : IsChunk rest valid invalid) where
         (λ w. let whole = utf8_valid_len-IsUtf8 rest w in
         let len = k.valid_len in
         let total = ap length k.parts ∙ length-append valid (invalid ++ k.later) in absurd (omega (arith, whole, total, length-append invalid k.later)))
-        (λ v. subst (λ l. IsValidUpTo l 0) back (behind_text rest (utf8_valid_len rest) v))
+        (λ v. subst (λ l. IsValidUpTo l 0) back (after_text rest (utf8_valid_len rest) v))
         (utf8_cases rest)
 
     malformed_is : (o : Option ℕ) → utf8_error_len (invalid ++ k.later) ≡ o → (0 < length k.later) ⊎ (o ≢ None)

@@ -5,7 +5,7 @@ use Rattle.std.proofs.KnownBytes.{Appends-trans, Consumes-nil, Consumes-trans, C
 use Rattle.std.specs.Io.KnownBytes.{Appends, Consumes, IsAtEnd, Keeps}
 use Rattle.legacy_base.specs.{declared.results.DecodeEvent.DecodeEvent, Events.shift, Grammar.events_of, States.DecoderState, Calls.Progress}
 use Rattle.legacy_codecs.specs.WholeTexts.{IsSettled}
-use Rattle.legacy_base.proofs.Progress.{stay, after_that, at_last, behind}
+use Rattle.legacy_base.proofs.Progress.{stay, after_that, at_last, more_follows}
 use Rattle.legacy_streams.specs.Streams.{AppendsFront, AppendsAtLeast, DecodesPiece, DecodesFront, DecodesAll, DecodesBeginning, DecodesPartly}
 
 -- ---- a front of some bytes
@@ -75,7 +75,7 @@ module _ {before now : DecoderState} {total : ℕ} {left_old left_mid : Option (
   way_on : (last : Bool) (piece : List ℕ) {after : DecoderState} {passed : ℕ} {unread : List ℕ} {events : List DecodeEvent}
       → Progress last now piece passed after unread events
       → Progress last before (w.bytes ++ piece) (w.passed + passed) after unread (all_events events)
-  way_on last piece p = after_that (at_last (behind piece w.progress)) p
+  way_on last piece p = after_that (at_last (more_follows piece w.progress)) p
 
   module _ {piece : List ℕ} {after : DecoderState} {left : Option (List ℕ)} (r : Consumes left_mid left piece) {Second Both : List DecodeEvent → Type 0}
       (j : Joins before now total First Second Both) where

@@ -5,5 +5,5 @@ pub mod Streams
 pub mod Recoding
 pub mod Text
 pub mod Utf8Texts
-pub mod Encoding
+pub mod TextEncoding
 pub mod Waiting

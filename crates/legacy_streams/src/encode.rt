@@ -3,8 +3,8 @@ ghost use Rattle.std.specs.Prelude.{◌≡◌, ◌≢◌, not, is_some, ℕ, Lis
 ghost use Rattle.std.specs.Str.{chars, IsValidUpTo};
 ghost use Rattle.std.specs.Str.Lossy.{utf8_error_len};
 ghost use Rattle.std.specs.Io.KnownBytes.{Consumes, IsAtEnd, Keeps};
-ghost use Rattle.legacy_streams.specs.Encoding.{EncodesText, EncodesFront, EncodesPiece, EncodesPieceFront};
-ghost use Rattle.legacy_streams.specs.Encoding.{EncodesAll, EncodesBeginning, EncodesPartly, end_scalars};
+ghost use Rattle.legacy_streams.specs.TextEncoding.{EncodesText, EncodesFront, EncodesPiece, EncodesPieceFront};
+ghost use Rattle.legacy_streams.specs.TextEncoding.{EncodesAll, EncodesBeginning, EncodesPartly, end_scalars};
 ghost use Rattle.legacy_streams.specs.Utf8Texts.{IsChunk};
 ghost use Rattle.legacy_streams.specs.Waiting.{waiting_bytes};
 

@@ -2,7 +2,7 @@
 ghost use Rattle.std.specs.Prelude.{◌≡◌, ℕ, ◌≤◌, List, [], ◌++◌, length, drop, Bool, OnOk, OnErr};
 ghost use Rattle.std.specs.Str.{chars, IsCharBoundary};
 ghost use Rattle.legacy_codecs.specs.References.{ReplacingEncoderCall};
-ghost use Rattle.legacy_streams.specs.Encoding.{Sends};
+ghost use Rattle.legacy_streams.specs.TextEncoding.{Sends};
 
 use crate::pieces::{PIECE, write_whole};
 use legacy_codecs::{CoderResult, RawEncoder, encode_replacing_utf8};
@@ -51,7 +51,7 @@ impl EncodedBytes {
         Ok(())
     }
 
-    /// Writes the bytes that wait if a call of an encoder may need more room.
+    /// Writes the bytes that wait if a call of an encoder may need more than is free.
     ///
     /// If an error is returned, a front of them was written.
     pub fn make_room<W: Write>(&mut self, output: &mut W) -> io::Result<()>

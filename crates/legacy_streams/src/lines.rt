@@ -385,19 +385,19 @@ impl LineBuffer {
             ++ event_line (DecodeEvent.Scalar scalar) }
         ensures room { line_room self.old ≤ line_room self.new + SCALAR_LINE }
     {
-        let code = scalar as u32;
-        let d = hex_digit_of(code / 0x1000 % 16);
-        let e = hex_digit_of(code / 0x100 % 16);
-        let f = hex_digit_of(code / 0x10 % 16);
-        let g = hex_digit_of(code % 16);
-        if code < 0x1_0000 {
+        let number = scalar as u32;
+        let d = hex_digit_of(number / 0x1000 % 16);
+        let e = hex_digit_of(number / 0x100 % 16);
+        let f = hex_digit_of(number / 0x10 % 16);
+        let g = hex_digit_of(number % 16);
+        if number < 0x1_0000 {
             return self.push_all(&[b'U', b'+', d, e, f, g, b'\n']);
         }
-        let b = hex_digit_of(code / 0x1_0000 % 16);
-        if code < 0x10_0000 {
+        let b = hex_digit_of(number / 0x1_0000 % 16);
+        if number < 0x10_0000 {
             return self.push_all(&[b'U', b'+', b, d, e, f, g, b'\n']);
         }
-        let a = hex_digit_of(code / 0x10_0000 % 16);
+        let a = hex_digit_of(number / 0x10_0000 % 16);
         self.push_all(&[b'U', b'+', a, b, d, e, f, g, b'\n']);
     }
 

@@ -40,8 +40,8 @@ fn push_events(lines: &mut LineBuffer, units: &[u16], answer: DecoderResult, rea
     let DecoderResult::Malformed(sequence, back) = answer else {
         return;
     };
-    let behind = usize::from(sequence) + usize::from(back);
-    lines.push_malformed(read.saturating_sub(behind), usize::from(sequence));
+    let distance = usize::from(sequence) + usize::from(back);
+    lines.push_malformed(read.saturating_sub(distance), usize::from(sequence));
 }
 
 /// Makes one call of the decoder on the `unread` bytes, and appends the lines of its events.

@@ -14,7 +14,7 @@ use Rattle.legacy_tables.specs.{PackedTables.{AreOrdersOf, AnswerPointersOf}, Pa
 use Rattle.legacy_tables.specs.{declared.tables.packed_checks.CheckedRuns.CheckedRuns, declared.tables.order_checks.CheckedOrders.CheckedOrders}
 use Rattle.legacy_tables.proofs.Accepted.{parts, or_none, entry_at, index-scalars, big5-scalars, narrow_index}
 use Rattle.legacy_tables.proofs.{FirstPlaces.find-none-at, Orders.{order-same, order-rises, order-lookup, order-answers}, PackedRuns.{no_run, are_in_order}}
-use Rattle.legacy_tables.proofs.PackedRuns.{scalar-none, outside-behind, runs_end-within, runs_list-length, runs_list-entry}
+use Rattle.legacy_tables.proofs.PackedRuns.{scalar-none, outside-after, runs_end-within, runs_list-length, runs_list-entry}
 use Rattle.legacy_tables.specs.declared.tables.IndexName.TheVariants as names
 use Rattle.legacy_tables.specs.declared.tables.packed.PackedPart.TheVariants as parts
 
@@ -73,7 +73,7 @@ module _ (part : PackedPart) (name : IndexName) (limit : ℕ) (runs : List Run) 
         (omega arith) (omega arith))
     | inr h ↦
         let short = flat.0 in
-        let none_there = scalar-none runs p (λ k l. let r = reach k l in outside-behind (run_at runs k) p (omega arith)) in
+        let none_there = scalar-none runs p (λ k l. let r = reach k l in outside-after (run_at runs k) p (omega arith)) in
         rw (get_or_past index p 0 (omega arith), none_there) refl
   ]
 

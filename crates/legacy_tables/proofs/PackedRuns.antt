@@ -6,7 +6,7 @@ use Rattle.std.proofs.lemmas.List.Sorted.{IsNonDecreasingBy-from_all_adjacent}
 use Rattle.std.specs.{List.Sorted.IsNonDecreasingBy}
 use Rattle.std.proofs.lemmas.Bool.Decides.{nat_tests}
 use Rattle.legacy_tables.specs.{declared.tables.packed.Run.Run, PointerRuns.{run_at, run_end, run_scalar, runs_scalar, runs_entry, runs_end, runs_list}}
-use Rattle.legacy_tables.specs.{PointerRuns.{is_run_in_order, run_fault_from, run_fault}, RunPlaces.{AreInOrder, IsFirstBehind}}
+use Rattle.legacy_tables.specs.{PointerRuns.{is_run_in_order, run_fault_from, run_fault}, RunPlaces.{AreInOrder, IsFirstAfter}}
 use Rattle.legacy_tables.proofs.FirstPlaces.{taken, each-fine}
 
 -- a run without pointers
@@ -35,17 +35,17 @@ module _ (limit : ℕ) (runs : List Run) (place before : ℕ) where
 -- ---- runs in order, one by one
 
 -- a run that begins at or after a pointer
-pub record IsBehind (before limit : ℕ) (run : Run) : Type 0 where
+pub record IsAfter (before limit : ℕ) (run : Run) : Type 0 where
   pub full : 0 < run.length
-  pub behind : before ≤ run.pointer
+  pub after : before ≤ run.pointer
   pub reach : run_end run ≤ limit
   pub scalars : run.scalar + run.length ≤ 0x11_0000
 
-pub in_order : (before limit : ℕ) (run : Run) → is_run_in_order before limit run ≡ true → IsBehind before limit run
+pub in_order : (before limit : ℕ) (run : Run) → is_run_in_order before limit run ≡ true → IsAfter before limit run
 in_order before limit run e = grind (arith, nat_tests)
 
 step : (limit place before : ℕ) (run : Run) (runs : List Run) → run_fault_from place before limit (run ∷ runs) ≡ None
-    → IsBehind before limit run × (run_fault_from (place + 1) (run_end run) limit runs ≡ None)
+    → IsAfter before limit run × (run_fault_from (place + 1) (run_end run) limit runs ≡ None)
 unfolding run_fault_from
 step limit place before run runs e =
     let t = taken _ place (run_fault_from (place + 1) (run_end run) limit runs) e in (in_order before limit run t.0, t.1)
@@ -53,16 +53,16 @@ step limit place before run runs e =
 -- runs without a fault are in order
 pub are_in_order : (limit : ℕ) (runs : List Run) → run_fault limit runs ≡ None → AreInOrder limit runs
 are_in_order limit runs e =
-    let fine = each-fine (λ place before rest. run_fault_from place before limit rest) (λ before run. IsBehind before limit run) run_end
+    let fine = each-fine (λ place before rest. run_fault_from place before limit rest) (λ before run. IsAfter before limit run) run_end
     (step limit) 0 0 runs e in
     record {
       full = λ i d h. (fine i d h).full;
       reach = λ i d h. (fine i d h).reach;
       scalars = λ i d h. (fine i d h).scalars;
       rising = λ i j d h l.
-          let first = (fine (suc i) d (omega arith)).behind in
+          let first = (fine (suc i) d (omega arith)).after in
           let rest = IsNonDecreasingBy-from_all_adjacent (λ (run : Run). run.pointer) runs (λ k d m.
-          let up = (fine (suc k) d (omega arith)).behind in
+          let up = (fine (suc k) d (omega arith)).after in
           rw (add-one k) (omega arith)) (suc i) j d (omega arith) l in
           omega arith;
     }
@@ -77,8 +77,8 @@ starts-rise runs ordered = grind (arith, ordered.rising)
 pub outside-before : (run : Run) (p : ℕ) → p < run.pointer → run_scalar run p ≡ None
 outside-before run p h = grind (arith, nat_tests)
 
-pub outside-behind : (run : Run) (p : ℕ) → run_end run ≤ p → run_scalar run p ≡ None
-outside-behind run p h = grind (arith, nat_tests)
+pub outside-after : (run : Run) (p : ℕ) → run_end run ≤ p → run_scalar run p ≡ None
+outside-after run p h = grind (arith, nat_tests)
 
 pub scalar-none : (runs : List Run) (p : ℕ) → ((k : ℕ) → k < length runs → run_scalar (run_at runs k) p ≡ None) → runs_scalar runs p ≡ None
 scalar-none [] p all = refl
@@ -94,25 +94,25 @@ scalar-some (run ∷ runs) p (suc n) c h is before =
 module _ {limit : ℕ} (runs : List Run) (ordered : AreInOrder limit runs) (p : ℕ) where
   -- a run that has the pointer gives its scalar
   pub scalar-had : (n : ℕ) → HasPointer runs n p → runs_scalar runs p ≡ Some ((run_at runs n).scalar + (p - (run_at runs n).pointer))
-  scalar-had n has = grind (arith, nat_tests, scalar-some runs p n, outside-behind, ordered.rising)
+  scalar-had n has = grind (arith, nat_tests, scalar-some runs p n, outside-after, ordered.rising)
 
   -- no run has a pointer after the last run that starts at or before it
   pub none-has : (n : ℕ) → ((k : ℕ) → n ≤ k → k < length runs → p < (run_at runs k).pointer)
       → (0 < n → run_end (run_at runs (n - 1)) ≤ p) → n ≤ length runs → runs_scalar runs p ≡ None
-  none-has n ahead behind within = scalar-none runs p (λ k l. grind (arith, nat_tests, outside-behind, outside-before, ordered.rising k (n - 1) no_run))
+  none-has n ahead after within = scalar-none runs p (λ k l. grind (arith, nat_tests, outside-after, outside-before, ordered.rising k (n - 1) no_run))
 
 -- ---- the first run that ends after a pointer
 
 module _ {limit : ℕ} (runs : List Run) (ordered : AreInOrder limit runs) where
   -- for pointer 0 it is the first run
-  pub first-behind : IsFirstBehind runs 0 0
-  first-behind =
-      record { within = omega arith; ended = λ k h. absurd (omega arith); behind = λ h. let full = ordered.full 0 no_run h in omega arith }
+  pub first-after : IsFirstAfter runs 0 0
+  first-after =
+      record { within = omega arith; ended = λ k h. absurd (omega arith); after = λ h. let full = ordered.full 0 no_run h in omega arith }
 
-  module _ (n p : ℕ) (first : IsFirstBehind runs n p) where
+  module _ (n p : ℕ) (first : IsFirstAfter runs n p) where
     -- a pointer before it has no scalar
     pub scalar-before : (n < length runs → p < (run_at runs n).pointer) → runs_scalar runs p ≡ None
-    scalar-before before = scalar-none runs p (λ k h. grind (arith, nat_tests, outside-behind, outside-before, ordered.rising n k no_run))
+    scalar-before before = scalar-none runs p (λ k h. grind (arith, nat_tests, outside-after, outside-before, ordered.rising n k no_run))
 
 -- ---- the flat list of runs
 
@@ -134,7 +134,7 @@ runs_list-length runs = length-map-range_with_len (runs_entry runs) 0 (runs_end 
 
 -- no run has a pointer past the flat list
 pub scalar-past_list : (runs : List Run) (p : ℕ) → length (runs_list runs) ≤ p → runs_scalar runs p ≡ None
-scalar-past_list runs p h = grind (arith, scalar-none runs p, runs_list-length, end_most, outside-behind)
+scalar-past_list runs p h = grind (arith, scalar-none runs p, runs_list-length, end_most, outside-after)
 
 list_entry : (runs : List Run) (p : ℕ) → p < runs_end runs → get_or (runs_list runs) p 0 ≡ runs_entry runs p
 unfolding runs_list

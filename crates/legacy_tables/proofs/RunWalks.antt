@@ -3,7 +3,7 @@ use Rattle.std.proofs.lemmas.Bool.Decides.{nat_tests}
 use Rattle.std.proofs.{Common.{◌≡◌, ◌∙◌, ℕ, ◌+◌, ◌≤◌, ◌<◌, List, length, get_or, ap, arith, inl, inr}, lemmas.Bool.cases_lt}
 use Rattle.std.specs.Option.{option_map_or}
 use Rattle.legacy_tables.specs.{declared.tables.packed.Run.Run, PointerRuns.{run_at, run_end, runs_list}, RunPlaces.{IsBetween, AreInOrder}}
-use Rattle.legacy_tables.proofs.PackedRuns.{no_run, outside-before, outside-behind, scalar-none, scalar-had, runs_list-entry, runs_list-length, runs_end-within}
+use Rattle.legacy_tables.proofs.PackedRuns.{no_run, outside-before, outside-after, scalar-none, scalar-had, runs_list-entry, runs_list-length, runs_end-within}
 use Rattle.legacy_tables.proofs.PackedRuns.{end_most}
 
 module _ {limit : ℕ} (runs : List Run) (ordered : AreInOrder limit runs) (n p : ℕ) (at : IsBetween runs n p) where
@@ -19,7 +19,7 @@ module _ {limit : ℕ} (runs : List Run) (ordered : AreInOrder limit runs) (n p 
     -- pointers before its start have no scalar
     pub row-gap : (k : ℕ) → p ≤ k → k < (run_at runs n).pointer → get_or (runs_list runs) k 0 ≡ 0
     row-gap k l m = runs_list-entry runs k ∙ ap (λ o. option_map_or (λ (c : ℕ). c) o 0) (scalar-none runs k (λ i w. elim (cases_lt i n) [
-      | inl b ↦ let e = at.ended i b w in outside-behind (run_at runs i) k (omega arith)
+      | inl b ↦ let e = at.ended i b w in outside-after (run_at runs i) k (omega arith)
       | inr a ↦ let s = starts-first i a w in outside-before (run_at runs i) k (omega arith)
     ]))
 

@@ -14,10 +14,10 @@ pub record AreInOrder (limit : ℕ) (runs : List Run) : Type 0 where
       run_end (slice_index_or runs i d) ≤ (slice_index_or runs j d).pointer
 
 -- the run at place n is the first that ends after pointer p, or all runs end at or before p
-pub record IsFirstBehind (runs : List Run) (n p : ℕ) : Type 0 where
+pub record IsFirstAfter (runs : List Run) (n p : ℕ) : Type 0 where
   pub within : n ≤ length runs
   pub ended : (k : ℕ) → k < n → run_end (run_at runs k) ≤ p
-  pub behind : n < length runs → p < run_end (run_at runs n)
+  pub after : n < length runs → p < run_end (run_at runs n)
 
 -- pointer p is at or after the ends of the runs before place n, and at or before the starts of the others
 pub record IsBetween (runs : List Run) (n p : ℕ) : Type 0 where

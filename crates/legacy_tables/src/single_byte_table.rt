@@ -79,10 +79,10 @@ fn check_entries(entries: &[u16]) -> Result<(), TableError>
 }
 
 /// Returns the first place of an entry.
-fn place_of(entries: &[u16], code: u32) -> Option<usize>
-    ensures { result ≡ position (λ e. e == code) entries.now }
+fn place_of(entries: &[u16], scalar: u32) -> Option<usize>
+    ensures { result ≡ position (λ e. e == scalar) entries.now }
 {
-    entries.iter().position(|e| u32::from(*e) == code)
+    entries.iter().position(|e| u32::from(*e) == scalar)
 }
 
 impl SingleByteTable {

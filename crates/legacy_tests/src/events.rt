@@ -88,9 +88,9 @@ pub(crate) fn events_of(text: &str, malformed: &[(usize, usize)]) -> Found {
 fn reported(answer: DecoderResult, seen: usize) -> Option<DecodeEvent> {
     match answer {
         Malformed(length, back) => {
-            let behind = usize::from(back) + usize::from(length);
+            let distance = usize::from(back) + usize::from(length);
             Some(Bad {
-                place: seen.saturating_sub(behind),
+                place: seen.saturating_sub(distance),
                 length: usize::from(length),
             })
         }

@@ -57,7 +57,7 @@ pub(crate) const WITHOUT_ENTRIES: &[Row] = &[
     ToUtf16(b"\x81\x35\xF4\x37", 2, true, InputEmpty, 4, &[0xE7C7]),
 ];
 
-/// Also without entries: lengths, rooms, and malformed forms.
+/// Also without entries: lengths, needs, and malformed forms.
 pub(crate) const LENGTHS_AND_FORMS: &[Row] = &[
     Decoder("each byte that is held back counts in the lengths"),
     Utf8Length(4, Some(13)),

@@ -10,8 +10,6 @@
 #![tactic(auto)]
 
 #[cfg(test)]
-mod ahead;
-#[cfg(test)]
 mod big5;
 #[cfg(test)]
 mod called;
@@ -43,6 +41,8 @@ mod gb18030;
 mod indexes;
 #[cfg(test)]
 mod iso_2022_jp;
+#[cfg(test)]
+mod listed_pairs;
 #[cfg(test)]
 mod packed;
 #[cfg(test)]

@@ -4,7 +4,7 @@ use Rattle.std.proofs.{lemmas.{Bool.{cases_lt, Decides.nat_tests}, Grind.{common
 use Rattle.std.proofs.lemmas.List.{get_or-append-add, get_or-set_same, get_or-set_other, get_or_past, get_or-take, get_or-drop, length-take-le, length-drop}
 use Rattle.std.{proofs.lemmas.{List.{length-map, Elements.All-from_get_or}, Nat.Bits.{bit_at_and, bit_at-zero, bit_at-trailing_zeros}}, specs.Int.bit_at}
 use Rattle.{std.specs.Int.trailing_zeros, legacy_text.specs.{ByteUnits.{AreByteScalars, HaveScalars, scalars_of}, EncodingForm.{EncodingForm, Utf8, Utf16}}}
-use Rattle.legacy_text.{specs.EncodingForm.{all_code_units, total_unit_count, bmp_room}, proofs.{ScalarTurns.cleared, CodeUnits.own_units}}
+use Rattle.legacy_text.{specs.EncodingForm.{all_code_units, total_unit_count, bmp_need}, proofs.{ScalarTurns.cleared, CodeUnits.own_units}}
 
 -- the scalar of a byte is stored at its place, and the byte has one
 abbrev pub IsStored : List ℕ → List ℕ → List ℕ → ℕ → ℕ → Type 0
@@ -58,7 +58,7 @@ scalars_are_units entries bytes table =
     own_units (scalars_of entries bytes) (λ k h. grind (arith, below (get_or bytes k 0), get_or-map, length-map))
 
 -- and so each of them is one
-pub one_each : (form : EncodingForm) (entries bytes : List ℕ) → bmp_room form ≡ 1 → AreByteScalars entries
+pub one_each : (form : EncodingForm) (entries bytes : List ℕ) → bmp_need form ≡ 1 → AreByteScalars entries
     → total_unit_count form (scalars_of entries bytes) ≡ length bytes
 one_each Utf8 entries bytes one table = absurd (omega (arith, one))
 one_each Utf16 entries bytes one table = ap length (scalars_are_units entries bytes table) ∙ length-map bytes (λ b. get_or entries b 0)

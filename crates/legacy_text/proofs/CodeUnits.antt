@@ -2,7 +2,7 @@
 use Rattle.std.proofs.Common.{◌≡◌, ◌∙◌, ℕ, ◌+◌, ◌-◌, ◌/◌, ◌%◌, ◌≤◌, ◌<◌, List, [], ◌∷◌, ◌++◌, length, refl, ap, arith, append_assoc, length-append, get_or, suc}
 use Rattle.std.{proofs.lemmas.{List.Concat.flat_map-append, Bool.{lt-ltb, le-ltb, Decides.nat_tests}, Str.encode_ascii}, specs.Char.Escape.encode_utf16}
 use lib.Utf8.{encode}
-use Rattle.legacy_text.specs.EncodingForm.{Utf16, EncodingForm, code_units, all_code_units, unit_count, total_unit_count, Utf8, bmp_room, wide_room}
+use Rattle.legacy_text.specs.EncodingForm.{Utf16, EncodingForm, code_units, all_code_units, unit_count, total_unit_count, Utf8, bmp_need, wide_need}
 
 pub encode_2 : (c : ℕ) → 128 ≤ c → c < 2048 → encode c ≡ (192 + c / 64) ∷ (128 + c % 64) ∷ []
 unfolding encode
@@ -29,13 +29,13 @@ pub ruleset encoding_utf16 = (utf16_1, utf16_2)
 
 pub ruleset encoding = (encode_ascii, encode_2, encode_3, encode_4, append_assoc)
 
--- a scalar up to U+FFFF fits into the room for one
-pub length-code_units-bmp : (form : EncodingForm) (c : ℕ) → c < 65536 → length (code_units form c) ≤ bmp_room form
+-- a scalar up to U+FFFF has at most the code units of the longest one
+pub length-code_units-bmp : (form : EncodingForm) (c : ℕ) → c < 65536 → length (code_units form c) ≤ bmp_need form
 unfolding encode
 length-code_units-bmp form c h = grind (arith, nat_tests)
 
--- any scalar fits into the room for any scalar
-pub length-code_units-wide : (form : EncodingForm) (c : ℕ) → length (code_units form c) ≤ wide_room form
+-- any scalar has at most the code units of the longest one
+pub length-code_units-wide : (form : EncodingForm) (c : ℕ) → length (code_units form c) ≤ wide_need form
 unfolding encode
 length-code_units-wide form c = grind (arith, nat_tests)
 

@@ -8,8 +8,8 @@ pub past_bits : (block : List ℕ) → length block ≡ 64 → ArePast (mask_fro
 past_bits block long i h = grind (arith, nat_tests, mask_bit 128 refl 64 block (omega arith) long i, bit_at-lt)
 
 -- the bits from the place after the next byte past ASCII on
-pub past_behind : (past n at : ℕ) (bytes : List ℕ) → ArePastFrom past bytes at → ArePastFrom (past / 2 ^ n / 2 ^ 1) bytes (at + n + 1)
-past_behind past n at bytes are k h =
+pub past_next : (past n at : ℕ) (bytes : List ℕ) → ArePastFrom past bytes at → ArePastFrom (past / 2 ^ n / 2 ^ 1) bytes (at + n + 1)
+past_next past n at bytes are k h =
     let place : at + (n + 1 + k) ≡ at + n + 1 + k = omega arith in
     simp shr-shr (rw place at (are (n + 1 + k) (omega arith)))
 

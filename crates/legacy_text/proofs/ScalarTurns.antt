@@ -135,9 +135,9 @@ next_is text start p q long more few u at_q none =
 -- ---- turns
 
 -- one more code unit
-units_more : (text : List ℕ) (start : ℕ) (units : List ℕ) (place c behind unit : ℕ) → ReadsUnits text start units place → ReadsScalar text place c behind
-    → (IsNoSurrogate unit → unit ≡ c) → ReadsUnits text start (units ++ unit ∷ []) behind
-units_more text start units place c behind unit before r is = record {
+units_more : (text : List ℕ) (start : ℕ) (units : List ℕ) (place c past unit : ℕ) → ReadsUnits text start units place → ReadsScalar text place c past
+    → (IsNoSurrogate unit → unit ≡ c) → ReadsUnits text start (units ++ unit ∷ []) past
+units_more text start units place c past unit before r is = record {
   is_text = r.is_text;
   within = r.within;
   front = λ bmp. let own = both bmp in grind (arith, is own.1, before.front own.0, r.left, append_assoc);
@@ -148,19 +148,19 @@ units_more text start units place c behind unit before r is = record {
     both bmp = (λ k h. grind (arith, get_or_append_left, bmp k, length-append), grind (arith, bmp (length units + 0), get_or-append-add, length-append))
 
 -- code units were read up to the lowest bit, and the bits from there on say where scalars begin
-pub record StandsBehind (text : List ℕ) (start : ℕ) (units : List ℕ) (bits : ℕ) : Type 0 where
+pub record StandsAfter (text : List ℕ) (start : ℕ) (units : List ℕ) (bits : ℕ) : Type 0 where
   pub reads : ReadsUnits text start units (start + trailing_zeros w32 bits)
   pub starts : (k : ℕ) → trailing_zeros w32 bits ≤ k → k < 32 → (bit_at bits k ≡ 1) ↔ IsStart (get_or text (start + k) 0)
 
 pub stands_first : (text : List ℕ) (start bits : ℕ) → start + 34 ≤ length text → is_utf8 (drop start text) ≡ true
-    → ((k : ℕ) → k < 32 → (bit_at bits k ≡ 1) ↔ IsStart (get_or text (start + k) 0)) → bits < 2 ^ 32 → 0 < bits → StandsBehind text start [] bits
+    → ((k : ℕ) → k < 32 → (bit_at bits k ≡ 1) ↔ IsStart (get_or text (start + k) 0)) → bits < 2 ^ 32 → 0 < bits → StandsAfter text start [] bits
 stands_first text start bits long u starts fits some =
     grind (arith, nat_tests, bit_at-trailing_zeros w32 bits some fits, starts 0, start_here text start (omega arith) u, add-zero)
 
 pub stands_more : (text : List ℕ) (start : ℕ) (units : List ℕ) (bits unit : ℕ) → start + 34 ≤ length text → 0 < bits → bits < 2 ^ 32
     → let rest = bit_and bits ((bits + 4294967295) % 4294967296) in 0 < rest
-    → ((k : ℕ) → k < 32 → k ≡ trailing_zeros w32 bits → IsUnitAt text (start + k) unit) → StandsBehind text start units bits
-    → StandsBehind text start (units ++ unit ∷ []) rest
+    → ((k : ℕ) → k < 32 → k ≡ trailing_zeros w32 bits → IsUnitAt text (start + k) unit) → StandsAfter text start units bits
+    → StandsAfter text start (units ++ unit ∷ []) rest
 stands_more text start units bits unit long some fits some_rest made s =
     let rest = bit_and bits ((bits + 4294967295) % 4294967296) in
     let fits_rest : rest < 2 ^ 32 = omega (arith, fits, and_le_l bits ((bits + 4294967295) % 4294967296)) in

@@ -16,27 +16,27 @@ codes_append gives scalars old mid new n m few a b =
     grind (arith, common_steps, append_assoc, length-append, get_or_append_left, get_or-append-add, get_or-drop)
 
 -- the code units of a block after others
-pub block_behind : {gives : ℕ → ℕ → Type 0} {units front old new : List ℕ} {copied r : ℕ} (block marks : List ℕ)
+pub block_after : {gives : ℕ → ℕ → Type 0} {units front old new : List ℕ} {copied r : ℕ} (block marks : List ℕ)
     → copied + 16 ≤ length units → r ≤ 16 → length block ≡ 16
     → ((k : ℕ) → k < 16 → get_or marks k 0 < 128 → IsNoSurrogate (get_or (take (length units - copied) (drop copied units)) k 0)
     × gives (get_or (take (length units - copied) (drop copied units)) k 0) (get_or block k 0))
     → IsAscii (take r marks) → new ≡ old ++ take r block
     → ((k : ℕ) → k < copied → IsNoSurrogate (get_or units k 0)) → WritesCodes gives units copied front old
     → ((k : ℕ) → k < copied + r → IsNoSurrogate (get_or units k 0)) × WritesCodes gives units (copied + r) front new
-block_behind {gives} {units} {copied} {r} block marks within few long codes ascii stored bmp writes =
-    grind (arith, nat_tests, append_assoc, length-append, length-take-le, get_or_append_left, get_or-append-add, get_or-take, writes, behind)
+block_after {gives} {units} {copied} {r} block marks within few long codes ascii stored bmp writes =
+    grind (arith, nat_tests, append_assoc, length-append, length-take-le, get_or_append_left, get_or-append-add, get_or-take, writes, past)
   where
-    behind : (k : ℕ) → k < copied + r → copied ≤ k → IsNoSurrogate (get_or units k 0) × gives (get_or units k 0) (get_or block (k - copied) 0)
-    behind k h l = grind (arith, nat_tests, codes (k - copied), ascii (k - copied), get_or-take, take_all, length-drop, get_or-drop)
+    past : (k : ℕ) → k < copied + r → copied ≤ k → IsNoSurrogate (get_or units k 0) × gives (get_or units k 0) (get_or block (k - copied) 0)
+    past k h l = grind (arith, nat_tests, codes (k - copied), ascii (k - copied), get_or-take, take_all, length-drop, get_or-drop)
 
 -- one scalar
-pub scalars_one : {gives : ℕ → ℕ → Type 0} {text : List ℕ} {place scalar behind : ℕ} (byte : ℕ) {old new : List ℕ} → ReadsScalar text place scalar behind
-    → gives scalar byte → new ≡ old ++ byte ∷ [] → WritesScalars gives text place 1 behind old new
+pub scalars_one : {gives : ℕ → ℕ → Type 0} {text : List ℕ} {place scalar past : ℕ} (byte : ℕ) {old new : List ℕ} → ReadsScalar text place scalar past
+    → gives scalar byte → new ≡ old ++ byte ∷ [] → WritesScalars gives text place 1 past old new
 scalars_one byte r g e = grind (arith, common_steps, append-nil)
 
 -- scalars, and then the next ones
-pub scalars_append : {gives : ℕ → ℕ → Type 0} {text : List ℕ} {start n place m behind : ℕ} {old mid new : List ℕ} →
-    WritesScalars gives text start n place old mid → WritesScalars gives text place m behind mid new → WritesScalars gives text start (n + m) behind old new
+pub scalars_append : {gives : ℕ → ℕ → Type 0} {text : List ℕ} {start n place m past : ℕ} {old mid new : List ℕ} →
+    WritesScalars gives text start n place old mid → WritesScalars gives text place m past mid new → WritesScalars gives text start (n + m) past old new
 scalars_append a b = grind (arith, nat_tests, length-drop, drop-drop, take-add, total_unit_count-append, codes_append)
 
 -- ---- one scalar

@@ -58,7 +58,7 @@ scalars_end units at h = ap (map replaced) (utf16_chars-drop_all units at h)
 pub record Utf16Step (list : List ℕ) (place c n : ℕ) : Type 0 where
   pub width : n ≡ unit_count Utf16 c
   pub within : place + n ≤ length list
-  pub behind : unit_scalars (drop (place + n) list) ≡ drop 1 (unit_scalars (drop place list))
+  pub after : unit_scalars (drop (place + n) list) ≡ drop 1 (unit_scalars (drop place list))
   pub first : get_or (unit_scalars (drop place list)) 0 0 ≡ c
 
 pub pair_or_not : (u v : ℕ) → IsPair u v ⊎ (IsPair u v → ⊥)

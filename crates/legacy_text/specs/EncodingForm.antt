@@ -23,11 +23,11 @@ abbrev pub total_unit_count : EncodingForm → List ℕ → ℕ
 total_unit_count form scalars = length (all_code_units form scalars)
 
 -- the number of code units of U+FFFD, and of the longest scalar up to U+FFFF
-abbrev pub bmp_room : EncodingForm → ℕ
-bmp_room Utf8 = 3
-bmp_room Utf16 = 1
+abbrev pub bmp_need : EncodingForm → ℕ
+bmp_need Utf8 = 3
+bmp_need Utf16 = 1
 
 -- the number of code units of the longest scalar
-abbrev pub wide_room : EncodingForm → ℕ
-wide_room Utf8 = 4
-wide_room Utf16 = 2
+abbrev pub wide_need : EncodingForm → ℕ
+wide_need Utf8 = 4
+wide_need Utf16 = 2

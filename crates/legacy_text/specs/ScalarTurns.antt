@@ -17,8 +17,8 @@ abbrev pub IsUnitAt : List ℕ → ℕ → ℕ → Type 0
 IsUnitAt bytes place unit = IsUnitOf (slice_index bytes place) (slice_index bytes (place + 1)) (slice_index bytes (place + 2)) unit
 
 -- The code units are the scalars between two places of a text, if none of them is a surrogate.
-pub record ReadsUnits (text : List ℕ) (start : ℕ) (units : List ℕ) (behind : ℕ) : Type 0 where
-  pub is_text : is_utf8 (drop behind text) ≡ true
-  pub within : behind ≤ length text
-  pub front : AreNoSurrogates units → chars (drop start text) ≡ units ++ chars (drop behind text)
-  pub passed : AreNoSurrogates units → behind ≡ start + total_unit_count Utf8 units
+pub record ReadsUnits (text : List ℕ) (start : ℕ) (units : List ℕ) (past : ℕ) : Type 0 where
+  pub is_text : is_utf8 (drop past text) ≡ true
+  pub within : past ≤ length text
+  pub front : AreNoSurrogates units → chars (drop start text) ≡ units ++ chars (drop past text)
+  pub passed : AreNoSurrogates units → past ≡ start + total_unit_count Utf8 units

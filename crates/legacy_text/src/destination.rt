@@ -1,7 +1,7 @@
 //! The outputs of a decoder.
 ghost use Rattle.std.specs.Prelude.{◌≡◌, ℕ, ◌+◌, ◌-◌, ◌<◌, ◌≤◌, List, [], ◌∷◌, ◌++◌, length, take, IsAscii, All, MatchOption};
 ghost use Rattle.std.specs.{Borrow.GName, Char.IsScalar};
-ghost use Rattle.legacy_text.specs.EncodingForm.{EncodingForm, Utf8, Utf16, code_units, unit_count, all_code_units, total_unit_count, bmp_room, wide_room};
+ghost use Rattle.legacy_text.specs.EncodingForm.{EncodingForm, Utf8, Utf16, code_units, unit_count, all_code_units, total_unit_count, bmp_need, wide_need};
 ghost use Rattle.legacy_text.specs.ByteUnits.{AreByteScalars, HaveScalars, scalars_of};
 ghost use Rattle.legacy_text.specs.UnitBytes.{AreShort, IsUtf8Entry};
 
@@ -52,11 +52,11 @@ pub trait Destination {
 
     /// Returns `BMP_ROOM`, with a clause on its value: a constant cannot have one.
     fn narrow() -> usize
-        ensures { result ≡ bmp_room form };
+        ensures { result ≡ bmp_need form };
 
     /// Returns `WIDE_ROOM`, with a clause on its value: a constant cannot have one.
     fn wide() -> usize
-        ensures { result ≡ wide_room form };
+        ensures { result ≡ wide_need form };
 
     /// Returns the number of code units that were written.
     fn written(&self) -> usize
@@ -468,11 +468,11 @@ impl Destination for Utf16Destination<'_> {
     #[inline]
     #[tactic(auto, using(crate::proofs::CodeUnits::encoding_utf16))]
     fn put(&mut self, c: char) {
-        let code = c as u32;
-        if code < 0x1_0000 {
-            self.push(code as u16);
+        let scalar = c as u32;
+        if scalar < 0x1_0000 {
+            self.push(scalar as u16);
         } else {
-            let over = code - 0x1_0000;
+            let over = scalar - 0x1_0000;
             self.push((0xD800 + over / 0x400) as u16);
             self.push((0xDC00 + over % 0x400) as u16);
         }

@@ -42,7 +42,7 @@ pub fn ascii_front(past: u64) -> usize
 
 /// Returns the bits of the bytes after the first `count` and one more.
 #[inline(always)]
-#[tactic(auto, using(crate::proofs::PastAscii::past_behind))]
+#[tactic(auto, using(crate::proofs::PastAscii::past_next))]
 pub fn past_after(past: u64, count: usize) -> u64
     requires { count < 64 }
     ensures { (bytes : List ℕ) (at : ℕ) → ArePastFrom past bytes at → ArePastFrom result bytes (at + count + 1) }

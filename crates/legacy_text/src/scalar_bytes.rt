@@ -25,27 +25,27 @@ pub(crate) fn put_scalar(dst: &mut [u8], at: usize, c: char) -> usize
     ensures place { result ≡ at + length (encode_utf8 c) }
     ensures written { take result dst.new ≡ take at dst.old ++ encode_utf8 c }
 {
-    let code = c as u32;
-    if code >= 0x800 && code < 0x1_0000 {
-        put_byte(dst, at, (0xE0 + code / 0x1000) as u8);
-        put_byte(dst, at + 1, (0x80 + code / 0x40 % 0x40) as u8);
-        put_byte(dst, at + 2, (0x80 + code % 0x40) as u8);
+    let scalar = c as u32;
+    if scalar >= 0x800 && scalar < 0x1_0000 {
+        put_byte(dst, at, (0xE0 + scalar / 0x1000) as u8);
+        put_byte(dst, at + 1, (0x80 + scalar / 0x40 % 0x40) as u8);
+        put_byte(dst, at + 2, (0x80 + scalar % 0x40) as u8);
         return at + 3;
     }
-    if code < 0x800 {
-        let (leads, last) = if code < 0x80 {
-            (0, code)
+    if scalar < 0x800 {
+        let (leads, last) = if scalar < 0x80 {
+            (0, scalar)
         } else {
-            (1, 0x80 + code % 0x40)
+            (1, 0x80 + scalar % 0x40)
         };
-        put_byte(dst, at, (0xC0 + code / 0x40) as u8);
+        put_byte(dst, at, (0xC0 + scalar / 0x40) as u8);
         put_byte(dst, at + leads, last as u8);
         return at + leads + 1;
     }
-    put_byte(dst, at, (0xF0 + code / 0x4_0000) as u8);
-    put_byte(dst, at + 1, (0x80 + code / 0x1000 % 0x40) as u8);
-    put_byte(dst, at + 2, (0x80 + code / 0x40 % 0x40) as u8);
-    put_byte(dst, at + 3, (0x80 + code % 0x40) as u8);
+    put_byte(dst, at, (0xF0 + scalar / 0x4_0000) as u8);
+    put_byte(dst, at + 1, (0x80 + scalar / 0x1000 % 0x40) as u8);
+    put_byte(dst, at + 2, (0x80 + scalar / 0x40 % 0x40) as u8);
+    put_byte(dst, at + 3, (0x80 + scalar % 0x40) as u8);
     at + 4
 }
 
@@ -55,14 +55,18 @@ pub fn utf8_entry(c: char) -> u32
     requires { c < 0x1_0000 }
     ensures { IsUtf8Entry c result }
 {
-    let code = c as u32;
-    let last = 0x80 + code % 0x40;
-    if code < 0x80 {
-        0x100_0000 + code
-    } else if code < 0x800 {
-        0x200_0000 + 0x100 * last + 0xC0 + code / 0x40
+    let scalar = c as u32;
+    let last = 0x80 + scalar % 0x40;
+    if scalar < 0x80 {
+        0x100_0000 + scalar
+    } else if scalar < 0x800 {
+        0x200_0000 + 0x100 * last + 0xC0 + scalar / 0x40
     } else {
-        0x300_0000 + 0x1_0000 * last + 0x100 * (0x80 + code / 0x40 % 0x40) + 0xE0 + code / 0x1000
+        0x300_0000
+            + 0x1_0000 * last
+            + 0x100 * (0x80 + scalar / 0x40 % 0x40)
+            + 0xE0
+            + scalar / 0x1000
     }
 }
 

@@ -42,8 +42,8 @@ fn put_turn<C: UnitCodes>(
     requires read { start + 16 ≤ length bytes.now }
     requires room { at + 8 ≤ length dst.old }
     ensures before { take at dst.new ≡ take at dst.old }
-    ensures turn { MatchOption result ⊤ (λ behind. WritesScalars (C.gives codes.now) bytes.now start 8
-        behind (take at dst.old) (take (at + 8) dst.new)) }
+    ensures turn { MatchOption result ⊤ (λ past. WritesScalars (C.gives codes.now) bytes.now start 8
+        past (take at dst.old) (take (at + 8) dst.new)) }
 {
     let mut place = start;
     let mut is_known = true;
@@ -82,12 +82,12 @@ pub(crate) fn copy_short_scalars<C: UnitCodes>(
     let mut place = start;
     let mut copied = 0;
     while bytes.len() - place >= 16 && dst.len() - at - copied >= 8 {
-        let Some(behind) = put_turn(codes, bytes, place, dst, at + copied) else {
+        let Some(past) = put_turn(codes, bytes, place, dst, at + copied) else {
             return (copied, place);
         };
-        let is_ascii = behind - place == 8;
+        let is_ascii = past - place == 8;
         copied += 8;
-        place = behind;
+        place = past;
         if is_ascii {
             return (copied, place);
         }

@@ -216,8 +216,8 @@ impl TextCursor for Utf8Source<'_> {
 
     #[inline(always)]
     fn take_ten(&mut self) -> Option<[u16; 10]> {
-        let (units, behind) = ten_scalars(self.text.as_bytes(), self.place)?;
-        self.place = behind;
+        let (units, past) = ten_scalars(self.text.as_bytes(), self.place)?;
+        self.place = past;
         Some(units)
     }
 
@@ -229,8 +229,8 @@ impl TextCursor for Utf8Source<'_> {
 
     #[inline(always)]
     fn copy_codes<C: UnitCodes>(&mut self, codes: &C, dst: &mut [u8], at: usize) -> usize {
-        let (count, behind) = copy_short_scalars(codes, self.text.as_bytes(), self.place, dst, at);
-        self.place = behind;
+        let (count, past) = copy_short_scalars(codes, self.text.as_bytes(), self.place, dst, at);
+        self.place = past;
         count
     }
 }

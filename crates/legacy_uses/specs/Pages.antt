@@ -7,4 +7,4 @@ use Rattle.legacy_base.specs.Lengths.{query_answer, to_utf8}
 abbrev pub IsPageTooLong : DecoderState → List ℕ → List ℕ → Type 0
 IsPageTooLong state piece page =
     (query_answer to_utf8 state (length piece) ≡ None)
-    ⊎ ((room : ℕ) × (query_answer to_utf8 state (length piece) ≡ Some room) × (2 ^ 64 ≤ length page + room))
+    ⊎ ((need : ℕ) × (query_answer to_utf8 state (length piece) ≡ Some need) × (2 ^ 64 ≤ length page + need))

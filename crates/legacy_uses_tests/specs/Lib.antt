@@ -1,3 +1,3 @@
 -- The contents of a user's own source and destination.
-pub mod Beginnings
 pub mod CharacterLists
+pub mod SourceBeginnings

@@ -14,7 +14,7 @@ pub struct Beginning<'a, S: Source> {
 }
 
 impl<'a, S: Source> Beginning<'a, S> {
-    ghost use Rattle.legacy_uses_tests.specs.Beginnings.{beginning_most, beginning_of};
+    ghost use Rattle.legacy_uses_tests.specs.SourceBeginnings.{beginning_most, beginning_of};
 
     /// Returns a source of at most `most` of the characters that `source` has left.
     pub fn new(source: &'a mut S, most: usize) -> Beginning<'a, S>
@@ -26,7 +26,7 @@ impl<'a, S: Source> Beginning<'a, S> {
 }
 
 impl<S: Source> Source for Beginning<'_, S> {
-    ghost use Rattle.legacy_uses_tests.specs.Beginnings.{beginning_most, beginning_of};
+    ghost use Rattle.legacy_uses_tests.specs.SourceBeginnings.{beginning_most, beginning_of};
 
     ghost form = { S.form };
 

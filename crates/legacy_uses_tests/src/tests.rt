@@ -1,7 +1,7 @@
 //! The tests, and what they share.
 mod callers;
 mod compared;
-mod encoding;
+mod encode_program;
 mod encodings;
 mod index_file;
 mod own_texts;

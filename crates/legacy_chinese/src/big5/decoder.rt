@@ -12,7 +12,7 @@ use legacy_decoder_engine::lane_codec::LaneCodec;
 use legacy_decoder_engine::lane_places::{lead_places, place_sums, trail_places};
 use legacy_decoder_engine::lead_and_trail::{read_first, read_trail};
 use legacy_decoder_engine::lead_decoder::{LeadCodec, LeadDecoder};
-use legacy_decoder_engine::moves::{Fed, Room};
+use legacy_decoder_engine::moves::{Fed, Need};
 use legacy_decoder_engine::places::pair_pointer;
 use legacy_tables::{DecoderTables, FlatTables};
 use std::simd::prelude::*;
@@ -128,8 +128,8 @@ impl LeadCodec for Big5 {
     }
 
     #[inline]
-    fn room() -> Room {
-        Room::Wide
+    fn need() -> Need {
+        Need::Wide
     }
 
     fn utf16_length(byte_length: usize, held: usize) -> Option<usize> {

@@ -49,9 +49,9 @@ impl PairCodec for Big5 {
     #[inline]
     #[tactic(auto, unfolding(legacy_base::specs::Big5::big5_code))]
     fn code_of<V: EncoderTables>(tables: &V, c: char) -> EncoderMove {
-        let code = c as u32;
-        if code < 0x80 {
-            return EncoderMove::One(code as u8);
+        let scalar = c as u32;
+        if scalar < 0x80 {
+            return EncoderMove::One(scalar as u8);
         }
         EncoderMove::of_pair(pair(tables, c), c)
     }
@@ -64,8 +64,8 @@ impl PairCodec for Big5 {
 }
 
 impl FillsPairs for Big5 {
-    fn fill<V: EncoderTables>(tables: &V, entries: &mut [u16]) {
-        tables.fill(PackedPart::Big5Order, &Big5, entries);
-        ask_pairs(&PairEncoder::<Big5, V>::new(tables), entries, 0, 0x80);
+    fn fill<V: EncoderTables>(encoder: &PairEncoder<'_, Self, V>, entries: &mut [u16]) {
+        encoder.tables.fill(PackedPart::Big5Order, &Big5, entries);
+        ask_pairs(encoder, entries, 0, 0x80);
     }
 }

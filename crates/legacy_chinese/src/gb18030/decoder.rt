@@ -11,7 +11,7 @@ use legacy_decoder_engine::drive::{count_malformed_bytes, drive_decoder};
 use legacy_decoder_engine::held_lead::Lead;
 use legacy_decoder_engine::lane_blocks::read_by_tables;
 use legacy_decoder_engine::lead_and_trail::{malformed_through, read_trail};
-use legacy_decoder_engine::moves::{DecoderMoves, Fed, Room};
+use legacy_decoder_engine::moves::{DecoderMoves, Fed, Need};
 use legacy_decoder_engine::near_malformed::AFTER_MALFORMED;
 use legacy_tables::DecoderTables;
 use std::cell::Cell;
@@ -204,18 +204,18 @@ impl DecoderMoves for Gb18030Decoder<'_> {
 
     #[inline]
     #[tactic(auto, using(crate::proofs::Gb18030Held::covered))]
-    fn reading_room(&self, byte: u8) -> Room {
+    fn reading_need(&self, byte: u8) -> Need {
         if byte < 0x80 && matches!(self.held, Held::Nothing) {
-            Room::Unit
+            Need::Unit
         } else {
-            Room::Wide
+            Need::Wide
         }
     }
 
     #[inline]
     #[tactic(auto, using(crate::proofs::Gb18030Held::covered))]
-    fn release_room(&self) -> Room {
-        Room::Wide
+    fn release_need(&self) -> Need {
+        Need::Wide
     }
 
     #[inline]

@@ -165,11 +165,11 @@ fn any_code_of<V: EncoderTables>(tables: &V, extended_range: bool, c: char) -> E
     ensures { IsCode ((encoder_profile (gb18030_codec (V.indexes tables.now).flat
         extended_range)).code c) c result }
 {
-    let code = c as u32;
-    if code < 0x80 {
-        return EncoderMove::One(code as u8);
+    let scalar = c as u32;
+    if scalar < 0x80 {
+        return EncoderMove::One(scalar as u8);
     }
-    if code == 0xE5E5 {
+    if scalar == 0xE5E5 {
         return EncoderMove::Unmappable(c);
     }
     if extended_range {
@@ -178,7 +178,7 @@ fn any_code_of<V: EncoderTables>(tables: &V, extended_range: bool, c: char) -> E
             None => four_or_unmappable(tables, c),
         };
     }
-    if code == 0x20AC {
+    if scalar == 0x20AC {
         return EncoderMove::One(0x80);
     }
     EncoderMove::of_pair(pair_of(tables, c), c)
@@ -199,7 +199,7 @@ impl PlainCodes for Gb18030Encoder<'_> {
     ghost plain = { λ e. gb18030_plain e.tables.now.flat e.extended_range };
 
     #[inline]
-    fn past_room(&self) -> usize {
+    fn past_need(&self) -> usize {
         4
     }
 
@@ -242,7 +242,7 @@ impl<V: EncoderTables, const EXTENDED: bool, const LISTED: bool> PlainCodes
     ghost plain = { λ e. gb18030_plain (V.indexes e.tables.now).flat EXTENDED };
 
     #[inline]
-    fn past_room(&self) -> usize {
+    fn past_need(&self) -> usize {
         4
     }
 

@@ -14,7 +14,7 @@ use legacy_decoder_engine::lane_blocks::read_by_tables;
 use legacy_decoder_engine::lane_codec::LaneCodec;
 use legacy_decoder_engine::lane_places::{late_places, lead_places, place_sums};
 use legacy_decoder_engine::lead_and_trail::{malformed_through, read_trail, unmapped};
-use legacy_decoder_engine::moves::{DecoderMoves, Fed, Room};
+use legacy_decoder_engine::moves::{DecoderMoves, Fed, Need};
 use legacy_decoder_engine::near_malformed::AFTER_MALFORMED;
 use legacy_tables::{DecoderTables, FlatTables};
 use std::cell::Cell;
@@ -168,18 +168,18 @@ impl DecoderMoves for EucJpDecoder<'_> {
 
     #[inline]
     #[tactic(auto, using(crate::proofs::EucJpHeld::covered))]
-    fn reading_room(&self, byte: u8) -> Room {
+    fn reading_need(&self, byte: u8) -> Need {
         if byte < 0x80 && matches!(self.held, Held::Nothing) {
-            Room::Unit
+            Need::Unit
         } else {
-            Room::Narrow
+            Need::Narrow
         }
     }
 
     #[inline]
     #[tactic(auto, using(crate::proofs::EucJpHeld::covered))]
-    fn release_room(&self) -> Room {
-        Room::Narrow
+    fn release_need(&self) -> Need {
+        Need::Narrow
     }
 
     fn release(&mut self) -> Option<char> {

@@ -52,15 +52,15 @@ impl PairCodec for EucJp {
     #[inline]
     #[tactic(auto, unfolding(legacy_base::specs::EucJp::euc_jp_code))]
     fn code_of<V: EncoderTables>(tables: &V, c: char) -> EncoderMove {
-        let code = c as u32;
-        if code < 0x80 {
-            EncoderMove::One(code as u8)
-        } else if code == 0xA5 {
+        let scalar = c as u32;
+        if scalar < 0x80 {
+            EncoderMove::One(scalar as u8)
+        } else if scalar == 0xA5 {
             EncoderMove::One(0x5C)
-        } else if code == 0x203E {
+        } else if scalar == 0x203E {
             EncoderMove::One(0x7E)
-        } else if code >= 0xFF61 && code <= 0xFF9F {
-            EncoderMove::Two(0x8E, (0xA1 + (code - 0xFF61)) as u8)
+        } else if scalar >= 0xFF61 && scalar <= 0xFF9F {
+            EncoderMove::Two(0x8E, (0xA1 + (scalar - 0xFF61)) as u8)
         } else {
             EncoderMove::of_pair(pair(tables, c), c)
         }
@@ -77,8 +77,8 @@ impl PairCodec for EucJp {
 }
 
 impl FillsPairs for EucJp {
-    fn fill<V: EncoderTables>(tables: &V, entries: &mut [u16]) {
-        tables.fill(PackedPart::EucJpOrder, &EucJp, entries);
-        ask_others(&PairEncoder::<EucJp, V>::new(tables), entries);
+    fn fill<V: EncoderTables>(encoder: &PairEncoder<'_, Self, V>, entries: &mut [u16]) {
+        encoder.tables.fill(PackedPart::EucJpOrder, &EucJp, entries);
+        ask_others(encoder, entries);
     }
 }

@@ -58,11 +58,11 @@ impl ListedPairs<'_, '_> {
     fn entry_of(&self, c: char) -> u16
         ensures { IsListedEntry self.now.found.tables.now.flat c result }
     {
-        let code = c as usize;
-        if code >= PAIR_ROOM {
+        let scalar = c as usize;
+        if scalar >= PAIR_ROOM {
             return 0;
         }
-        self.listed[code]
+        self.listed[scalar]
     }
 }
 
@@ -95,7 +95,7 @@ impl FindsPairs for ListedPairs<'_, '_> {
 impl AheadCodes for ListedPairs<'_, '_> {
     ghost state = { λ pairs. state_in pairs.found.tables.now.flat TwoByte };
 
-    ghost room = { 3 };
+    ghost need = { 3 };
 
     #[inline(always)]
     #[tactic(auto, using(crate::proofs::Iso2022JpEncoderMoves::serves))]

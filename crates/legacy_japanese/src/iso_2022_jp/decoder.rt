@@ -6,7 +6,7 @@ use super::bytes::{Held, NOTHING, Start, finish, read, single_scalar};
 use super::read_ahead::{front_escape, read_modes};
 use legacy_base::{DecoderMode, DecoderStep, Destination, RawDecoder, Tables};
 use legacy_decoder_engine::drive::drive_decoder;
-use legacy_decoder_engine::moves::{DecoderMoves, Fed, Room};
+use legacy_decoder_engine::moves::{DecoderMoves, Fed, Need};
 
 /// The decoder of ISO-2022-JP (Encoding Standard, "ISO-2022-JP decoder").
 ///
@@ -72,15 +72,15 @@ impl<'a> DecoderMoves for Iso2022JpDecoder<'a> {
     }
 
     #[inline]
-    #[tactic(auto, using(crate::proofs::Iso2022JpRooms::covered))]
-    fn reading_room(&self, _byte: u8) -> Room {
-        Room::Narrow
+    #[tactic(auto, using(crate::proofs::Iso2022JpNeeds::covered))]
+    fn reading_need(&self, _byte: u8) -> Need {
+        Need::Narrow
     }
 
     #[inline]
-    #[tactic(auto, using(crate::proofs::Iso2022JpRooms::covered))]
-    fn release_room(&self) -> Room {
-        Room::Narrow
+    #[tactic(auto, using(crate::proofs::Iso2022JpNeeds::covered))]
+    fn release_need(&self) -> Need {
+        Need::Narrow
     }
 
     #[tactic(auto, using(crate::proofs::Iso2022JpEnding::released))]

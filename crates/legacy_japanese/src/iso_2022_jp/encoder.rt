@@ -58,7 +58,7 @@ impl<P: FindsPairs> EncoderMoves for EncoderBy<P> {
 
     #[inline]
     #[tactic(auto, using(crate::proofs::Iso2022JpEncoderMoves::serves))]
-    fn room(&self, _c: char) -> usize {
+    fn need(&self, _c: char) -> usize {
         3
     }
 
@@ -225,7 +225,7 @@ impl<'a> EncoderBy<TablePairs<'a>> {
 impl AheadCodes for EncoderBy<TablePairs<'_>> {
     ghost state = { λ encoder. state_in encoder.pairs.tables.now.flat encoder.mode };
 
-    ghost room = { 3 };
+    ghost need = { 3 };
 
     #[inline(always)]
     #[tactic(auto, using(crate::proofs::Iso2022JpEncoderMoves::serves))]

@@ -56,17 +56,17 @@ impl PairCodec for ShiftJis {
     #[inline]
     #[tactic(auto, unfolding(legacy_base::specs::ShiftJis::shift_jis_code))]
     fn code_of<V: EncoderTables>(tables: &V, c: char) -> EncoderMove {
-        let code = c as u32;
-        if code < 0x80 {
-            EncoderMove::One(code as u8)
-        } else if code == 0x80 {
+        let scalar = c as u32;
+        if scalar < 0x80 {
+            EncoderMove::One(scalar as u8)
+        } else if scalar == 0x80 {
             EncoderMove::One(0x80)
-        } else if code == 0xA5 {
+        } else if scalar == 0xA5 {
             EncoderMove::One(0x5C)
-        } else if code == 0x203E {
+        } else if scalar == 0x203E {
             EncoderMove::One(0x7E)
-        } else if code >= 0xFF61 && code <= 0xFF9F {
-            EncoderMove::One((0xA1 + (code - 0xFF61)) as u8)
+        } else if scalar >= 0xFF61 && scalar <= 0xFF9F {
+            EncoderMove::One((0xA1 + (scalar - 0xFF61)) as u8)
         } else {
             EncoderMove::of_pair(pair(tables, c), c)
         }
@@ -83,8 +83,10 @@ impl PairCodec for ShiftJis {
 }
 
 impl FillsPairs for ShiftJis {
-    fn fill<V: EncoderTables>(tables: &V, entries: &mut [u16]) {
-        tables.fill(PackedPart::ShiftJisOrder, &ShiftJis, entries);
-        ask_others(&PairEncoder::<ShiftJis, V>::new(tables), entries);
+    fn fill<V: EncoderTables>(encoder: &PairEncoder<'_, Self, V>, entries: &mut [u16]) {
+        encoder
+            .tables
+            .fill(PackedPart::ShiftJisOrder, &ShiftJis, entries);
+        ask_others(encoder, entries);
     }
 }

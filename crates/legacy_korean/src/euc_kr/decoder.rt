@@ -12,7 +12,7 @@ use legacy_decoder_engine::lane_codec::LaneCodec;
 use legacy_decoder_engine::lane_places::{late_places, lead_places, place_sums};
 use legacy_decoder_engine::lead_and_trail::{read_first, read_trail};
 use legacy_decoder_engine::lead_decoder::{LeadCodec, LeadDecoder};
-use legacy_decoder_engine::moves::{Fed, Room};
+use legacy_decoder_engine::moves::{Fed, Need};
 use legacy_decoder_engine::places::{ROWS_OF_190, pair_pointer};
 use legacy_tables::{DecoderTables, FlatTables};
 use std::simd::prelude::*;
@@ -111,8 +111,8 @@ impl LeadCodec for EucKr {
     }
 
     #[inline]
-    fn room() -> Room {
-        Room::Narrow
+    fn need() -> Need {
+        Need::Narrow
     }
 
     fn utf16_length(byte_length: usize, held: usize) -> Option<usize> {

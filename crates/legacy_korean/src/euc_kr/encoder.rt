@@ -48,9 +48,9 @@ impl PairCodec for EucKr {
     #[inline]
     #[tactic(auto, unfolding(legacy_base::specs::EucKr::euc_kr_code))]
     fn code_of<V: EncoderTables>(tables: &V, c: char) -> EncoderMove {
-        let code = c as u32;
-        if code < 0x80 {
-            return EncoderMove::One(code as u8);
+        let scalar = c as u32;
+        if scalar < 0x80 {
+            return EncoderMove::One(scalar as u8);
         }
         EncoderMove::of_pair(pair(tables, c), c)
     }
@@ -63,8 +63,8 @@ impl PairCodec for EucKr {
 }
 
 impl FillsPairs for EucKr {
-    fn fill<V: EncoderTables>(tables: &V, entries: &mut [u16]) {
-        tables.fill(PackedPart::EucKrOrder, &EucKr, entries);
-        ask_pairs(&PairEncoder::<EucKr, V>::new(tables), entries, 0, 0x80);
+    fn fill<V: EncoderTables>(encoder: &PairEncoder<'_, Self, V>, entries: &mut [u16]) {
+        encoder.tables.fill(PackedPart::EucKrOrder, &EucKr, entries);
+        ask_pairs(encoder, entries, 0, 0x80);
     }
 }

@@ -5,7 +5,7 @@ ghost use Rattle.{legacy_base.specs.{Grammar.replacement, States.new_state}, leg
 use legacy_base::{DecoderStep, Destination, RawDecoder};
 use legacy_decoder_engine::drive::drive_decoder;
 use legacy_decoder_engine::lead_and_trail::malformed_through;
-use legacy_decoder_engine::moves::{DecoderMoves, Fed, Room};
+use legacy_decoder_engine::moves::{DecoderMoves, Fed, Need};
 
 /// The replacement decoder (Encoding Standard, "replacement decoder").
 ///
@@ -37,18 +37,18 @@ impl DecoderMoves for ReplacementDecoder {
 
     #[inline]
     #[tactic(auto, using(crate::proofs::ReplacementSteps::covered))]
-    fn reading_room(&self, _byte: u8) -> Room {
+    fn reading_need(&self, _byte: u8) -> Need {
         if self.has_reported {
-            Room::Nothing
+            Need::Nothing
         } else {
-            Room::Narrow
+            Need::Narrow
         }
     }
 
     #[inline]
     #[tactic(auto, using(crate::proofs::ReplacementSteps::covered))]
-    fn release_room(&self) -> Room {
-        Room::Narrow
+    fn release_need(&self) -> Need {
+        Need::Narrow
     }
 
     fn release(&mut self) -> Option<char> {

@@ -5,7 +5,7 @@ ghost use Rattle.{legacy_base.specs.{Grammar.user_defined, States.new_state}, le
 use super::blocks::{read_few, read_text, scalar_of};
 use legacy_base::{DecoderStep, Destination, RawDecoder};
 use legacy_decoder_engine::drive::drive_decoder;
-use legacy_decoder_engine::moves::{DecoderMoves, Fed, Room};
+use legacy_decoder_engine::moves::{DecoderMoves, Fed, Need};
 
 /// The decoder of x-user-defined (Encoding Standard, "x-user-defined decoder").
 ///
@@ -35,14 +35,14 @@ impl DecoderMoves for UserDefinedDecoder {
 
     #[inline]
     #[tactic(auto, using(crate::proofs::UserDefinedShown::covered))]
-    fn reading_room(&self, _byte: u8) -> Room {
-        Room::Narrow
+    fn reading_need(&self, _byte: u8) -> Need {
+        Need::Narrow
     }
 
     #[inline]
     #[tactic(auto, using(crate::proofs::UserDefinedShown::covered))]
-    fn release_room(&self) -> Room {
-        Room::Narrow
+    fn release_need(&self) -> Need {
+        Need::Narrow
     }
 
     fn release(&mut self) -> Option<char> {

@@ -36,18 +36,18 @@ impl PlainCodes for UserDefinedEncoder {
     ghost plain = { λ _. user_defined_plain };
 
     #[inline]
-    fn past_room(&self) -> usize {
+    fn past_need(&self) -> usize {
         1
     }
 
     #[inline(always)]
     #[tactic(auto, unfolding(legacy_base::specs::UserDefined::user_defined_code))]
     fn code_of(&self, c: char) -> EncoderMove {
-        let code = c as u32;
-        if code < 0x80 {
-            EncoderMove::One(code as u8)
-        } else if code >= 0xF780 && code <= 0xF7FF {
-            EncoderMove::One((0x80 + (code - 0xF780)) as u8)
+        let scalar = c as u32;
+        if scalar < 0x80 {
+            EncoderMove::One(scalar as u8)
+        } else if scalar >= 0xF780 && scalar <= 0xF7FF {
+            EncoderMove::One((0x80 + (scalar - 0xF780)) as u8)
         } else {
             EncoderMove::Unmappable(c)
         }

@@ -8,7 +8,7 @@ use super::unit_blocks::Units;
 use super::unit_steps::read_byte;
 use legacy_base::{DecoderStep, Destination, RawDecoder};
 use legacy_decoder_engine::drive::drive_decoder;
-use legacy_decoder_engine::moves::{DecoderMoves, Fed, Room};
+use legacy_decoder_engine::moves::{DecoderMoves, Fed, Need};
 use legacy_decoder_engine::read_ahead::read_blocks;
 
 /// The decoder of UTF-16 in either byte order (Encoding Standard, "shared UTF-16 decoder").
@@ -76,14 +76,14 @@ impl DecoderMoves for Utf16Decoder {
 
     #[inline]
     #[tactic(auto, using(crate::proofs::Utf16Held::covered))]
-    fn reading_room(&self, _byte: u8) -> Room {
-        Room::Wide
+    fn reading_need(&self, _byte: u8) -> Need {
+        Need::Wide
     }
 
     #[inline]
     #[tactic(auto, using(crate::proofs::Utf16Held::covered))]
-    fn release_room(&self) -> Room {
-        Room::Narrow
+    fn release_need(&self) -> Need {
+        Need::Narrow
     }
 
     #[tactic(auto, using(crate::proofs::Utf16Held::releases))]

@@ -4,7 +4,7 @@
 #![tactic(auto, using(crate::proofs::Utf16Ahead::steps))]
 
 ghost use Rattle.std.specs.{Prelude.{◌≡◌, ◌+◌, ◌*◌, ◌%◌, ◌<◌, ◌≤◌, ℕ, length, true, false, slice_index}, Char.IsScalar};
-ghost use Rattle.{legacy_text.specs.EncodingForm.bmp_room, legacy_base.specs.{Grammar.utf16, States.new_state}};
+ghost use Rattle.{legacy_text.specs.EncodingForm.bmp_need, legacy_base.specs.{Grammar.utf16, States.new_state}};
 ghost use Rattle.{legacy_decoder_engine.specs.ReadAhead.ReadsAhead, legacy_miscellaneous.specs.Utf16Decoder.{HasAsciiUnits, IsNarrow, AreUnitsBelow}};
 
 use super::unit_steps::unit;
@@ -183,7 +183,7 @@ impl Units {
     // No turn ends early and the units are those of a vector, so the compiler stores the vector as it is.
     #[inline(always)]
     fn read_sixteen<T: Destination>(&self, src: &[u8], dst: &mut T) -> usize
-        requires form { bmp_room T.form ≡ 1 }
+        requires form { bmp_need T.form ≡ 1 }
         requires source { 32 ≤ length src.now }
         requires room { 16 + SLACK ≤ T.room dst.old }
         ensures most { result ≤ 32 }
@@ -207,7 +207,7 @@ impl Units {
     /// It stops before sixteen units with a surrogate, and if fewer are left or few code units are free.
     #[inline(always)]
     fn read_sixteens<T: Destination>(&self, src: &[u8], dst: &mut T) -> usize
-        requires { bmp_room T.form ≡ 1 }
+        requires { bmp_need T.form ≡ 1 }
         ensures { ReadsAhead T.Destination (new_state (utf16 self.now.big_endian)) src.now result dst.old dst.new }
     {
         let mut left = (src.len() / 32).min(dst.free().saturating_sub(SLACK) / 16);

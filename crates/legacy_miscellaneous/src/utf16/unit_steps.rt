@@ -55,8 +55,8 @@ fn pair(high: HighSurrogate, low: u16) -> char
     requires { is_low_surrogate low ≡ true }
     ensures { result ≡ surrogate_pair_char high.unit low }
 {
-    let code = 0x1_0000 + (u32::from(high.unit) - 0xD800) * 0x400 + (u32::from(low) - 0xDC00);
-    unsafe { char::from_u32_unchecked(code) }
+    let scalar = 0x1_0000 + (u32::from(high.unit) - 0xD800) * 0x400 + (u32::from(low) - 0xDC00);
+    unsafe { char::from_u32_unchecked(scalar) }
 }
 
 /// Holds back a unit that is not a low surrogate.

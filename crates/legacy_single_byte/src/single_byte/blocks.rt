@@ -5,7 +5,7 @@
 
 ghost use Rattle.std.specs.{Prelude.{◌≡◌, ◌+◌, ◌*◌, ◌<◌, ◌≤◌, ◌++◌, All, true, length, take}, Char.IsScalar};
 ghost use Rattle.{legacy_base.specs.{Grammar.{Grammar, single_byte}, States.new_state}, legacy_decoder_engine.specs.ReadAhead.ReadsAhead};
-ghost use Rattle.legacy_text.specs.EncodingForm.{all_code_units, bmp_room, total_unit_count};
+ghost use Rattle.legacy_text.specs.EncodingForm.{all_code_units, bmp_need, total_unit_count};
 
 use super::scalars::ByteScalars;
 use legacy_base::Destination;
@@ -133,7 +133,7 @@ fn read_singly<T: Destination>(scalars: &ByteScalars, src: &[u8], most: usize, d
     requires source { most ≤ length src.now }
     requires room { 0 < most → 3 * most + 3 ≤ T.room dst.old }
     ensures most { result ≤ most }
-    ensures units { bmp_room T.form ≡ 1 → T.room dst.old ≤ T.room dst.new + result }
+    ensures units { bmp_need T.form ≡ 1 → T.room dst.old ≤ T.room dst.new + result }
     ensures ahead { ReadsAhead T.Destination (new_state (single_byte scalars.now.table.now.entries))
         src.now result dst.old dst.new }
 {
@@ -161,7 +161,7 @@ fn read_eights<T: Destination>(
     most: usize,
     dst: &mut T,
 ) -> (usize, bool)
-    requires form { bmp_room T.form ≡ 1 }
+    requires form { bmp_need T.form ≡ 1 }
     requires source { 64 < length src.now }
     requires room { 70 ≤ T.room dst.old }
     ensures most { result.0 ≤ most }

@@ -8,7 +8,7 @@ use super::scalars::ByteScalars;
 use legacy_base::{DecoderStep, Destination, RawDecoder, SingleByteTable};
 use legacy_decoder_engine::drive::drive_decoder;
 use legacy_decoder_engine::lead_and_trail::malformed_through;
-use legacy_decoder_engine::moves::{DecoderMoves, Fed, Room};
+use legacy_decoder_engine::moves::{DecoderMoves, Fed, Need};
 use std::simd::prelude::*;
 
 /// The decoder of a single-byte encoding (Encoding Standard, "single-byte decoder").
@@ -83,18 +83,18 @@ impl DecoderMoves for SingleByteDecoder<'_> {
 
     #[inline]
     #[tactic(auto, using(crate::proofs::SingleByteShown::covered))]
-    fn reading_room(&self, byte: u8) -> Room {
+    fn reading_need(&self, byte: u8) -> Need {
         if byte < 0x80 {
-            Room::Unit
+            Need::Unit
         } else {
-            Room::Narrow
+            Need::Narrow
         }
     }
 
     #[inline]
     #[tactic(auto, using(crate::proofs::SingleByteShown::covered))]
-    fn release_room(&self) -> Room {
-        Room::Narrow
+    fn release_need(&self) -> Need {
+        Need::Narrow
     }
 
     fn release(&mut self) -> Option<char> {

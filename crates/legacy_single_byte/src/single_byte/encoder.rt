@@ -92,12 +92,16 @@ impl<'a> SingleByteEncoder<'a> {
 
     /// Returns the place of a scalar in the run, or a number past the run's end if it is not in it.
     #[inline(always)]
-    fn run_place(&self, code: u32) -> u32
-        ensures { result < self.now.run_length → (self.now.run_bmp_offset ≤ code)
-            × (result ≡ code - self.now.run_bmp_offset) }
+    fn run_place(&self, scalar: u32) -> u32
+        ensures { result < self.now.run_length → (self.now.run_bmp_offset ≤ scalar)
+            × (result ≡ scalar - self.now.run_bmp_offset) }
     {
         let first = u32::from(self.run_bmp_offset);
-        if code >= first { code - first } else { 0xFFFF }
+        if scalar >= first {
+            scalar - first
+        } else {
+            0xFFFF
+        }
     }
 
     /// Returns the place of a code unit in the run, or a number past the run's end.
@@ -128,7 +132,7 @@ impl PlainCodes for SingleByteEncoder<'_> {
     ghost plain = { λ encoder. single_byte_plain encoder.table.now.entries };
 
     #[inline]
-    fn past_room(&self) -> usize {
+    fn past_need(&self) -> usize {
         1
     }
 
@@ -136,11 +140,11 @@ impl PlainCodes for SingleByteEncoder<'_> {
     #[inline(always)]
     #[tactic(auto, unfolding(legacy_base::specs::SingleByte::single_byte_code))]
     fn code_of(&self, c: char) -> EncoderMove {
-        let code = c as u32;
-        let place = self.run_place(code);
-        if (code < 0x80) | (place < u32::from(self.run_length)) {
-            return EncoderMove::One(if code < 0x80 {
-                code as u8
+        let scalar = c as u32;
+        let place = self.run_place(scalar);
+        if (scalar < 0x80) | (place < u32::from(self.run_length)) {
+            return EncoderMove::One(if scalar < 0x80 {
+                scalar as u8
             } else {
                 self.run_byte(place as u16)
             });

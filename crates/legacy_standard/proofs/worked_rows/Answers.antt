@@ -5,7 +5,7 @@ use Rattle.std.specs.{Prelude.{replicate, slice_index, option_map}, Int.is_in_ra
 use borrow.Author.Tests.{lt-ltb, le-ltb}
 use Rattle.legacy_base.specs.{declared.results.EncodeEvent.EncodeEvent, declared.results.EncodeEvent.TheVariants.{Byte, Unmappable}, Encoders.new_encoder}
 use Rattle.legacy_base.specs.{Encoders.encoded, Gb18030.gb18030_code, EncodeEvents.{code_events, plain_events}, ShiftJis.shift_jis_code, EucJp.euc_jp_bytes}
-use Rattle.legacy_base.specs.{EucJp.euc_jp_code, Iso2022Jp.{iso_2022_jp_code, settled_mode, mode_behind, iso_2022_jp_text_events}}
+use Rattle.legacy_base.specs.{EucJp.euc_jp_code, Iso2022Jp.{iso_2022_jp_code, settled_mode, mode_after_text, iso_2022_jp_text_events}}
 use Rattle.legacy_tables.specs.{Indexes.{entry_scalar, range}, TableChecks.range_order_fault, Pointers.{every_pointer, is_jis0208_pointer, first_pointer}}
 use Rattle.legacy_tables.specs.Pointers.{is_shift_jis_pointer, last_pointer, last_below, index_pointer_of, euc_jp_pointer_of, range_pointer_of}
 use Rattle.legacy_tables.proofs.{Pointers.{first-alike, first-is, first-none}, RangePointers.pointer-past}
@@ -108,7 +108,7 @@ returns-clause-texts c = record {
 
 pub returns-clause-without_pointers : goal.returns-clause-without_pointers
 unfolding text_queue.process shift_jis_encodes euc_jp_encodes gb18030_encodes ranges_pointer iso_2022_jp_encodes first_pointer plain_events
-    shift_jis_code euc_jp_code iso_2022_jp_code settled_mode mode_behind iso_2022_jp_text_events
+    shift_jis_code euc_jp_code iso_2022_jp_code settled_mode mode_after_text iso_2022_jp_text_events
 returns-clause-without_pointers c = record {
   shift_jis = (refl, refl);
   euc_jp = (refl, refl);

@@ -1,7 +1,7 @@
 //! Runs that are in order, and the look-up of a pointer in them.
 ghost use Rattle.std.specs.Prelude.{◌≡◌, ℕ, ◌+◌, ◌<◌, ◌≤◌, None, length};
 ghost use Rattle.legacy_tables.specs.PointerRuns.{runs_scalar, runs_list, run_fault, is_run_in_order, run_at};
-ghost use Rattle.legacy_tables.specs.RunPlaces.{AreInOrder, IsFirstBehind, IsBetween, between-first};
+ghost use Rattle.legacy_tables.specs.RunPlaces.{AreInOrder, IsFirstAfter, IsBetween, between-first};
 
 use super::numbers::{Numbers, Row};
 use super::packed::Run;
@@ -80,7 +80,7 @@ impl<'a, const POINTERS: usize> PointerRuns<'a, POINTERS> {
     /// Returns the number that the runs give a pointer, given the place of the first run that ends after it.
     #[inline(always)]
     pub(super) fn scalar_at(&self, place: usize, pointer: usize) -> Option<u32>
-        requires { IsFirstBehind self.now.runs.now place pointer }
+        requires { IsFirstAfter self.now.runs.now place pointer }
         ensures { result ≡ runs_scalar self.now.runs.now pointer }
     {
         if place == self.runs.len() {
@@ -96,8 +96,8 @@ impl<'a, const POINTERS: usize> PointerRuns<'a, POINTERS> {
     /// Returns the place of the first run that ends after the next pointer, given that of the pointer.
     #[inline(always)]
     pub(super) fn next_place(&self, place: usize, pointer: usize) -> usize
-        requires { IsFirstBehind self.now.runs.now place pointer }
-        ensures { IsFirstBehind self.now.runs.now result (pointer + 1) }
+        requires { IsFirstAfter self.now.runs.now place pointer }
+        ensures { IsFirstAfter self.now.runs.now result (pointer + 1) }
     {
         if place == self.runs.len() {
             return place;

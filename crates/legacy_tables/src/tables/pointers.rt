@@ -62,13 +62,13 @@ fn last_block<E: Entry>(index: &[E], start: usize, entry: usize) -> usize
     ensures none { (k : ℕ) → result ≤ k → k < length (E.numbers index.now) →
         slice_index (E.numbers index.now) k ≢ entry }
 {
-    let mut behind = index.len();
-    let mut blocks = behind.saturating_sub(start) / 32;
-    while blocks > 0 && E::lacks(index, behind - 32, entry) {
-        behind -= 32;
+    let mut past = index.len();
+    let mut blocks = past.saturating_sub(start) / 32;
+    while blocks > 0 && E::lacks(index, past - 32, entry) {
+        past -= 32;
         blocks -= 1;
     }
-    behind
+    past
 }
 
 /// Returns the last pointer from `start` on that has the entry.
@@ -79,11 +79,11 @@ pub(super) fn last_from<E: Entry>(index: &[E], start: usize, entry: usize) -> Op
     if entry == 0 {
         return None;
     }
-    let mut behind = last_block(index, start, entry);
-    while behind > start {
-        behind -= 1;
-        if E::number(index, behind) == entry {
-            return Some(behind);
+    let mut past = last_block(index, start, entry);
+    while past > start {
+        past -= 1;
+        if E::number(index, past) == entry {
+            return Some(past);
         }
     }
     None

@@ -1,9 +1,9 @@
 //! The encoder of EUC-KR.
-use crate::ahead::{encode_ahead, pair_room};
 use crate::encode_events::Wanted::{Bytes, Report};
 use crate::encoder_rows::EncoderRow;
 use crate::encoder_rows::EncoderRow::{Encoder, Encodes, FromUtf8, FromUtf16, Full, Replaced};
 use crate::indexes::{Filled, Flat, flat, tables_of};
+use crate::listed_pairs::{encode_listed, pair_room};
 use crate::source_texts::Text;
 use legacy_base::EncoderResult::{InputEmpty, OutputFull, Unmappable};
 use legacy_codecs::EucKrEncoder;
@@ -147,7 +147,7 @@ fn encode_in(rt: &(impl AllocGlobal + Abort), room: &mut [u16]) -> bool {
     let filled = Filled::of(SIXTEEN);
     let tables = tables_of(rt, &filled.indexes(SIXTEEN));
     let encoder = EucKrEncoder::new(&tables);
-    encode_ahead::<EucKrEncoder>(rt, &encoder, room, WORDS)
+    encode_listed::<EucKrEncoder>(rt, &encoder, room, WORDS)
 }
 
 #[test]

@@ -1,11 +1,11 @@
 //! The encoders of gb18030 and GBK.
-use crate::ahead::{encode_ahead, pair_room};
 use crate::encode_events::Wanted::{Bytes, Report};
 use crate::encoder_rows::EncoderRow;
 use crate::encoder_rows::EncoderRow::{
     Encoder, Encodes, FromUtf8, FromUtf16, Full, ReplacedFromUtf8, Utf8Length, Utf16Length,
 };
 use crate::indexes::{EMPTY, Filled, Flat, flat, tables_of};
+use crate::listed_pairs::{encode_listed, pair_room};
 use legacy_base::EncoderResult::{InputEmpty, OutputFull, Unmappable};
 use legacy_codecs::Gb18030Encoder;
 use std::process::Abort;
@@ -65,7 +65,7 @@ fn encode_in(rt: &(impl AllocGlobal + Abort), room: &mut [u16]) -> bool {
     let filled = Filled::of(EMPTY);
     let tables = tables_of(rt, &filled.indexes(EMPTY));
     let encoder = Gb18030Encoder::new(&tables, true);
-    encode_ahead::<Gb18030Encoder>(rt, &encoder, room, WITHOUT_ENTRIES)
+    encode_listed::<Gb18030Encoder>(rt, &encoder, room, WITHOUT_ENTRIES)
 }
 
 #[test]

@@ -1,5 +1,4 @@
 //! The encoder of ISO-2022-JP.
-use crate::ahead::pair_room;
 use crate::codecs::follow_rows;
 use crate::encode_events::Wanted::{Bytes, Report};
 use crate::encoder_rows::EncoderRow::{
@@ -8,6 +7,7 @@ use crate::encoder_rows::EncoderRow::{
 };
 use crate::encoder_rows::{EncoderRow, TestedEncoder, follow_encoder};
 use crate::indexes::{EMPTY, Filled, Flat, flat, packed_of, packed_tables_of, tables_of};
+use crate::listed_pairs::pair_room;
 use crate::source_texts::Text;
 use legacy_base::EncoderResult::{InputEmpty, OutputFull, Unmappable};
 use legacy_codecs::{CachedIso2022JpEncoder, Iso2022JpEncoder};
@@ -28,7 +28,7 @@ impl<'a, 'b> TestedEncoder for CachedIso2022JpEncoder<'a, 'b> {
 
 /// Follows the rows over packed tables, with an encoder that lists pairs in `room`.
 // Over flat tables, filling the cache would search the index for 65,536 scalars.
-fn encode_ahead<'a>(
+fn encode_listed<'a>(
     rt: &(impl AllocGlobal + Abort),
     room: &mut [u16],
     flat: &'a Flat<'a>,
@@ -53,7 +53,7 @@ fn encode_in_all_ways<'a>(
 ) {
     follow_rows(rt, &[Codec::Iso2022Jp], flat, rows);
     let mut room = pair_room(rt, 0xFFFF);
-    encode_ahead(rt, room.as_mut_slice(), flat, rows);
+    encode_listed(rt, room.as_mut_slice(), flat, rows);
 }
 
 #[test]

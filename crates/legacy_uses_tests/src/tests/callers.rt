@@ -50,10 +50,10 @@ fn piece_gives<D: RawDecoder>(
     last: bool,
     wanted: &str,
 ) -> bool {
-    let Some(room) = decoder.max_utf8_buffer_length(piece.len()) else {
+    let Some(need) = decoder.max_utf8_buffer_length(piece.len()) else {
         return false;
     };
-    let Ok(mut output) = vec![in alloc; 0; room] else {
+    let Ok(mut output) = vec![in alloc; 0; need] else {
         return false;
     };
     let written = decode_piece(decoder, piece, output.as_mut_slice(), last);

@@ -2,7 +2,7 @@
 use crate::tests::compared::holds;
 use crate::tests::streams::{FailingReader, FailingWriter};
 use crate::tests::words::words_in;
-use crate::tests::{encoding, program};
+use crate::tests::{encode_program, program};
 use legacy_command::host::{Program, run_program};
 use std::alloc::Global;
 use std::process::Abort;
@@ -126,13 +126,13 @@ fn refuses(rt: &(impl AllocGlobal + Abort), program: Program, refused: &[Refused
 #[test]
 fn the_programs_do_as_the_words_ask_however_the_input_is_cut(rt: HostRuntime) {
     answers(&rt, Program::Recode, program::REQUESTS);
-    answers(&rt, Program::Encode, encoding::REQUESTS);
+    answers(&rt, Program::Encode, encode_program::REQUESTS);
 }
 
 #[test]
 fn the_programs_refuse_words_and_files(rt: HostRuntime) {
     refuses(&rt, Program::Recode, program::REFUSED);
-    refuses(&rt, Program::Encode, encoding::REFUSED);
+    refuses(&rt, Program::Encode, encode_program::REFUSED);
 }
 
 /// Asserts what the program returns and writes if streams fail.

@@ -174,19 +174,19 @@ fn tells_of_a_replacement_in_any_piece(rt: HostRuntime) {
 }
 
 /// Returns a decoder that holds back a lead.
-fn behind_a_lead<'a>(tables: &'a Tables<'a>) -> EucKrDecoder<'a> {
+fn after_a_lead<'a>(tables: &'a Tables<'a>) -> EucKrDecoder<'a> {
     let mut decoder = EucKrDecoder::new(tables);
     decoder.decode_to_utf8_raw(b"\x81", &mut [0; 4], false);
     decoder
 }
 
 #[test]
-fn places_count_behind_what_was_held_back(rt: HostRuntime) {
+fn places_count_after_what_was_held_back(rt: HostRuntime) {
     let Ok(tables) = Tables::new(&no_entries()) else {
         assert!(rt; false);
         return;
     };
-    let mut decoder = behind_a_lead(&tables);
+    let mut decoder = after_a_lead(&tables);
     let lines = b"bad 0 1\nU+0020\nbad 1 1\n";
     let row = (false, (9, 9), (99, 99), CLEAN, lines.as_slice());
     recodes_as(&rt, &mut decoder, b"\x20\x81", &row);

@@ -2,8 +2,8 @@ use Rattle.std.proofs.{Common.{◌≡◌, ◌+◌, [], drop, length, refl, arith
 use Rattle.std.proofs.{lemmas.Option.slice_get-get_or, lemmas.List.length-map}
 use Rattle.std.specs.Prelude.{slice_index_or}
 use Rattle.legacy_codecs.specs.Pieces.{contents_of}
-use Rattle.legacy_codecs.proofs.{Places.{place_before-state, pieces-length, place_at-first, place_at-next, not_last}, RunSteps.running_start}
-use Rattle.legacy_codecs.proofs.Places.{room_written, room_kept, room_report, room_reported}
+use Rattle.legacy_codecs.proofs.{RunDrivers.{place_before-state, pieces-length, place_at-first, place_at-next, not_last}, RunSteps.running_start}
+use Rattle.legacy_codecs.proofs.RunDrivers.{room_written, room_kept, room_report, room_reported}
 use Rattle.legacy_codecs.proofs.{RunSteps.{running_call, is_run, place_at-more}, decode_run.run_calls.Goals.{in-InputEmpty+else-last, in-OutputFull}}
 use Rattle.legacy_codecs.proofs.decode_run.run_calls.Goals.{in-Malformed}
 use Rattle.legacy_codecs.proofs.decode_run.run_calls.Goals as goal

@@ -1,7 +1,7 @@
 use Rattle.std.proofs.Common.{◌≤◌, ◌+◌, ◌<◌, length, vec_len, All, false}
 use Rattle.std.specs.Prelude.{vec_capacity, slice_index_or, []}
 use Rattle.legacy_codecs.specs.Pieces.{contents_of, place_before}
-use Rattle.legacy_codecs.proofs.{Places.{place_at, room_from}, RunSteps.Running}
+use Rattle.legacy_codecs.proofs.{RunDrivers.{place_at, room_from}, RunSteps.Running}
 use Rattle.legacy_codecs.proofs.decode_run.run_calls.Given as goal
 
 abbrev pub invariant-loop-calls : goal.invariant-loop-calls

@@ -2,7 +2,7 @@ use Rattle.std.proofs.Common.{◌≡◌, ◌+◌, ◌≤◌, ◌++◌, [], drop,
 use Rattle.std.proofs.{Common.◌∙◌, lemmas.Bool.true≢false, lemmas.List.{length-map, length-take-le}}
 use Rattle.std.proofs.lemmas.List.{get_or-map}
 use Rattle.legacy_codecs.specs.{Pieces.place_before, EncodeRuns.EncodeReaches.begun}
-use Rattle.legacy_codecs.proofs.Places.{place_before-state, place_at-begin, place_at-next, same_end, not_last, room_now, room_later, front_put_back}
+use Rattle.legacy_codecs.proofs.RunDrivers.{place_before-state, place_at-begin, place_at-next, same_end, not_last, room_now, room_later, front_put_back}
 use Rattle.legacy_codecs.proofs.EncodeRunEvents.{reaches_call}
 use Rattle.legacy_codecs.proofs.encode_run.run_calls.Goals.{then-call_once+else-last, else-call_once}
 use Rattle.legacy_codecs.proofs.encode_run.run_calls.Goals as goal

@@ -1,7 +1,7 @@
 use Rattle.std.proofs.Common.{◌≤◌, ◌+◌, drop, length, map, vec_len, All, false}
 use Rattle.std.specs.Prelude.{vec_capacity}
 use Rattle.legacy_codecs.specs.{Pieces.place_before, EncodeRuns.EncodeReaches}
-use Rattle.legacy_codecs.proofs.Places.{room_from}
+use Rattle.legacy_codecs.proofs.RunDrivers.{room_from}
 use Rattle.legacy_codecs.proofs.encode_run.run_calls.Given as goal
 
 abbrev pub invariant-loop-calls : goal.invariant-loop-calls

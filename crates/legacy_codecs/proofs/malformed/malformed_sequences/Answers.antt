@@ -1,11 +1,11 @@
 use Rattle.std.proofs.Common.{◌∙◌, ◌++◌, ◌∷◌, [], arith, ap}
 use Rattle.legacy_codecs.specs.declared.malformed.MalformedSequence.{MalformedSequence}
-use Rattle.legacy_base.proofs.Enough.{room-answer}
+use Rattle.legacy_base.proofs.Enough.{total_need-answer}
 use Rattle.legacy_codecs.proofs.{MalformedSequences.{finds_start, finds_step, finds_stop, sequence_is}, Replaced.malformed_less}
 use Rattle.legacy_codecs.proofs.malformed.malformed_sequences.Goals as goal
 
 pub calls-init : goal.calls-init
-calls-init g c = grind (arith, room-answer, finds_start)
+calls-init g c = grind (arith, total_need-answer, finds_start)
 
 pub returns-in_default-answer-clause-found : goal.returns-in_default-answer-clause-found
 returns-in_default-answer-clause-found g c =

@@ -39,7 +39,7 @@ loop-decoder-init g c =
     let T = g.T.Destination in
     elim c.if-not-rests.branch [
       | then-not-rests+else-not-has_room+in-Some w ↦
-          let enough = rw (w.release_room.ensures.units T.form) at (w.has_room.ensures.some w.if-not-has_room.false) in
+          let enough = rw (w.release_need.ensures.units T.form) at (w.has_room.ensures.some w.if-not-has_room.false) in
           rw (w.decoder-is, w.dst-is) (
             w.in-Some.scalar ∷ [],
             going_release (sym c.rests.ensures.is ∙ w.if-not-rests.true) enough w.in-Some.ensures,
@@ -59,7 +59,7 @@ loop-decoder-init g c =
 
 pub returns-then-not-has_room-clause-call : goal.returns-then-not-has_room-clause-call
 returns-then-not-has_room-clause-call g c =
-    let needs = c.release_room.ensures in
+    let needs = c.release_need.ensures in
     let lacks = rw (needs.units g.T.Destination.form) at (c.has_room.ensures.none c.if-not-has_room.true) in (
       [],
       call_full_release needs.covered c.rests.ensures.allowed (sym c.rests.ensures.is ∙ c.if-not-rests.true) lacks,
@@ -108,7 +108,7 @@ returns-clause-loan g c =
 
 pub put-requires : goal.put-requires
 put-requires g c =
-    let enough = rw (c.release_room.ensures.units g.T.Destination.form) at (c.has_room.ensures.some c.if-not-has_room.false) in
+    let enough = rw (c.release_need.ensures.units g.T.Destination.form) at (c.has_room.ensures.some c.if-not-has_room.false) in
     omega (arith, c.in-Some.ensures.fits g.T.Destination.form, enough)
 
 pub slice_bounds-hold_back-count : goal.slice_bounds-hold_back-count

@@ -11,5 +11,5 @@ read_count false = refl
 pub returns-in-MalformedSequence : goal.returns-in-MalformedSequence
 returns-in-MalformedSequence g c =
     let s = c.in-MalformedSequence in
-    let enough = rw (c.reading_room.ensures.units g.T.Destination.form) at (c.has_room.ensures.some c.if-not-has_room.false) in
+    let enough = rw (c.reading_need.ensures.units g.T.Destination.form) at (c.has_room.ensures.some c.if-not-has_room.false) in
     ((s.unread, rw c.after_malformed.ensures s.ensures, c.from.ensures ∙ read_count s.unread, enough), refl)

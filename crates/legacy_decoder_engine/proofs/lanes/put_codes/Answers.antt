@@ -1,5 +1,5 @@
-use Rattle.std.proofs.{Common.{◌≡◌, ℕ, ◌*◌, ◌+◌, ◌/◌, length, take, refl, arith}, lemmas.List.{take_all, get_or-drop}}
-use Rattle.legacy_decoder_engine.proofs.{LaneUnits.{few_units, scalars_there, next_written}, WrittenReads.{all_short, rest_of, writes_none}}
+use Rattle.std.proofs.{Common.{◌≡◌, ℕ, ◌*◌, ◌+◌, ◌/◌, length, take, refl, arith}, lemmas.List.{take_rest, take_all, get_or-drop}}
+use Rattle.legacy_decoder_engine.proofs.{LaneUnits.{few_units, scalars_there, next_written}, WrittenReads.{all_short, writes_none}}
 use Rattle.legacy_decoder_engine.proofs.lanes.put_codes.Goals as goal
 
 pub put_eight-requires-clause-scalars : goal.put_eight-requires-clause-scalars
@@ -65,7 +65,7 @@ loop-group-init g c = record {
 pub units_of-units-requires-clause-within : goal.units_of-units-requires-clause-within
 units_of-units-requires-clause-within g c k h =
     let at : ℕ = 8 * c.loop-group.group in
-    rw (rest_of c.split_codes.new.places at, get_or-drop at c.split_codes.new.places k 0)
+    rw (take_rest c.split_codes.new.places at, get_or-drop at c.split_codes.new.places k 0)
     (omega (arith, (c.split_codes.ensures (at + k) (omega arith)).1, c.entry_count-entries.ensures.count))
 
 pub returns-then-at-most-clause-writes : goal.returns-then-at-most-clause-writes
@@ -77,7 +77,7 @@ returns-then-at-most-clause-had g c = omega arith
 pub units_of-units-requires-2-clause-within : goal.units_of-units-requires-2-clause-within
 units_of-units-requires-2-clause-within g c k h =
     let at : ℕ = 8 * c.loop-group.group in
-    rw (rest_of c.split_codes.new.places at, get_or-drop at c.split_codes.new.places k 0)
+    rw (take_rest c.split_codes.new.places at, get_or-drop at c.split_codes.new.places k 0)
     (omega (arith, (c.split_codes.ensures (at + k) (omega arith)).1, c.entry_count-entries.ensures.count))
 
 pub returns-clause-had : goal.returns-clause-had

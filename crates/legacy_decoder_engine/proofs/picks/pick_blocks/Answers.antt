@@ -1,5 +1,6 @@
+use Rattle.std.proofs.lemmas.List.{take_rest}
 use Rattle.std.proofs.{Common.{◌≡◌, ◌∙◌, length, take, drop, ap, sym, arith}, lemmas.List.length-take-le}
-use Rattle.legacy_decoder_engine.proofs.{LaneUnits.{picked_more, shorter_front}, WrittenReads.rest_of}
+use Rattle.legacy_decoder_engine.proofs.{LaneUnits.{picked_more, shorter_front}}
 use Rattle.legacy_decoder_engine.proofs.picks.pick_blocks.Goals.{then-rest-ge72, else-rest-ge72}
 use Rattle.legacy_decoder_engine.proofs.picks.pick_blocks.Goals as goal
 
@@ -8,7 +9,7 @@ loop-left-preserved g c =
     let src = c.args.src.now in
     let l = c.loop-left in
     let rest = drop l.at src in
-    let is = rest_of src l.at in
+    let is = take_rest src l.at in
     let all = ap length is in
     elim c.if-rest-ge72.branch [
       | then-rest-ge72 w ↦

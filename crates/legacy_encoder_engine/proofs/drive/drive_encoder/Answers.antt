@@ -18,14 +18,14 @@ pub returns-then-dst-written-clause-call : goal.returns-then-dst-written-clause-
 returns-then-dst-written-clause-call g c =
     let a = c.read_ahead-written in
     let under = (rw c.loop-c.auto.dst at a.ensures.keeps).keeps _ _ _ c.loop-c.invariant.0 in
-    call_full_scalar _ _ _ _ _ _ _ under c.room.ensures.serves c.in-Some.c _ (first_cons _ _ c.in-Some.ensures) (omega (arith, length-take {A = ℕ}))
+    call_full_scalar under c.need.ensures.serves (first_cons _ _ c.in-Some.ensures) (omega (arith, length-take {A = ℕ}))
 
 pub returns-in-Unmappable-clause-call : goal.returns-in-Unmappable-clause-call
 returns-in-Unmappable-clause-call g c =
     let a = c.read_ahead-written in
     let under = (rw c.loop-c.auto.dst at a.ensures.keeps).keeps _ _ _ c.loop-c.invariant.0 in
     rw c.advance.ensures.left
-    (call_unmappable _ _ _ _ _ _ _ under c.room.ensures.serves c.in-Some.c _ (first_cons _ _ c.in-Some.ensures) _ c.in-Unmappable.reported
+    (call_unmappable under c.need.ensures.serves (first_cons _ _ c.in-Some.ensures)
     (rw c.in-Unmappable.is at c.next-step.ensures) (omega (arith, length-take {A = ℕ})))
 
 pub loop-c-preserved : goal.loop-c-preserved
@@ -34,7 +34,7 @@ loop-c-preserved g c =
     let under = (rw c.loop-c.auto.dst at a.ensures.keeps).keeps _ _ _ c.loop-c.invariant.0 in
     let cons = first_cons _ _ c.in-Some.ensures in (
       rw (c.advance-in-loop-c.ensures.left, c.put_move-written.ensures.bytes)
-          (underway_read _ _ _ _ _ _ _ under c.room.ensures.serves c.in-Some.c _ cons _ c.next-step.result c.next-step.ensures
+          (underway_read under c.need.ensures.serves cons c.next-step.ensures
           (omega (arith, length-take {A = ℕ})) (grind (arith, c.in_default-step-2.not-Escape))
           (grind (arith, c.in_default-step.not-Unmappable))),
       omega arith,
@@ -52,7 +52,7 @@ returns-else-is_pending-clause-call g c =
     let a = c.read_ahead-written in
     let under = (rw c.loop-c.auto.dst at a.ensures.keeps).keeps _ _ _ c.loop-c.invariant.0 in
     let none : IsTrue c.args.last → is_pending (g.E.EncoderMoves.state c.loop-c.encoder) ≡ false = grind (arith, c.else-is_pending.branch) in
-    call_done _ _ _ _ _ _ _ under c.is_pending.ensures.serves (none_left _ (sym c.in_default.is ∙ c.peek.ensures)) none
+    call_done under c.is_pending.ensures.serves (none_left _ (sym c.in_default.is ∙ c.peek.ensures)) none
 
 pub loop-c-preserved-in-Escape : goal.loop-c-preserved-in-Escape
 loop-c-preserved-in-Escape g c =
@@ -60,7 +60,7 @@ loop-c-preserved-in-Escape g c =
     let under = (rw c.loop-c.auto.dst at a.ensures.keeps).keeps _ _ _ c.loop-c.invariant.0 in
     let cons = first_cons _ _ c.in-Some.ensures in (
       rw c.put_move-written.ensures.bytes
-          (underway_escape _ _ _ _ _ _ _ under c.room.ensures.serves c.in-Some.c _ cons _ c.next-step.result c.next-step.ensures
+          (underway_escape under c.need.ensures.serves cons c.next-step.ensures
           (omega (arith, length-take {A = ℕ})) (ap is_escape c.in-Escape.is)),
       omega arith,
       omega (arith, a.ensures.units, c.loop-c.invariant.2),
@@ -71,7 +71,7 @@ returns-then-dst-written-lt3-clause-call g c =
     let a = c.read_ahead-written in
     let under = (rw c.loop-c.auto.dst at a.ensures.keeps).keeps _ _ _ c.loop-c.invariant.0 in
     let pending = sym c.is_pending.ensures.is ∙ c.if-is_pending.true in
-    call_full_end _ _ _ _ _ _ _ under c.is_pending.ensures.serves (none_left _ (sym c.in_default.is ∙ c.peek.ensures)) c.if-last.true pending
+    call_full_end under c.is_pending.ensures.serves (none_left _ (sym c.in_default.is ∙ c.peek.ensures)) c.if-last.true pending
     (omega (arith, length-take {A = ℕ}))
 
 pub returns-else-dst-written-lt3-clause-call : goal.returns-else-dst-written-lt3-clause-call
@@ -80,7 +80,7 @@ returns-else-dst-written-lt3-clause-call g c =
     let under = (rw c.loop-c.auto.dst at a.ensures.keeps).keeps _ _ _ c.loop-c.invariant.0 in
     let pending = sym c.is_pending.ensures.is ∙ c.if-is_pending.true in
     rw c.put_move-written-then-last.ensures.bytes
-    (call_finish _ _ _ _ _ _ _ under c.is_pending.ensures.serves (none_left _ (sym c.in_default.is ∙ c.peek.ensures)) c.if-last.true pending _
+    (call_finish under c.is_pending.ensures.serves (none_left _ (sym c.in_default.is ∙ c.peek.ensures)) c.if-last.true pending
     (c.finish.ensures pending) (omega (arith, length-take {A = ℕ})))
 
 pub returns-then-dst-written-clause-passed : goal.returns-then-dst-written-clause-passed
@@ -120,4 +120,4 @@ pub returns-else-is_pending-clause-written : goal.returns-else-is_pending-clause
 returns-else-is_pending-clause-written g c = omega arith
 
 pub put_move-written-requires : goal.put_move-written-requires
-put_move-written-requires g c = omega (arith, c.next-step.ensures.fits, c.room.ensures.bytes)
+put_move-written-requires g c = omega (arith, c.next-step.ensures.fits, c.need.ensures.bytes)

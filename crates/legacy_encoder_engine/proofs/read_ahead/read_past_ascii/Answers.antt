@@ -1,10 +1,10 @@
-use Rattle.std.proofs.{Common.arith, lemmas.List.length-take-le}
+use Rattle.std.proofs.{Common.{◌≤◌, length, arith}, lemmas.List.length-take-le}
 use Rattle.legacy_encoder_engine.proofs.ReadingAhead.{encodes_none, encodes_put}
 use Rattle.legacy_encoder_engine.proofs.read_ahead.read_past_ascii.Goals as goal
 
 pub returns-clause-ahead : goal.returns-clause-ahead
 returns-clause-ahead g c =
     let need = c.requires in
-    let none = encodes_none (g.C.AheadCodes.state c.args.codes.now) _ _ _ _ _ c.args.at (omega (arith, need.room)) in
-    encodes_put g.S.TextCursor.form need.serves need.fits none need.front c.in-Some.ensures.puts c.pass.ensures.left c.pass.ensures.passed
+    let within : c.args.at ≤ length c.args.dst.now = omega (arith, need.room) in
+    encodes_put g.S.TextCursor.form need.serves need.fits (encodes_none within) need.front c.in-Some.ensures.puts c.pass.ensures.left c.pass.ensures.passed
     (length-take-le _ _ (omega (arith, need.room))) need.room

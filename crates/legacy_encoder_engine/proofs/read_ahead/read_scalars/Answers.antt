@@ -21,7 +21,7 @@ loop-dst-preserved-then-has_tens g c =
     (encodes_then one c.read_tens-at.ensures (omega arith), c.in-Some.ensures.guess)
 
 pub loop-dst-init : goal.loop-dst-init
-loop-dst-init g c = (encodes_none _ _ _ _ _ _ _ c.requires.start, c.requires.guess)
+loop-dst-init g c = (encodes_none c.requires.start, c.requires.guess)
 
 pub returns-then-at-start-clause-ahead : goal.returns-then-at-start-clause-ahead
 returns-then-at-start-clause-ahead g c = c.loop-dst.invariant.0

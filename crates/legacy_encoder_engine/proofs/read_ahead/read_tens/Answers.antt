@@ -3,10 +3,10 @@ use Rattle.legacy_encoder_engine.proofs.{ReadingAhead.{encodes_none}, UnitTurns.
 use Rattle.legacy_encoder_engine.proofs.read_ahead.read_tens.Goals as goal
 
 pub returns-then-widest-gt12 : goal.returns-then-widest-gt12
-returns-then-widest-gt12 g c = encodes_none _ _ _ _ _ _ _ c.requires
+returns-then-widest-gt12 g c = encodes_none c.requires
 
 pub loop-dst-init : goal.loop-dst-init
-loop-dst-init g c = encodes_none _ _ _ _ _ _ _ c.requires
+loop-dst-init g c = encodes_none c.requires
 
 pub returns-in_default : goal.returns-in_default
 returns-in_default g c = c.loop-dst.invariant

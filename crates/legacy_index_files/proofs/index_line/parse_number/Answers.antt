@@ -13,7 +13,7 @@ overflow_mul-value c = omega (arith, small_enough c, six_digits c.loop-first.cou
 pub overflow_add-value : goal.overflow_add-value
 overflow_add-value c = omega (arith, small_enough c, six_digits c.loop-first.count (omega arith))
 
-taken : (c : goal.Else-count-eq-MOST_DIGITS) → TakesDigit c.args.radix c.loop-first.value c.in-Some-to_digit.digit c.loop-first.rest.now c.in-Some.behind.now
+taken : (c : goal.Else-count-eq-MOST_DIGITS) → TakesDigit c.args.radix c.loop-first.value c.in-Some-to_digit.digit c.loop-first.rest.now c.in-Some.after.now
 taken c = takes_digit _ _ _ _ _ _ c.in-Some.ensures.cases.0 c.in-Some-to_digit.ensures.value.0 c.in-Some-to_digit.ensures.value.1
 
 pub loop-first-preserved : goal.loop-first-preserved

@@ -3,7 +3,7 @@ use denote.{Text.Utf8, Shadow.shadow}
 use Rattle.std.specs.Str.{chars}
 use Rattle.legacy_base.specs.Encoders.{encoded}
 use Rattle.legacy_codecs.specs.References.{referenced_bytes}
-use Rattle.legacy_streams.specs.{Encoding.EncodesUpTo, Waiting.waiting_bytes}
+use Rattle.legacy_streams.specs.{TextEncoding.EncodesUpTo, Waiting.waiting_bytes}
 use Rattle.legacy_streams.proofs.encode.push_text.Given as goal
 
 abbrev pub invariant-calls : goal.invariant-calls

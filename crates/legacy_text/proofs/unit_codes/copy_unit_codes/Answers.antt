@@ -1,5 +1,5 @@
 use Rattle.std.proofs.Common.{arith}
-use Rattle.legacy_text.proofs.ShortScalars.{block_behind}
+use Rattle.legacy_text.proofs.ShortScalars.{block_after}
 use Rattle.legacy_text.proofs.unit_codes.copy_unit_codes.Goals as goal
 
 pub returns-then-count-lt16 : goal.returns-then-count-lt16
@@ -8,7 +8,7 @@ returns-then-count-lt16 g c =
     let b = c.code_block in
     let i = c.loop-copied.invariant in
     let stored = c.store.ensures _ e.most in
-    grind (arith, block_behind b.result.0 b.result.1 (omega (arith, c.loop-copied-test.true)) e.most b.ensures.bytes b.ensures.codes e.ascii stored i.2 i.3)
+    grind (arith, block_after b.result.0 b.result.1 (omega (arith, c.loop-copied-test.true)) e.most b.ensures.bytes b.ensures.codes e.ascii stored i.2 i.3)
 
 pub loop-copied-preserved : goal.loop-copied-preserved
 loop-copied-preserved g c =
@@ -16,4 +16,4 @@ loop-copied-preserved g c =
     let b = c.code_block in
     let i = c.loop-copied.invariant in
     let stored = c.store.ensures _ e.most in
-    grind (arith, block_behind b.result.0 b.result.1 (omega (arith, c.loop-copied-test.true)) e.most b.ensures.bytes b.ensures.codes e.ascii stored i.2 i.3)
+    grind (arith, block_after b.result.0 b.result.1 (omega (arith, c.loop-copied-test.true)) e.most b.ensures.bytes b.ensures.codes e.ascii stored i.2 i.3)

@@ -10,9 +10,9 @@ pub returns-in-None : goal.returns-in-None
 unfolding gb18030_code gbk_code
 returns-in-None g c = search rules
 
-pub returns-then-code-eq8364 : goal.returns-then-code-eq8364
+pub returns-then-scalar-eq8364 : goal.returns-then-scalar-eq8364
 unfolding gb18030_code gbk_code
-returns-then-code-eq8364 g c = search rules
+returns-then-scalar-eq8364 g c = search rules
 
 pub returns : goal.returns
 unfolding gb18030_code gbk_code

@@ -1,5 +1,6 @@
+use Rattle.std.proofs.lemmas.List.{take_rest}
 use Rattle.std.proofs.Common.{◌∙◌, ◌<◌, ◌++◌, ℕ, List, ap, arith, flat_map, get_or, take}
-use Rattle.{legacy_text.specs.PastAscii.ArePast, legacy_decoder_engine.proofs.{Picking.{front_chunk, below_end}, WrittenReads.rest_of}}
+use Rattle.{legacy_text.specs.PastAscii.ArePast, legacy_decoder_engine.proofs.{Picking.{front_chunk, below_end}}}
 use Rattle.legacy_chinese.{specs.FourForms.{fours_of, form_at}, proofs.FourStarts.{block_picked, picked}}
 use Rattle.legacy_chinese.proofs.gb18030.four_picks.pick_block.Goals as goal
 
@@ -18,7 +19,7 @@ returns-clause-forms c =
     block_picked c.args.count c.pick-next.result c.pick.result _ block c.args.front.now c.args.back.now c.pick-next.new.codes c.pick.new.codes
     (omega (arith, c.requires.front)) (omega (arith, c.requires.back))
     (omega (arith, c.requires.front, c.pick-next.ensures.most, c.pick-next.auto.codes)) (omega (arith, c.requires.back, c.pick.ensures.most, c.pick.auto.codes))
-    c.pick-next.ensures.written (rw (rest_of block 2) at c.pick.ensures.written)
+    c.pick-next.ensures.written (rw (take_rest block 2) at c.pick.ensures.written)
     ∙ ap (λ (l : List ℕ). fours_of (take c.args.count c.args.front.now) (take c.args.count c.args.back.now) ++ l)
     (ap (λ ps. flat_map (form_at block) ps) (below_end end starts w.most)
     ∙ picked block past starts end (omega (arith, c.requires.block)) small are_past c.in-Some.ensures w.most w.end)

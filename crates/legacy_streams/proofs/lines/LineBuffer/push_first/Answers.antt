@@ -1,10 +1,10 @@
 use Rattle.std.proofs.Common.{◌≡◌, arith, Some, slice_get}
 use Rattle.legacy_text.specs.Texts.{unit_scalars}
-use Rattle.legacy_streams.proofs.FourDigitLines.{first_line, first_units, none_behind}
+use Rattle.legacy_streams.proofs.FourDigitLines.{first_line, first_units, none_after}
 use Rattle.legacy_streams.proofs.lines.LineBuffer.push_first.Goals as goal
 
 pub returns-in_default-clause-text : goal.returns-in_default-clause-text
-returns-in_default-clause-text c = grind (arith, none_behind)
+returns-in_default-clause-text c = grind (arith, none_after)
 
 pub returns-clause-count : goal.returns-clause-count
 returns-clause-count c =

@@ -1,10 +1,10 @@
 use Rattle.std.proofs.{lemmas.Bool.Decides.nat_tests, Common.arith, lemmas.List.get_or_past}
 use Rattle.legacy_tables.specs.Packed.{differs_at, run_difference}
-use Rattle.legacy_tables.proofs.{FirstPlaces.{find-some, find-none}, PackedRuns.{first-behind, scalar-past_list}}
+use Rattle.legacy_tables.proofs.{FirstPlaces.{find-some, find-none}, PackedRuns.{first-after, scalar-past_list}}
 use Rattle.legacy_tables.proofs.tables.packed_checks.first_difference.Goals as goal
 
 pub loop-pointer-init : goal.loop-pointer-init
-loop-pointer-init g c = grind (arith, first-behind)
+loop-pointer-init g c = grind (arith, first-after)
 
 pub returns-then-differ : goal.returns-then-differ
 unfolding run_difference

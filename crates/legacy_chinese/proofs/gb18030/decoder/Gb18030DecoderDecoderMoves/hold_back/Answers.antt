@@ -1,5 +1,5 @@
 use Rattle.std.proofs.{Common.{arith, get_or, take, ◌≤◌}, lemmas.List.take_more}
-use Rattle.legacy_decoder_engine.{specs.{Moves.read_room, declared.moves.Fed.TheVariants.Nothing}, proofs.CallUnderWay.holds_more}
+use Rattle.legacy_decoder_engine.{specs.{Moves.read_need, declared.moves.Fed.TheVariants.Nothing}, proofs.CallUnderWay.holds_more}
 use Rattle.legacy_chinese.{specs.Gb18030Decoder.{gb18030_state, held_bytes}, proofs.Gb18030Held.{feeds, reads_wide}}
 use Rattle.legacy_chinese.proofs.gb18030.decoder.Gb18030DecoderDecoderMoves.hold_back.Goals as goal
 
@@ -13,7 +13,7 @@ loop-at-preserved g c =
     let byte = get_or src at 0 in
     let is = c.in-Some.ensures tables.flat.gb18030 tables.flat.ranges in
     let fed = feeds tables held byte (omega arith) is.0 Nothing (held_bytes c.in-Some.held) is.1 in
-    let room : read_room form (gb18030_state c.loop-at.self) byte ≤ g.T.Destination.room c.args.dst.now =
+    let room : read_need form (gb18030_state c.loop-at.self) byte ≤ g.T.Destination.room c.args.dst.now =
     omega (arith, reads_wide tables form held byte, c.free.ensures, c.wide.ensures, c.if-free-wide.false) in
     let more = holds_more form _ _ _ _ (take at src) byte c.loop-at.invariant.holds fed room in
     record { within = omega (arith, c.loop-at-test.true); holds = rw (take_more src at 0 c.loop-at-test.true) more }

@@ -1,5 +1,6 @@
 use Rattle.std.proofs.Common.{◌≡◌, ◌∙◌, ◌+◌, ◌-◌, ◌*◌, ◌/◌, ◌≤◌, ◌++◌, ℕ, List, take, drop, length, sym, arith, false}
-use Rattle.std.proofs.{lemmas.{List.{drop-take, length-take-le, take-take, take-append-le, take-append-drop, Folds.list_any-append}, Grind.common_steps}, Math.Seq.drop-append_seam}
+use Rattle.std.proofs.lemmas.{List.{drop-take, length-take-le, take-take, take-append-le, take-append-drop, Folds.list_any-append}, Grind.common_steps}
+use Rattle.std.proofs.Math.Seq.{drop-append_seam}
 use Rattle.{legacy_encoder_engine.proofs.ReadingAhead.{encodes_ascii, encodes_none}, legacy_japanese.proofs.Iso2022JpEncoderMoves.{serves, own_bytes}}
 use Rattle.{std.specs.List.list_any, legacy_base.specs.Iso2022Jp.is_mode_control}
 use Rattle.legacy_japanese.proofs.iso_2022_jp.encoder.EncoderBy+TablePairs.copy_piece.Goals as goal
@@ -35,6 +36,7 @@ returns g c =
     let fits : c.args.start + n ≤ length c.copy_ascii.new.dst = omega (arith, e.fits, c.copy_ascii.auto.dst) in
     let long = c.args.start + (c.args.start + n - c.args.start + 15) / 16 * 16 - c.args.start in
     let none = none_first _ n long (sym c.has_control.ensures ∙ c.if-has_control.false) (omega arith) in
+    let free = rw (piece _ n _ _ _ _ from within fits e.bytes) at none in
     encodes_ascii g.S.TextCursor.form (length c.args.dst.now) 2 (serves flat.jis0208 flat.katakana) _ e.read e.left e.ascii e.passed
-    (copied _ n _ _ _ _ from within fits e.bytes) (own_bytes flat _ e.ascii (rw (piece _ n _ _ _ _ from within fits e.bytes) at none))
+    (copied _ n _ _ _ _ from within fits e.bytes) (own_bytes flat _ e.ascii free)
     (length-take-le _ _ (omega (arith, from, within))) (grind (arith, e.fits, length-take-le))

@@ -4,6 +4,6 @@ use Rattle.legacy_japanese.proofs.shift_jis.encoder.ShiftJisFillsPairs.fill.Goal
 
 pub returns : goal.returns
 returns g c =
-    let tables = g.V.DecoderTables.indexes c.args.tables.now in
+    let tables = g.V.DecoderTables.indexes c.args.encoder.now.tables.now in
     all-listed (shift-jis-by-pointers tables.flat tables.accepted) c.fill.new.entries _ (c.fill.auto.entries ∙ c.requires) c.fill.ensures
-    c.ask_others.auto.pairs (rw c.new.ensures.tables at c.ask_others.ensures)
+    c.ask_others.auto.pairs c.ask_others.ensures

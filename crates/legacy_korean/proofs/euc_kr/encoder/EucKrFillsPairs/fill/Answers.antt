@@ -3,6 +3,7 @@ use Rattle.legacy_korean.proofs.euc_kr.encoder.EucKrFillsPairs.fill.Goals as goa
 
 pub returns : goal.returns
 returns g c =
-    let ask = rw c.new.ensures.tables at c.ask_pairs.ensures in
-    all-past-ascii (goes-by-pointers (g.V.DecoderTables.indexes c.args.tables.now)) c.fill.new.entries _ (c.fill.auto.entries ∙ c.requires) c.fill.ensures
+    let goes = goes-by-pointers (g.V.DecoderTables.indexes c.args.encoder.now.tables.now) in
+    let ask = c.ask_pairs.ensures in
+    all-past-ascii goes c.fill.new.entries _ (c.fill.auto.entries ∙ c.requires) c.fill.ensures
     c.ask_pairs.auto.pairs ask.inside ask.outside

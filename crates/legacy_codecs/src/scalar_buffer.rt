@@ -1,7 +1,7 @@
 //! A destination that keeps the scalars themselves.
 ghost use Rattle.std.specs.Prelude.{◌≡◌, ℕ, ◌+◌, ◌-◌, ◌^◌, ◌<◌, ◌≤◌, [], length, take, refl, All};
 ghost use Rattle.std.specs.Char.{IsScalar};
-ghost use Rattle.legacy_text.specs.EncodingForm.{EncodingForm, Utf8, Utf16, unit_count, total_unit_count, bmp_room, wide_room};
+ghost use Rattle.legacy_text.specs.EncodingForm.{EncodingForm, Utf8, Utf16, unit_count, total_unit_count, bmp_need, wide_need};
 
 use legacy_base::Destination;
 use std::marker::PhantomData;
@@ -26,9 +26,9 @@ pub trait OutputForm {
         ensures value { result ≡ unit_count form c }
         ensures some { 1 ≤ result };
 
-    ghost bmp_is: { BMP_ROOM ≡ bmp_room form };
+    ghost bmp_is: { BMP_ROOM ≡ bmp_need form };
 
-    ghost wide_is: { WIDE_ROOM ≡ wide_room form };
+    ghost wide_is: { WIDE_ROOM ≡ wide_need form };
 }
 
 /// UTF-8, whose code units are bytes.
@@ -95,7 +95,7 @@ pub struct ScalarBuffer<'a, F: OutputForm> {
 }
 
 impl<'a, F: OutputForm> ScalarBuffer<'a, F> {
-    ghost use Rattle.legacy_codecs.specs.Scalars.{kept_scalars, free_units, scalars_loan, scalars_buffer};
+    ghost use Rattle.legacy_codecs.specs.ScalarBuffers.{kept_scalars, free_units, scalars_loan, scalars_buffer};
 
     /// Returns an output without scalars that has `room` code units free.
     ///
@@ -126,7 +126,7 @@ impl<'a, F: OutputForm> ScalarBuffer<'a, F> {
 }
 
 impl<F: OutputForm> Destination for ScalarBuffer<'_, F> {
-    ghost use Rattle.legacy_codecs.specs.Scalars.{kept_units, free_units, scalars_loan};
+    ghost use Rattle.legacy_codecs.specs.ScalarBuffers.{kept_units, free_units, scalars_loan};
 
     ghost form = { F.form };
 
@@ -141,13 +141,13 @@ impl<F: OutputForm> Destination for ScalarBuffer<'_, F> {
     const WIDE_ROOM: usize = F::WIDE_ROOM;
 
     fn narrow() -> usize
-        ensures { result ≡ bmp_room F.form }
+        ensures { result ≡ bmp_need F.form }
     {
         F::BMP_ROOM
     }
 
     fn wide() -> usize
-        ensures { result ≡ wide_room F.form }
+        ensures { result ≡ wide_need F.form }
     {
         F::WIDE_ROOM
     }

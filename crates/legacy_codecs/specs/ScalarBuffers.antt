@@ -2,8 +2,8 @@
 use Rattle.std.specs.Prelude.{ℕ, List, take}
 use Rattle.std.specs.Borrow.{GName}
 use Rattle.legacy_text.specs.EncodingForm.{EncodingForm, all_code_units}
-use Rattle.legacy_codecs.specs.declared.scalars.ScalarBuffer.{ScalarBuffer}
-use Rattle.legacy_codecs.specs.declared.scalars.OutputForm.{Ghosts}
+use Rattle.legacy_codecs.specs.declared.scalar_buffer.ScalarBuffer.{ScalarBuffer}
+use Rattle.legacy_codecs.specs.declared.scalar_buffer.OutputForm.{Ghosts}
 
 -- the scalars that were kept
 abbrev pub kept_scalars : {F : Type 0} {g : Ghosts F} → ScalarBuffer F g → List ℕ

@@ -27,7 +27,7 @@ pub(crate) fn pair_room(rt: &(impl AllocGlobal + Abort), value: u16) -> Vec<u16>
 /// Follows the rows with an encoder that lists the pairs of this one in `room`.
 ///
 /// Returns `false` without that if `room` is too short.
-pub(crate) fn encode_ahead<E: EncodesPairs>(
+pub(crate) fn encode_listed<E: EncodesPairs>(
     rt: &(impl AllocGlobal + Abort),
     encoder: &E,
     room: &mut [u16],

@@ -1,6 +1,6 @@
 use Rattle.std.proofs.lemmas.Result.{on_err_weaker, on_ok_weaker}
 use Rattle.legacy_command.proofs.ReadingIndexes.{done_by_texts, stops_by_texts}
-use Rattle.legacy_command.proofs.encoding.read_and_encode.Goals as goal
+use Rattle.legacy_command.proofs.encode_program.read_and_encode.Goals as goal
 
 pub returns-clause-well_formed : goal.returns-clause-well_formed
 returns-clause-well_formed g c = on_ok_weaker c.check_and_encode.result (λ _. c.in_ok-indexes.ensures.well_formed) c.check_and_encode.ensures.done

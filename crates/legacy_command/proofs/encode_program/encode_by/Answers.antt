@@ -1,6 +1,6 @@
 use Rattle.std.proofs.Common.{inl, inr}
 use Rattle.legacy_command.proofs.Stopping.{all_kept, either, encoded_kept, failed, ok_of}
-use Rattle.legacy_command.proofs.encoding.encode_by.Goals as goal
+use Rattle.legacy_command.proofs.encode_program.encode_by.Goals as goal
 
 pub returns-in-Ok-clause-done : goal.returns-in-Ok-clause-done
 returns-in-Ok-clause-done g c =

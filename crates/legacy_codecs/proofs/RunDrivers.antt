@@ -4,7 +4,7 @@ use Rattle.std.proofs.Common.{Bool, false, IsTrue, leb, inl, inr, refl, sym, ari
 use Rattle.std.proofs.{lemmas.Bool.{true≢false, false≢true, cases_lt, le-leb, lt-leb}, lemmas.Grind.common_steps}
 use Rattle.std.proofs.{lemmas.List.Sums.sum_by-cons, Math.ListN.drop_of_length-le}
 use Rattle.std.specs.Prelude.{slice_index_or, sum_by, sum}
-use Rattle.legacy_codecs.specs.Pieces.{RunPlace, is_none, place_before, place_behind, piece_count, AreAmple}
+use Rattle.legacy_codecs.specs.Pieces.{RunPlace, is_none, place_before, place_after, piece_count, AreAmple}
 
 -- after a last piece there is none
 pub last_empty : (later : List (List ℕ)) → IsTrue (is_none later) → later ≡ []
@@ -14,8 +14,8 @@ module _ {State : Type 0} where
   pub place_before-state : (s : State) (pieces : List (List ℕ)) → (place_before s pieces).state ≡ s
   place_before-state s pieces = grind arith
 
-  pub place_behind-state : (p : RunPlace State) (after : State) (empty : Bool) (unread : List ℕ) → (place_behind p after empty unread).state ≡ after
-  place_behind-state p after empty unread = grind (arith, place_before-state)
+  pub place_after-state : (p : RunPlace State) (after : State) (empty : Bool) (unread : List ℕ) → (place_after p after empty unread).state ≡ after
+  place_after-state p after empty unread = grind (arith, place_before-state)
 
   -- before the first piece all pieces are unread
   pub pieces-length : (s : State) (pieces : List (List ℕ)) →

@@ -1,6 +1,6 @@
 use Rattle.std.proofs.Common.{sym, ◌∙◌, inl, inr}
 use Rattle.legacy_command.proofs.CommandLine.{has_its_encoder, works_with}
-use Rattle.legacy_command.proofs.encoding.run_encode.Goals as goal
+use Rattle.legacy_command.proofs.encode_program.run_encode.Goals as goal
 
 pub read_and_encode-requires-clause-encoder : goal.read_and_encode-requires-clause-encoder
 read_and_encode-requires-clause-encoder g c = has_its_encoder _ _ (sym c.encoder_in.ensures ∙ c.in-Some.is)

@@ -1,5 +1,5 @@
 use Rattle.std.proofs.Common.{◌≡◌, ◌+◌, ◌<◌, ◌^◌, drop, sum, length}
-use Rattle.legacy_codecs.proofs.shared_by_runs.total_room.Given as goal
+use Rattle.legacy_codecs.proofs.shared_by_runs.event_capacity.Given as goal
 
 abbrev pub invariant-loop-length : goal.invariant-loop-length
 invariant-loop-length l =
