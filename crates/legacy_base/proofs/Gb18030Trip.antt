@@ -9,7 +9,7 @@ use Rattle.legacy_base.specs.RoundTrips.{private_use_scalar, has_lost_row}
 use Rattle.legacy_tables.specs.{Indexes.{idx, range, gb18030_pua_of}, Pointers.{every_pointer, index_pointer_of, range_pointer_of}, TableChecks.is_row_scalar}
 use Rattle.legacy_tables.specs.TableChecks.{are_row_bytes}
 use Rattle.legacy_tables.proofs.Pointers.{first-taken, range-taken}
-use Rattle.legacy_base.proofs.{PointersBack.{LeadsBack, leads_back}, Trips.Decodes, TwoByteTrips.{mapped, one_byte, two_bytes}}
+use Rattle.legacy_base.proofs.{PointersBack.{LeadsBack, leads_back}, Trips.GivesScalar, TwoByteTrips.{mapped, one_byte, two_bytes}}
 
 -- ---- pairs
 
@@ -23,7 +23,7 @@ unfolding gb18030_front gb18030_second
 pair_back index ranges p c more short back = grind arith
 
 pair_decodes : (index : List ℕ) (ranges : List (ℕ × ℕ)) (c : ℕ) (bytes : List ℕ) → length index ≤ 23940
-    → option_map gb18030_pair_bytes (index_pointer_of index c) ≡ Some bytes → Decodes (gb18030_front index ranges) bytes c
+    → option_map gb18030_pair_bytes (index_pointer_of index c) ≡ Some bytes → GivesScalar (gb18030_front index ranges) bytes c
 pair_decodes index ranges c bytes short h =
     let m = mapped gb18030_pair_bytes (index_pointer_of index c) bytes h in
     two_bytes (gb18030_front index ranges) _ _ c bytes m.2 (λ more. pair_back index ranges m.0 c more short
@@ -37,7 +37,7 @@ unfolding gb18030_front gb18030_second gb18030_third gb18030_fourth
 four_back index ranges p c more has below = grind arith
 
 four_decodes : (index : List ℕ) (ranges : List (ℕ × ℕ)) (c : ℕ) (bytes : List ℕ)
-    → option_map gb18030_range_bytes (range_pointer_of ranges c) ≡ Some bytes → Decodes (gb18030_front index ranges) bytes c
+    → option_map gb18030_range_bytes (range_pointer_of ranges c) ≡ Some bytes → GivesScalar (gb18030_front index ranges) bytes c
 four_decodes index ranges c bytes h =
     let m = mapped gb18030_range_bytes (range_pointer_of ranges c) bytes h in
     let taken = range-taken ranges c m.0 m.1 in
@@ -77,13 +77,13 @@ module _ (index : List ℕ) (ranges : List (ℕ × ℕ)) (pua : List (ℕ × ℕ
       by_row (Some row) e = absurd (false≢true (sym h ∙ (rows.each c row.0 row.1 e).0))
 
   ascii_decodes : (c : ℕ) (bytes : List ℕ) → is_ascii c ≡ true → Some (c ∷ []) ≡ Some bytes →
-      Decodes (gb18030_front index ranges) bytes (private_use_scalar index pua c)
+      GivesScalar (gb18030_front index ranges) bytes (private_use_scalar index pua c)
   unfolding gb18030_front
   ascii_decodes c bytes e h = grind (arith, nat_tests, no_row, one_byte)
 
   row_decodes : (c lead trail : ℕ) (bytes : List ℕ) → gb18030_pua_of pua c ≡ Some (lead, trail)
       → is_empty (gb18030_scalars index lead trail) ≡ false → Some (lead ∷ trail ∷ []) ≡ Some bytes
-      → Decodes (gb18030_front index ranges) bytes (get_or (gb18030_scalars index lead trail) 0 c)
+      → GivesScalar (gb18030_front index ranges) bytes (get_or (gb18030_scalars index lead trail) 0 c)
   row_decodes c lead trail bytes e kept h =
       let s = get_or (gb18030_scalars index lead trail) 0 c in
       two_bytes (gb18030_front index ranges) lead trail s bytes (cc)
@@ -91,12 +91,12 @@ module _ (index : List ℕ) (ranges : List (ℕ × ℕ)) (pua : List (ℕ × ℕ
 
   -- the code comes from the rows, then from the index, then from `other`
   pair_or : (c : ℕ) (bytes : List ℕ) (other : Option (List ℕ)) → has_lost_row index pua c ≡ false
-      → (other ≡ Some bytes → Decodes (gb18030_front index ranges) bytes c)
-      → option_or (gb18030_pair_code pua index c) other ≡ Some bytes → Decodes (gb18030_front index ranges) bytes (private_use_scalar index pua c)
+      → (other ≡ Some bytes → GivesScalar (gb18030_front index ranges) bytes c)
+      → option_or (gb18030_pair_code pua index c) other ≡ Some bytes → GivesScalar (gb18030_front index ranges) bytes (private_use_scalar index pua c)
   pair_or c bytes other kept else_by h = grind (arith, nat_tests, pair_decodes index ranges c bytes short, row_decodes c, else_by)
 
   pub gb18030-decodes : (c : ℕ) (bytes : List ℕ) → has_lost_row index pua c ≡ false
-      → gb18030_code index ranges pua c ≡ Some bytes → Decodes (gb18030_front index ranges) bytes (private_use_scalar index pua c)
+      → gb18030_code index ranges pua c ≡ Some bytes → GivesScalar (gb18030_front index ranges) bytes (private_use_scalar index pua c)
   unfolding gb18030_code
   gb18030-decodes c bytes kept h =
       let own = ascii_decodes c bytes in
@@ -104,7 +104,7 @@ module _ (index : List ℕ) (ranges : List (ℕ × ℕ)) (pua : List (ℕ × ℕ
       grind (arith, nat_tests, own, others)
 
   pub gbk-decodes : (c : ℕ) (bytes : List ℕ) → has_lost_row index pua c ≡ false
-      → gbk_code index pua c ≡ Some bytes → Decodes (gb18030_front index ranges) bytes (private_use_scalar index pua c)
+      → gbk_code index pua c ≡ Some bytes → GivesScalar (gb18030_front index ranges) bytes (private_use_scalar index pua c)
   unfolding gbk_code gb18030_front
   gbk-decodes c bytes kept h =
       let own = ascii_decodes c bytes in

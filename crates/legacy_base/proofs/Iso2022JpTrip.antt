@@ -55,12 +55,12 @@ module _ (jis0208 : List ℕ) where
   -- ---- the codes
 
   -- the facts about the two bytes of pointer p, which decode to c
-  record IsPair (p c : ℕ) : Type 0 where
+  record IsPairOf (p c : ℕ) : Type 0 where
     first_unescaped : ((p / 94 + 0x21) == esc) ≡ false
     second_unescaped : ((p % 94 + 0x21) == esc) ≡ false
     front : (rest : List ℕ) → iso_2022_jp_front jis0208 TwoByte (p / 94 + 0x21) ((p % 94 + 0x21) ∷ rest) ≡ reads 2 (c ∷ [])
 
-  is_pair_of : (p c : ℕ) → LeadsBack is_jis0208_pointer jis0208 c p → IsPair p c
+  is_pair_of : (p c : ℕ) → LeadsBack is_jis0208_pointer jis0208 c p → IsPairOf p c
   unfolding iso_2022_jp_front
   is_pair_of p c back = grind arith
 
@@ -246,7 +246,7 @@ module _ (jis0208 katakana_index : List ℕ) where
   -- ---- texts without unmappable scalars
 
   -- all scalars of the text have codes, and no two escapes are adjacent
-  pub record IsApart (text bytes : List ℕ) : Type 0 where
+  pub record HasNoAdjacentEscapes (text bytes : List ℕ) : Type 0 where
     pub coded_all : coded_here text ≡ text
     pub apart : holds_adjacent_escapes bytes ≡ false
 
@@ -254,7 +254,7 @@ module _ (jis0208 katakana_index : List ℕ) where
   unfolding holds_adjacent_escapes
   apart-end mode = grind arith
 
-  pub text_apart : (mode : EncoderMode) (text bytes : List ℕ) → sent mode text ≡ map Byte bytes → IsApart text bytes
+  pub text_apart : (mode : EncoderMode) (text bytes : List ℕ) → sent mode text ≡ map Byte bytes → HasNoAdjacentEscapes text bytes
   text_apart mode [] bytes e =
       let same = same_byte_lists (escape_between mode in_ascii) bytes (sym (text_events-end jis0208 katakana_index mode) ∙ e) in
       record { coded_all = refl; apart = rw (← same) (apart-end mode) }

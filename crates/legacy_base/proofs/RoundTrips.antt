@@ -19,47 +19,47 @@ use Rattle.legacy_base.proofs.{Gb18030Trip.no_private_use_fold, Iso2022JpFronts.
 use Rattle.legacy_base.proofs.AcceptedTrips.{private_use-empty, are_good_rows}
 
 -- the encoding of any text is well formed
-abbrev IsWellFormed : Codec → Type 0
-IsWellFormed codec = (text : List ℕ) → IsSound codec text → events_of (grammar_of codec) (written codec text) ≡ map Scalar (read_back codec text)
+abbrev ReadsItsTexts : Codec → Type 0
+ReadsItsTexts codec = (text : List ℕ) → IsSound codec text → events_of (grammar_of codec) (written codec text) ≡ map Scalar (read_back codec text)
 
-single_byte-read : (table : List ℕ) → IsWellFormed (single_byte table)
+single_byte-read : (table : List ℕ) → ReadsItsTexts (single_byte table)
 unfolding events_of
 single_byte-read table text _ = plain-read _ _ _ (λ c. false) (λ c b _ h. single_byte-decodes table c b h) text (none_lost text)
 
-user_defined-read : IsWellFormed user_defined
+user_defined-read : ReadsItsTexts user_defined
 unfolding events_of
 user_defined-read text _ = plain-read _ _ _ (λ c. false) (λ c b _ h. user_defined-decodes c b h) text (none_lost text)
 
 module _ (flat : FlatIndexes) (accepted : AreAccepted flat) where
-  big5-read : IsWellFormed (big5 flat.big5)
+  big5-read : ReadsItsTexts (big5 flat.big5)
   unfolding events_of
   big5-read text _ = plain-read _ _ _ (λ c. false) (λ c b _ h. big5-decodes flat.big5 c b (parts flat accepted).big5.0 h) text (none_lost text)
 
-  euc_kr-read : IsWellFormed (euc_kr flat.euc_kr)
+  euc_kr-read : ReadsItsTexts (euc_kr flat.euc_kr)
   unfolding events_of
   euc_kr-read text _ = plain-read _ _ _ (λ c. false) (λ c b _ h. euc_kr-decodes flat.euc_kr c b (length-euc_kr flat accepted) h) text (none_lost text)
 
-  shift_jis-read : IsWellFormed (shift_jis flat.jis0208)
+  shift_jis-read : ReadsItsTexts (shift_jis flat.jis0208)
   unfolding events_of
   shift_jis-read text _ =
       plain-read _ _ _ (λ c. false) (λ c b _ h. shift_jis-decodes flat.jis0208 c b (length-jis0208 flat accepted) (private_use-empty flat accepted) h) text
       (none_lost text)
 
-  euc_jp-read : (jis0212 : List ℕ) → IsWellFormed (euc_jp flat.jis0208 jis0212)
+  euc_jp-read : (jis0212 : List ℕ) → ReadsItsTexts (euc_jp flat.jis0208 jis0212)
   unfolding events_of
   euc_jp-read jis0212 text _ = plain-read _ _ _ (λ c. false) (λ c b _ h. euc_jp-decodes flat.jis0208 jis0212 c b h) text (none_lost text)
 
-  gb18030-read : IsWellFormed (gb18030 flat.gb18030 flat.ranges flat.gb18030_pua)
+  gb18030-read : ReadsItsTexts (gb18030 flat.gb18030 flat.ranges flat.gb18030_pua)
   unfolding events_of
   gb18030-read text sound =
       plain-read _ _ _ _ (gb18030-decodes flat.gb18030 flat.ranges flat.gb18030_pua (length-gb18030 flat accepted) (are_good_rows flat accepted)) text sound
 
-  gbk-read : IsWellFormed (gbk flat.gb18030 flat.ranges flat.gb18030_pua)
+  gbk-read : ReadsItsTexts (gbk flat.gb18030 flat.ranges flat.gb18030_pua)
   unfolding events_of
   gbk-read text sound =
       plain-read _ _ _ _ (gbk-decodes flat.gb18030 flat.ranges flat.gb18030_pua (length-gb18030 flat accepted) (are_good_rows flat accepted)) text sound
 
-iso_2022_jp-read : (jis0208 katakana_index : List ℕ) → IsWellFormed (iso_2022_jp jis0208 katakana_index)
+iso_2022_jp-read : (jis0208 katakana_index : List ℕ) → ReadsItsTexts (iso_2022_jp jis0208 katakana_index)
 unfolding events_of
 iso_2022_jp-read jis0208 katakana_index text sound =
     let bytes = text_bytes jis0208 katakana_index in_ascii text in

@@ -13,12 +13,12 @@ HasFront front [] f = ⊥
 HasFront front (b ∷ rest) f = front b rest ≡ f
 
 -- the bytes decode to c, whatever bytes follow
-pub record Decodes (front : ℕ → List ℕ → Front) (bytes : List ℕ) (c : ℕ) : Type 0 where
+pub record GivesScalar (front : ℕ → List ℕ → Front) (bytes : List ℕ) (c : ℕ) : Type 0 where
   pub some : 0 < length bytes
   pub gives : (more : List ℕ) → HasFront front (bytes ++ more) (reads (length bytes) (c ∷ []))
 
 -- the events of the code at the beginning of a list, and then those of the bytes after it
-cut-code : (front : ℕ → List ℕ → Front) (bytes more : List ℕ) (c : ℕ) → Decodes front bytes c
+cut-code : (front : ℕ → List ℕ → Front) (bytes more : List ℕ) (c : ℕ) → GivesScalar front bytes c
     → cut front 0 0 (bytes ++ more) ≡ Scalar c ∷ shift (length bytes) (cut front 0 0 more)
 cut-code front bytes more c h = grind (arith, nat_tests, cut-front, drop_at bytes more (length bytes) refl)
 
@@ -83,7 +83,7 @@ coded code text = filter (λ c. is_some (code c)) text
 
 -- the events of the bytes of a text, if each code decodes to one scalar
 pub plain-read : (front : ℕ → List ℕ → Front) (code : ℕ → Option (List ℕ)) (read : ℕ → ℕ) (lost : ℕ → Bool)
-    → ((c : ℕ) (bytes : List ℕ) → lost c ≡ false → code c ≡ Some bytes → Decodes front bytes (read c)) → (text : List ℕ) → list_any lost text ≡ false
+    → ((c : ℕ) (bytes : List ℕ) → lost c ≡ false → code c ≡ Some bytes → GivesScalar front bytes (read c)) → (text : List ℕ) → list_any lost text ≡ false
     → cut front 0 0 (bytes_of (plain_events code text)) ≡ map Scalar (map read (coded code text))
 unfolding plain_events
 plain-read front code read lost each [] none = rw bytes_of-nothing (cut-nil front)

@@ -12,7 +12,7 @@ use Rattle.legacy_base.specs.{EucJp.{euc_jp_pair, euc_jp_front, euc_jp_bytes, eu
 use Rattle.legacy_tables.specs.{Indexes.idx, Pointers.{every_pointer, is_big5_pointer, big5_pointer_of, index_pointer_of, minus_as_hyphen}}
 use Rattle.legacy_tables.specs.Pointers.{is_shift_jis_pointer, is_jis0208_pointer}
 use Rattle.legacy_tables.proofs.Pointers.{first-taken, big5-taken}
-use Rattle.legacy_base.proofs.{PointersBack.{LeadsBack, leads_back}, Trips.Decodes}
+use Rattle.legacy_base.proofs.{PointersBack.{LeadsBack, leads_back}, Trips.GivesScalar}
 
 -- a code made from an optional pointer has a pointer
 pub mapped : (f : ℕ → List ℕ) (o : Option ℕ) (bytes : List ℕ) → option_map f o ≡ Some bytes → (p : ℕ) × (o ≡ Some p) × (bytes ≡ f p)
@@ -21,19 +21,19 @@ mapped f (Some p) bytes h = (p, refl, (let same : f p ≡ bytes = cc in sym same
 
 -- one byte that is a front by itself
 pub one_byte : (front : ℕ → List ℕ → Front) (b c : ℕ) (bytes : List ℕ) → bytes ≡ b ∷ [] → ((more : List ℕ) → front b more ≡ reads 1 (c ∷ [])) →
-    Decodes front bytes c
+    GivesScalar front bytes c
 one_byte front b c bytes is h = rw is (record { some = omega arith; gives = h })
 
 -- two bytes that are a front by themselves
 pub two_bytes : (front : ℕ → List ℕ → Front) (a b c : ℕ) (bytes : List ℕ) → bytes ≡ a ∷ b ∷ [] → ((more : List ℕ) → front a (b ∷ more) ≡ reads 2 (c ∷ [])) →
-    Decodes front bytes c
+    GivesScalar front bytes c
 two_bytes front a b c bytes is h = rw is (record { some = omega arith; gives = h })
 
 -- a code that is the byte of an ASCII scalar, or is made of a pointer
 ascii_or_mapped : (front : ℕ → List ℕ → Front) (c : ℕ) (bytes : List ℕ) (made : ℕ → List ℕ) (pointer : Option ℕ)
     → (is_ascii c ≡ true → (more : List ℕ) → front c more ≡ reads 1 (c ∷ []))
-    → (is_ascii c ≡ false → (p : ℕ) → pointer ≡ Some p → bytes ≡ made p → Decodes front bytes c)
-    → cond (is_ascii c) (Some (c ∷ [])) (option_map made pointer) ≡ Some bytes → Decodes front bytes c
+    → (is_ascii c ≡ false → (p : ℕ) → pointer ≡ Some p → bytes ≡ made p → GivesScalar front bytes c)
+    → cond (is_ascii c) (Some (c ∷ [])) (option_map made pointer) ≡ Some bytes → GivesScalar front bytes c
 ascii_or_mapped front c bytes made pointer one mapping h = grind arith
 
 -- ---- Big5
@@ -43,7 +43,7 @@ big5_pair_back : (index : List ℕ) (p c : ℕ) (more : List ℕ) → length ind
 unfolding big5_front big5_pair
 big5_pair_back index p c more short back = grind arith
 
-pub big5-decodes : (index : List ℕ) (c : ℕ) (bytes : List ℕ) → length index ≤ 19782 → big5_code index c ≡ Some bytes → Decodes (big5_front index) bytes c
+pub big5-decodes : (index : List ℕ) (c : ℕ) (bytes : List ℕ) → length index ≤ 19782 → big5_code index c ≡ Some bytes → GivesScalar (big5_front index) bytes c
 unfolding big5_code big5_front
 big5-decodes index c bytes short =
     ascii_or_mapped (big5_front index) c bytes big5_bytes (big5_pointer_of index c) (λ e more. rw e refl)
@@ -58,7 +58,7 @@ unfolding lead_front lead_pair
 euc_kr_pair_back index p c more short back = grind arith
 
 pub euc_kr-decodes : (index : List ℕ) (c : ℕ) (bytes : List ℕ) → length index ≤ 23940
-    → euc_kr_code index c ≡ Some bytes → Decodes (lead_front is_lead euc_kr_pointer index) bytes c
+    → euc_kr_code index c ≡ Some bytes → GivesScalar (lead_front is_lead euc_kr_pointer index) bytes c
 unfolding euc_kr_code lead_front
 euc_kr-decodes index c bytes short =
     ascii_or_mapped (lead_front is_lead euc_kr_pointer index) c bytes euc_kr_bytes (index_pointer_of index c) (λ e more. rw e refl)
@@ -99,15 +99,15 @@ shift_jis_pair_back jis0208 p c more short empty back =
 japanese-decodes : (front : ℕ → List ℕ → Front) (c : ℕ) (bytes katakana : List ℕ) (t : Bool) (made : ℕ → List ℕ) (pointer : Option ℕ)
     → ((more : List ℕ) → front 0x5C more ≡ reads 1 (0x5C ∷ [])) → ((more : List ℕ) → front 0x7E more ≡ reads 1 (0x7E ∷ []))
     → (t ≡ true → (is_japanese_fold c ≡ false) × ((more : List ℕ) → front c more ≡ reads 1 (c ∷ [])))
-    → (is_in_range 0xFF61 0xFF9F c ≡ true → Decodes front katakana c)
-    → ((p : ℕ) → pointer ≡ Some p → Decodes front (made p) (minus_as_hyphen c))
+    → (is_in_range 0xFF61 0xFF9F c ≡ true → GivesScalar front katakana c)
+    → ((p : ℕ) → pointer ≡ Some p → GivesScalar front (made p) (minus_as_hyphen c))
     → cond t (Some (c ∷ [])) (cond (c == 0xA5) (Some (0x5C ∷ [])) (cond (c == 0x203E) (Some (0x7E ∷ []))
     (cond (is_in_range 0xFF61 0xFF9F c) (Some katakana) (option_map made pointer)))) ≡ Some bytes
-    → Decodes front bytes (japanese_scalar c)
+    → GivesScalar front bytes (japanese_scalar c)
 japanese-decodes front c bytes katakana t made pointer yen overline own half mapping h = grind (arith, nat_tests, one_byte)
 
 pub shift_jis-decodes : (jis0208 : List ℕ) (c : ℕ) (bytes : List ℕ) → length jis0208 ≤ 11280 → PrivateUseIsEmpty jis0208
-    → shift_jis_code jis0208 c ≡ Some bytes → Decodes (shift_jis_front jis0208) bytes (japanese_scalar c)
+    → shift_jis_code jis0208 c ≡ Some bytes → GivesScalar (shift_jis_front jis0208) bytes (japanese_scalar c)
 unfolding shift_jis_code shift_jis_front
 shift_jis-decodes jis0208 c bytes short empty =
     japanese-decodes (shift_jis_front jis0208) c bytes _ _ shift_jis_bytes _ (λ more. refl) (λ more. refl)
@@ -124,7 +124,7 @@ unfolding euc_jp_front euc_jp_pair
 euc_jp_pair_back jis0208 jis0212 p c more back = grind arith
 
 pub euc_jp-decodes : (jis0208 jis0212 : List ℕ) (c : ℕ) (bytes : List ℕ)
-    → euc_jp_code jis0208 c ≡ Some bytes → Decodes (euc_jp_front jis0208 jis0212) bytes (japanese_scalar c)
+    → euc_jp_code jis0208 c ≡ Some bytes → GivesScalar (euc_jp_front jis0208 jis0212) bytes (japanese_scalar c)
 unfolding euc_jp_code euc_jp_front euc_jp_katakana
 euc_jp-decodes jis0208 jis0212 c bytes =
     japanese-decodes (euc_jp_front jis0208 jis0212) c bytes _ _ euc_jp_bytes _ (λ more. refl) (λ more. refl)
@@ -139,10 +139,10 @@ euc_jp-decodes jis0208 jis0212 c bytes =
 place_back : (table : List ℕ) (c place : ℕ) → c ≢ 0 → position (λ entry. entry == c) table ≡ Some place → idx table place ≡ Some c
 place_back table c place n e = grind (arith, nat_tests, eqb-true, position-Some, ne_eqb)
 
-pub single_byte-decodes : (table : List ℕ) (c : ℕ) (bytes : List ℕ) → single_byte_code table c ≡ Some bytes → Decodes (single_byte_front table) bytes c
+pub single_byte-decodes : (table : List ℕ) (c : ℕ) (bytes : List ℕ) → single_byte_code table c ≡ Some bytes → GivesScalar (single_byte_front table) bytes c
 unfolding single_byte_code single_byte_front
 single_byte-decodes table c bytes h = grind (arith, nat_tests, ascii_or_mapped, true≢false, place_back, one_byte)
 
-pub user_defined-decodes : (c : ℕ) (bytes : List ℕ) → user_defined_code c ≡ Some bytes → Decodes user_defined_front bytes c
+pub user_defined-decodes : (c : ℕ) (bytes : List ℕ) → user_defined_code c ≡ Some bytes → GivesScalar user_defined_front bytes c
 unfolding user_defined_code user_defined_front
 user_defined-decodes c bytes h = grind arith

@@ -2,12 +2,12 @@
 use Rattle.std.{specs.Char.IsScalar, proofs.{Common.{◌≡◌, ◌∙◌, ℕ, ◌+◌, ◌/◌, ◌%◌, [], ◌∷◌, cond, get_or, refl, arith, Some}, lemmas.Bool.Decides.nat_tests}}
 use Rattle.legacy_tables.{specs.{Indexes.idx, AcceptedTables.AcceptedIndexes, Unicode.IsByte}, proofs.Accepted.{length-big5, big5-scalars, entry-used}}
 use Rattle.{legacy_base.specs.{Big5.big5_scalars, States.is_lead, Grammar.big5}, legacy_decoder_engine.specs.{ReadAhead.Yields, LaneCodes.ArePairs}}
-use Rattle.legacy_decoder_engine.{specs.{Places.IsTableOf, LanePlaces.trail_place}, proofs.{LeadHeld.pair, PairPlaces.{found, none_past, pair_entry}}}
+use Rattle.legacy_decoder_engine.{specs.{Places.Tabulates, LanePlaces.trail_place}, proofs.{LeadHeld.pair, PairPlaces.{found, none_past, pair_entry}}}
 use Rattle.legacy_chinese.specs.{Big5Shown.{big5_codec, big5_pair_scalars}, PairPlaces.{pair_place, big5_lead_place}}
 use Rattle.legacy_chinese.specs.declared.big5.places.TheConstants.{ROWS_OF_157}
 use Rattle.legacy_tables.specs.declared.tables.IndexName.TheVariants as names
 
-pub big5_rows_are : IsTableOf big5_lead_place ROWS_OF_157
+pub big5_rows_are : Tabulates big5_lead_place ROWS_OF_157
 unfolding big5_lead_place
 big5_rows_are = refl
 

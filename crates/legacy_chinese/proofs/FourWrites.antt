@@ -56,13 +56,13 @@ module _ (tables : AcceptedIndexes) where
       (writes_then T before (record { scalars = take few us; yields = yields; written = contents; room = room-is; loan = loan }))
 
 -- The first forms of some, by their codes, are written. If there are any, four code units were free, and three are free.
-pub record AreWritten {D : Type 0} (T : Ghosts D) (g : Grammar) (front back : List ℕ) (at count : ℕ) (x y : D) : Type 0 where
+pub record AreFoursWritten {D : Type 0} (T : Ghosts D) (g : Grammar) (front back : List ℕ) (at count : ℕ) (x y : D) : Type 0 where
   pub within : at ≤ count
   pub writes : Writes T g (fours_of (take at front) (take at back)) x y
   pub slack : 0 < at → 3 ≤ T.room y
   pub had : 0 < at → 4 ≤ T.room x
 
-pub none_written : {D : Type 0} (T : Ghosts D) (grammar : Grammar) (front back : List ℕ) (count : ℕ) (x : D) → AreWritten T grammar front back 0 count x x
+pub none_written : {D : Type 0} (T : Ghosts D) (grammar : Grammar) (front back : List ℕ) (count : ℕ) (x : D) → AreFoursWritten T grammar front back 0 count x x
 unfolding fours_of
 none_written T grammar front back count x = record {
   within = omega arith;
@@ -72,14 +72,14 @@ none_written T grammar front back count x = record {
 }
 
 module _ (tables : AcceptedIndexes) {D : Type 0} (T : Ghosts D) (at count free known : ℕ) (front back us : List ℕ) {x y z : D}
-    (before : AreWritten T (g tables) front back at count x y) (below : at < count) (room : count + 8 ≤ length front) (room' : count + 8 ≤ length back)
+    (before : AreFoursWritten T (g tables) front back at count x y) (below : at < count) (room : count + 8 ≤ length front) (room' : count + 8 ≤ length back)
     (is-free : free ≡ T.room y) (enough : 35 ≤ free) (long : length us ≡ 8) (small : (k : ℕ) → k < 8 → get_or us k 0 < 65536)
     (all-known : (k : ℕ) → k < known → get_or us k 0 ≢ 0)
     (fours : (k : ℕ) → k < 8 → get_or us k 0 ≢ 0 → IsFour tables.flat.ranges (get_or (chunk at 8 front) k 0) (get_or (chunk at 8 back) k 0) (get_or us k 0))
     (loan : T.loan z ≡ T.loan y) where
   -- the first units of eight are written
   pub few_written : (few : ℕ) → few ≡ min known (count - at) → known ≤ 8 → T.contents z ≡ T.contents y ++ all_code_units T.form (take few us)
-      → T.room z + total_unit_count T.form (take few us) ≡ T.room y → AreWritten T (g tables) front back (at + few) count x z
+      → T.room z + total_unit_count T.form (take few us) ≡ T.room y → AreFoursWritten T (g tables) front back (at + few) count x z
   few_written few is most contents room-is =
       let short = few_units T.form few us long small (omega (arith, is, most)) in
       record {
@@ -92,7 +92,7 @@ module _ (tables : AcceptedIndexes) {D : Type 0} (T : Ghosts D) (at count free k
 
   -- all eight are
   pub eight_written : (few : ℕ) → few ≡ min known (count - at) → known ≤ 8 → 8 ≤ few → T.contents z ≡ T.contents y ++ all_code_units T.form us
-      → T.room z + total_unit_count T.form us ≡ T.room y → AreWritten T (g tables) front back (at + 8) count x z
+      → T.room z + total_unit_count T.form us ≡ T.room y → AreFoursWritten T (g tables) front back (at + 8) count x z
   eight_written few is most whole contents room-is =
       let all : take 8 us ≡ us = take_all 8 us (omega (arith, long)) in
       few_written 8 (omega (arith, is, most, whole)) most (rw all contents) (rw all room-is)

@@ -3,12 +3,12 @@ use Rattle.std.proofs.Common.{◌≡◌, ◌∙◌, ℕ, ◌+◌, ◌≤◌, ◌
 use Rattle.std.proofs.{lemmas.Bool.Decides.nat_tests, lemmas.List.get_or_past, lemmas.List.FromFn.get_or-map-range_with_len}
 use Rattle.std.specs.Prelude.{option_to_list}
 use Rattle.legacy_tables.specs.Indexes.{idx, entry_scalar}
-use Rattle.legacy_decoder_engine.specs.{Places.{IsTableOf, lead_place}, declared.places.TheConstants.ROWS_OF_190}
+use Rattle.legacy_decoder_engine.specs.{Places.{Tabulates, lead_place}, declared.places.TheConstants.ROWS_OF_190}
 
-pub read : (table : List ℕ) (place : ℕ → ℕ) → IsTableOf place table → (b : ℕ) → b < 256 → get_or table b 0 ≡ place b
+pub read : (table : List ℕ) (place : ℕ → ℕ) → Tabulates place table → (b : ℕ) → b < 256 → get_or table b 0 ≡ place b
 read table place is b h = ap (λ t. get_or t b 0) is ∙ get_or-map-range_with_len place 0 256 b b 0 h (omega arith)
 
-pub rows_are : IsTableOf lead_place ROWS_OF_190
+pub rows_are : Tabulates lead_place ROWS_OF_190
 unfolding lead_place
 rows_are = refl
 

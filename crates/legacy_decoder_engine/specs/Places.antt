@@ -4,8 +4,8 @@ use Rattle.std.specs.{Prelude.{◌≡◌, ℕ, ◌-◌, ◌*◌, List, map, if�
 use Rattle.legacy_base.specs.States.{is_lead}
 
 -- the table has the place of every byte
-abbrev pub IsTableOf : (ℕ → ℕ) → List ℕ → Type 0
-IsTableOf place table = table ≡ map place (range_with_len 0 256)
+abbrev pub Tabulates : (ℕ → ℕ) → List ℕ → Type 0
+Tabulates place table = table ≡ map place (range_with_len 0 256)
 
 -- the place of a lead from 81 to FE, in an index whose rows have 190 entries
 unfoldable pub lead_place : ℕ → ℕ

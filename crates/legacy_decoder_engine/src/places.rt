@@ -3,7 +3,7 @@
 //! A byte that is no lead or trail has a place past the end of every index. One test of the pointer
 //! therefore tests both bytes, and the range of the trail needs no branch.
 ghost use Rattle.std.specs.Prelude.{◌≡◌, ℕ, ◌+◌};
-ghost use Rattle.legacy_decoder_engine.specs.Places.{IsTableOf};
+ghost use Rattle.legacy_decoder_engine.specs.Places.{Tabulates};
 
 /// Makes a table of the places of the 256 bytes.
 ///
@@ -41,8 +41,8 @@ pub static ROWS_OF_190: [u16; 256] = place_table!(65535, 190, 0x81 to 0xFE);
 // Always inlined, so that the tables are constants where their entries are read.
 #[inline(always)]
 pub fn pair_pointer(leads: &[u16; 256], trails: &[u16; 256], lead: u8, trail: u8) -> usize
-    ensures { (lead_place trail_place : ℕ → ℕ) → IsTableOf lead_place leads.now →
-        IsTableOf trail_place trails.now → result ≡ lead_place lead + trail_place trail }
+    ensures { (lead_place trail_place : ℕ → ℕ) → Tabulates lead_place leads.now →
+        Tabulates trail_place trails.now → result ≡ lead_place lead + trail_place trail }
 {
     usize::from(leads[usize::from(lead)]) + usize::from(trails[usize::from(trail)])
 }

@@ -83,14 +83,14 @@ pub record IsText (flat : FlatIndexes) (tables : List EncodingTable) (name input
   pub decodes : text ≡ text_of state input
 
 -- the length query of a new decoder of the name returns `None` for the input
-pub record IsTooLong (flat : FlatIndexes) (tables : List EncodingTable) (name input : List ℕ) : Type 0 where
+pub record HasNoLength (flat : FlatIndexes) (tables : List EncodingTable) (name input : List ℕ) : Type 0 where
   pub state : DecoderState
   pub decoder : IsDecoderOf flat tables name state
   pub too_long : query_answer to_utf8 state (length input) ≡ None
 
 -- the error if an input was not decoded; an allocation can fail if there is a decoder and a length
 abbrev pub IsDecodeError : FlatIndexes → List EncodingTable → List ℕ → List ℕ → RegistryError → Type 0
-IsDecodeError flat tables name input (Sized TooLong) = IsTooLong flat tables name input
+IsDecodeError flat tables name input (Sized TooLong) = HasNoLength flat tables name input
 IsDecodeError flat tables name input (Sized Memory) =
     (state : DecoderState) × IsDecoderOf flat tables name state × (query_answer to_utf8 state (length input) ≢ None)
 IsDecodeError flat tables name input error = IsNameError tables name error
@@ -101,7 +101,7 @@ bytes_by None text = text
 bytes_by (Some state) text = referenced_bytes (encoded state (chars text) true)
 
 -- the bytes of the text by the encoding of the name
-pub record AreBytes (flat : FlatIndexes) (tables : List EncodingTable) (name text bytes : List ℕ) : Type 0 where
+pub record AreEncodedBytes (flat : FlatIndexes) (tables : List EncodingTable) (name text bytes : List ℕ) : Type 0 where
   pub output : Option EncoderState
   pub encoder : IsEncoderOf flat tables name output
   pub encodes : bytes ≡ bytes_by output text
@@ -118,7 +118,7 @@ pub record IsTranscoded (flat : FlatIndexes) (tables : List EncodingTable) (from
   -- its characters then determine the text: `chars` says nothing of the bytes of a text that is ill-formed
   pub utf8 : IsUtf8 text
   pub decoded : IsText flat tables from input (chars text)
-  pub encoded : AreBytes flat tables to text bytes
+  pub encoded : AreEncodedBytes flat tables to text bytes
 
 -- the error if an input was not transcoded: it was not decoded, or its text was not encoded
 abbrev pub IsTranscodeError : FlatIndexes → List EncodingTable → List ℕ → List ℕ → List ℕ → RegistryError → Type 0

@@ -12,7 +12,7 @@ ghost use Rattle.legacy_index_files.specs.OwnedIndexes.{owned_lists, HoldsTexts,
 ghost use Rattle.legacy_encodings.specs.SingleByteFiles.{IsSingleByteFault};
 ghost use Rattle.legacy_encodings.specs.Registries.{first_entries, IsReadTable, HasNoName, IsNameError};
 ghost use Rattle.legacy_encodings.specs.Registries.{IsDecoderOf, IsEncoderOf};
-ghost use Rattle.legacy_encodings.specs.Registries.{IsText, IsDecodeError, AreBytes, IsEncodeError, bytes_by};
+ghost use Rattle.legacy_encodings.specs.Registries.{IsText, IsDecodeError, AreEncodedBytes, IsEncodeError, bytes_by};
 ghost use Rattle.legacy_encodings.specs.Registries.{IsTranscoded, IsTranscodeError};
 
 use crate::coders::{AnyDecoder, AnyEncoder};
@@ -290,7 +290,7 @@ impl Coders<'_> {
     /// list failed.
     pub fn encode(&self, alloc: Global, name: &str, text: &str) -> Result<Vec<u8>, RegistryError>
         ensures { MatchResult result
-            (λ bytes. AreBytes self.now.tables.flat self.now.single_bytes.now name.now text.now
+            (λ bytes. AreEncodedBytes self.now.tables.flat self.now.single_bytes.now name.now text.now
             bytes.items)
             (λ error. IsEncodeError self.now.tables.flat self.now.single_bytes.now name.now error) }
     {

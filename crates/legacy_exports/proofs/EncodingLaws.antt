@@ -16,7 +16,7 @@ use Rattle.legacy_codecs.specs.declared.results.CoderResult.TheVariants as resul
 use Rattle.legacy_exports.specs.declared.calls.CallEnd.TheVariants.{Read, Full, Replaced}
 use Rattle.legacy_exports.specs.Decoding.{end_of}
 use Rattle.legacy_exports.specs.Encoding.{Replacement, question_mark, numeric_reference, bytes_of_event, bytes_of_events, EncodesTo, EncodingCall, LacksBytes}
-use Rattle.legacy_exports.specs.Encoding.{EncodesText}
+use Rattle.legacy_exports.specs.Encoding.{ConvertsText}
 
 -- ---- the bytes of events
 
@@ -186,10 +186,10 @@ module _ {kind : Replacement} {before : EncoderState} {text : List ℕ} {now : E
   after_replaced c = let ends = c.ends in let made = encodes_more r c.encodes (λ f. absurd (false≢true f)) in rw e (rw ends.1 at made)
 
   -- the end of a conversion
-  pub text_encoded : (total : ℕ) → EncodingCall kind now unread true free after Read left bytes → later ≡ [] → EncodesText kind text total before after all
+  pub text_encoded : (total : ℕ) → EncodingCall kind now unread true free after Read left bytes → later ≡ [] → ConvertsText kind text total before after all
   text_encoded total c none = grind (arith, encodes_more r c.encodes, c.ends)
 
   pub text_full : (total : ℕ) {last : Bool} → EncodingCall kind now unread last free after Full left bytes → (IsTrue last → later ≡ []) →
       free ≡ total - length done →
-      EncodesText kind text total before after all
+      ConvertsText kind text total before after all
   text_full total {last} c none f = grind (arith, lacks_bytes_ahead, c.ends, length-append, encodes_more r c.encodes)

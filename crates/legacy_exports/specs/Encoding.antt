@@ -90,7 +90,7 @@ pub record EncodingCall (kind : Replacement) (before : EncoderState) (text : Lis
 
 -- One conversion of a whole text writes these bytes to an output of `free` bytes. It stops if all is encoded, or if the
 -- next act lacks its room.
-pub record EncodesText (kind : Replacement) (text : List ℕ) (free : ℕ) (before after : EncoderState) (written : List ℕ) : Type 0 where
+pub record ConvertsText (kind : Replacement) (text : List ℕ) (free : ℕ) (before after : EncoderState) (written : List ℕ) : Type 0 where
   pub ended : Bool
   pub left : List ℕ
   pub lost : List ℕ
@@ -103,6 +103,6 @@ pub record ReturnsBytes (is_text : Type 0) (number : ℕ) (slices : IndexSlices)
     (times free : ℕ) (written : List ℕ) (result : ℕ) : Type 0 where
   pub either : (result ≤ free) ⊎ (result ≡ 0xFFFF_FFFF_FFFF_FFFF)
   pub taken : IsTakenToEncode number slices → is_text →
-      (result ≤ free) × HoldsByNumber encoder_of number slices (RepeatsFrom (EncodesText kind text free) times written)
+      (result ≤ free) × HoldsByNumber encoder_of number slices (RepeatsFrom (ConvertsText kind text free) times written)
   pub refused : IsRefusedToEncode number slices → result ≡ 0xFFFF_FFFF_FFFF_FFFF
   pub malformed : (is_text → ⊥) → result ≡ 0xFFFF_FFFF_FFFF_FFFF

@@ -4,7 +4,7 @@ ghost use Rattle.legacy_index_files.specs.Encodings.{has_encoder};
 ghost use Rattle.legacy_exports.specs.AcceptedIndexes.{IsTakenToEncode};
 ghost use Rattle.legacy_encodings.specs.Coders.{encoder_of};
 ghost use Rattle.legacy_exports.specs.NewCoders.{HoldsOfNew, HoldsByNumber};
-ghost use Rattle.legacy_exports.specs.Encoding.{EncodesText};
+ghost use Rattle.legacy_exports.specs.Encoding.{ConvertsText};
 ghost use Rattle.legacy_exports.specs.Repeated.{Repeats, RepeatsFrom};
 
 use crate::calls::{CallEnd, EncoderCalls};
@@ -25,7 +25,7 @@ fn encode_once<C: EncoderCalls<T>, T: Text, E: RawEncoder>(
     reading: &Reading<C, T>,
     output: &mut [u8],
 ) -> usize
-    ensures bytes { EncodesText C.kind (T.scalars reading.now.source) (length output.old)
+    ensures bytes { ConvertsText C.kind (T.scalars reading.now.source) (length output.old)
         (E.state encoder.old) (E.state encoder.new) (take result output.new) }
     ensures within { result ≤ length output.new }
 {
@@ -52,7 +52,7 @@ fn encode_once<C: EncoderCalls<T>, T: Text, E: RawEncoder>(
 
 impl<C: EncoderCalls<T>, T: Text> EncoderTask for Reading<C, T> {
     ghost gives = { λ reading before after old new written. (written ≤ length new)
-        × Repeats (EncodesText C.kind (T.scalars reading.source) (length old)) before reading.times
+        × Repeats (ConvertsText C.kind (T.scalars reading.source) (length old)) before reading.times
         after (take written new) };
 
     // `encode_once` is inlined here, so an encoder's loop is compiled together with its own.
@@ -81,7 +81,7 @@ fn encode_over<'a, C: EncoderCalls<T>, T: Text>(
     ensures units { IfSome result (λ written. written ≤ length output.new) }
     ensures bytes { IfSome result (λ written. HoldsOfNew encoder_of codec tables.now.flat
         (option_map (λ table. table.now.entries) single_byte.entry)
-        (RepeatsFrom (EncodesText C.kind (T.scalars reading.now.source) (length output.old))
+        (RepeatsFrom (ConvertsText C.kind (T.scalars reading.now.source) (length output.old))
         reading.now.times (take written output.new))) }
     ensures unchanged { IfNone result (output.new ≡ output.old) }
     ensures taken { IsSome result ↔ ((has_encoder codec ≡ true)
@@ -107,7 +107,7 @@ pub fn encode_by_number<C: EncoderCalls<T>, T: Text>(
 ) -> Option<usize>
     ensures units { IfSome result (λ written. written ≤ length output.new) }
     ensures bytes { IfSome result (λ written. HoldsByNumber encoder_of number indexes.now
-        (RepeatsFrom (EncodesText C.kind (T.scalars reading.source) (length output.old))
+        (RepeatsFrom (ConvertsText C.kind (T.scalars reading.source) (length output.old))
         reading.times (take written output.new))) }
     ensures unchanged { IfNone result (output.new ≡ output.old) }
     ensures taken { IsSome result ↔ IsTakenToEncode number indexes.now }

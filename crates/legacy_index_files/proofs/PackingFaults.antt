@@ -7,7 +7,7 @@ use Rattle.legacy_tables.specs.{Packed.{all_runs_fault, all_orders_fault}, Walks
 use Rattle.legacy_tables.proofs.Accepted.{parts, all_entries, order_index-short, euc_kr-below, jis0208-below, jis0212-below, gb18030-below}
 use Rattle.legacy_tables.proofs.PackedAccepted.{entry_all, entry-narrow}
 use Rattle.legacy_index_files.specs.{declared.packing.OwnedPacked.OwnedPacked, Packing.{GiveRuns, GiveOrders, HasParts, IsPackOf}}
-use Rattle.legacy_index_files.proofs.{PackingRuns.{AreBelow, runs-accepted}, PackingOrders.order-accepted}
+use Rattle.legacy_index_files.proofs.{PackingRuns.{HasEntriesBelow, runs-accepted}, PackingOrders.order-accepted}
 use Rattle.legacy_tables.specs.declared.tables.IndexName.TheVariants as names
 use Rattle.legacy_tables.specs.declared.tables.packed.PackedPart.TheVariants as parts
 
@@ -24,22 +24,22 @@ module _ (flat : FlatIndexes) (owned : OwnedPacked) (runs : GiveRuns flat owned)
     short : (part : PackedPart) → length (order_index flat part) ≤ 23940
     short part = order_index-short flat accepted part
 
-    big5_below : AreBelow 0x3_0000 flat.big5
+    big5_below : HasEntriesBelow 0x3_0000 flat.big5
     big5_below = record {
       at = entry_all (λ e. e < 0x3_0000) flat.big5 (omega arith)
           (all_entries (λ e. e < 0x3_0000) names.Big5 (omega arith) is_wide-below 0 flat.big5 (parts flat accepted).big5.1);
     }
 
-    euc_kr_below : AreBelow 0x1_0000 flat.euc_kr
+    euc_kr_below : HasEntriesBelow 0x1_0000 flat.euc_kr
     euc_kr_below = record { at = entry-narrow flat.euc_kr (euc_kr-below flat accepted) }
 
-    jis0208_below : AreBelow 0x1_0000 flat.jis0208
+    jis0208_below : HasEntriesBelow 0x1_0000 flat.jis0208
     jis0208_below = record { at = entry-narrow flat.jis0208 (jis0208-below flat accepted) }
 
-    jis0212_below : AreBelow 0x1_0000 flat.jis0212
+    jis0212_below : HasEntriesBelow 0x1_0000 flat.jis0212
     jis0212_below = record { at = entry-narrow flat.jis0212 (jis0212-below flat accepted) }
 
-    gb18030_below : AreBelow 0x1_0000 flat.gb18030
+    gb18030_below : HasEntriesBelow 0x1_0000 flat.gb18030
     gb18030_below = record { at = entry-narrow flat.gb18030 (gb18030-below flat accepted) }
 
     runs_whole : all_runs_fault flat packed ≡ None

@@ -79,7 +79,7 @@ module _ (p : ℕ) (index : List ℕ) (runs : List Run) (so_far : AreRunsBelow p
 -- ---- the runs of an index of scalars are accepted
 
 -- each entry of the index is less than the limit
-pub record AreBelow (limit : ℕ) (index : List ℕ) : Type 0 where
+pub record HasEntriesBelow (limit : ℕ) (index : List ℕ) : Type 0 where
   pub at : (p : ℕ) → get_or index p 0 < limit
 
 -- the first run that has a pointer gives its scalar
@@ -91,7 +91,7 @@ scalar-first (run ∷ runs) (suc n) p h low high before =
     rw (outside-after run p (before 0 (omega arith)))
     (scalar-first runs n p (omega arith) low high (λ k l. before (suc k) (omega arith)))
 
-module _ (limit scalars : ℕ) (index : List ℕ) (runs : List Run) (made : GivesIndex limit index runs) (below : AreBelow scalars index)
+module _ (limit scalars : ℕ) (index : List ℕ) (runs : List Run) (made : GivesIndex limit index runs) (below : HasEntriesBelow scalars index)
     (few : scalars ≤ 0x11_0000) where
   -- the last scalar of a run is an entry of the index
   in_order : (n before : ℕ) → n < length runs → before ≤ (run_at runs n).pointer → is_run_in_order before limit (run_at runs n) ≡ true

@@ -3,7 +3,7 @@ use Rattle.std.proofs.Common.{◌≡◌, ℕ, ◌+◌, ◌-◌, ◌/◌, ◌%◌
 use Rattle.{std.{proofs.lemmas.Bool.Decides.nat_tests, specs.{Char.IsScalar, Int.is_in_range}}, legacy_tables.specs.declared.tables.IndexName.TheVariants.EucKr}
 use Rattle.legacy_tables.{specs.{AcceptedTables.AcceptedIndexes, Indexes.idx, Unicode.IsByte}, proofs.Accepted.{narrow_index, index-scalars}}
 use Rattle.{legacy_base.specs.{EucKr.{euc_kr, euc_kr_pointer}, LeadForms.pair_scalars, Profile.is_lead}, legacy_decoder_engine.specs.ReadAhead.IsPair}
-use Rattle.legacy_decoder_engine.specs.{StepUnits.IsNarrowIndex, LaneCodes.ArePairs, LanePlaces.row_place, Places.{IsTableOf, lead_place}}
+use Rattle.legacy_decoder_engine.specs.{StepUnits.IsNarrowIndex, LaneCodes.ArePairs, LanePlaces.row_place, Places.{Tabulates, lead_place}}
 use Rattle.legacy_decoder_engine.proofs.{LanePlaces.entry_is, LeadHeld.pair, PairPlaces.none_past, Widths.idx_below}
 use Rattle.legacy_korean.specs.{EucKrShown.euc_kr_codec, declared.euc_kr.places.TheConstants.TRAILS}
 
@@ -11,7 +11,7 @@ use Rattle.legacy_korean.specs.{EucKrShown.euc_kr_codec, declared.euc_kr.places.
 unfoldable pub euc_kr_trail_place : ℕ → ℕ
 euc_kr_trail_place trail = if is_in_range 0x41 0xFE trail then trail - 0x41 else 65535
 
-pub euc_kr_trails_are : IsTableOf euc_kr_trail_place TRAILS
+pub euc_kr_trails_are : Tabulates euc_kr_trail_place TRAILS
 unfolding euc_kr_trail_place
 euc_kr_trails_are = refl
 

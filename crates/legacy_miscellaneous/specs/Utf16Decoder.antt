@@ -28,12 +28,12 @@ abbrev pub unit_at : Bool → List ℕ → ℕ → ℕ
 unit_at big_endian bytes k = unit_of big_endian (slice_index bytes (2 * k)) (slice_index bytes (2 * k + 1))
 
 -- the number is the unit if one of both is ASCII
-abbrev pub IsNarrow : ℕ → ℕ → Type 0
-IsNarrow unit number = (number < 0x80 → unit ≡ number) × (unit < 0x80 → unit ≡ number)
+abbrev pub KeepsAscii : ℕ → ℕ → Type 0
+KeepsAscii unit number = (number < 0x80 → unit ≡ number) × (unit < 0x80 → unit ≡ number)
 
 -- each of the first n numbers of the block is the unit at its index, if one of both is ASCII
 abbrev pub HasAsciiUnits : Bool → List ℕ → List ℕ → ℕ → Type 0
-HasAsciiUnits big_endian bytes block n = (k : ℕ) → k < n → IsNarrow (unit_at big_endian bytes k) (slice_index block k)
+HasAsciiUnits big_endian bytes block n = (k : ℕ) → k < n → KeepsAscii (unit_at big_endian bytes k) (slice_index block k)
 
 -- each number is below n
 abbrev pub AreBelow : ℕ → List ℕ → Type 0

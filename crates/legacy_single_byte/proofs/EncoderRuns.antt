@@ -7,9 +7,9 @@ use Rattle.legacy_tables.specs.{Indexes.{idx}, AcceptedTables.AcceptedTable}
 use Rattle.legacy_base.specs.SingleByte.{single_byte_code}
 use Rattle.legacy_tables.proofs.{Accepted.entry_scalar-is, PackedAccepted.entry-narrow, AcceptedTable.{position-idx, within, table-scalars, table-below}}
 use Rattle.{std.proofs.lemmas.Grind.common_steps, legacy_tables.proofs.FirstPlaces.{find-first, find-none-at}}
-use Rattle.legacy_single_byte.specs.SingleByteRun.{IsRun, first_mismatch}
+use Rattle.legacy_single_byte.specs.SingleByteRun.{IsSingleByteRun, first_mismatch}
 
-pub run_holds : (table : List ℕ) (scalar start count : ℕ) → first_mismatch table scalar start count ≡ None → IsRun table scalar start count
+pub run_holds : (table : List ℕ) (scalar start count : ℕ) → first_mismatch table scalar start count ≡ None → IsSingleByteRun table scalar start count
 run_holds table scalar start count e k h =
     let same = find-none-at (λ k. not (get_or table (start + k) 0 == scalar + k)) 0 count e k (omega arith) (omega arith) in grind (arith, nat_tests)
 

@@ -1,11 +1,11 @@
 -- The longest run of letters: how one more place changes it, and that the encoder accepts it.
 use Rattle.std.proofs.{Common.{◌≡◌, ◌≢◌, ℕ, ◌+◌, ◌-◌, ◌<◌, ◌≤◌, ◌==◌, List, get_or, refl, arith, None, not}, lemmas.Bool.Decides.nat_tests}
 use Rattle.legacy_tables.proofs.FirstPlaces.{find-none}
-use Rattle.legacy_single_byte.{specs.{SingleByteRun.{IsRun, single_byte_run_fault}, LongestRun.{LongestToThe, LongestUpTo}}, proofs.EncoderRuns.run_holds}
+use Rattle.legacy_single_byte.{specs.{SingleByteRun.{IsSingleByteRun, single_byte_run_fault}, LongestRun.{LongestToThe, LongestUpTo}}, proofs.EncoderRuns.run_holds}
 
 -- ---- runs that the encoder accepts
 
-pub not_refused : (table : List ℕ) (scalar start count : ℕ) → 32 ≤ start → start + count ≤ 128 → IsRun table scalar start count →
+pub not_refused : (table : List ℕ) (scalar start count : ℕ) → 32 ≤ start → start + count ≤ 128 → IsSingleByteRun table scalar start count →
     single_byte_run_fault table scalar start count ≡ None
 not_refused table scalar start count from within holds =
     let none = find-none (λ k. not (get_or table (start + k) 0 == scalar + k)) 0 count (λ k l m. grind (arith, nat_tests, holds)) in

@@ -5,8 +5,8 @@ use Rattle.std.specs.List.{range_with_len}
 use Rattle.legacy_single_byte.specs.declared.single_byte.run.SingleByteRunError.{SingleByteRunError, TheVariants.{RunStart, RunPastEnd, RunMismatch}}
 
 -- the table contains the run
-abbrev pub IsRun : List ℕ → ℕ → ℕ → ℕ → Type 0
-IsRun table scalar start count = (k : ℕ) → k < count → slice_index table (start + k) ≡ scalar + k
+abbrev pub IsSingleByteRun : List ℕ → ℕ → ℕ → ℕ → Type 0
+IsSingleByteRun table scalar start count = (k : ℕ) → k < count → slice_index table (start + k) ≡ scalar + k
 
 -- the offset in the run at which the table first differs from it
 abbrev pub first_mismatch : List ℕ → ℕ → ℕ → ℕ → Option ℕ

@@ -101,12 +101,12 @@ module _ (jis0208 : List ℕ) where
   abbrev events : DecoderMode → ℕ → List ℕ → List DecodeEvent
   events m pos bytes = shift pos (iso_2022_jp_events jis0208 m bytes)
 
-  abbrev Decodes : DecoderMode → ℕ → Bool → ℕ → List ℕ → Type 0
-  Decodes m l flag pos bytes = Gives jis0208 (at_rest m l flag) 0 pos bytes (again flag pos bytes ++ events m pos bytes)
+  abbrev IsHandledFrom : DecoderMode → ℕ → Bool → ℕ → List ℕ → Type 0
+  IsHandledFrom m l flag pos bytes = Gives jis0208 (at_rest m l flag) 0 pos bytes (again flag pos bytes ++ events m pos bytes)
 
   -- all lists with at most n bytes are decoded, at any position
   record Below (n : ℕ) : Type 0 where
-    decodes : (m : DecoderMode) (l : ℕ) (flag : Bool) (pos : ℕ) (bytes : List ℕ) → length bytes ≤ n → Decodes m l flag pos bytes
+    decodes : (m : DecoderMode) (l : ℕ) (flag : Bool) (pos : ℕ) (bytes : List ℕ) → length bytes ≤ n → IsHandledFrom m l flag pos bytes
 
   -- ---- escapes
 
@@ -127,11 +127,11 @@ module _ (jis0208 : List ℕ) where
   unfolding iso_2022_jp_handler part_mode
   third m flag pos a b more below None e =
       let state_is : escape_state a b ≡ None = grind arith in
-      let next : Decodes m 0 false (pos + 1) (a ∷ b ∷ more) = below.decodes _ _ _ _ _ (omega arith) in
+      let next : IsHandledFrom m 0 false (pos + 1) (a ∷ b ∷ more) = below.decodes _ _ _ _ _ (omega arith) in
       rw (none-outs m flag pos (a ∷ b ∷ more) e) (out-error 0 (a ∷ b ∷ []) next (rw state_is refl) (omega arith) (omega arith) (rw state_is refl) (omega arith))
   third m flag pos a b more below (Some new) e =
       let state_is : escape_state a b ≡ Some (state_of new) = grind arith in
-      let next : Decodes new 0 true (pos + 3) more = below.decodes _ _ _ _ _ (omega arith) in
+      let next : IsHandledFrom new 0 true (pos + 3) more = below.decodes _ _ _ _ _ (omega arith) in
       rw (some-outs m new flag pos a b more e)
       (elim (cases_Bool flag) [
         | inl f ↦ rw f (out-error 3 [] next (rw state_is refl) (omega arith) (omega arith) (rw state_is refl) (omega arith))
@@ -147,7 +147,7 @@ module _ (jis0208 : List ℕ) where
   after_escape_byte m l flag pos (a ∷ rest) below = elim (cases_Bool (a == 0x24 || a == 0x28)) [
     | inl h ↦ out-continue (second rest below) (rw h refl) (omega arith) (omega arith)
     | inr h ↦
-        let next : Decodes m l false (pos + 1) (a ∷ rest) = below.decodes _ _ _ _ _ (omega arith) in
+        let next : IsHandledFrom m l false (pos + 1) (a ∷ rest) = below.decodes _ _ _ _ _ (omega arith) in
         rw (none-outs m flag pos (a ∷ rest) (part_mode-none a rest h)) (out-error 0 (a ∷ []) next (rw h refl) (omega arith) (omega arith) refl (omega arith))
   ]
     where
@@ -209,7 +209,7 @@ module _ (jis0208 : List ℕ) where
 
   -- a form of one byte
   one_byte : (m : DecoderMode) (l : ℕ) (flag : Bool) (pos b : ℕ) (more : List ℕ) → (b == esc) ≡ false → Below (length more) → is_lead m b ≡ false →
-      Decodes m l flag pos (b ∷ more)
+      IsHandledFrom m l flag pos (b ∷ more)
   one_byte m l flag pos b more unescaped below h =
       rw (one-outs m flag pos b more _ unescaped (own-front m b (first_part more) h))
       (returned m l pos 1 _ (below.decodes _ l _ _ _ (omega arith)) (own-handler m l flag b unescaped h) refl (own-extent m l (byte b)) refl)
@@ -234,7 +234,7 @@ module _ (jis0208 : List ℕ) where
   ]
 
   lead_byte : (m : DecoderMode) (l : ℕ) (flag : Bool) (pos b : ℕ) (more : List ℕ) → (b == esc) ≡ false → Below (length more) → is_lead m b ≡ true →
-      Decodes m l flag pos (b ∷ more)
+      IsHandledFrom m l flag pos (b ∷ more)
   unfolding iso_2022_jp_handler
   lead_byte TwoByte l flag pos b more unescaped below h =
       out-continue (after_lead_byte flag pos b more unescaped h below) (rw (unescaped, h) refl) (omega arith) refl
@@ -242,11 +242,11 @@ module _ (jis0208 : List ℕ) where
 
   -- ---- whole lists
 
-  nothing : (m : DecoderMode) (l : ℕ) (flag : Bool) (pos : ℕ) → Decodes m l flag pos []
+  nothing : (m : DecoderMode) (l : ℕ) (flag : Bool) (pos : ℕ) → IsHandledFrom m l flag pos []
   unfolding part_mode iso_2022_jp_handler
   nothing m l flag pos = rw (and_right flag false refl, step_end jis0208 m) (out-end {t = at_rest m l flag} (grind arith))
 
-  first : (m : DecoderMode) (l : ℕ) (flag : Bool) (pos b : ℕ) (more : List ℕ) → Below (length more) → Decodes m l flag pos (b ∷ more)
+  first : (m : DecoderMode) (l : ℕ) (flag : Bool) (pos b : ℕ) (more : List ℕ) → Below (length more) → IsHandledFrom m l flag pos (b ∷ more)
   unfolding iso_2022_jp_handler
   first m l flag pos b more below = elim (cases_eq b esc) [
     | inl is ↦ rw is (out-continue (after_escape_byte m l flag pos more below) (grind arith) (omega arith) refl)
@@ -261,7 +261,7 @@ module _ (jis0208 : List ℕ) where
   below_all : (n : ℕ) → Below n
   below_all n = record { decodes = all n }
     where
-      all : (n : ℕ) (m : DecoderMode) (l : ℕ) (flag : Bool) (pos : ℕ) (bytes : List ℕ) → length bytes ≤ n → Decodes m l flag pos bytes
+      all : (n : ℕ) (m : DecoderMode) (l : ℕ) (flag : Bool) (pos : ℕ) (bytes : List ℕ) → length bytes ≤ n → IsHandledFrom m l flag pos bytes
       all n m l flag pos [] h = nothing m l flag pos
       all zero m l flag pos (b ∷ more) h = absurd (omega arith)
       all (suc n) m l flag pos (b ∷ more) h =
@@ -271,5 +271,5 @@ pub iso_2022_jp_handled : (jis0208 bytes : List ℕ) → AreBytes bytes →
     HandlerDecodes (decoders.iso_2022_jp jis0208) bytes (events_of (iso_2022_jp jis0208 Ascii) bytes)
 unfolding events_of
 iso_2022_jp_handled jis0208 bytes all =
-    let decoded : Decodes jis0208 Ascii 0 false 0 bytes = (below_all jis0208 (length bytes)).decodes _ _ _ _ _ (omega arith) in
+    let decoded : IsHandledFrom jis0208 Ascii 0 false 0 bytes = (below_all jis0208 (length bytes)).decodes _ _ _ _ _ (omega arith) in
     steady (rw (shift-zero (iso_2022_jp_events jis0208 Ascii bytes)) at (decoded.from 0 0 refl (omega arith)))

@@ -21,8 +21,8 @@ abbrev pub Computes : {State : Type 0} → (State → TextItem → TextHandled S
 Computes handler initial rows = map (λ row. process handler 20 initial row.0) rows ≡ map (λ row. Some row.1) rows
 
 -- for one scalar the handler gives the first events, and the codec's encoder the second
-abbrev pub Parts : {State : Type 0} → (State → TextItem → TextHandled State) → State → Codec → ℕ → List EncodeEvent → List EncodeEvent → Type 0
-Parts handler initial codec c handled events =
+abbrev pub Differs : {State : Type 0} → (State → TextItem → TextHandled State) → State → Codec → ℕ → List EncodeEvent → List EncodeEvent → Type 0
+Differs handler initial codec c handled events =
     (process handler 20 initial (c ∷ []) ≡ Some handled) × (encoded (new_encoder codec) (c ∷ []) true ≡ events)
 
 -- an index with one entry, at this pointer
@@ -67,21 +67,21 @@ pub record ComputeWorkedTexts : Type 0 where
 -- The smallest indexes that lack a pointer of `HasPointers`. The handler's events differ from the encoder's.
 pub record PartWithoutPointers : Type 0 where
   -- no U+FF0D
-  pub shift_jis : Parts (by_scalar (shift_jis_encodes [])) tt (codecs.shift_jis []) 0x2212 (Unmappable 0xFF0D ∷ []) (Unmappable 0x2212 ∷ [])
-  pub euc_jp : Parts (by_scalar (euc_jp_encodes [])) tt (codecs.euc_jp [] []) 0x2212 (Unmappable 0xFF0D ∷ []) (Unmappable 0x2212 ∷ [])
-  pub iso_2022_jp : Parts (iso_2022_jp_encodes [] []) ascii (codecs.iso_2022_jp [] []) 0x2212 (Unmappable 0xFF0D ∷ []) (Unmappable 0x2212 ∷ [])
+  pub shift_jis : Differs (by_scalar (shift_jis_encodes [])) tt (codecs.shift_jis []) 0x2212 (Unmappable 0xFF0D ∷ []) (Unmappable 0x2212 ∷ [])
+  pub euc_jp : Differs (by_scalar (euc_jp_encodes [])) tt (codecs.euc_jp [] []) 0x2212 (Unmappable 0xFF0D ∷ []) (Unmappable 0x2212 ∷ [])
+  pub iso_2022_jp : Differs (iso_2022_jp_encodes [] []) ascii (codecs.iso_2022_jp [] []) 0x2212 (Unmappable 0xFF0D ∷ []) (Unmappable 0x2212 ∷ [])
   -- an entry of the katakana index without a pointer in index jis0208
-  pub katakana : Parts (iso_2022_jp_encodes [] (0x3002 ∷ [])) ascii (codecs.iso_2022_jp [] (0x3002 ∷ [])) 0xFF61
+  pub katakana : Differs (iso_2022_jp_encodes [] (0x3002 ∷ [])) ascii (codecs.iso_2022_jp [] (0x3002 ∷ [])) 0xFF61
       (Unmappable 0x3002 ∷ []) (Unmappable 0xFF61 ∷ [])
   -- an entry that is the overline, with a pointer: the handler writes it in Roman
-  pub overline : Parts (iso_2022_jp_encodes (0x203E ∷ []) (0x203E ∷ [])) ascii (codecs.iso_2022_jp (0x203E ∷ []) (0x203E ∷ [])) 0xFF61
+  pub overline : Differs (iso_2022_jp_encodes (0x203E ∷ []) (0x203E ∷ [])) ascii (codecs.iso_2022_jp (0x203E ∷ []) (0x203E ∷ [])) 0xFF61
       (Byte 0x1B ∷ Byte 0x24 ∷ Byte 0x42 ∷ Byte 0x1B ∷ Byte 0x28 ∷ Byte 0x4A ∷ Byte 0x7E ∷ Byte 0x1B ∷ Byte 0x28 ∷ Byte 0x42 ∷ [])
       (Byte 0x1B ∷ Byte 0x24 ∷ Byte 0x42 ∷ Byte 0x21 ∷ Byte 0x21 ∷ Byte 0x1B ∷ Byte 0x28 ∷ Byte 0x42 ∷ [])
   -- a scalar whose only pointer is after the 94 rows: the handler's bytes decode to an error
-  pub row : Parts (by_scalar (euc_jp_encodes (entry_at 8836 0x4E00))) tt (codecs.euc_jp (entry_at 8836 0x4E00) []) 0x4E00
+  pub row : Differs (by_scalar (euc_jp_encodes (entry_at 8836 0x4E00))) tt (codecs.euc_jp (entry_at 8836 0x4E00) []) 0x4E00
       (Byte 0xFF ∷ Byte 0xA1 ∷ []) (Unmappable 0x4E00 ∷ [])
   -- a scalar past the last pointer of the ranges
-  pub gb18030 : Parts (by_scalar (gb18030_encodes false [] ((0, 0x80) ∷ []) [])) tt (codecs.gb18030 [] ((0, 0x80) ∷ []) []) 0x9A7C
+  pub gb18030 : Differs (by_scalar (gb18030_encodes false [] ((0, 0x80) ∷ []) [])) tt (codecs.gb18030 [] ((0, 0x80) ∷ []) []) 0x9A7C
       (Byte 0x84 ∷ Byte 0x31 ∷ Byte 0xA5 ∷ Byte 0x30 ∷ []) (Unmappable 0x9A7C ∷ [])
 
 -- small tables that have these pointers; no small table of gb18030 has them

@@ -29,7 +29,7 @@ index_parts : (name : IndexName) (limit : ℕ) (index : List ℕ) → index_faul
     → (length index ≤ limit) × (entries_fault name 0 index ≡ None)
 index_parts name limit index e = let t = untaken _ (TooLong name) _ e in (ltb-false limit (length index) t.0, t.1)
 
-pub record Parts (flat : FlatIndexes) : Type 0 where
+pub record AcceptedParts (flat : FlatIndexes) : Type 0 where
   pub big5 : (length flat.big5 ≤ 19782) × (entries_fault names.Big5 0 flat.big5 ≡ None)
   pub euc_kr : (length flat.euc_kr ≤ 23940) × (entries_fault names.EucKr 0 flat.euc_kr ≡ None)
   pub jis0208 : (length flat.jis0208 ≤ 11280) × (entries_fault names.Jis0208 0 flat.jis0208 ≡ None)
@@ -40,7 +40,7 @@ pub record Parts (flat : FlatIndexes) : Type 0 where
   pub valued : range_value_fault 0 flat.ranges ≡ None
   pub private_use : rows_fault 0 None flat.gb18030_pua ≡ None
 
-pub parts : (flat : FlatIndexes) → AreAccepted flat → Parts flat
+pub parts : (flat : FlatIndexes) → AreAccepted flat → AcceptedParts flat
 unfolding table_fault
 parts flat e = grind (arith, or_none, index_parts, nat_tests)
 

@@ -77,13 +77,13 @@ module _ (test : ℕ → Bool) (a n : ℕ) where
   ]
 
   -- the number found passes, and is the first that does
-  pub record IsFirst (p : ℕ) : Type 0 where
+  pub record FindsFirst (p : ℕ) : Type 0 where
     pub from : a ≤ p
     pub within : p < a + n
     pub passes : test p ≡ true
     pub first : (k : ℕ) → a ≤ k → k < p → test k ≡ false
 
-  pub find-first : (p : ℕ) → find test (range_with_len a n) ≡ Some p → IsFirst p
+  pub find-first : (p : ℕ) → find test (range_with_len a n) ≡ Some p → FindsFirst p
   find-first p e =
       let i = position_or_len test (range_with_len a n) in
       let got = sym (find_at test (range_with_len a n)) ∙ e in
@@ -111,11 +111,11 @@ module _ (test : ℕ → Bool) where
   last-none (suc n) all = grind (arith, last-none n)
 
   -- what was found passes, and if nothing was found, nothing passes
-  pub record IsLast (n : ℕ) (o : Option ℕ) : Type 0 where
+  pub record FindsLast (n : ℕ) (o : Option ℕ) : Type 0 where
     pub passes : (p : ℕ) → o ≡ Some p → test p ≡ true
     pub none : o ≡ None → (k : ℕ) → k < n → test k ≡ false
 
-  pub last-is : (n : ℕ) → IsLast n (last_below test n)
+  pub last-is : (n : ℕ) → FindsLast n (last_below test n)
   unfolding last_below
   last-is zero = record { passes = λ p e. cc; none = λ e k h. absurd (omega arith) }
   last-is (suc n) = grind (arith, nat_tests, last-is n)

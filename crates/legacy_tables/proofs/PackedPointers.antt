@@ -1,10 +1,10 @@
 -- The pointer that the codec of an order uses, which is the same in indexes with the same entries.
 use Rattle.std.proofs.{Common.{◌≡◌, ◌∙◌, ℕ, zero, suc, ◌+◌, List, length, slice_index, sym, arith}, lemmas.List.get_or_past}
 use Rattle.legacy_tables.specs.{declared.tables.packed.PackedPart.PackedPart, Packed.{may_use, pointer_of}, Walks.taken_below}
-use Rattle.legacy_tables.proofs.{Pointers.{IsTaken, first-taken, last-taken}, Walks.{none-taken, taken-more, taken-empty, taken-whole}}
+use Rattle.legacy_tables.proofs.{Pointers.{IsChosen, first-taken, last-taken}, Walks.{none-taken, taken-more, taken-empty, taken-whole}}
 
 -- the pointer that a codec uses
-pub pointer-taken : (part : PackedPart) (index : List ℕ) (c : ℕ) → IsTaken (may_use part) index c (pointer_of part index c)
+pub pointer-taken : (part : PackedPart) (index : List ℕ) (c : ℕ) → IsChosen (may_use part) index c (pointer_of part index c)
 pointer-taken part index c = grind (arith, last-taken, first-taken)
 
 module _ (part : PackedPart) (c : ℕ) where

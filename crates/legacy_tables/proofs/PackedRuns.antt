@@ -6,7 +6,7 @@ use Rattle.std.proofs.lemmas.List.Sorted.{IsNonDecreasingBy-from_all_adjacent}
 use Rattle.std.specs.{List.Sorted.IsNonDecreasingBy}
 use Rattle.std.proofs.lemmas.Bool.Decides.{nat_tests}
 use Rattle.legacy_tables.specs.{declared.tables.packed.Run.Run, PointerRuns.{run_at, run_end, run_scalar, runs_scalar, runs_entry, runs_end, runs_list}}
-use Rattle.legacy_tables.specs.{PointerRuns.{is_run_in_order, run_fault_from, run_fault}, RunPlaces.{AreInOrder, IsFirstAfter}}
+use Rattle.legacy_tables.specs.{PointerRuns.{is_run_in_order, run_fault_from, run_fault}, RunOrder.{AreInOrder, IsFirstAfter}}
 use Rattle.legacy_tables.proofs.FirstPlaces.{taken, each-fine}
 
 -- a run without pointers

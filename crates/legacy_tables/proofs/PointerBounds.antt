@@ -4,10 +4,10 @@ use Rattle.std.specs.Option.{IfSome}
 use borrow.Author.Tests.{ltb-true}
 use Rattle.legacy_tables.specs.{Indexes.FlatIndexes, TableChecks.AreAccepted, Pointers.{every_pointer, is_shift_jis_pointer, is_jis0208_pointer}}
 use Rattle.legacy_tables.specs.Pointers.{big5_pointer_of, index_pointer_of, shift_jis_pointer_of, euc_jp_pointer_of, range_pointer_of}
-use Rattle.legacy_tables.proofs.{Accepted.parts, Pointers.{IsTaken, if_some, taken-within, first-taken, big5-taken, range-taken}}
+use Rattle.legacy_tables.proofs.{Accepted.parts, Pointers.{IsChosen, if_some, taken-within, first-taken, big5-taken, range-taken}}
 
 module _ (flat : FlatIndexes) (accepted : AreAccepted flat) (c : ℕ) where
-  bound : (may : ℕ → Bool) (index : List ℕ) (o : Option ℕ) (limit : ℕ) → length index ≤ limit → IsTaken may index c o
+  bound : (may : ℕ → Bool) (index : List ℕ) (o : Option ℕ) (limit : ℕ) → length index ≤ limit → IsChosen may index c o
       → IfSome o (λ p. p < limit)
   bound may index o limit short taken = IfSome_then o (taken-within may index c o taken) (λ p h. omega arith)
 

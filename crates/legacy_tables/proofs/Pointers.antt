@@ -34,21 +34,21 @@ module _ (may : ℕ → Bool) (index : List ℕ) (c : ℕ) where
   last-is-none all = grind (arith, last-none)
 
   -- the pointer used is a usable pointer of the scalar; if none is used, there is none
-  pub record IsTaken (o : Option ℕ) : Type 0 where
+  pub record IsChosen (o : Option ℕ) : Type 0 where
     pub chosen : (p : ℕ) → o ≡ Some p → (may p ≡ true) × (slice_index index p ≡ c) × (c ≢ 0)
     pub missing : o ≡ None → (p : ℕ) → may p ≡ true → slice_index index p ≡ c → c ≢ 0 → ⊥
 
   taken_by : (o : Option ℕ) → ((p : ℕ) → o ≡ Some p → is_pointer_of may index c p ≡ true)
-      → (o ≡ None → (p : ℕ) → p < length index → is_pointer_of may index c p ≡ false) → IsTaken (cond (c == 0) None o)
+      → (o ≡ None → (p : ℕ) → p < length index → is_pointer_of may index c p ≡ false) → IsChosen (cond (c == 0) None o)
   taken_by o some none = grind (arith, within)
 
-  pub first-taken : IsTaken (first_pointer may index c)
+  pub first-taken : IsChosen (first_pointer may index c)
   unfolding first_pointer
   first-taken =
       taken_by _ (λ p e. (find-first (is_pointer_of may index c) 0 (length index) p e).passes)
       (λ e p h. find-none-at (is_pointer_of may index c) 0 (length index) e p (omega arith) (omega arith))
 
-  pub last-taken : IsTaken (last_pointer may index c)
+  pub last-taken : IsChosen (last_pointer may index c)
   unfolding last_pointer
   last-taken = let last = last-is (is_pointer_of may index c) (length index) in taken_by _ last.passes last.none
 
@@ -130,14 +130,14 @@ shift-jis-first index c =
     ∙ first-alike (λ k. nat_lt k 8272 || nat_le 8836 k) is_shift_jis_pointer index c (λ k h. shift_jis k))
 
 -- the pointer that Big5 uses
-pub big5-taken : (index : List ℕ) (c : ℕ) → IsTaken is_big5_pointer index c (big5_pointer_of index c)
+pub big5-taken : (index : List ℕ) (c : ℕ) → IsChosen is_big5_pointer index c (big5_pointer_of index c)
 big5-taken index c = grind (arith, last-taken, first-taken)
 
 pub if_some : (o : Option ℕ) (P : ℕ → Type 0) → ((p : ℕ) → o ≡ Some p → P p) → IfSome o P
 if_some o P all = grind arith
 
 -- the pointer used is within the index
-pub taken-within : (may : ℕ → Bool) (index : List ℕ) (c : ℕ) (o : Option ℕ) → IsTaken may index c o → IfSome o (λ p. p < length index)
+pub taken-within : (may : ℕ → Bool) (index : List ℕ) (c : ℕ) (o : Option ℕ) → IsChosen may index c o → IfSome o (λ p. p < length index)
 taken-within may index c o t = if_some o _ (λ p e. let is = t.chosen p e in within may index c p is.2 is.1)
 
 -- ---- pointers of four bytes

@@ -72,12 +72,12 @@ module _ (ranges : List (ℕ × ℕ)) where
 
 module _ (ranges : List (ℕ × ℕ)) (ordered : range_order_fault 0 None ranges ≡ None) (place : ℕ) where
   -- a range ends by 39420, at the start of the next one
-  record Ends (end : ℕ) : Type 0 where
+  record RangeEnds (end : ℕ) : Type 0 where
     most : end ≤ 39420
     next : place + 1 < length ranges → end ≡ (range_at ranges (place + 1)).0
     last : length ranges ≤ place + 1 → end ≡ 39420
 
-  ends : Ends (next_pointer (drop (place + 1) ranges))
+  ends : RangeEnds (next_pointer (drop (place + 1) ranges))
   ends = elim (cases_lt (place + 1) (length ranges)) [
     | inl l ↦ rw (drop-cons ranges (place + 1) (0, 0) l)
         (record { most = let h = started_by ranges ordered (place + 1) l in omega arith; next = λ h. refl; last = λ h. absurd (omega arith) })
@@ -92,13 +92,13 @@ module _ (ranges : List (ℕ × ℕ)) (ordered : range_order_fault 0 None ranges
   is_given within p from before = grind (arith, nat_tests, ends, rising)
 
   -- the scalar that the range gives one of its pointers
-  record IsInRange (p : ℕ) : Type 0 where
+  record HasRangeScalar (p : ℕ) : Type 0 where
     scalar : IsScalar (scalar_of ranges place p)
     narrow : scalar_of ranges place p < 0x1_0000
     given : p ≢ 7457 → range ranges p ≡ Some (scalar_of ranges place p)
 
   in_range : range_value_fault 0 ranges ≡ None → place < length ranges → (p : ℕ) → (range_at ranges place).0 ≤ p
-      → p < next_pointer (drop (place + 1) ranges) → IsInRange p
+      → p < next_pointer (drop (place + 1) ranges) → HasRangeScalar p
   in_range valued within p from before =
       let most = ends.most in
       let is = last-at ranges p place (is_given within p from before) in
@@ -127,12 +127,12 @@ module _ (ranges : List (ℕ × ℕ)) (ordered : range_order_fault 0 None ranges
     same_place q j g is = grind (arith, nat_tests, climb, rising_scalars)
 
     -- a pointer that has the scalar is this one, and is before the next range
-    record IsOnly (q : ℕ) : Type 0 where
+    record IsOnlyPointer (q : ℕ) : Type 0 where
       is : q ≡ (range_at ranges place).0 + (c - (range_at ranges place).1)
       before : q < next_pointer (drop (place + 1) ranges)
       other : q ≢ 7457
 
-    only : (q : ℕ) → range ranges q ≡ Some c → IsOnly q
+    only : (q : ℕ) → range ranges q ≡ Some c → IsOnlyPointer q
     only q e =
         let n = narrow_given ranges q c e narrow free in
         let g = given ranges q c n.2 in

@@ -2,7 +2,7 @@
 use Rattle.std.proofs.lemmas.Bool.Decides.{nat_tests}
 use Rattle.std.proofs.{Common.{◌≡◌, ◌∙◌, ℕ, ◌+◌, ◌≤◌, ◌<◌, List, length, get_or, ap, arith, inl, inr}, lemmas.Bool.cases_lt}
 use Rattle.std.specs.Option.{option_map_or}
-use Rattle.legacy_tables.specs.{declared.tables.packed.Run.Run, PointerRuns.{run_at, run_end, runs_list}, RunPlaces.{IsBetween, AreInOrder}}
+use Rattle.legacy_tables.specs.{declared.tables.packed.Run.Run, PointerRuns.{run_at, run_end, runs_list}, RunOrder.{IsBetween, AreInOrder}}
 use Rattle.legacy_tables.proofs.PackedRuns.{no_run, outside-before, outside-after, scalar-none, scalar-had, runs_list-entry, runs_list-length, runs_end-within}
 use Rattle.legacy_tables.proofs.PackedRuns.{end_most}
 

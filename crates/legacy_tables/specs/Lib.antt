@@ -8,7 +8,7 @@ pub mod StoredTables
 pub mod Tables
 pub mod KeptTables
 pub mod PointerRuns
-pub mod RunPlaces
+pub mod RunOrder
 pub mod Packed
 pub mod Orders
 pub mod PointerSets

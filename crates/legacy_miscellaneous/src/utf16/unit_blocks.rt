@@ -5,7 +5,7 @@
 
 ghost use Rattle.std.specs.{Prelude.{◌≡◌, ◌+◌, ◌*◌, ◌%◌, ◌<◌, ◌≤◌, ℕ, length, true, false, slice_index}, Char.IsScalar};
 ghost use Rattle.{legacy_text.specs.EncodingForm.bmp_need, legacy_base.specs.{Grammar.utf16, States.new_state}};
-ghost use Rattle.{legacy_decoder_engine.specs.ReadAhead.ReadsAhead, legacy_miscellaneous.specs.Utf16Decoder.{HasAsciiUnits, IsNarrow, AreUnitsBelow}};
+ghost use Rattle.{legacy_decoder_engine.specs.ReadAhead.ReadsAhead, legacy_miscellaneous.specs.Utf16Decoder.{HasAsciiUnits, KeepsAscii, AreUnitsBelow}};
 
 use super::unit_steps::unit;
 use super::vectors::{eight_units, sixteen_units};
@@ -51,7 +51,7 @@ fn put_narrow(units: &[u16], block: &mut [u8], at: usize)
     requires units { 16 ≤ length units.now }
     requires room { at + 16 ≤ length block.old }
     ensures before { (k : ℕ) → k < at → slice_index block.new k ≡ slice_index block.old k }
-    ensures narrow { (k : ℕ) → k < 16 → IsNarrow (slice_index units.now k) (slice_index block.new (at + k)) }
+    ensures narrow { (k : ℕ) → k < 16 → KeepsAscii (slice_index units.now k) (slice_index block.new (at + k)) }
 {
     let mut unit = 0;
     while unit < 16 {

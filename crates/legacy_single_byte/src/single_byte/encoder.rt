@@ -2,7 +2,7 @@
 ghost use Rattle.std.specs.Prelude.{◌≡◌, ◌+◌, ◌-◌, ◌<◌, ◌≤◌, [], ◌∷◌, MatchResult, Some, None, IfSome, option_map};
 ghost use Rattle.legacy_base.specs.Encoders.{single_byte, new_encoder};
 ghost use Rattle.legacy_base.specs.SingleByte.{single_byte_code};
-ghost use Rattle.legacy_single_byte.specs.SingleByteRun.{IsRun, IsLongestRun, single_byte_run_fault};
+ghost use Rattle.legacy_single_byte.specs.SingleByteRun.{IsSingleByteRun, IsLongestRun, single_byte_run_fault};
 ghost use Rattle.legacy_single_byte.specs.SingleByteCodes.{single_byte_plain};
 
 use super::run::{SingleByteRun, SingleByteRunError, check_run};
@@ -26,7 +26,7 @@ pub struct SingleByteEncoder<'a> {
     run_length: u8,
     ghost within: { run_byte_offset + run_length ≤ 128 },
     ghost in_plane: { run_bmp_offset + run_length ≤ 0x1_0000 },
-    ghost is_run: { IsRun table.now.entries run_bmp_offset run_byte_offset run_length },
+    ghost is_run: { IsSingleByteRun table.now.entries run_bmp_offset run_byte_offset run_length },
 }
 
 /// Returns the place of a scalar past ASCII, if it is in the table.

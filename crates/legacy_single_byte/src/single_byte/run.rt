@@ -1,6 +1,6 @@
 //! The runs of consecutive scalars in single-byte tables: their check, and the longest one.
 ghost use Rattle.std.specs.Prelude.{◌≡◌, ℕ, ◌+◌, ◌<◌, ◌≤◌, MatchResult, Some, None, slice_index};
-ghost use Rattle.legacy_single_byte.specs.{SingleByteRun.{IsRun, first_mismatch, single_byte_run_fault}, LongestRun.LongestToThe};
+ghost use Rattle.legacy_single_byte.specs.{SingleByteRun.{IsSingleByteRun, first_mismatch, single_byte_run_fault}, LongestRun.LongestToThe};
 
 use legacy_base::SingleByteTable;
 use thiserror::Error;
@@ -61,7 +61,7 @@ pub(super) fn check_run(
 ) -> Result<(), SingleByteRunError>
     ensures fault { let found = single_byte_run_fault table.now.entries scalar start count in
         MatchResult result (λ _. found ≡ None) (λ e. found ≡ Some e) }
-    ensures is_run { MatchResult result (λ _. IsRun table.now.entries scalar start count) (λ _. Unit {0}) }
+    ensures is_run { MatchResult result (λ _. IsSingleByteRun table.now.entries scalar start count) (λ _. Unit {0}) }
     ensures within { MatchResult result (λ _. start + count ≤ 128) (λ _. Unit {0}) }
     ensures in_plane { MatchResult result (λ _. scalar + count ≤ 0x1_0000) (λ _. Unit {0}) }
 {
@@ -123,7 +123,7 @@ impl SingleByteRun {
         ensures longest { (scalar start count : ℕ) →
             single_byte_run_fault table.now.entries scalar start count ≡ None →
             scalar + count ≤ 0x2000 → count ≤ result.count }
-        ensures is_run { IsRun table.now.entries result.scalar result.start result.count }
+        ensures is_run { IsSingleByteRun table.now.entries result.scalar result.start result.count }
         ensures within { result.start + result.count ≤ 128 }
     {
         let mut run = SingleByteRun {

@@ -15,7 +15,7 @@ use Rattle.legacy_standard.specs.{Utf16.utf16_handler, Iso2022Jp.iso_2022_jp_han
 use Rattle.legacy_standard.specs.{RangesPointer.ranges_pointer, SingleByteEncoder.single_byte_encodes, UserDefinedEncoder.user_defined_encodes}
 use Rattle.legacy_standard.specs.{EucKrEncoder.euc_kr_encodes, Big5Encoder.big5_encodes, ShiftJisEncoder.{shift_jis_encodes, shift_jis_pointer_bytes}}
 use Rattle.legacy_standard.specs.{EucJpEncoder.{euc_jp_at, euc_jp_encodes}, Gb18030Encoder.gb18030_encodes, Iso2022JpEncoder.iso_2022_jp_encodes}
-use Rattle.legacy_standard.specs.{EncoderLaw.IsFold, WorkedTexts.{entry_at, Computes, Parts}}
+use Rattle.legacy_standard.specs.{EncoderLaw.IsFold, WorkedTexts.{entry_at, Computes, Differs}}
 use Rattle.legacy_base.specs.Encoders as codecs
 use Rattle.legacy_standard.specs.TextQueue as text_queue
 use Rattle.legacy_standard.proofs.worked_rows.Goals as goal
@@ -57,7 +57,7 @@ unused_row n unused =
     subst (λ o. text_queue.act_on (text_queue.process handler 19) (text_queue.bytes_or_error shift_jis_pointer_bytes o 0x4E00) tt [] ∷ []
     ≡ Some handled ∷ []) (sym (entry_unused is_shift_jis_pointer n unused)) refl
 
-past_rows : (n : ℕ) → 8836 ≤ n → Parts (by_scalar (euc_jp_encodes (entry_at n 0x4E00))) tt (codecs.euc_jp (entry_at n 0x4E00) []) 0x4E00
+past_rows : (n : ℕ) → 8836 ≤ n → Differs (by_scalar (euc_jp_encodes (entry_at n 0x4E00))) tt (codecs.euc_jp (entry_at n 0x4E00) []) 0x4E00
     (Byte (n / 94 + 0xA1) ∷ Byte (n % 94 + 0xA1) ∷ []) (Unmappable 0x4E00 ∷ [])
 unfolding text_queue.process euc_jp_encodes plain_events euc_jp_code
 past_rows n past =

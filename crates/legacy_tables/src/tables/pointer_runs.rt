@@ -1,7 +1,7 @@
 //! Runs that are in order, and the look-up of a pointer in them.
 ghost use Rattle.std.specs.Prelude.{◌≡◌, ℕ, ◌+◌, ◌<◌, ◌≤◌, None, length};
 ghost use Rattle.legacy_tables.specs.PointerRuns.{runs_scalar, runs_list, run_fault, is_run_in_order, run_at};
-ghost use Rattle.legacy_tables.specs.RunPlaces.{AreInOrder, IsFirstAfter, IsBetween, between-first};
+ghost use Rattle.legacy_tables.specs.RunOrder.{AreInOrder, IsFirstAfter, IsBetween, between-first};
 
 use super::numbers::{Numbers, Row};
 use super::packed::Run;

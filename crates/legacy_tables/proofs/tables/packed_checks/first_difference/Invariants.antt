@@ -1,5 +1,5 @@
 use Rattle.std.proofs.Common.{◌≡◌, ℕ, ◌<◌, false}
-use Rattle.legacy_tables.specs.{Packed.differs_at, RunPlaces.IsFirstAfter}
+use Rattle.legacy_tables.specs.{Packed.differs_at, RunOrder.IsFirstAfter}
 use Rattle.legacy_tables.proofs.tables.packed_checks.first_difference.Given as goal
 
 -- no difference up to here, and the place is that of the pointer
