@@ -1,6 +1,7 @@
 use Rattle.std.proofs.Common.{refl, arith}
 use Rattle.legacy_tables.specs.declared.tables.packed.Run.{Run}
 use Rattle.legacy_index_files.proofs.PackingRuns.{no-runs, run-added, runs-made, none-longest, longest-added}
+use Rattle.std.proofs.lemmas.Grind.{common_steps}
 use Rattle.legacy_index_files.proofs.packing.pointer_runs.fill_runs.Goals as goal
 
 pub loop-pointer-init : goal.loop-pointer-init
@@ -29,3 +30,6 @@ returns g c = record {
       (λ h. let all = g.met.E.Entry.all c.args.index.now in omega arith);
   longest = c.loop-pointer.invariant.longest.longest;
 }
+
+pub loop-pointer-preserved-then-scalar-eq0 : goal.loop-pointer-preserved-then-scalar-eq0
+loop-pointer-preserved-then-scalar-eq0 g c = grind (arith, common_steps)
