@@ -30,20 +30,8 @@ loop-left-preserved g c =
           rw (w.codes-is, w.next-is) (record { room = omega arith; read = omega arith; forms = forms })
     ]
 
-pub returns-else-src-at-ge16-clause-most : goal.returns-else-src-at-ge16-clause-most
-returns-else-src-at-ge16-clause-most g c = omega (arith, c.loop-left.invariant.room)
+pub returns-else-src-at-ge16 : goal.returns-else-src-at-ge16
+returns-else-src-at-ge16 g c = let i = c.loop-left.invariant in record { most = omega (arith, i.room); read = i.read; forms = i.forms }
 
-pub returns-else-src-at-ge16-clause-read : goal.returns-else-src-at-ge16-clause-read
-returns-else-src-at-ge16-clause-read g c = c.loop-left.invariant.read
-
-pub returns-else-src-at-ge16-clause-forms : goal.returns-else-src-at-ge16-clause-forms
-returns-else-src-at-ge16-clause-forms g c = c.loop-left.invariant.forms
-
-pub returns-after-loop-left-clause-most : goal.returns-after-loop-left-clause-most
-returns-after-loop-left-clause-most g c = omega (arith, c.loop-left.invariant.room)
-
-pub returns-after-loop-left-clause-read : goal.returns-after-loop-left-clause-read
-returns-after-loop-left-clause-read g c = c.loop-left.invariant.read
-
-pub returns-after-loop-left-clause-forms : goal.returns-after-loop-left-clause-forms
-returns-after-loop-left-clause-forms g c = c.loop-left.invariant.forms
+pub returns-after-loop-left : goal.returns-after-loop-left
+returns-after-loop-left g c = let i = c.loop-left.invariant in record { most = omega (arith, i.room); read = i.read; forms = i.forms }

@@ -19,14 +19,8 @@ loop-at-preserved g c =
 pub loop-at-init : goal.loop-at-init
 loop-at-init g c = (omega arith, λ grammar law. reads_none g.T.Destination _ _ _)
 
-pub returns-else-free-clause-read : goal.returns-else-free-clause-read
-returns-else-free-clause-read g c = c.loop-at.invariant.0
+pub returns-else-free : goal.returns-else-free
+returns-else-free g c = let i = c.loop-at.invariant in record { read = i.0; ahead = i.1 }
 
-pub returns-else-free-clause-ahead : goal.returns-else-free-clause-ahead
-returns-else-free-clause-ahead g c = c.loop-at.invariant.1
-
-pub returns-after-loop-at-clause-read : goal.returns-after-loop-at-clause-read
-returns-after-loop-at-clause-read g c = c.loop-at.invariant.0
-
-pub returns-after-loop-at-clause-ahead : goal.returns-after-loop-at-clause-ahead
-returns-after-loop-at-clause-ahead g c = c.loop-at.invariant.1
+pub returns-after-loop-at : goal.returns-after-loop-at
+returns-after-loop-at g c = let i = c.loop-at.invariant in record { read = i.0; ahead = i.1 }
