@@ -1,7 +1,7 @@
 -- Laws of the bytes that are read ahead and of the scalars written for them.
 use Rattle.std.proofs.Common.{add-zero, ◌≡◌, ℕ, ◌<◌, [], ◌∷◌, ◌++◌, length, take, drop, get_or, refl, sym, arith, suc, ◌+◌, ◌-◌, ◌*◌, ◌≤◌, List, append_assoc}
 use Rattle.std.proofs.Common.{append-nil, length-append, IsAscii}
-use Rattle.std.proofs.lemmas.List.{take_rest, map-append, take_more, length-drop, Elements.{All-append, All-nil}}
+use Rattle.std.proofs.lemmas.List.{take_rest, map-append, take_more, Elements.{All-append, All-nil}}
 use Rattle.std.{proofs.Math.Seq.take-add, specs.Char.IsScalar}
 use Rattle.legacy_text.specs.{EncodingForm.{EncodingForm, code_units, all_code_units, bmp_need, total_unit_count}, declared.destination.Destination.Ghosts}
 use Rattle.legacy_text.proofs.CodeUnits.{all_code_units-append, total_unit_count-append, code_units_ascii, length-code_units-bmp, length-code_units-wide}

@@ -4,6 +4,7 @@ ghost use Rattle.legacy_encoder_engine.specs.CachedPairs.{AreAllPairsOf};
 ghost use Rattle.legacy_tables.specs.Indexes.{FlatIndexes};
 ghost use Rattle.legacy_base.specs.Encoders.{Codec, encoder_profile, new_encoder};
 ghost use Rattle.legacy_encoder_engine.specs.Moves.{IsCode};
+ghost use Rattle.legacy_encoder_engine.specs.UnfinishedCall.{EncodesFrom};
 ghost use Rattle.legacy_encoder_engine.specs.PairCodecs.{IsPairCodec, pair_encoder_state, pair_plain};
 
 use crate::drive::drive_encoder;
@@ -100,19 +101,27 @@ impl<'a, C: PairCodec, V: EncoderTables> PlainCodes for PairEncoder<'a, C, V> {
     }
 }
 
+/// Reads ahead by one kind of tables, and returns the place after the bytes in `dst`.
+#[inline(always)]
+fn read_pairs<C: PairCodec, V: EncoderTables, S: Source>(
+    tables: &V,
+    src: &mut S,
+    dst: &mut [u8],
+    start: usize,
+) -> usize
+    requires { start ≤ length dst.old }
+    ensures { EncodesFrom S.Source (new_encoder (C.codec (V.indexes tables.now).flat)) src.old dst.old start
+        src.new dst.new result }
+{
+    read_common(&PairEncoder::<C, V>::new(tables), src, dst, start)
+}
+
 impl<'a, C: PairCodec> PlainEncoder for PairEncoder<'a, C, Tables<'a>> {
     #[inline]
     fn read_codes<S: Source>(&self, src: &mut S, dst: &mut [u8], start: usize) -> usize {
         match self.tables.flat() {
-            Some(tables) => {
-                read_common(
-                    &PairEncoder::<C, FlatTables<'_>>::new(tables),
-                    src,
-                    dst,
-                    start,
-                )
-            }
-            None => read_common(self, src, dst, start),
+            Some(tables) => read_pairs::<C, FlatTables<'_>, S>(tables, src, dst, start),
+            None => read_pairs::<C, Tables<'_>, S>(self.tables, src, dst, start),
         }
     }
 }

@@ -89,7 +89,6 @@ pub enum IndexFileError {
 /// Returns the table of the lines. If a pointer occurs twice, the later value counts; the ranges
 /// keep both lines. Returns `Line` for the first line that does not have this form, and `Memory`
 /// only if there is no such line. A single-byte index allocates nothing, so it never gives `Memory`.
-#[tactic(auto, using(crate::proofs::IndexGrammars::kind_by_grammar))]
 pub fn read_index(alloc: Global, name: FileIndex, text: &[u8]) -> Result<FileTable, IndexFileError>
     ensures table { IfOk result (λ table. IsTableOf name (entries_of name (lines text.now)) table) }
     ensures line { (n : ℕ) → (result ≡ Err (IndexFileError.Line n))

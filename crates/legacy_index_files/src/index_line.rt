@@ -4,7 +4,7 @@ ghost use Rattle.std.specs.Option.{option_copied};
 ghost use Rattle.legacy_index_files.specs.IndexLine.{lines, is_blank, past_blanks, says_nothing, value_digits, number_at, entry_at, line_kind};
 
 /// The kind of a line of an index file.
-#[derive(Clone, Copy, Debug, PartialEq, Eq)]
+#[derive(Drop)]
 pub(crate) enum LineKind {
     /// Only blanks, a comment, or the ranges' line of the supplementary planes.
     Skipped,

@@ -3,13 +3,12 @@ ghost use Rattle.std.specs.Prelude.{IfOk};
 ghost use Rattle.legacy_tables.specs.Tables.{flat_indexes};
 ghost use Rattle.legacy_index_files.specs.Packing.{HasParts, IsPackOf};
 
-pub(crate) mod entries;
 pub(crate) mod orders;
 pub(crate) mod pointer_runs;
 
 use legacy_tables::{Indexes, Packed, Run};
 use orders::add_orders;
-use pointer_runs::packed_runs;
+use pointer_runs::add_runs;
 use std::alloc::{AllocError, Global};
 
 /// Packed indexes with their memory, one field for each part of `legacy_tables::Packed`.
@@ -40,6 +39,22 @@ pub struct OwnedPacked {
 }
 
 impl OwnedPacked {
+    /// Returns empty parts. It allocates no memory.
+    fn new(alloc: Global) -> OwnedPacked {
+        OwnedPacked {
+            big5: Vec::new(alloc),
+            euc_kr: Vec::new(alloc),
+            jis0208: Vec::new(alloc),
+            jis0212: Vec::new(alloc),
+            gb18030: Vec::new(alloc),
+            big5_order: Vec::new(alloc),
+            euc_kr_order: Vec::new(alloc),
+            shift_jis_order: Vec::new(alloc),
+            euc_jp_order: Vec::new(alloc),
+            gb18030_order: Vec::new(alloc),
+        }
+    }
+
     /// Returns the ten parts, borrowed. It allocates no memory.
     pub fn packed(&self) -> Packed<'_>
         ensures { HasParts self.now result }
@@ -81,7 +96,8 @@ impl OwnedPacked {
 pub fn pack(alloc: Global, indexes: &Indexes<'_>) -> Result<OwnedPacked, AllocError>
     ensures { IfOk result (IsPackOf (flat_indexes indexes.now)) }
 {
-    let mut packed = packed_runs(alloc, indexes)?;
+    let mut packed = OwnedPacked::new(alloc);
+    add_runs(indexes, &mut packed)?;
     add_orders(alloc, indexes, &mut packed)?;
     Ok(packed)
 }

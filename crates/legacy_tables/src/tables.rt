@@ -8,6 +8,7 @@ pub(crate) mod entries;
 pub(crate) mod flat;
 pub(crate) mod limits;
 pub(crate) mod lookups;
+mod messages;
 pub(crate) mod numbers;
 pub(crate) mod order;
 pub(crate) mod order_checks;
@@ -22,12 +23,13 @@ pub(crate) mod ranges;
 pub(crate) mod unpacking;
 pub(crate) mod walks;
 
+use checks::check_indexes;
 pub use decoder_tables::DecoderTables;
 pub use encoder_tables::EncoderTables;
 pub use entries::Entry;
 pub use flat::FlatTables;
 pub use packed::{Packed, PackedPart, Run};
-use packed_tables::PackedTables;
+use packed_tables::{PackedTables, check_packed};
 pub use private_use::GB18030_2022_PUA;
 pub use ranges::{RangePart, Ranges};
 use std::fmt;
@@ -83,47 +85,34 @@ impl fmt::Display for IndexName {
 #[derive(Debug, Drop, PartialEq, Eq, Error)]
 pub enum TableError {
     /// The index has more entries than pointers.
-    #[error("index {0} is too long")]
     TooLong(IndexName),
     /// The entry is not 0, and is not a scalar that the index may contain.
-    #[error("index {0} has a bad entry at {1}")]
     BadEntry(IndexName, usize),
     /// The entry is not 0, though the decoder does not look it up.
-    #[error("index {0} must be empty at {1}")]
     NotEmpty(IndexName, usize),
     /// The katakana index has neither 0 nor 63 entries.
-    #[error("index katakana must have 0 or 63 entries")]
     KatakanaLength,
     /// The range at the place starts past the last pointer, or too low for the range before it.
-    #[error("ranges are out of order at {0}")]
     RangeOrder(usize),
     /// The range at the place has a scalar below U+0080, past U+FFFF, or a surrogate.
-    #[error("range {0} has a bad scalar")]
     RangeValue(usize),
     /// The scalar of the private-use row at the place is not above that of the row before.
-    #[error("private-use row {0} is out of order")]
     PuaOrder(usize),
     /// The scalar of the private-use row at the place is outside U+E000 to U+F8FF, or is U+E5E5.
-    #[error("private-use row {0} has a bad scalar")]
     PuaScalar(usize),
     /// The bytes of the private-use row at the place are no lead and trail of GB18030.
     ///
     /// The lead is outside 81 to FE, or the trail is outside 40 to 7E and 80 to FE.
-    #[error("private-use row {0} has bad bytes")]
     PuaBytes(usize),
     /// The run or the pointer at the place of the packed part is not in order.
-    #[error("packed {0} is out of order at {1}")]
     PackedOrder(PackedPart, usize),
     /// The packed part and the flat index give different results for the pointer.
     ///
     /// A run may contain U+0000 or the number of a surrogate, which no flat index gives.
-    #[error("packed {0} differs at {1}")]
     PackedDiffers(PackedPart, usize),
     /// The entry at the place is not 0, and is not a scalar that a single-byte table may contain.
-    #[error("single-byte entry {0} is bad")]
     BadByteEntry(usize),
     /// The entry at the place is not 0, and is equal to an earlier entry.
-    #[error("single-byte entry {0} is repeated")]
     Repeated(usize),
 }
 
@@ -166,7 +155,7 @@ pub struct Indexes<'a> {
 impl Indexes<'_> {
     ghost use Rattle.legacy_tables.specs.Tables.{flat_indexes};
     ghost use Rattle.legacy_tables.specs.Walks.{IsFilled, order_index};
-    ghost use Rattle.std.specs.Prelude.{◌≤◌, length};
+    ghost use Rattle.std.specs.Prelude.{◌≤◌, ◌≢◌, length};
 
     /// Fills a list with an entry for each scalar value, in one walk over an index of at most 23940 entries.
     ///
@@ -182,16 +171,21 @@ impl Indexes<'_> {
             PackedPart::Big5 | PackedPart::Big5Order => {
                 walk(part, marks, &shortened(self.big5), entries)
             }
-            PackedPart::EucKr | PackedPart::EucKrOrder => {
-                walk(part, marks, &shortened(self.euc_kr), entries)
-            }
-            PackedPart::Jis0208 | PackedPart::ShiftJisOrder | PackedPart::EucJpOrder => {
-                walk(part, marks, &shortened(self.jis0208), entries)
-            }
-            PackedPart::Jis0212 => walk(part, marks, &shortened(self.jis0212), entries),
-            PackedPart::Gb18030 | PackedPart::Gb18030Order => {
-                walk(part, marks, &shortened(self.gb18030), entries)
-            }
+            _ => walk(part, marks, &shortened(self.narrow(part)), entries),
+        }
+    }
+
+    /// Returns the index of a part, which is none of Big5's.
+    #[inline(always)]
+    fn narrow(&self, part: PackedPart) -> &[u16]
+        ensures { part ≢ PackedPart.Big5 → part ≢ PackedPart.Big5Order →
+            result.now ≡ order_index (flat_indexes self.now) part }
+    {
+        match part {
+            PackedPart::EucKr | PackedPart::EucKrOrder => self.euc_kr,
+            PackedPart::Jis0212 => self.jis0212,
+            PackedPart::Gb18030 | PackedPart::Gb18030Order => self.gb18030,
+            _ => self.jis0208,
         }
     }
 }
@@ -261,9 +255,9 @@ impl<'a> Tables<'a> {
             (λ tables. tables.flat ≡ flat_indexes indexes.now)
             (λ fault. table_fault (flat_indexes indexes.now) ≡ Some fault) }
     {
-        let tables = FlatTables::new(indexes)?;
+        check_indexes(indexes)?;
         Ok(Tables {
-            kept: KeptTables::Flat(tables),
+            kept: KeptTables::Flat(FlatTables::of(indexes)),
         })
     }
 
@@ -276,9 +270,9 @@ impl<'a> Tables<'a> {
             (λ tables. ArePackedTables (flat_indexes indexes.now) packed.now tables.flat)
             (λ fault. packed_fault (flat_indexes indexes.now) packed.now ≡ Some fault) }
     {
-        let tables = PackedTables::new(indexes, packed)?;
+        check_packed(indexes, packed)?;
         Ok(Tables {
-            kept: KeptTables::Packed(tables),
+            kept: KeptTables::Packed(PackedTables::of(indexes, packed)),
         })
     }
 

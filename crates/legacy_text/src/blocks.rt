@@ -8,7 +8,6 @@ use std::simd::prelude::*;
 
 /// Returns the number of ASCII bytes at the front of a block.
 #[inline(always)]
-#[tactic(auto, using(crate::proofs::Ascii::count_steps))]
 pub(crate) fn ascii_count(block: u8x16) -> usize
     ensures most { result ≤ 16 }
     ensures ascii { IsAscii (take result block) }
@@ -76,7 +75,6 @@ fn store_front(bytes: &[u8], dst: &mut [u8], at: usize, width: usize) -> usize
 ///
 /// Returns their number, and whether all blocks were ASCII.
 #[inline(always)]
-#[tactic(auto, using(crate::proofs::Ascii::copy_steps))]
 pub(crate) fn copy_blocks(bytes: &[u8], dst: &mut [u8], at: usize, width: usize) -> (usize, bool)
     requires within { at ≤ length dst.old }
     requires least { 16 ≤ width }

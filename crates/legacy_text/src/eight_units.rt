@@ -34,7 +34,6 @@ fn bytes_before(units: u16x8) -> u16x8
 
 /// Returns four bytes of each code unit: of the first four code units, and of the others.
 #[inline(always)]
-#[tactic(auto, using(crate::proofs::UnitLanes::lane_steps))]
 fn unit_lanes(units: u16x8) -> (u8x16, u8x16)
     ensures front { result.0 ≡ lanes (take 4 units) }
     ensures back { result.1 ≡ lanes (drop 4 units) }

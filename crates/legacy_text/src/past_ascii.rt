@@ -7,7 +7,6 @@ use std::simd::prelude::*;
 
 /// Checks whether one of the first eight bytes is past ASCII.
 #[inline(always)]
-#[tactic(auto, using(crate::proofs::PastAscii::no_eight))]
 pub fn has_past_ascii(src: &[u8]) -> bool
     requires { 8 ≤ length src.now }
     ensures { result ≡ false ↔ ((k : ℕ) → k < 8 → get_or src.now k 0 < 0x80) }
@@ -18,7 +17,6 @@ pub fn has_past_ascii(src: &[u8]) -> bool
 
 /// Returns the bits of the bytes past ASCII.
 #[inline(always)]
-#[tactic(auto, using(crate::proofs::PastAscii::past_bits))]
 pub fn past_ascii(block: u8x64) -> u64
     ensures { ArePast result block }
 {

@@ -50,7 +50,6 @@ pub(crate) fn put_scalar(dst: &mut [u8], at: usize, c: char) -> usize
 }
 
 /// Returns the entry of a scalar up to U+FFFF: its bytes from the lowest one on, and as the highest byte their number.
-#[tactic(auto, using(crate::proofs::CodeUnits::encoding))]
 pub fn utf8_entry(c: char) -> u32
     requires { c < 0x1_0000 }
     ensures { IsUtf8Entry c result }

@@ -145,7 +145,6 @@ impl Source for Utf8Source<'_> {
     }
 
     #[inline]
-    #[tactic(auto, using(crate::proofs::Texts::advance_steps))]
     fn advance(&mut self) {
         if let Some(c) = scalar_at(self.text, self.place) {
             self.place += c.len_utf8();
@@ -246,7 +245,6 @@ pub struct Utf16Source<'a> {
 
 /// Returns the scalar at a place of the code units, or `None` at their end.
 #[inline]
-#[tactic(auto, using(crate::proofs::Texts::unit_steps))]
 fn unit_scalar_at(units: &[u16], place: usize) -> Option<char>
     requires { place ≤ length units.now }
     ensures { result ≡ slice_get (unit_scalars (drop place units.now)) 0 }
@@ -315,7 +313,6 @@ impl Source for Utf16Source<'_> {
     }
 
     #[inline]
-    #[tactic(auto, using(crate::proofs::Texts::advance_steps))]
     fn advance(&mut self) {
         if let Some(c) = unit_scalar_at(self.units, self.place) {
             self.place += c.len_utf16();

@@ -4,76 +4,64 @@ ghost use Rattle.legacy_tables.specs.Tables.{flat_indexes};
 ghost use Rattle.legacy_index_files.specs.Packing.{GivesIndex, GiveRuns};
 
 use super::OwnedPacked;
-use super::entries::Entries;
-use legacy_tables::{Indexes, Run};
-use std::alloc::{AllocError, Global};
+use legacy_tables::{Entry, Indexes, Run};
+use std::alloc::AllocError;
 
 /// Returns the number of pointers, from the given one to `end`, with consecutive scalar values.
-fn run_length<E: Entries>(index: &E, pointer: usize, end: usize) -> usize
+fn run_length<E: Entry>(index: &[E], pointer: usize, end: usize) -> usize
     requires starts { pointer < end }
-    requires within { end ≤ length (E.entries index.now) }
+    requires within { end ≤ length (E.numbers index.now) }
     requires few { end < 65536 }
     ensures some { 0 < result }
     ensures within { pointer + result ≤ end }
-    ensures row { (k : ℕ) → k < result → slice_index (E.entries index.now) (pointer + k)
-        ≡ slice_index (E.entries index.now) pointer + k }
+    ensures row { (k : ℕ) → k < result → slice_index (E.numbers index.now) (pointer + k)
+        ≡ slice_index (E.numbers index.now) pointer + k }
     ensures longest { pointer + result < end →
-        slice_index (E.entries index.now) (pointer + result)
-        ≢ slice_index (E.entries index.now) pointer + result }
+        slice_index (E.numbers index.now) (pointer + result)
+        ≢ slice_index (E.numbers index.now) pointer + result }
 {
-    let scalar = index.entry(pointer) as usize;
+    let scalar = E::number(index, pointer);
     for next in pointer + 1..end {
-        if index.entry(next) as usize != scalar + (next - pointer) {
+        if E::number(index, next) != scalar + (next - pointer) {
             return next - pointer;
         }
     }
     end - pointer
 }
 
-/// Returns the longest runs of the first `limit` entries of an index.
-fn runs_of<E: Entries>(alloc: Global, limit: usize, index: &E) -> Result<Vec<Run>, AllocError>
+/// Replaces the runs with the longest ones of the first `limit` entries of an index.
+fn fill_runs<E: Entry>(limit: usize, index: &[E], runs: &mut Vec<Run>) -> Result<(), AllocError>
     requires { limit ≤ 23940 }
-    ensures { IfOk result (λ runs. GivesIndex limit (E.entries index.now) runs.items) }
+    ensures { IfOk result (λ _. GivesIndex limit (E.numbers index.now) runs.new.items) }
 {
-    let mut runs = Vec::new(alloc);
+    runs.clear();
     let mut pointer = 0;
-    let end = index.count().min(limit);
+    let end = index.len().min(limit);
     while pointer < end {
-        let scalar = index.entry(pointer);
+        let scalar = E::number(index, pointer);
         if scalar == 0 {
             pointer += 1;
         } else {
             let length = run_length(index, pointer, end);
             runs.push(Run {
-                scalar,
                 pointer: pointer as u16,
+                scalar: scalar as u32,
                 length: length as u16,
             })?;
             pointer += length;
         }
     }
-    Ok(runs)
+    Ok(())
 }
 
-/// Returns packed indexes with the longest runs of the five indexes, and without orders.
-pub(super) fn packed_runs(alloc: Global, indexes: &Indexes<'_>) -> Result<OwnedPacked, AllocError>
-    ensures { IfOk result (GiveRuns (flat_indexes indexes.now)) }
+/// Makes the longest runs of the five indexes.
+pub(super) fn add_runs(indexes: &Indexes<'_>, packed: &mut OwnedPacked) -> Result<(), AllocError>
+    ensures { IfOk result (λ _. GiveRuns (flat_indexes indexes.now) packed.new) }
 {
-    let big5 = runs_of(alloc, 19782, &indexes.big5)?;
-    let euc_kr = runs_of(alloc, 23940, &indexes.euc_kr)?;
-    let jis0208 = runs_of(alloc, 11280, &indexes.jis0208)?;
-    let jis0212 = runs_of(alloc, 8836, &indexes.jis0212)?;
-    let gb18030 = runs_of(alloc, 23940, &indexes.gb18030)?;
-    Ok(OwnedPacked {
-        big5,
-        euc_kr,
-        jis0208,
-        jis0212,
-        gb18030,
-        big5_order: Vec::new(alloc),
-        euc_kr_order: Vec::new(alloc),
-        shift_jis_order: Vec::new(alloc),
-        euc_jp_order: Vec::new(alloc),
-        gb18030_order: Vec::new(alloc),
-    })
+    fill_runs(19782, indexes.big5, &mut packed.big5)?;
+    fill_runs(23940, indexes.euc_kr, &mut packed.euc_kr)?;
+    fill_runs(11280, indexes.jis0208, &mut packed.jis0208)?;
+    fill_runs(8836, indexes.jis0212, &mut packed.jis0212)?;
+    fill_runs(23940, indexes.gb18030, &mut packed.gb18030)?;
+    Ok(())
 }

@@ -1,14 +1,12 @@
 //! Tables in the form of flat indexes.
-ghost use Rattle.std.specs.Prelude.{◌≡◌, MatchResult, Some};
+ghost use Rattle.std.specs.Prelude.{◌≡◌, None};
 ghost use Rattle.legacy_tables.specs.Tables.{flat_indexes};
 ghost use Rattle.legacy_tables.specs.TableChecks.{AreAccepted};
 
-use super::checks::check_indexes;
 use super::numbers::number_at;
 use super::private_use::row_bytes;
 use super::{
-    DecoderTables, EncoderTables, IndexName, Indexes, Marks, PackedPart, Ranges, TableError,
-    lookups, pointers,
+    DecoderTables, EncoderTables, IndexName, Indexes, Marks, PackedPart, Ranges, lookups, pointers,
 };
 use std::marker::Model;
 
@@ -36,14 +34,12 @@ impl<'a> FlatTables<'a> {
     ghost use Rattle.legacy_tables.specs.Tables.{flat_indexes, index_list, is_narrow_index};
     ghost use Rattle.std.specs.Prelude.{true, false, length, slice_index};
 
-    /// Returns what `Tables::new` does.
-    pub(super) fn new(indexes: &Indexes<'a>) -> Result<FlatTables<'a>, TableError>
-        ensures { MatchResult result
-            (λ tables. tables.flat ≡ flat_indexes indexes.now)
-            (λ fault. table_fault (flat_indexes indexes.now) ≡ Some fault) }
+    /// Returns the tables of indexes that passed the check.
+    pub(super) fn of(indexes: &Indexes<'a>) -> FlatTables<'a>
+        requires { table_fault (flat_indexes indexes.now) ≡ None }
+        ensures { result.flat ≡ flat_indexes indexes.now }
     {
-        check_indexes(indexes)?;
-        Ok(FlatTables { given: *indexes })
+        FlatTables { given: *indexes }
     }
 
     /// Returns a copy of these tables. It borrows the same indexes.

@@ -146,7 +146,6 @@ fn held_pointer<N: Numbers>(
 
 /// Checks whether the order lacks the scalar of a pointer, if it lacks that of no earlier pointer.
 // Except for Big5's six scalars, the codec uses the first pointer. So the order is wrong if its pointer is a later one.
-#[tactic(auto, using(crate::proofs::Orders::lacking))]
 fn lacks<N: Numbers>(
     part: PackedPart,
     index: &N,

@@ -54,7 +54,7 @@ impl<'a> Model for PackedTables<'a> {
 
 /// Checks the flat indexes, then the runs, and then the orders, and returns the first fault.
 #[tactic(auto, using(crate::proofs::TableLoops::fault_steps))]
-fn check_packed(indexes: &Indexes<'_>, packed: &Packed<'_>) -> Result<(), TableError>
+pub(super) fn check_packed(indexes: &Indexes<'_>, packed: &Packed<'_>) -> Result<(), TableError>
     ensures { let found = packed_fault (flat_indexes indexes.now) packed.now in
         MatchResult result (λ _. found ≡ None) (λ fault. found ≡ Some fault) }
 {
@@ -68,23 +68,18 @@ impl<'a> PackedTables<'a> {
     ghost use Rattle.std.specs.Prelude.{◌<◌, ◌≤◌, length, slice_index, true, MatchOption};
     ghost use Rattle.legacy_tables.specs.Packed.{ArePackedTables};
 
-    /// Returns what `Tables::packed_of` does.
-    pub(super) fn new(
-        indexes: &Indexes<'a>,
-        packed: &Packed<'a>,
-    ) -> Result<PackedTables<'a>, TableError>
-        ensures { MatchResult result
-            (λ tables. ArePackedTables (flat_indexes indexes.now) packed.now tables.flat)
-            (λ fault. packed_fault (flat_indexes indexes.now) packed.now ≡ Some fault) }
+    /// Returns the tables of indexes that passed the check.
+    pub(super) fn of(indexes: &Indexes<'a>, packed: &Packed<'a>) -> PackedTables<'a>
+        requires { packed_fault (flat_indexes indexes.now) packed.now ≡ None }
+        ensures { ArePackedTables (flat_indexes indexes.now) packed.now result.flat }
     {
-        check_packed(indexes, packed)?;
-        Ok(PackedTables {
+        PackedTables {
             runs: CheckedRuns::of(packed),
             orders: CheckedOrders::of(packed),
             katakana: indexes.katakana,
             ranges: indexes.ranges,
             gb18030_pua: indexes.gb18030_pua,
-        })
+        }
     }
 
     /// Returns what `Tables::unpack_big5` does.

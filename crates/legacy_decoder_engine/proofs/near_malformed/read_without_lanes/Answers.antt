@@ -26,3 +26,6 @@ loop-at-preserved-then-not-goes_on g c =
 
 pub loop-at-preserved : goal.loop-at-preserved
 loop-at-preserved g c = reads_more c.loop-at.invariant (rw c.new-forms.ensures at c.read_four-read.ensures.ahead)
+
+pub returns : goal.returns
+returns g c = c.loop-at.invariant

@@ -29,3 +29,9 @@ loop-left-preserved g c =
           l.invariant.forms e.forms same in
           rw (w.codes-is, w.next-is) (record { room = omega arith; read = omega arith; forms = forms })
     ]
+
+pub returns-else-src-at-ge16 : goal.returns-else-src-at-ge16
+returns-else-src-at-ge16 g c = let i = c.loop-left.invariant in record { most = omega (arith, i.room); read = i.read; forms = i.forms }
+
+pub returns-after-loop-left : goal.returns-after-loop-left
+returns-after-loop-left g c = let i = c.loop-left.invariant in record { most = omega (arith, i.room); read = i.read; forms = i.forms }

@@ -1,4 +1,5 @@
 use Rattle.legacy_decoder_engine.proofs.JoinedReads.{reads_more}
+use Rattle.legacy_decoder_engine.proofs.WrittenReads.{reads_none}
 use Rattle.legacy_decoder_engine.proofs.read_ahead.read_blocks.Goals as goal
 
 pub loop-at-preserved : goal.loop-at-preserved
@@ -6,3 +7,6 @@ loop-at-preserved g c = reads_more c.loop-at.invariant c.read_block-read.ensures
 
 pub returns-then-not-goes_on : goal.returns-then-not-goes_on
 returns-then-not-goes_on g c = reads_more c.loop-at.invariant c.read_block-read.ensures.ahead
+
+pub loop-at-init : goal.loop-at-init
+loop-at-init g c = reads_none g.T.Destination _ _ _

@@ -4,6 +4,7 @@ use Rattle.legacy_text.proofs.Texts.{first_cons, none_left}
 use Rattle.legacy_encoder_engine.specs.Moves.{is_escape}
 use Rattle.legacy_encoder_engine.proofs.CallUnderWay.{underway_start, underway_read, underway_escape, call_full_scalar, call_full_end, call_unmappable}
 use Rattle.legacy_encoder_engine.proofs.CallUnderWay.{call_done, call_finish, first_units}
+use Rattle.std.proofs.lemmas.Grind.{common_steps}
 use Rattle.legacy_encoder_engine.proofs.drive.drive_encoder.Goals as goal
 
 pub loop-c-init : goal.loop-c-init
@@ -121,3 +122,9 @@ returns-else-is_pending-clause-written g c = omega arith
 
 pub put_move-written-requires : goal.put_move-written-requires
 put_move-written-requires g c = omega (arith, c.next-step.ensures.fits, c.need.ensures.bytes)
+
+pub advance-requires : goal.advance-requires
+advance-requires g c = grind (arith, common_steps)
+
+pub advance-requires-in-loop-c : goal.advance-requires-in-loop-c
+advance-requires-in-loop-c g c = grind (arith, common_steps)

@@ -1,6 +1,7 @@
 use Rattle.std.proofs.{Common.{◌≡◌, ◌∙◌, ◌+◌, ◌≤◌, ◌++◌, length, take, get_or, refl, arith}, lemmas.Bool.and_parts, lemmas.List.length-take-le}
 use Rattle.legacy_encoder_engine.specs.UnitTurns.{two_bytes}
 use Rattle.legacy_encoder_engine.proofs.UnitTurns.{kept, stays, units_more}
+use Rattle.std.proofs.lemmas.Grind.{common_steps}
 use Rattle.legacy_encoder_engine.proofs.read_ahead.put_ten.Goals as goal
 
 pub loop-k-preserved : goal.loop-k-preserved
@@ -27,3 +28,12 @@ loop-k-preserved g c =
           units_more _ _ c.requires.serves c.args.units _ _ _ c.loop-k.k unit both count (i.4 flags.0) (omega (arith, c.loop-k-test.true)) refl
           (c.unit_bytes-both.ensures.code flags.1) (omega (arith, long, c.requires.fits unit, i.0, i.2, c.loop-k-test.true, c.requires.room)) put),
     )
+
+pub loop-k-init : goal.loop-k-init
+loop-k-init g c = grind (arith, common_steps)
+
+pub returns-then-is_known : goal.returns-then-is_known
+returns-then-is_known g c = grind (arith, common_steps)
+
+pub returns-else-is_known : goal.returns-else-is_known
+returns-else-is_known g c = grind (arith, common_steps)

@@ -63,3 +63,42 @@ read_past_ascii-requires-clause-room g c = omega (arith, c.widest-widest.ensures
 
 pub read_past_ascii-requires-in-Three-clause-room : goal.read_past_ascii-requires-in-Three-clause-room
 read_past_ascii-requires-in-Three-clause-room g c = omega (arith, c.widest-widest.ensures.is)
+
+pub returns-then-at-start-clause-guess : goal.returns-then-at-start-clause-guess
+returns-then-at-start-clause-guess g c = c.loop-dst.invariant.1
+
+pub put_code-requires-clause-guess : goal.put_code-requires-clause-guess
+put_code-requires-clause-guess g c = c.loop-dst.invariant.1
+
+pub returns-in_default-clause-guess : goal.returns-in_default-clause-guess
+returns-in_default-clause-guess g c = c.in_default.ensures.guess
+
+pub read_past_ascii-requires-clause-fits : goal.read_past_ascii-requires-clause-fits
+read_past_ascii-requires-clause-fits g c = c.widest-widest.ensures.fits _
+
+pub read_past_ascii-requires-clause-serves : goal.read_past_ascii-requires-clause-serves
+read_past_ascii-requires-clause-serves g c = c.widest-widest.ensures.serves
+
+pub read_past_ascii-requires-clause-guess : goal.read_past_ascii-requires-clause-guess
+read_past_ascii-requires-clause-guess g c = c.loop-dst.invariant.1
+
+pub read_past_ascii-requires-in-Three-clause-fits : goal.read_past_ascii-requires-in-Three-clause-fits
+read_past_ascii-requires-in-Three-clause-fits g c = c.widest-widest.ensures.fits _
+
+pub read_past_ascii-requires-in-Three-clause-serves : goal.read_past_ascii-requires-in-Three-clause-serves
+read_past_ascii-requires-in-Three-clause-serves g c = c.widest-widest.ensures.serves
+
+pub read_past_ascii-requires-in-Three-clause-guess : goal.read_past_ascii-requires-in-Three-clause-guess
+read_past_ascii-requires-in-Three-clause-guess g c = c.loop-dst.invariant.1
+
+pub returns-in_default-read_past_ascii-clause-guess : goal.returns-in_default-read_past_ascii-clause-guess
+returns-in_default-read_past_ascii-clause-guess g c = c.in_default-read_past_ascii.ensures.guess
+
+pub returns-in-None-clause-guess : goal.returns-in-None-clause-guess
+returns-in-None-clause-guess g c = c.in-None.ensures.guess
+
+pub returns-in-Four-clause-guess : goal.returns-in-Four-clause-guess
+returns-in-Four-clause-guess g c = c.loop-dst.invariant.1
+
+pub returns-clause-guess : goal.returns-clause-guess
+returns-clause-guess g c = c.loop-dst.invariant.1

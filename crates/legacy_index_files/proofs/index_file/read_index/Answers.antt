@@ -1,5 +1,7 @@
 use Rattle.std.proofs.Common.{◌≡◌, ◌↔◌, ℕ, Option, Some, Result, Err, refl, rules}
 use Rattle.legacy_index_files.specs.{declared.index_file.IndexFileError.IndexFileError, declared.index_file.IndexFileError.TheVariants.Line}
+use Rattle.std.proofs.{Common.arith, lemmas.Grind.common_steps}
+use Rattle.legacy_index_files.proofs.IndexGrammars.{kind_by_grammar}
 use Rattle.legacy_index_files.proofs.index_file.read_index.Goals as goal
 
 -- the error has the number of the line that was found
@@ -12,3 +14,15 @@ returns-in-Err-clause-line c = line_is c.in-Err.number _ _ c.in-Err.ensures.soun
 
 pub returns-clause-memory : goal.returns-clause-memory
 returns-clause-memory c = search rules
+
+pub returns-clause-table : goal.returns-clause-table
+returns-clause-table c = grind (arith, common_steps)
+
+pub returns-clause-line : goal.returns-clause-line
+returns-clause-line c = grind (arith, common_steps)
+
+pub returns-in-Err-clause-grammar : goal.returns-in-Err-clause-grammar
+returns-in-Err-clause-grammar c = kind_by_grammar
+
+pub returns-clause-grammar : goal.returns-clause-grammar
+returns-clause-grammar c = kind_by_grammar

@@ -1,5 +1,6 @@
 use Rattle.std.proofs.Common.{◌<◌, ◌+◌, ◌*◌, ◌^◌, arith}
 use Rattle.legacy_index_files.proofs.IndexNumbers.{below_power, six_digits, TakesDigit, takes_digit}
+use Rattle.std.proofs.lemmas.Grind.{common_steps}
 use Rattle.legacy_index_files.proofs.index_line.parse_number.Goals as goal
 
 small_enough : (c : goal.Else-count-eq-MOST_DIGITS) → c.loop-first.value * c.args.radix + c.in-Some-to_digit.digit < 16 ^ (c.loop-first.count + 1)
@@ -18,3 +19,12 @@ taken c = takes_digit _ _ _ _ _ _ c.in-Some.ensures.cases.0 c.in-Some-to_digit.e
 
 pub loop-first-preserved : goal.loop-first-preserved
 loop-first-preserved c = grind (arith, small_enough c, taken c)
+
+pub returns-then-count-eq-MOST_DIGITS : goal.returns-then-count-eq-MOST_DIGITS
+returns-then-count-eq-MOST_DIGITS c = grind (arith, common_steps)
+
+pub returns-then-count-eq0 : goal.returns-then-count-eq0
+returns-then-count-eq0 c = grind (arith, common_steps)
+
+pub returns-else-count-eq0 : goal.returns-else-count-eq0
+returns-else-count-eq0 c = grind (arith, common_steps)

@@ -1,5 +1,6 @@
 use Rattle.std.proofs.Common.{◌∙◌, sym}
 use Rattle.legacy_index_files.proofs.IndexValues.{fills_line}
+use Rattle.std.proofs.{Common.arith, lemmas.Grind.common_steps}
 use Rattle.legacy_index_files.proofs.index_table.fill.Goals as goal
 
 pub loop-rest-preserved-in-Entry : goal.loop-rest-preserved-in-Entry
@@ -11,3 +12,9 @@ loop-rest-preserved-in-Entry g c =
       room = rw c.put.auto.entries (rw all at step.room);
       at_each = λ p within. rw c.put.ensures (step.at_each p ∙ c.loop-rest.invariant.at_each p (rw c.put.auto.entries at within));
     }
+
+pub loop-rest-preserved : goal.loop-rest-preserved
+loop-rest-preserved g c = grind (arith, common_steps)
+
+pub returns : goal.returns
+returns g c = grind (arith, common_steps)

@@ -22,3 +22,24 @@ returns-clause-puts g c =
 
 pub returns-then-not-has_bytes-clause-puts : goal.returns-then-not-has_bytes-clause-puts
 returns-then-not-has_bytes-clause-puts g c = refl
+
+pub returns-in-Some-clause-guess : goal.returns-in-Some-clause-guess
+returns-in-Some-clause-guess g c = c.requires.guess
+
+pub four_of-requires-clause-past : goal.four_of-requires-clause-past
+four_of-requires-clause-past g c = c.requires.past
+
+pub four_of-requires-clause-guess : goal.four_of-requires-clause-guess
+four_of-requires-clause-guess g c = c.requires.guess
+
+pub returns-in-Some-four_of-clause-guess : goal.returns-in-Some-four_of-clause-guess
+returns-in-Some-four_of-clause-guess g c = c.in-Some-four_of.ensures.guess
+
+pub returns-then-not-GOES_PAST_PAIRS-clause-guess : goal.returns-then-not-GOES_PAST_PAIRS-clause-guess
+returns-then-not-GOES_PAST_PAIRS-clause-guess g c = c.four_of.ensures.guess
+
+pub returns-then-not-has_bytes-clause-guess : goal.returns-then-not-has_bytes-clause-guess
+returns-then-not-has_bytes-clause-guess g c = c.four_of.ensures.guess
+
+pub returns-clause-guess : goal.returns-clause-guess
+returns-clause-guess g c = c.four_of.ensures.guess

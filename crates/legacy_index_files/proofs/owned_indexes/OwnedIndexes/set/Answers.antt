@@ -6,3 +6,21 @@ returns-then-eq-3-clause-place c = grind (arith, common_steps)
 
 pub returns-then-eq-3-clause-texts : goal.returns-then-eq-3-clause-texts
 returns-then-eq-3-clause-texts c = grind (arith, common_steps)
+
+pub returns-in-Narrow-clause-texts : goal.returns-in-Narrow-clause-texts
+returns-in-Narrow-clause-texts c = grind (arith, common_steps)
+
+pub returns-then-eq-clause-texts : goal.returns-then-eq-clause-texts
+returns-then-eq-clause-texts c = grind (arith, common_steps)
+
+pub returns-else-eq-clause-texts : goal.returns-else-eq-clause-texts
+returns-else-eq-clause-texts c = grind (arith, common_steps)
+
+pub returns-then-eq-2-clause-texts : goal.returns-then-eq-2-clause-texts
+returns-then-eq-2-clause-texts c = grind (arith, common_steps)
+
+pub returns-else-eq-2-clause-texts : goal.returns-else-eq-2-clause-texts
+returns-else-eq-2-clause-texts c = grind (arith, common_steps)
+
+pub returns-else-eq-3-clause-texts : goal.returns-else-eq-3-clause-texts
+returns-else-eq-3-clause-texts c = grind (arith, common_steps)

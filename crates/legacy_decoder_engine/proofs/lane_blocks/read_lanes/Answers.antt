@@ -1,0 +1,5 @@
+use Rattle.legacy_decoder_engine.proofs.WrittenReads.{reads_none}
+use Rattle.legacy_decoder_engine.proofs.lane_blocks.read_lanes.Goals as goal
+
+pub returns-then-not-begins_many : goal.returns-then-not-begins_many
+returns-then-not-begins_many g c = reads_none g.T.Destination _ _ _
