@@ -1,7 +1,7 @@
 -- The length formulas of the ISO-2022-JP encoder are enough for its scalars and escapes. Its moves, by its tables and by a list of pairs.
 use Rattle.std.proofs.Common.{◌≡◌, ℕ, ◌+◌, ◌<◌, ◌≤◌, ◌/◌, ◌%◌, List, arith, Bool, true, false, [], ◌∷◌, ◌++◌, length, refl, IsTrue, Some, map, ◌⊎◌}
-use Rattle.std.proofs.Common.{IsAscii, get_or}
-use Rattle.std.{specs.List.list_any, proofs.lemmas.List.Folds.list_any_at}
+use Rattle.std.proofs.{Common.{IsAscii, get_or, take}, lemmas.List.{length-take, get_or-take, Folds.list_any_at}}
+use Rattle.std.specs.List.{list_any}
 use Rattle.{std.proofs.lemmas.Bool.Decides.nat_tests, legacy_tables.specs.Indexes.FlatIndexes, legacy_text.specs.UnitCodes.IsNoSurrogate}
 use Rattle.{legacy_text.specs.EncodingForm.{EncodingForm, Utf8}, legacy_base.specs.{EncodeEvents.code_events, Beginnings.BeginsWith}}
 use Rattle.legacy_base.specs.{EncoderProfile.{EncoderProfile, differs}, Encoders.{encoder_profile, iso_2022_jp, is_pending}}
@@ -79,11 +79,7 @@ module _ (flat : FlatIndexes) where
     pub stays : Asks flat mode c new move → differs mode new ≡ false → Moves (state_in flat mode) c (state_in flat mode) move
     stays asks same =
         let here : mode_for flat.jis0208 flat.katakana mode c ≡ mode = grind (arith, asks.mode_is) in
-        here_moves (state_in flat mode) (iso_2022_jp_reported c) c (record {
-          law = text_events-here flat.jis0208 flat.katakana mode c here;
-          fits = omega (arith, code-short flat.jis0208 flat.katakana c);
-          asks = rw here (differs-same mode);
-        }) move asks.code_is
+        here_moves _ _ c (grind (arith, here, text_events-here, code-short, differs-same)) move asks.code_is
 
     pub fits : Asks flat mode c new move → differs mode new ≡ false → length (move_bytes move) ≤ 3
     fits asks same = let moves = stays asks same in omega (arith, moves.fits)
@@ -102,10 +98,10 @@ module _ (flat : FlatIndexes) where
   asks_ascii : (c : ℕ) → c < 128 → is_mode_control c ≡ false → Asks flat Ascii c Ascii (One c)
   asks_ascii c low free = record { mode_is = grind (arith, asked_steps); code_is = grind (arith, asked_steps) }
 
-  pub own_bytes : (bytes : List ℕ) → IsAscii bytes → list_any is_mode_control bytes ≡ false → (k : ℕ) → k < length bytes
-      → ReadsByte (state_in flat Ascii) 2 (get_or bytes k 0) (get_or bytes k 0)
-  own_bytes bytes ascii none k h =
-      let free : is_mode_control (get_or bytes k 0) ≡ false = grind (arith, none, h, list_any_at is_mode_control bytes k 0) in
+  pub own_bytes : (out bytes : List ℕ) (n m : ℕ) → take n out ≡ bytes → IsAscii bytes → list_any is_mode_control (take m out) ≡ false → n ≤ m
+      → (k : ℕ) → k < length bytes → ReadsByte (state_in flat Ascii) 2 (get_or bytes k 0) (get_or bytes k 0)
+  own_bytes out bytes n m same ascii none within k h =
+      let free : is_mode_control (get_or bytes k 0) ≡ false = grind (arith, same, none, h, length-take, get_or-take, list_any_at is_mode_control (take m out) k 0) in
       record { fits = omega arith; moves = stays (asks_ascii _ (ascii k) free) refl }
 
   pub puts_ascii : (c : ℕ) (mode : EncoderMode) → c < 128 → is_mode_control c ≡ false → mode ≡ Ascii → (old bytes : List ℕ) (at : ℕ) → bytes ≡ old ++ c ∷ []
