@@ -1,7 +1,7 @@
 -- Reading ahead of the moves.
 use Rattle.std.proofs.Common.{◌≡◌, ◌∙◌, ℕ, suc, ◌+◌, ◌-◌, ◌≤◌, ◌<◌, List, [], ◌∷◌, ◌++◌, length, get_or, take, drop, refl, ap, sym, subst, arith, append_assoc}
-use Rattle.std.proofs.{Common.{append-nil, length-append, false, IsAscii}, lemmas.List.{get_or-take, length-take-le}}
-use Rattle.std.proofs.lemmas.List.{take-append-drop}
+use Rattle.std.proofs.{Common.{append-nil, length-append, false, IsAscii}, lemmas.List.{get_or-take, length-take, length-take-le}}
+use Rattle.std.proofs.lemmas.List.{take-append-drop, take-append-le, take-take, take_at, drop-take, drop_at}
 use Rattle.legacy_text.specs.{EncodingForm.{EncodingForm, code_units, all_code_units, total_unit_count}, NextScalars.IsFirst, UnitCodes.WritesCodes}
 use Rattle.legacy_text.proofs.CodeUnits.{length-code_units-ascii, total_unit_count-append}
 use Rattle.legacy_base.specs.Encoders.{EncoderState, encoder_profile, scalar_need}
@@ -107,6 +107,20 @@ encodes_ascii {state} form free room serves {left} passed {n = n} within rest as
       count = long;
       each = λ k h. subst (λ c. ReadsByte state room c (get_or (take n left) k 0)) (get_or-take n left k 0 h) (reads k (omega (arith, h, long)));
     })
+
+-- the same, copied into the part of an output before the place `limit`
+module _ (start n limit : ℕ) (dst new left : List ℕ) (fits : start + n ≤ length (take limit dst)) (same : length new ≡ length (take limit dst))
+    (bytes : take (start + n) new ≡ take start (take limit dst) ++ take n left) where
+  pub copied_part : take (start + n) (new ++ drop limit dst) ≡ take start dst ++ take n left
+  copied_part = let short = length-take limit dst in rw (take-append-le (start + n) new (drop limit dst) (omega arith), bytes, take-take start limit dst (omega arith))
+
+  pub kept_part : take start (new ++ drop limit dst) ≡ take start dst
+  kept_part = rw (← take-take start (start + n) (new ++ drop limit dst) (omega arith), copied_part)
+      (take_at (take start dst) (take n left) start (length-take-le start dst (omega (arith, length-take limit dst))))
+
+  pub written_part : take n (drop start (new ++ drop limit dst)) ≡ take n left
+  written_part = rw (← drop-take start n (new ++ drop limit dst), copied_part)
+      (drop_at (take start dst) (take n left) start (length-take-le start dst (omega (arith, length-take limit dst))))
 
 -- one more scalar
 pub encodes_put : {state : EncoderState} (form : EncodingForm) {free passed passed' passed'' start at end c n room : ℕ}

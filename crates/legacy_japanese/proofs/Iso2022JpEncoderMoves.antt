@@ -1,14 +1,12 @@
 -- The length formulas of the ISO-2022-JP encoder are enough for its scalars and escapes. Its moves, by its tables and by a list of pairs.
 use Rattle.std.proofs.Common.{◌≡◌, ℕ, ◌+◌, ◌<◌, ◌≤◌, ◌/◌, ◌%◌, List, arith, Bool, true, false, [], ◌∷◌, ◌++◌, length, refl, IsTrue, Some, map, ◌⊎◌}
-use Rattle.std.proofs.Common.{IsAscii, get_or}
-use Rattle.std.{specs.List.list_any, proofs.lemmas.List.Folds.list_any_at}
+use Rattle.std.{specs.List.list_any, proofs.{Common.{IsAscii, get_or, take}, lemmas.List.{length-take, get_or-take, Folds.list_any_at}}}
 use Rattle.{std.proofs.lemmas.Bool.Decides.nat_tests, legacy_tables.specs.Indexes.FlatIndexes, legacy_text.specs.UnitCodes.IsNoSurrogate}
-use Rattle.{legacy_text.specs.EncodingForm.{EncodingForm, Utf8}, legacy_base.specs.{EncodeEvents.code_events, Beginnings.BeginsWith}}
+use Rattle.{legacy_text.specs.EncodingForm.{EncodingForm, Utf8}, legacy_base.specs.Beginnings.BeginsWith}
 use Rattle.legacy_base.specs.{EncoderProfile.{EncoderProfile, differs}, Encoders.{encoder_profile, iso_2022_jp, is_pending}}
-use Rattle.legacy_base.specs.Iso2022Jp.{iso_2022_jp_encoder, iso_2022_jp_code, iso_2022_jp_reported, is_two_byte_scalar, is_roman_scalar, is_mode_control}
-use Rattle.legacy_base.{specs.{Iso2022Jp.{mode_after_text, escape_to}, declared.results.EncodeEvent.EncodeEvent}, proofs.SameUnits.some_unit}
+use Rattle.legacy_base.specs.Iso2022Jp.{iso_2022_jp_encoder, iso_2022_jp_code, is_two_byte_scalar, is_roman_scalar, is_mode_control, mode_after_text, escape_to}
 use Rattle.legacy_base.proofs.Iso2022JpEncoding.{code-short, text_events, text_events-here, text_events-escape, text_events-end, text_events-open, mode_for}
-use Rattle.legacy_base.proofs.Iso2022JpEncoding.{mode_by, mode_for-by, mode_for-twice, code_by}
+use Rattle.legacy_base.proofs.{Iso2022JpEncoding.{mode_by, mode_for-by, mode_for-twice, code_by}, SameUnits.some_unit}
 use Rattle.legacy_encoder_engine.specs.{Moves.{is_escape, move_bytes, move_report, Moves, Finishes}, ProfileSuffices.{Serves, mode_need}}
 use Rattle.legacy_encoder_engine.specs.{UnfinishedCall.{PutsCode, ReadsByte}, UnitTurns.{ReadsUnit, two_bytes}}
 use Rattle.legacy_encoder_engine.specs.declared.moves.EncoderMove.{EncoderMove, TheVariants.{One, Two}}
@@ -30,11 +28,8 @@ module _ (jis0208 katakana_index : List ℕ) where
   escape_by pair keeps romans mode form t u own e o n p q r = grind arith
 
   -- no scalar of two-byte or Roman mode is ASCII
-  pair_past : (c : ℕ) → is_two_byte_scalar jis0208 katakana_index c ≡ true → 128 ≤ c
-  pair_past c e = grind (arith, nat_tests, code_by)
-
-  roman_past : (c : ℕ) → is_roman_scalar c ≡ true → 128 ≤ c
-  roman_past c e = grind (arith, nat_tests)
+  past_ascii : (c : ℕ) → (is_two_byte_scalar jis0208 katakana_index c ≡ true → 128 ≤ c) × (is_roman_scalar c ≡ true → 128 ≤ c)
+  past_ascii c = grind (arith, nat_tests, code_by)
 
   -- ---- what the encoder's loop needs to know of the codec
 
@@ -44,8 +39,8 @@ module _ (jis0208 katakana_index : List ℕ) where
     settled = λ mode c. rw (mode_for-twice jis0208 katakana_index mode c) (differs-same (mode_for jis0208 katakana_index mode c));
     low = λ mode c form t. grind (arith, code-short, some_unit);
     enough = λ mode c form t. grind (arith, some_unit);
-    escape_low = λ mode c n form t. grind (arith, mode_for-by, code-short, escape_by, some_unit, two_units, pair_past, roman_past);
-    escape_enough = λ mode c n form t. grind (arith, mode_for-by, code-short, escape_by, some_unit, two_units, pair_past, roman_past);
+    escape_low = λ mode c n form t. grind (arith, mode_for-by, code-short, escape_by, some_unit, two_units, past_ascii);
+    escape_enough = λ mode c n form t. grind (arith, mode_for-by, code-short, escape_by, some_unit, two_units, past_ascii);
     end = λ mode form. grind arith;
     escapes = λ mode e. grind arith;
     rises = λ form m n h. grind arith;
@@ -53,17 +48,14 @@ module _ (jis0208 katakana_index : List ℕ) where
 
   -- ---- the end
 
-  -- the bytes of a scalar do not begin with the escape byte
-  no_escape : (c r : ℕ) (more rest : List EncodeEvent) → code_events r (iso_2022_jp_code jis0208 katakana_index c) ++ more ≡ events.Byte 0x1B ∷ rest → ⊥
-  unfolding iso_2022_jp_code
-  no_escape c r more rest e = grind (arith, nat_tests)
-
-  -- the escape to ASCII mode comes at the end, or before a text that begins with it; the rest is encoded from ASCII mode
+  -- The escape to ASCII mode comes at the end, or before a text that begins with it. The rest is encoded from ASCII mode.
+  -- The bytes of a scalar do not begin with the escape byte.
   escape_first : (mode : EncoderMode) → (mode ≡ Ascii → ⊥) → (more : List ℕ) (ended : Bool)
       → ((more ≡ []) × IsTrue ended) ⊎ BeginsWith (text_events jis0208 katakana_index mode more ended) (map events.Byte (escape_to Ascii))
       → text_events jis0208 katakana_index mode more ended ≡ map events.Byte (escape_to Ascii) ++ text_events jis0208 katakana_index Ascii more ended
+  unfolding iso_2022_jp_code
   escape_first mode other [] ended h = grind (arith, text_events-open, text_events-end)
-  escape_first mode other (c ∷ more) ended h = grind (arith, text_events-here, text_events-escape, no_escape)
+  escape_first mode other (c ∷ more) ended h = grind (arith, nat_tests, text_events-here, text_events-escape)
 
   -- a test that the code computes
   pub ruleset asked_steps = (nat_tests, mode_for-by, code_by)
@@ -79,11 +71,7 @@ module _ (flat : FlatIndexes) where
     pub stays : Asks flat mode c new move → differs mode new ≡ false → Moves (state_in flat mode) c (state_in flat mode) move
     stays asks same =
         let here : mode_for flat.jis0208 flat.katakana mode c ≡ mode = grind (arith, asks.mode_is) in
-        here_moves (state_in flat mode) (iso_2022_jp_reported c) c (record {
-          law = text_events-here flat.jis0208 flat.katakana mode c here;
-          fits = omega (arith, code-short flat.jis0208 flat.katakana c);
-          asks = rw here (differs-same mode);
-        }) move asks.code_is
+        here_moves _ _ c (grind (arith, here, text_events-here, code-short, differs-same)) move asks.code_is
 
     pub fits : Asks flat mode c new move → differs mode new ≡ false → length (move_bytes move) ≤ 3
     fits asks same = let moves = stays asks same in omega (arith, moves.fits)
@@ -102,10 +90,10 @@ module _ (flat : FlatIndexes) where
   asks_ascii : (c : ℕ) → c < 128 → is_mode_control c ≡ false → Asks flat Ascii c Ascii (One c)
   asks_ascii c low free = record { mode_is = grind (arith, asked_steps); code_is = grind (arith, asked_steps) }
 
-  pub own_bytes : (bytes : List ℕ) → IsAscii bytes → list_any is_mode_control bytes ≡ false → (k : ℕ) → k < length bytes
-      → ReadsByte (state_in flat Ascii) 2 (get_or bytes k 0) (get_or bytes k 0)
-  own_bytes bytes ascii none k h =
-      let free : is_mode_control (get_or bytes k 0) ≡ false = grind (arith, none, h, list_any_at is_mode_control bytes k 0) in
+  pub own_bytes : (out bytes : List ℕ) (n m : ℕ) → take n out ≡ bytes → IsAscii bytes → list_any is_mode_control (take m out) ≡ false → n ≤ m
+      → (k : ℕ) → k < length bytes → ReadsByte (state_in flat Ascii) 2 (get_or bytes k 0) (get_or bytes k 0)
+  own_bytes out bytes n m same ascii none within k h =
+      let free : is_mode_control (get_or bytes k 0) ≡ false = grind (arith, length-take, get_or-take, list_any_at is_mode_control (take m out) k 0) in
       record { fits = omega arith; moves = stays (asks_ascii _ (ascii k) free) refl }
 
   pub puts_ascii : (c : ℕ) (mode : EncoderMode) → c < 128 → is_mode_control c ≡ false → mode ≡ Ascii → (old bytes : List ℕ) (at : ℕ) → bytes ≡ old ++ c ∷ []

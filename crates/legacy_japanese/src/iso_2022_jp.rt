@@ -1,7 +1,6 @@
 //! ISO-2022-JP.
 pub mod bytes;
 pub mod cached;
-pub mod controls;
 pub mod decoder;
 pub mod encoder;
 pub mod places;

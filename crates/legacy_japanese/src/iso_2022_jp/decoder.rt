@@ -167,6 +167,6 @@ impl<'a> RawDecoder for Iso2022JpDecoder<'a> {
     }
 
     fn max_utf8_buffer_length(&self, byte_length: usize) -> Option<usize> {
-        byte_length.checked_add(self.held.weight())?.checked_mul(3)
+        self.max_utf8_buffer_length_without_replacement(byte_length)
     }
 }

@@ -1,11 +1,10 @@
 //! The encoder of ISO-2022-JP.
-ghost use Rattle.std.specs.Prelude.{◌≡◌, ◌==◌, ◌||◌, ◌+◌, ◌<◌, ◌≤◌, length, IfSome};
+ghost use Rattle.std.specs.{Prelude.{◌≡◌, ◌==◌, ◌||◌, ◌+◌, ◌%◌, ◌<◌, ◌≤◌, length, IfSome}, List.{list_any}};
 ghost use Rattle.{legacy_tables.specs.Indexes.{FlatIndexes}, legacy_encoder_engine.specs.UnfinishedCall.{EncodesBy, EncodesFrom}};
-ghost use Rattle.legacy_base.specs.{Encoders.{iso_2022_jp, is_pending, new_encoder}, Iso2022Jp.{iso_2022_jp_pointer_of}};
+ghost use Rattle.legacy_base.specs.{Encoders.{iso_2022_jp, is_pending, new_encoder}, Iso2022Jp.{iso_2022_jp_pointer_of, is_mode_control}};
 ghost use Rattle.{legacy_base.specs.declared.modes.EncoderMode.TheVariants.Ascii, legacy_japanese.specs.Iso2022JpEncoder.{Asks, state_in}};
 
 use crate::folded_scalars::minus_as_hyphen;
-use crate::iso_2022_jp::controls::{has_control, is_control};
 use legacy_base::{EncoderMode, EncoderStep, IndexName, RawEncoder, Source, Tables};
 use legacy_encoder_engine::ahead_codes::AheadCodes;
 use legacy_encoder_engine::drive::{drive_encoder, put_move};
@@ -106,6 +105,32 @@ impl<P: FindsPairs> RawEncoder for EncoderBy<P> {
     fn max_buffer_length_from_utf8_without_replacement(&self, byte_length: usize) -> Option<usize> {
         3usize.checked_add(byte_length.checked_mul(3)?)
     }
+}
+
+/// Checks whether the scalar is a control that would switch modes, which has no bytes.
+#[inline]
+fn is_control(scalar: u32) -> bool
+    ensures { result ≡ is_mode_control scalar }
+{
+    scalar == 0x0E || scalar == 0x0F || scalar == 0x1B
+}
+
+/// Checks whether one of the bytes, whose number is a multiple of sixteen, is such a control.
+// There is no branch in a block, so that its sixteen bytes are tested at once.
+#[inline(always)]
+fn has_control(bytes: &[u8]) -> bool
+    requires { length bytes.now % 16 ≡ 0 }
+    ensures { result ≡ list_any is_mode_control bytes.now }
+{
+    let mut found = false;
+    let mut at = 0;
+    while at < bytes.len() {
+        for k in 0..16 {
+            found = found | is_control(u32::from(bytes[at + k]));
+        }
+        at += 16;
+    }
+    found
 }
 
 /// Pairs that are looked up in tables, which are flat or packed.

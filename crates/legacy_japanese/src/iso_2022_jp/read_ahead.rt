@@ -95,7 +95,6 @@ fn ascii_text_count(block: u8x64) -> usize
 ///
 /// Returns the number of bytes read, which may be 0. If it reads any, three code units stay free.
 #[inline(always)]
-#[tactic(auto, using(legacy_decoder_engine::proofs::WrittenReads::no_bytes, crate::proofs::Iso2022JpAhead::reads_ascii_text_block))]
 fn read_ascii_text_blocks<T: Destination>(tables: &Tables, src: &[u8], dst: &mut T) -> usize
     ensures { ReadsModes T.Destination tables.now.flat.jis0208 Ascii Ascii src.now result dst.old dst.new }
 {
@@ -117,7 +116,6 @@ fn read_ascii_text_blocks<T: Destination>(tables: &Tables, src: &[u8], dst: &mut
 ///
 /// Returns the number of bytes read, which may be 0. If it reads any, three code units stay free.
 #[inline(always)]
-#[tactic(auto, using(legacy_decoder_engine::proofs::WrittenReads::no_bytes))]
 fn read_ascii_text_bytes<T: Destination>(tables: &Tables, src: &[u8], dst: &mut T) -> usize
     ensures { ReadsModes T.Destination tables.now.flat.jis0208 Ascii Ascii src.now result dst.old dst.new }
 {
@@ -148,7 +146,6 @@ fn read_ascii_text<T: Destination>(tables: &Tables, src: &[u8], dst: &mut T) -> 
 ///
 /// Returns the number of bytes read, which may be 0. Over packed tables it reads no pairs.
 #[inline(always)]
-#[tactic(auto, using(legacy_decoder_engine::proofs::WrittenReads::no_bytes))]
 fn read_begun<T: Destination>(tables: &Tables, mode: DecoderMode, src: &[u8], dst: &mut T) -> usize
     ensures { ReadsModes T.Destination tables.now.flat.jis0208 mode mode src.now result dst.old dst.new }
 {

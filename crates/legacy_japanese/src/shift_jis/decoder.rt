@@ -199,6 +199,6 @@ impl LeadCodec for ShiftJis {
     }
 
     fn utf8_length(byte_length: usize, held: usize) -> Option<usize> {
-        byte_length.checked_add(held)?.checked_mul(3)
+        ShiftJis::utf8_length_without_replacement(byte_length, held)
     }
 }

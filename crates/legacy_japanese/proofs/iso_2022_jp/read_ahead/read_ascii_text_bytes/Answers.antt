@@ -1,7 +1,10 @@
 use Rattle.std.proofs.Common.{ap, arith, get_or, length}
-use Rattle.{legacy_text.proofs.CodeUnits.code_units_ascii, legacy_decoder_engine.proofs.{JoinedReads.reads_front, WrittenReads.writes_one}}
+use Rattle.{legacy_text.proofs.CodeUnits.code_units_ascii, legacy_decoder_engine.proofs.{JoinedReads.reads_front, WrittenReads.{reads_none, writes_one}}}
 use Rattle.legacy_japanese.proofs.Iso2022JpAhead.{ascii_text_yields}
 use Rattle.legacy_japanese.proofs.iso_2022_jp.read_ahead.read_ascii_text_bytes.Goals as goal
+
+pub loop-at-init : goal.loop-at-init
+loop-at-init g c = reads_none _ _ _ _
 
 pub loop-at-preserved : goal.loop-at-preserved
 loop-at-preserved g c =

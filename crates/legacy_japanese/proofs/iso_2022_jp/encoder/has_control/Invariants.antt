@@ -1,6 +1,6 @@
 use Rattle.std.proofs.Common.{◌≡◌, ◌+◌, ◌-◌, ◌%◌, ◌≤◌, length, take}
 use Rattle.{std.specs.List.list_any, legacy_base.specs.Iso2022Jp.is_mode_control}
-use Rattle.legacy_japanese.proofs.iso_2022_jp.controls.has_control.Given as goal
+use Rattle.legacy_japanese.proofs.iso_2022_jp.encoder.has_control.Given as goal
 
 -- whether a control was passed
 abbrev pub invariant-loop-at : goal.invariant-loop-at
