@@ -111,6 +111,7 @@ impl<'a, C: PastPairs> PlainCodes for WithPairs<'a, C> {
 /// An encoder whose codes past ASCII are mostly pairs, so that a list of them is worth its memory.
 pub trait EncodesPairs: PlainEncoder + PastPairs + RawEncoder + Sized {
     /// Reads ahead as `read_codes` does, by the pairs of a list. Returns the place after the bytes in `dst`.
+    #[inline]
     fn read_with<S: Source>(
         &self,
         pairs: &[u16],
@@ -121,7 +122,10 @@ pub trait EncodesPairs: PlainEncoder + PastPairs + RawEncoder + Sized {
         requires pairs { AreAllPairsOf (Self.codec self.now) pairs.now }
         requires start { start ≤ length dst.old }
         ensures { EncodesFrom S.Source (new_encoder (Self.codec self.now)) src.old dst.old start
-            src.new dst.new result };
+            src.new dst.new result }
+    {
+        read_listed(self, pairs, src, dst, start)
+    }
 
     /// Fills a list of `PAIR_ROOM` entries, one for each scalar below U+10000: its pair with the lead low, and 0 past ASCII
     /// if it has none.
@@ -156,17 +160,6 @@ impl<'a, C: FillsPairs> EncodesPairs for PairEncoder<'a, C, Tables<'a>> {
     ghost use Rattle.std.proofs.Common.{refl};
 
     ghost same = { λ e. refl };
-
-    #[inline]
-    fn read_with<S: Source>(
-        &self,
-        pairs: &[u16],
-        src: &mut S,
-        dst: &mut [u8],
-        start: usize,
-    ) -> usize {
-        read_listed(self, pairs, src, dst, start)
-    }
 
     #[inline]
     fn fill_pairs(&self, pairs: &mut [u16]) {
