@@ -22,7 +22,7 @@ either (Ok x) weaker ok err = weaker ok
 either (Err e) weaker ok err = err
 
 -- what is known of a success holds if there was no error
-pub ok_of : {A E P : Type 0} (r : Result A E) → OnErr r ⊥ → OnOk r P → P
+ok_of : {A E P : Type 0} (r : Result A E) → OnErr r ⊥ → OnOk r P → P
 ok_of (Ok x) none ok = ok
 ok_of (Err e) none ok = absurd none
 

@@ -1,5 +1,5 @@
 -- The programs on a host.
-use Rattle.std.specs.Prelude.{ℕ, List, Option}
+use Rattle.std.specs.Prelude.{◌≡◌, ◌≤◌, ℕ, List, Option}
 use Rattle.legacy_index_files.specs.declared.codec.Codec.{Codec}
 use Rattle.legacy_command.specs.declared.host.Program.{Program}
 use Rattle.legacy_command.specs.declared.host.Program.TheVariants.{Recode, Encode}
@@ -33,3 +33,11 @@ IsStoppedBy Encode words files input_old input_new output_old output_new = Encod
 abbrev pub IsStopped : Program → Option (List ℕ) → Option (List ℕ) → Option (List ℕ) → Option (List ℕ) → Type 0
 IsStopped program input_old input_new output_old output_new =
     BySome (λ words files. IsStoppedBy program words files input_old input_new output_old output_new)
+
+-- What the program's status says of the streams. With status 2 `IsUnread` is true, and with status 0 `IsSilent`.
+pub record Ends (program : Program) (status : ℕ) (input_old input_new output_old output_new : Option (List ℕ)) (IsUnread IsSilent : Type 0) : Type 0 where
+  pub statuses : status ≤ 2
+  pub unread : status ≡ 2 → IsUnread
+  pub done : status ≡ 0 → IsDone program input_old input_new output_old output_new
+  pub stops : status ≡ 1 → IsStopped program input_old input_new output_old output_new
+  pub silent : status ≡ 0 → IsSilent

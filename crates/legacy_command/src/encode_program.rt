@@ -71,10 +71,7 @@ fn encode_by<'a, E: RawEncoder, R: Read, W: Write>(
         (W.contents output.old) (W.contents output.new)) }
 {
     let encoded = encode_text(encoder, input, output);
-    match flush_after(encoded, output) {
-        Ok(()) => Ok(()),
-        Err(fault) => Err(Fault::Recode(fault)),
-    }
+    flush_after(encoded, output)
 }
 
 /// Checks the indexes, and encodes the input by the codec.

@@ -4,7 +4,7 @@ ghost use Rattle.std.specs.Prelude.{◌≡◌, ◌↔◌, ◌≤◌, ◌-◌, �
 ghost use Rattle.std.specs.Option.{option_map};
 ghost use Rattle.legacy_command.specs.Words.{texts_of};
 ghost use Rattle.legacy_command.specs.IndexTexts.{contents_of};
-ghost use Rattle.legacy_command.specs.Host.{codec_asked, IsDoneBy, IsDone, IsStoppedBy, IsStopped};
+ghost use Rattle.legacy_command.specs.Host.{codec_asked, Ends, IsDoneBy, IsDone, IsStoppedBy, IsStopped};
 
 use crate::arguments::{ArgumentsError, arguments, status_of};
 use crate::encode_program::{encoder_in, run_encode};
@@ -138,6 +138,32 @@ pub fn run_program<R: Read, W: Write, E: Write>(
     }
 }
 
+/// Runs the program on its words and the files that they name, if allocation succeeds.
+fn status_by<H: Files + Alloc, R: Read, W: Write, E: Write>(
+    rt: &H,
+    alloc: Global,
+    program: Program,
+    words: &[&str],
+    input: &mut R,
+    output: &mut W,
+    errors: &mut E,
+) -> Result<u8, ArgumentsError>
+    ensures ends { IfOk result (λ status. Ends program status
+        (R.remaining input.old) (R.remaining input.new)
+        (W.contents output.old) (W.contents output.new)
+        ((input.new ≡ input.old) × (output.new ≡ output.old)) (errors.new ≡ errors.old)) }
+    ensures err { OnErr result ((input.new ≡ input.old) × (output.new ≡ output.old)) }
+{
+    let Ok(files) = files_named(rt, alloc, program, words) else {
+        return Err(ArgumentsError::Memory);
+    };
+    let Ok(texts) = slices_of(alloc, files.as_slice()) else {
+        return Err(ArgumentsError::Memory);
+    };
+    let texts = texts.as_slice();
+    Ok(run_program(alloc, program, words, texts, input, output, errors))
+}
+
 /// Runs the program, if its words are available and allocation succeeds.
 fn status<H: Env + Files + Alloc, R: Read, W: Write, E: Write>(
     rt: &H,
@@ -147,16 +173,10 @@ fn status<H: Env + Files + Alloc, R: Read, W: Write, E: Write>(
     output: &mut W,
     errors: &mut E,
 ) -> Result<u8, ArgumentsError>
-    ensures statuses { IfOk result (λ status. status ≤ 2) }
-    ensures unread { IfOk result (λ status. status ≡ 2
-        → (input.new ≡ input.old) × (output.new ≡ output.old)) }
-    ensures done { IfOk result (λ status. status ≡ 0 → IsDone program
+    ensures ends { IfOk result (λ status. Ends program status
         (R.remaining input.old) (R.remaining input.new)
-        (W.contents output.old) (W.contents output.new)) }
-    ensures stops { IfOk result (λ status. status ≡ 1 → IsStopped program
-        (R.remaining input.old) (R.remaining input.new)
-        (W.contents output.old) (W.contents output.new)) }
-    ensures silent { IfOk result (λ status. status ≡ 0 → errors.new ≡ errors.old) }
+        (W.contents output.old) (W.contents output.new)
+        ((input.new ≡ input.old) × (output.new ≡ output.old)) (errors.new ≡ errors.old)) }
     ensures err { OnErr result ((input.new ≡ input.old) × (output.new ≡ output.old)) }
 {
     let arguments = arguments(rt)?;
@@ -164,14 +184,7 @@ fn status<H: Env + Files + Alloc, R: Read, W: Write, E: Write>(
         return Err(ArgumentsError::Memory);
     };
     let words = words.as_slice();
-    let Ok(files) = files_named(rt, alloc, program, words) else {
-        return Err(ArgumentsError::Memory);
-    };
-    let Ok(texts) = slices_of(alloc, files.as_slice()) else {
-        return Err(ArgumentsError::Memory);
-    };
-    let texts = texts.as_slice();
-    Ok(run_program(alloc, program, words, texts, input, output, errors))
+    status_by(rt, alloc, program, words, input, output, errors)
 }
 
 /// Runs the program on the host, and returns its exit status.

@@ -40,10 +40,10 @@ pub enum Fault<'a> {
 /// Flushes the output after this was written.
 ///
 /// Returns the error of what was written if there is one, and otherwise that of the flush.
-pub(crate) fn flush_after<T: Drop, W: Write>(
+pub(crate) fn flush_after<'a, T: Drop, W: Write>(
     written: Result<T, RecodeError>,
     output: &mut W,
-) -> Result<(), RecodeError>
+) -> Result<(), Fault<'a>>
     ensures bytes { Keeps (W.contents output.old) (W.contents output.new) }
     ensures ok { OnOk result (OnErr written ⊥) }
 {
@@ -51,25 +51,23 @@ pub(crate) fn flush_after<T: Drop, W: Write>(
     match written {
         Ok(_) => match flushed {
             Ok(()) => Ok(()),
-            Err(_) => Err(RecodeError::Write),
+            Err(_) => Err(Fault::Recode(RecodeError::Write)),
         },
-        Err(fault) => Err(fault),
+        Err(fault) => Err(Fault::Recode(fault)),
     }
 }
 
 /// Recodes the input by the decoder and flushes the output, also if the input cannot be read.
-fn recode_and_flush<R: Read, W: Write>(
+fn recode_and_flush<'a, D: RawDecoder, R: Read, W: Write>(
     kind: OutputKind,
-    decoder: &mut AnyDecoder,
+    decoder: &mut D,
     input: &mut R,
     output: &mut W,
-) -> Result<(), RecodeError>
-    ensures done { OnOk result (RecodesInput kind
-        (⟦<AnyDecoder<'static> as RawDecoder>⟧.state decoder.old)
+) -> Result<(), Fault<'a>>
+    ensures done { OnOk result (RecodesInput kind (D.state decoder.old)
         (R.remaining input.old) (R.remaining input.new)
         (W.contents output.old) (W.contents output.new)) }
-    ensures stops { OnErr result (RecodesSome kind
-        (⟦<AnyDecoder<'static> as RawDecoder>⟧.state decoder.old)
+    ensures stops { OnErr result (RecodesSome kind (D.state decoder.old)
         (R.remaining input.old) (R.remaining input.new)
         (W.contents output.old) (W.contents output.new)) }
 {
@@ -135,10 +133,7 @@ fn check_and_recode<'a, R: Read, W: Write>(
     else {
         unreachable!()
     };
-    match recode_and_flush(kind, &mut decoder, input, output) {
-        Ok(()) => Ok(()),
-        Err(fault) => Err(Fault::Recode(fault)),
-    }
+    recode_and_flush(kind, &mut decoder, input, output)
 }
 
 /// Reads the files of the indexes that the words name, checks them, and recodes the input by the codec.

@@ -7,6 +7,7 @@
 
 mod coders;
 mod listed;
+mod queries;
 mod registry;
 mod room;
 mod tasks;

@@ -1,12 +1,14 @@
 //! Encoders of an encoding that is chosen when the program runs, with a list of its pairs.
 ghost use Rattle.std.specs.Prelude.{◌≡◌, ◌<◌, ◌≤◌, ◌⊎◌, length, false, true, MatchOption};
 ghost use Rattle.std.specs.Prelude.{◌+◌, take};
-ghost use Rattle.legacy_text.specs.EncodingForm.{Utf8, Utf16, total_unit_count};
+ghost use Rattle.legacy_text.specs.EncodingForm.{total_unit_count};
 ghost use Rattle.legacy_base.specs.Encoders.{new_encoder, encoder_answer};
 ghost use Rattle.legacy_base.specs.EncoderCalls.{EncoderCall};
 ghost use Rattle.legacy_encodings.specs.Lists.{has_pairs};
+ghost use Rattle.legacy_encodings.specs.Queries.{form_of};
 
 use crate::coders::AnyEncoder;
+use crate::queries::{TextForm, answer_of};
 use crate::tasks::EncoderTask;
 use legacy_codecs::{
     Big5Encoder, CachedEncoder, CachedIso2022JpEncoder, EncoderResult, EucJpEncoder, EucKrEncoder,
@@ -83,28 +85,17 @@ fn lend_pairs<C: FillsPairs, T: EncoderTask>(
     task.run(coder, output)
 }
 
-/// Returns the answer of an encoder of ASCII and pairs to the query for UTF-16.
+/// Returns the answer of an encoder of ASCII and pairs to a length query.
 #[inline(always)]
-fn pairs_from_utf16<C: FillsPairs>(
+fn pairs_answer<C: FillsPairs>(
     coder: &ListedPairEncoder<'_, '_, C>,
-    u16_length: usize,
+    form: TextForm,
+    units: usize,
 ) -> Option<usize>
-    ensures { result ≡ encoder_answer Utf16
-        (new_encoder (C.codec coder.now.encoder.now.tables.now.flat)) u16_length }
+    ensures { result ≡ encoder_answer (form_of form)
+        (new_encoder (C.codec coder.now.encoder.now.tables.now.flat)) units }
 {
-    coder.max_buffer_length_from_utf16_without_replacement(u16_length)
-}
-
-/// Returns the answer of an encoder of ASCII and pairs to the query for UTF-8.
-#[inline(always)]
-fn pairs_from_utf8<C: FillsPairs>(
-    coder: &ListedPairEncoder<'_, '_, C>,
-    byte_length: usize,
-) -> Option<usize>
-    ensures { result ≡ encoder_answer Utf8
-        (new_encoder (C.codec coder.now.encoder.now.tables.now.flat)) byte_length }
-{
-    coder.max_buffer_length_from_utf8_without_replacement(byte_length)
+    answer_of(coder, form, units)
 }
 
 /// Returns an encoder of ASCII and pairs with a list of its pairs in the room.
@@ -141,13 +132,11 @@ impl<'a, 'b> RawEncoder for ListedEncoder<'a, 'b> {
     }
 
     fn max_buffer_length_from_utf16_without_replacement(&self, u16_length: usize) -> Option<usize> {
-        match_listed!(self, coder => coder.max_buffer_length_from_utf16_without_replacement(u16_length),
-            pairs_from_utf16(coder, u16_length))
+        self.answer(TextForm::Utf16, u16_length)
     }
 
     fn max_buffer_length_from_utf8_without_replacement(&self, byte_length: usize) -> Option<usize> {
-        match_listed!(self, coder => coder.max_buffer_length_from_utf8_without_replacement(byte_length),
-            pairs_from_utf8(coder, byte_length))
+        self.answer(TextForm::Utf8, byte_length)
     }
 }
 
@@ -189,6 +178,14 @@ impl<'a, 'b> ListedEncoder<'a, 'b> {
             (⟦<ListedEncoder<'static, 'static> as RawEncoder>⟧.state self.new) output.old output.new result }
     {
         match_listed!(self, coder => task.run(coder, output), lend_pairs(coder, task, output))
+    }
+
+    /// Returns the answer to a length query.
+    fn answer(&self, form: TextForm, units: usize) -> Option<usize>
+        ensures { result ≡ encoder_answer (form_of form)
+            (⟦<ListedEncoder<'static, 'static> as RawEncoder>⟧.state self.now) units }
+    {
+        match_listed!(self, coder => answer_of(coder, form, units), pairs_answer(coder, form, units))
     }
 }
 

@@ -1,9 +1,9 @@
 //! The decoder of a codec.
 ghost use Rattle.std.specs.Prelude.{◌≡◌, ◌≤◌, ◌↔◌, length, take, option_map, IfNone, IfSome, IsSome};
-ghost use Rattle.legacy_exports.specs.AcceptedIndexes.{IsTaken};
+ghost use Rattle.legacy_exports.specs.AcceptedIndexes.{IsRefused, IsTaken};
 ghost use Rattle.legacy_encodings.specs.Coders.{decoder_of};
 ghost use Rattle.legacy_exports.specs.NewCoders.{HoldsOfNew, HoldsByNumber};
-ghost use Rattle.legacy_exports.specs.Decoding.{DecodesSource};
+ghost use Rattle.legacy_exports.specs.Decoding.{DecodesSource, ReturnsText};
 ghost use Rattle.legacy_exports.specs.Repeated.{Repeats, RepeatsFrom};
 
 use crate::calls::DecoderCalls;
@@ -56,7 +56,7 @@ fn decode_over<'a, C: DecoderCalls<U>, U: CodeUnit>(
 /// Decodes by the codec of this number, and returns the number of code units written the last time.
 ///
 /// Returns `None` if no codec has the number or the indexes are refused.
-pub fn decode_by_number<C: DecoderCalls<U>, U: CodeUnit>(
+fn decode_by_number<C: DecoderCalls<U>, U: CodeUnit>(
     number: u32,
     indexes: &IndexSlices,
     reading: Reading<C, &[u8]>,
@@ -78,4 +78,20 @@ pub fn decode_by_number<C: DecoderCalls<U>, U: CodeUnit>(
     let tables = tables_with(indexes, &pairs[..range_count])?;
     let table = single_byte_table(indexes.single_byte);
     decode_over(codec, &tables, table.as_ref(), &reading, output)
+}
+
+/// Decodes by the codec of this number, and returns the number of code units written the last time.
+///
+/// Returns `usize::MAX` if no codec has the number or the indexes are refused.
+pub fn decode_or_refuse<C: DecoderCalls<U>, U: CodeUnit>(
+    number: u32,
+    indexes: &IndexSlices,
+    reading: Reading<C, &[u8]>,
+    output: &mut [U],
+) -> usize
+    ensures text { ReturnsText C.kind number indexes.now U.form reading.entry.source.now
+        reading.entry.times (length output.old) (U.units (take result output.new)) result }
+    ensures unchanged { IsRefused number indexes.now → output.new ≡ output.old }
+{
+    decode_by_number(number, indexes, reading, output).unwrap_or(usize::MAX)
 }

@@ -1,10 +1,11 @@
 //! The encoder of a codec.
-ghost use Rattle.std.specs.Prelude.{◌≡◌, ◌≤◌, ◌↔◌, length, true, take, option_map, IfNone, IfSome, IsSome};
+ghost use Rattle.std.specs.Prelude.{◌≡◌, ◌≤◌, ◌↔◌, ⊤, IsUtf8, length, true, take, option_map, IfNone, IfSome, IsSome};
+ghost use Rattle.std.specs.Str.{chars};
 ghost use Rattle.legacy_index_files.specs.Encodings.{has_encoder};
-ghost use Rattle.legacy_exports.specs.AcceptedIndexes.{IsTakenToEncode};
+ghost use Rattle.legacy_exports.specs.AcceptedIndexes.{IsRefusedToEncode, IsTakenToEncode};
 ghost use Rattle.legacy_encodings.specs.Coders.{encoder_of};
 ghost use Rattle.legacy_exports.specs.NewCoders.{HoldsOfNew, HoldsByNumber};
-ghost use Rattle.legacy_exports.specs.Encoding.{ConvertsText};
+ghost use Rattle.legacy_exports.specs.Encoding.{ConvertsText, ReturnsBytes};
 ghost use Rattle.legacy_exports.specs.Repeated.{Repeats, RepeatsFrom};
 
 use crate::calls::{CallEnd, EncoderCalls};
@@ -98,7 +99,7 @@ fn encode_over<'a, C: EncoderCalls<T>, T: Text>(
 ///
 /// Returns `None` if no codec with an encoder has the number or the indexes are refused. An encoder
 /// of pairs lists them in `room` if it is long enough.
-pub fn encode_by_number<C: EncoderCalls<T>, T: Text>(
+fn encode_by_number<C: EncoderCalls<T>, T: Text>(
     number: u32,
     indexes: &IndexSlices,
     reading: Reading<C, T>,
@@ -121,4 +122,42 @@ pub fn encode_by_number<C: EncoderCalls<T>, T: Text>(
     let tables = tables_with(indexes, &pairs[..range_count])?;
     let table = single_byte_table(indexes.single_byte);
     encode_over(codec, &tables, table.as_ref(), &reading, output, room)
+}
+
+/// Encodes by the codec of this number, and returns the number of bytes written the last time.
+///
+/// Returns `usize::MAX` if no codec with an encoder has the number or the indexes are refused.
+pub fn encode_or_refuse<C: EncoderCalls<T>, T: Text>(
+    number: u32,
+    indexes: &IndexSlices,
+    reading: Reading<C, T>,
+    output: &mut [u8],
+    room: &mut [u16],
+) -> usize
+    ensures bytes { ReturnsBytes ⊤ number indexes.now C.kind (T.scalars reading.source)
+        reading.times (length output.old) (take result output.new) result }
+    ensures unchanged { IsRefusedToEncode number indexes.now → output.new ≡ output.old }
+{
+    encode_by_number(number, indexes, reading, output, room).unwrap_or(usize::MAX)
+}
+
+/// Encodes a source in UTF-8 as `encode_or_refuse` does, or returns `usize::MAX` if it is malformed.
+pub fn encode_bytes_or_refuse<'a, C: EncoderCalls<&'a str>>(
+    number: u32,
+    indexes: &IndexSlices,
+    reading: Reading<C, &'a [u8]>,
+    output: &mut [u8],
+    room: &mut [u16],
+) -> usize
+    ensures bytes { ReturnsBytes (IsUtf8 reading.entry.source.now) number indexes.now C.kind
+        (chars reading.entry.source.now) reading.entry.times (length output.old)
+        (take result output.new) result }
+    ensures unchanged { (IsTakenToEncode number indexes.now × IsUtf8 reading.entry.source.now → ⊥) →
+        output.new ≡ output.old }
+{
+    let Ok(text) = std::str::from_utf8(reading.source) else {
+        return usize::MAX;
+    };
+    let reading = Reading::new(reading.calls, text, reading.piece, reading.times);
+    encode_or_refuse(number, indexes, reading, output, room)
 }

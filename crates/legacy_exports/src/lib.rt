@@ -32,8 +32,8 @@ mod source_texts;
 mod unit;
 
 use crate::calls::{Raw, Replacing};
-use crate::decode::decode_by_number;
-use crate::encode::encode_by_number;
+use crate::decode::decode_or_refuse;
+use crate::encode::{encode_bytes_or_refuse, encode_or_refuse};
 use crate::indexes::IndexSlices;
 use crate::pieces::Reading;
 
@@ -52,7 +52,7 @@ pub extern "C" fn legacy_decode_to_utf8(
     ensures unchanged { IsRefused codec indexes.now → output.new ≡ output.old }
 {
     let reading = Reading::new(Raw, source, piece, times);
-    decode_by_number(codec, indexes, reading, output).unwrap_or(usize::MAX)
+    decode_or_refuse(codec, indexes, reading, output)
 }
 
 /// Decodes the source to UTF-16 by the codec of this number.
@@ -70,7 +70,7 @@ pub extern "C" fn legacy_decode_to_utf16(
     ensures unchanged { IsRefused codec indexes.now → output.new ≡ output.old }
 {
     let reading = Reading::new(Raw, source, piece, times);
-    decode_by_number(codec, indexes, reading, output).unwrap_or(usize::MAX)
+    decode_or_refuse(codec, indexes, reading, output)
 }
 
 /// Encodes the source, a text in UTF-8, by the codec of this number.
@@ -91,11 +91,8 @@ pub extern "C" fn legacy_encode_from_utf8(
     ensures unchanged { (IsTakenToEncode codec indexes.now × IsUtf8 source.now → ⊥) →
         output.new ≡ output.old }
 {
-    let Ok(text) = std::str::from_utf8(source) else {
-        return usize::MAX;
-    };
-    let reading = Reading::new(Raw, text, piece, times);
-    encode_by_number(codec, indexes, reading, output, room).unwrap_or(usize::MAX)
+    let reading = Reading::new(Raw, source, piece, times);
+    encode_bytes_or_refuse(codec, indexes, reading, output, room)
 }
 
 /// Encodes the source, a text in UTF-16, by the codec of this number.
@@ -116,7 +113,7 @@ pub extern "C" fn legacy_encode_from_utf16(
     ensures unchanged { IsRefusedToEncode codec indexes.now → output.new ≡ output.old }
 {
     let reading = Reading::new(Raw, source, piece, times);
-    encode_by_number(codec, indexes, reading, output, room).unwrap_or(usize::MAX)
+    encode_or_refuse(codec, indexes, reading, output, room)
 }
 
 /// Decodes the source to UTF-8 by the codec of this number, by calls with replacement.
@@ -134,7 +131,7 @@ pub extern "C" fn legacy_decode_replacing_to_utf8(
     ensures unchanged { IsRefused codec indexes.now → output.new ≡ output.old }
 {
     let reading = Reading::new(Replacing, source, piece, times);
-    decode_by_number(codec, indexes, reading, output).unwrap_or(usize::MAX)
+    decode_or_refuse(codec, indexes, reading, output)
 }
 
 /// Decodes the source to UTF-16 by the codec of this number, by calls with replacement.
@@ -152,7 +149,7 @@ pub extern "C" fn legacy_decode_replacing_to_utf16(
     ensures unchanged { IsRefused codec indexes.now → output.new ≡ output.old }
 {
     let reading = Reading::new(Replacing, source, piece, times);
-    decode_by_number(codec, indexes, reading, output).unwrap_or(usize::MAX)
+    decode_or_refuse(codec, indexes, reading, output)
 }
 
 /// Encodes the source, a text in UTF-8, by the codec of this number, by calls with replacement.
@@ -173,11 +170,8 @@ pub extern "C" fn legacy_encode_replacing_from_utf8(
     ensures unchanged { (IsTakenToEncode codec indexes.now × IsUtf8 source.now → ⊥) →
         output.new ≡ output.old }
 {
-    let Ok(text) = std::str::from_utf8(source) else {
-        return usize::MAX;
-    };
-    let reading = Reading::new(Replacing, text, piece, times);
-    encode_by_number(codec, indexes, reading, output, room).unwrap_or(usize::MAX)
+    let reading = Reading::new(Replacing, source, piece, times);
+    encode_bytes_or_refuse(codec, indexes, reading, output, room)
 }
 
 /// Encodes the source, a text in UTF-16, by the codec of this number, by calls with replacement.
@@ -198,5 +192,5 @@ pub extern "C" fn legacy_encode_replacing_from_utf16(
     ensures unchanged { IsRefusedToEncode codec indexes.now → output.new ≡ output.old }
 {
     let reading = Reading::new(Replacing, source, piece, times);
-    encode_by_number(codec, indexes, reading, output, room).unwrap_or(usize::MAX)
+    encode_or_refuse(codec, indexes, reading, output, room)
 }
