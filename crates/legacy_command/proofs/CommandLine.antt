@@ -5,7 +5,7 @@ use Rattle.std.proofs.Common.{Option, None, Some, false}
 use Rattle.std.specs.Borrow.{Bor}
 use Rattle.legacy_tables.specs.Indexes.{FlatIndexes}
 use Rattle.legacy_index_files.specs.declared.codec.Codec.{Codec}
-use Rattle.legacy_command.specs.{Words.{texts_of, are_indexes}, IndexTexts.{text_given, AreWellFormed}, Program.{WorksByTexts, WorksWith, with_encoder}}
+use Rattle.legacy_command.specs.{Words.{texts_of, are_indexes}, GivenTexts.{text_given, AreWellFormed}, Program.{WorksByTexts, WorksWith, with_encoder}}
 
 -- an INDEX without a FILE is not allowed
 pub one_word : (words : List (Bor (List ℕ))) → 1 ≤ length words → length words < 2 → false ≡ are_indexes (texts_of words)

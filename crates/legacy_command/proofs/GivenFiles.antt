@@ -4,7 +4,7 @@ use Rattle.std.specs.{Borrow.Bor, Prelude.slice_index_or}
 use Rattle.legacy_index_files.specs.{declared.index_file.FileIndex.FileIndex, declared.owned_indexes.OwnedIndexes.OwnedIndexes, IndexLine.lines}
 use Rattle.legacy_index_files.specs.{IndexTable.first_malformed, IndexTexts.{is_index, no_text, with_text}, OwnedIndexes.HoldsTexts}
 use Rattle.legacy_command.specs.{declared.program.Fault.Fault, declared.program.Fault.TheVariants.{Line, Memory}}
-use Rattle.legacy_command.specs.{Words.{texts_of, first_index_named}, IndexTexts.{text_given, contents_of, AreWellFormed, IsFirstFault}}
+use Rattle.legacy_command.specs.{Words.{texts_of, first_index_named}, GivenTexts.{text_given, contents_of, AreWellFormed, IsFirstFault}}
 
 -- with no INDEX and FILE every text is empty
 pub few_words : (tables : OwnedIndexes) (words : List (Bor (List ℕ))) (files : List (Option (Bor (List ℕ)))) → length words < 2

@@ -35,7 +35,7 @@ IsStopped program input_old input_new output_old output_new =
     BySome (λ words files. IsStoppedBy program words files input_old input_new output_old output_new)
 
 -- What the program's status says of the streams. With status 2 `IsUnread` is true, and with status 0 `IsSilent`.
-pub record Ends (program : Program) (status : ℕ) (input_old input_new output_old output_new : Option (List ℕ)) (IsUnread IsSilent : Type 0) : Type 0 where
+pub record StatusSays (program : Program) (status : ℕ) (input_old input_new output_old output_new : Option (List ℕ)) (IsUnread IsSilent : Type 0) : Type 0 where
   pub statuses : status ≤ 2
   pub unread : status ≡ 2 → IsUnread
   pub done : status ≡ 0 → IsDone program input_old input_new output_old output_new

@@ -1,5 +1,5 @@
 -- The meaning of the command line, and the work of the programs.
 pub mod Words
-pub mod IndexTexts
+pub mod GivenTexts
 pub mod Program
 pub mod Host

@@ -15,7 +15,7 @@ use Rattle.legacy_index_files.specs.OwnedIndexes.{HoldsTexts}
 use Rattle.legacy_command.specs.declared.words.OutputKind.{OutputKind}
 use Rattle.legacy_command.specs.declared.words.OutputKind.TheVariants.{Lines, Text}
 use Rattle.legacy_command.specs.Words.{output_kind, words_after_option, codec_of_words}
-use Rattle.legacy_command.specs.IndexTexts.{text_given, AreWellFormed}
+use Rattle.legacy_command.specs.GivenTexts.{text_given, AreWellFormed}
 use Rattle.legacy_streams.specs.Recoding.{RecodesAll, RecodesBeginning, RecodesPartly}
 use Rattle.legacy_streams.specs.Text.{WritesAll, WritesBeginning, WritesPartly}
 use Rattle.legacy_streams.specs.TextEncoding.{EncodesAll, EncodesBeginning, EncodesPartly}

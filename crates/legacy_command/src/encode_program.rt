@@ -1,12 +1,12 @@
 //! Runs the program that encodes, by its words, files and streams.
 ghost use Rattle.std.specs.Prelude.{◌≡◌, ◌↔◌, ◌≤◌, ◌⊎◌, [], OnErr, OnOk, None, Some, IsTrue};
 ghost use Rattle.legacy_command.specs.Words.{texts_of, are_indexes, codec_of_words};
-ghost use Rattle.legacy_command.specs.IndexTexts.{contents_of, text_given, AreWellFormed};
+ghost use Rattle.legacy_command.specs.GivenTexts.{contents_of, text_given, AreWellFormed};
 ghost use Rattle.legacy_command.specs.Program.{with_encoder, EncodesInput, EncodesSome, Untouched};
 ghost use Rattle.legacy_command.specs.Program.{EncodesByTables, EncodesByTexts, EncodesByWords, EncodingStops};
 
 use crate::given_indexes::read_files;
-use crate::program::{Fault, check, flush_after};
+use crate::program::{Fault, check, flush_after, write_fault};
 use crate::words::codec_in;
 use legacy_codecs::RawEncoder;
 use legacy_encodings::{AnyEncoder, ListedEncoder, has_pairs, pair_room};
@@ -177,7 +177,7 @@ pub fn run_encode<R: Read, W: Write, E: Write>(
     match read_and_encode(alloc, codec, &words[1..], files, input, output) {
         Ok(()) => 0,
         Err(fault) => {
-            let _ = writeln!(errors, "{fault}");
+            write_fault(&fault, errors);
             1
         }
     }

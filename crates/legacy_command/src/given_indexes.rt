@@ -2,7 +2,7 @@
 ghost use Rattle.std.specs.Prelude.{◌≡◌, ◌⊎◌, [], IfErr, IfOk, OnOk, IsTrue};
 ghost use Rattle.legacy_index_files.specs.OwnedIndexes.{HoldsTexts};
 ghost use Rattle.legacy_command.specs.Words.{texts_of, are_indexes};
-ghost use Rattle.legacy_command.specs.IndexTexts.{text_given, contents_of, AreWellFormed, IsFirstFault};
+ghost use Rattle.legacy_command.specs.GivenTexts.{text_given, contents_of, AreWellFormed, IsFirstFault};
 
 use crate::program::Fault;
 use crate::words::first_index;

@@ -3,8 +3,8 @@
 ghost use Rattle.std.specs.Prelude.{◌≡◌, ◌↔◌, ◌≤◌, ◌-◌, ◌/◌, [], None, length, map, string_bytes, IfOk, OnErr};
 ghost use Rattle.std.specs.Option.{option_map};
 ghost use Rattle.legacy_command.specs.Words.{texts_of};
-ghost use Rattle.legacy_command.specs.IndexTexts.{contents_of};
-ghost use Rattle.legacy_command.specs.Host.{codec_asked, Ends, IsDoneBy, IsDone, IsStoppedBy, IsStopped};
+ghost use Rattle.legacy_command.specs.GivenTexts.{contents_of};
+ghost use Rattle.legacy_command.specs.Host.{codec_asked, StatusSays, IsDoneBy, IsDone, IsStoppedBy, IsStopped};
 
 use crate::arguments::{ArgumentsError, arguments, status_of};
 use crate::encode_program::{encoder_in, run_encode};
@@ -148,7 +148,7 @@ fn status_by<H: Files + Alloc, R: Read, W: Write, E: Write>(
     output: &mut W,
     errors: &mut E,
 ) -> Result<u8, ArgumentsError>
-    ensures ends { IfOk result (λ status. Ends program status
+    ensures ends { IfOk result (λ status. StatusSays program status
         (R.remaining input.old) (R.remaining input.new)
         (W.contents output.old) (W.contents output.new)
         ((input.new ≡ input.old) × (output.new ≡ output.old)) (errors.new ≡ errors.old)) }
@@ -173,7 +173,7 @@ fn status<H: Env + Files + Alloc, R: Read, W: Write, E: Write>(
     output: &mut W,
     errors: &mut E,
 ) -> Result<u8, ArgumentsError>
-    ensures ends { IfOk result (λ status. Ends program status
+    ensures ends { IfOk result (λ status. StatusSays program status
         (R.remaining input.old) (R.remaining input.new)
         (W.contents output.old) (W.contents output.new)
         ((input.new ≡ input.old) × (output.new ≡ output.old)) (errors.new ≡ errors.old)) }

@@ -2,7 +2,7 @@
 ghost use Rattle.std.specs.Prelude.{◌≡◌, ◌↔◌, ◌≤◌, ◌⊎◌, [], IfOk, OnErr, OnOk, None, Some, IsTrue};
 ghost use Rattle.std.specs.Io.KnownBytes.{Keeps};
 ghost use Rattle.legacy_command.specs.Words.{texts_of, are_indexes, words_after_option, codec_of_words};
-ghost use Rattle.legacy_command.specs.IndexTexts.{contents_of, text_given, AreWellFormed};
+ghost use Rattle.legacy_command.specs.GivenTexts.{contents_of, text_given, AreWellFormed};
 ghost use Rattle.legacy_command.specs.Program.{flat_of, RecodesInput, RecodesSome, Untouched};
 ghost use Rattle.legacy_command.specs.Program.{DecodesByTables, DecodesByTexts, RecodesByWords, RecodingStops};
 
@@ -35,6 +35,11 @@ pub enum Fault<'a> {
     /// Allocation failed.
     #[error("memory")]
     Memory,
+}
+
+/// Writes a line with the reason why the program ends. If it cannot be written, nothing else changes.
+pub(crate) fn write_fault<E: Write>(fault: &Fault<'_>, errors: &mut E) {
+    let _ = writeln!(errors, "{fault}");
 }
 
 /// Flushes the output after this was written.
@@ -213,7 +218,7 @@ pub fn run<R: Read, W: Write, E: Write>(
     match read_and_recode(alloc, kind, codec, &rest[1..], files, input, output) {
         Ok(()) => 0,
         Err(fault) => {
-            let _ = writeln!(errors, "{fault}");
+            write_fault(&fault, errors);
             1
         }
     }

@@ -1,6 +1,6 @@
 use Rattle.std.proofs.Common.{◌≡◌, map, take}
 use Rattle.std.specs.Option.{option_map}
-use Rattle.legacy_command.specs.IndexTexts.{contents_of}
+use Rattle.legacy_command.specs.GivenTexts.{contents_of}
 use Rattle.legacy_command.proofs.host.slices_of.Given as goal
 
 -- the slices so far are those of the files so far
