@@ -45,12 +45,14 @@ AreTablesOfSlices slices ranges lists = AreTablesOfParts slices.is_packed (index
 abbrev pub IsTakenTable : List ℕ → Type 0
 IsTakenTable entries = (length entries ≡ 128) × IsAcceptedTable entries
 
--- the indexes are accepted, with that of a single-byte encoding if the codec is one, and there are not too many ranges
+-- the indexes are accepted, with that of a single-byte encoding if the codec is one
+abbrev pub AreTakenLists : Codec → IndexSlices → Type 0
+AreTakenLists codec slices =
+    AreTakenIndexes slices (map range_pair slices.ranges.now) × (codec ≡ SingleByte → IsTakenTable slices.single_byte.now)
+
+-- the same, and there are not too many ranges
 abbrev pub AreTaken : Codec → IndexSlices → Type 0
-AreTaken codec slices =
-    (length slices.ranges.now ≤ 256)
-    × AreTakenIndexes slices (map range_pair slices.ranges.now)
-    × (codec ≡ SingleByte → IsTakenTable slices.single_byte.now)
+AreTaken codec slices = (length slices.ranges.now ≤ 256) × AreTakenLists codec slices
 
 -- the codec has an encoder, and the indexes are accepted for it
 abbrev pub AreTakenToEncode : Codec → IndexSlices → Type 0

@@ -1,8 +1,8 @@
 //! The decoder of a codec.
-ghost use Rattle.std.specs.Prelude.{◌≡◌, ◌≤◌, ◌↔◌, length, take, option_map, IfNone, IfSome, IsSome};
-ghost use Rattle.legacy_exports.specs.AcceptedIndexes.{IsRefused, IsTaken};
+ghost use Rattle.std.specs.Prelude.{◌≡◌, ◌≤◌, ◌↔◌, length, map, take, option_map, IfNone, IfSome, IsSome};
+ghost use Rattle.legacy_exports.specs.AcceptedIndexes.{range_pair, AreTakenLists, IsRefused, IsTaken};
 ghost use Rattle.legacy_encodings.specs.Coders.{decoder_of};
-ghost use Rattle.legacy_exports.specs.NewCoders.{HoldsOfNew, HoldsByNumber};
+ghost use Rattle.legacy_exports.specs.NewCoders.{HoldsOfNew, HoldsOverTables, HoldsByNumber};
 ghost use Rattle.legacy_exports.specs.Decoding.{DecodesSource, ReturnsText};
 ghost use Rattle.legacy_exports.specs.Repeated.{Repeats, RepeatsFrom};
 
@@ -53,6 +53,30 @@ fn decode_over<'a, C: DecoderCalls<U>, U: CodeUnit>(
     Some(decoder.lend(reading, output))
 }
 
+/// Decodes by the codec's decoder over tables of the indexes, whose ranges are these pairs, and returns
+/// the units of the last time.
+///
+/// Returns `None` if the indexes are refused.
+fn decode_over_indexes<C: DecoderCalls<U>, U: CodeUnit>(
+    codec: Codec,
+    indexes: &IndexSlices,
+    ranges: &[(u16, u16)],
+    reading: &Reading<C, &[u8]>,
+    output: &mut [U],
+) -> Option<usize>
+    requires { ranges.now ≡ map range_pair indexes.now.ranges.now }
+    ensures units { IfSome result (λ written. written ≤ length output.new) }
+    ensures text { IfSome result (λ written. HoldsOverTables decoder_of codec indexes.now
+        (RepeatsFrom (DecodesSource C.kind U.form reading.now.source.now (length output.old))
+        reading.now.times (U.units (take written output.new)))) }
+    ensures unchanged { IfNone result (output.new ≡ output.old) }
+    ensures taken { IsSome result ↔ AreTakenLists codec indexes.now }
+{
+    let tables = tables_with(indexes, ranges)?;
+    let table = single_byte_table(indexes.single_byte);
+    decode_over(codec, &tables, table.as_ref(), reading, output)
+}
+
 /// Decodes by the codec of this number, and returns the number of code units written the last time.
 ///
 /// Returns `None` if no codec has the number or the indexes are refused.
@@ -75,9 +99,7 @@ fn decode_by_number<C: DecoderCalls<U>, U: CodeUnit>(
         return None;
     }
     let pairs = range_pairs(indexes.ranges);
-    let tables = tables_with(indexes, &pairs[..range_count])?;
-    let table = single_byte_table(indexes.single_byte);
-    decode_over(codec, &tables, table.as_ref(), &reading, output)
+    decode_over_indexes(codec, indexes, &pairs[..range_count], &reading, output)
 }
 
 /// Decodes by the codec of this number, and returns the number of code units written the last time.

@@ -1,10 +1,10 @@
 //! The encoder of a codec.
-ghost use Rattle.std.specs.Prelude.{◌≡◌, ◌≤◌, ◌↔◌, ⊤, IsUtf8, length, true, take, option_map, IfNone, IfSome, IsSome};
+ghost use Rattle.std.specs.Prelude.{◌≡◌, ◌≤◌, ◌↔◌, ⊤, IsUtf8, length, map, true, take, option_map, IfNone, IfSome, IsSome};
 ghost use Rattle.std.specs.Str.{chars};
 ghost use Rattle.legacy_index_files.specs.Encodings.{has_encoder};
-ghost use Rattle.legacy_exports.specs.AcceptedIndexes.{IsRefusedToEncode, IsTakenToEncode};
+ghost use Rattle.legacy_exports.specs.AcceptedIndexes.{range_pair, AreTakenLists, IsRefusedToEncode, IsTakenToEncode};
 ghost use Rattle.legacy_encodings.specs.Coders.{encoder_of};
-ghost use Rattle.legacy_exports.specs.NewCoders.{HoldsOfNew, HoldsByNumber};
+ghost use Rattle.legacy_exports.specs.NewCoders.{HoldsOfNew, HoldsOverTables, HoldsByNumber};
 ghost use Rattle.legacy_exports.specs.Encoding.{ConvertsText, ReturnsBytes};
 ghost use Rattle.legacy_exports.specs.Repeated.{Repeats, RepeatsFrom};
 
@@ -67,10 +67,29 @@ impl<C: EncoderCalls<T>, T: Text> EncoderTask for Reading<C, T> {
     }
 }
 
+/// Encodes by the encoder, and returns the bytes of the last time.
+///
+/// An encoder of pairs lists them in the room if it is long enough.
+#[inline(always)]
+fn encode_by<C: EncoderCalls<T>, T: Text>(
+    encoder: &mut AnyEncoder,
+    reading: &Reading<C, T>,
+    output: &mut [u8],
+    room: &mut [u16],
+) -> usize
+    ensures units { result ≤ length output.new }
+    ensures bytes { RepeatsFrom (ConvertsText C.kind (T.scalars reading.now.source) (length output.old))
+        reading.now.times (take result output.new) (⟦<AnyEncoder<'static> as RawEncoder>⟧.state encoder.old) }
+{
+    if let Some(mut listed) = ListedEncoder::new(encoder, room) {
+        return listed.lend(reading, output);
+    }
+    encoder.lend(reading, output)
+}
+
 /// Encodes by the codec's encoder over these tables, and returns the bytes of the last time.
 ///
-/// Returns `None` if the codec has no encoder, or is single-byte and `single_byte` is `None`. An
-/// encoder of pairs caches them in the room if it is long enough.
+/// Returns `None` if the codec has no encoder, or is single-byte and `single_byte` is `None`.
 fn encode_over<'a, C: EncoderCalls<T>, T: Text>(
     codec: Codec,
     tables: &'a Tables<'a>,
@@ -89,10 +108,32 @@ fn encode_over<'a, C: EncoderCalls<T>, T: Text>(
         × (codec ≡ Codec.SingleByte → IsSome single_byte.entry)) }
 {
     let mut encoder = AnyEncoder::new(codec, tables, single_byte)?;
-    if let Some(mut listed) = ListedEncoder::new(&encoder, room) {
-        return Some(listed.lend(reading, output));
-    }
-    Some(encoder.lend(reading, output))
+    Some(encode_by(&mut encoder, reading, output, room))
+}
+
+/// Encodes by the codec's encoder over tables of the indexes, whose ranges are these pairs, and returns
+/// the bytes of the last time.
+///
+/// Returns `None` if the codec has no encoder or the indexes are refused.
+fn encode_over_indexes<C: EncoderCalls<T>, T: Text>(
+    codec: Codec,
+    indexes: &IndexSlices,
+    ranges: &[(u16, u16)],
+    reading: &Reading<C, T>,
+    output: &mut [u8],
+    room: &mut [u16],
+) -> Option<usize>
+    requires { ranges.now ≡ map range_pair indexes.now.ranges.now }
+    ensures units { IfSome result (λ written. written ≤ length output.new) }
+    ensures bytes { IfSome result (λ written. HoldsOverTables encoder_of codec indexes.now
+        (RepeatsFrom (ConvertsText C.kind (T.scalars reading.now.source) (length output.old))
+        reading.now.times (take written output.new))) }
+    ensures unchanged { IfNone result (output.new ≡ output.old) }
+    ensures taken { IsSome result ↔ ((has_encoder codec ≡ true) × AreTakenLists codec indexes.now) }
+{
+    let tables = tables_with(indexes, ranges)?;
+    let table = single_byte_table(indexes.single_byte);
+    encode_over(codec, &tables, table.as_ref(), reading, output, room)
 }
 
 /// Encodes by the codec of this number, and returns the number of bytes written the last time.
@@ -119,9 +160,14 @@ fn encode_by_number<C: EncoderCalls<T>, T: Text>(
         return None;
     }
     let pairs = range_pairs(indexes.ranges);
-    let tables = tables_with(indexes, &pairs[..range_count])?;
-    let table = single_byte_table(indexes.single_byte);
-    encode_over(codec, &tables, table.as_ref(), &reading, output, room)
+    encode_over_indexes(
+        codec,
+        indexes,
+        &pairs[..range_count],
+        &reading,
+        output,
+        room,
+    )
 }
 
 /// Encodes by the codec of this number, and returns the number of bytes written the last time.
