@@ -88,13 +88,12 @@ abbrev pub read_in_mode : DecoderMode → ℕ → Fed × DecoderMode × Held
 read_in_mode TwoByte b = if is_in_range 0x21 0x7E b then (Kept, TwoByte, Byte b) else read_or 1 TwoByte None
 read_in_mode mode b = read_or 1 mode (single mode b)
 
--- the scalar of a lead and a trail
-abbrev pub pair : List ℕ → ℕ → ℕ → Option ℕ
-pair jis0208 l t = if is_in_range 0x21 0x7E t then idx jis0208 ((l - 0x21) * 94 + (t - 0x21)) else None
-
 -- reads a byte after a lead
 abbrev pub read_trail : List ℕ → ℕ → ℕ → Fed × DecoderMode × Held
-read_trail jis0208 l b = if b == esc then malformed 1 false TwoByte (Begun None EscapeByte) else read_or 2 TwoByte (pair jis0208 l b)
+read_trail jis0208 l b =
+    if b == esc then malformed 1 false TwoByte (Begun None EscapeByte)
+    else if is_in_range 0x21 0x7E b then read_or 2 TwoByte (idx jis0208 ((l - 0x21) * 94 + (b - 0x21)))
+    else read_or 2 TwoByte None
 
 -- the escape that a byte completes
 abbrev pub completes : Start → ℕ → Option Escape

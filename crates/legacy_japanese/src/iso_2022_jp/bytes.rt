@@ -166,13 +166,11 @@ fn ascii_scalar(byte: u8) -> Option<char>
 pub fn single_scalar(mode: DecoderMode, byte: u8) -> Option<char>
     ensures { result ≡ machine.single mode byte }
 {
-    match mode {
-        DecoderMode::Roman if byte == 0x5C => Some('\u{A5}'),
-        DecoderMode::Roman if byte == 0x7E => Some('\u{203E}'),
-        DecoderMode::Ascii | DecoderMode::Roman => ascii_scalar(byte),
-        DecoderMode::Katakana if byte >= 0x21 && byte <= 0x5F => {
-            char::from_u32(0xFF61 + u32::from(byte - 0x21))
-        }
+    match (mode, byte) {
+        (DecoderMode::Roman, 0x5C) => Some('\u{A5}'),
+        (DecoderMode::Roman, 0x7E) => Some('\u{203E}'),
+        (DecoderMode::Ascii | DecoderMode::Roman, _) => ascii_scalar(byte),
+        (DecoderMode::Katakana, 0x21..=0x5F) => char::from_u32(0xFF61 + u32::from(byte - 0x21)),
         _ => None,
     }
 }
@@ -192,17 +190,6 @@ pub fn completed(start: Start, byte: u8) -> Option<Escape>
     }
 }
 
-/// Returns the outcome of bytes with this scalar, which are malformed if it is `None`.
-#[inline]
-fn read_or(length: u8, mode: DecoderMode, scalar: Option<char>) -> Outcome
-    ensures { result ≡ machine.read_or length mode scalar }
-{
-    match scalar {
-        Some(c) => (Fed::One(c), mode, NOTHING),
-        None => malformed(length, false, mode, NOTHING),
-    }
-}
-
 /// Reads a byte that is not the escape byte, with nothing held back.
 #[inline]
 fn read_in_mode(mode: DecoderMode, byte: u8) -> Outcome
@@ -215,22 +202,10 @@ fn read_in_mode(mode: DecoderMode, byte: u8) -> Outcome
     if matches!(mode, DecoderMode::TwoByte) && byte >= 0x21 && byte <= 0x7E {
         return (Fed::Nothing, mode, Held::Byte(byte));
     }
-    read_or(1, mode, single_scalar(mode, byte))
-}
-
-/// Returns the scalar of a lead and a trail, or `None`.
-#[inline]
-fn pair_scalar(tables: &Tables, lead: u8, trail: u8) -> Option<char>
-    requires { 0x21 ≤ lead }
-    ensures { result ≡ machine.pair tables.now.flat.jis0208 lead trail }
-{
-    if trail < 0x21 || trail > 0x7E {
-        return None;
+    match single_scalar(mode, byte) {
+        Some(c) => (Fed::One(c), mode, NOTHING),
+        None => malformed(1, false, mode, NOTHING),
     }
-    tables.idx(
-        IndexName::Jis0208,
-        usize::from(lead - 0x21) * 94 + usize::from(trail - 0x21),
-    )
 }
 
 /// Reads a byte after a lead.
@@ -245,7 +220,13 @@ fn read_trail(tables: &Tables, lead: u8, byte: u8) -> Outcome
     if byte == ESCAPE {
         return malformed(1, false, mode, Held::Begun(None, Start::EscapeByte));
     }
-    read_or(2, mode, pair_scalar(tables, lead, byte))
+    if byte >= 0x21 && byte <= 0x7E {
+        let pointer = usize::from(lead - 0x21) * 94 + usize::from(byte - 0x21);
+        if let Some(c) = tables.idx(IndexName::Jis0208, pointer) {
+            return (Fed::One(c), mode, NOTHING);
+        }
+    }
+    malformed(2, false, mode, NOTHING)
 }
 
 /// Reads a byte after an escape byte and a second byte, which may follow a whole escape.

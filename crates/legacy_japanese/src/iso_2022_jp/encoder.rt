@@ -56,7 +56,6 @@ impl<P: FindsPairs> EncoderMoves for EncoderBy<P> {
     ghost state = { λ encoder. state_in (P.flat encoder.pairs) encoder.mode };
 
     #[inline]
-    #[tactic(auto, using(crate::proofs::Iso2022JpEncoderMoves::serves))]
     fn need(&self, _c: char) -> usize {
         3
     }
@@ -73,7 +72,6 @@ impl<P: FindsPairs> EncoderMoves for EncoderBy<P> {
     }
 
     #[inline]
-    #[tactic(auto, using(crate::proofs::Iso2022JpEncoderMoves::serves))]
     fn is_pending(&self) -> bool {
         self.has_pending_state()
     }

@@ -48,19 +48,25 @@ impl FillsBuffer for PairsAhead<'_, '_> {
     }
 }
 
+/// Reads pairs from the front of the text, and returns the number of bytes read, which may be 0.
+#[inline(always)]
+fn read_pairs<T: Destination>(ahead: &PairsAhead<'_, '_>, dst: &mut T) -> usize
+    ensures { ReadsAhead T.Destination (new_state (iso_2022_jp ahead.now.tables.flat.jis0208 TwoByte)) ahead.now.src.now result
+        dst.old dst.new }
+{
+    match dst.lend(ahead) {
+        Some(read) => read,
+        None => read_forms(ahead, ahead.src, ahead.src.len(), dst),
+    }
+}
+
 /// Reads pairs from the front over flat tables, and returns the number of bytes read, which may be 0.
 #[inline(always)]
-fn read_pairs<T: Destination>(tables: &FlatTables, src: &[u8], dst: &mut T) -> usize
+fn read_flat_pairs<T: Destination>(tables: &FlatTables, src: &[u8], dst: &mut T) -> usize
     ensures { ReadsAhead T.Destination (new_state (iso_2022_jp tables.now.flat.jis0208 TwoByte)) src.now result dst.old dst.new }
 {
-    let ahead = PairsAhead {
-        tables: tables.copied(),
-        src,
-    };
-    match dst.lend(&ahead) {
-        Some(read) => read,
-        None => read_forms(&ahead, src, src.len(), dst),
-    }
+    let tables = tables.copied();
+    read_pairs(&PairsAhead { tables, src }, dst)
 }
 
 /// Reads pairs from the front, if the first byte may be a lead and the tables are flat.
@@ -74,7 +80,7 @@ fn read_any_pairs<T: Destination>(tables: &Tables, src: &[u8], dst: &mut T) -> u
         return 0;
     }
     match tables.flat() {
-        Some(tables) => read_pairs(tables, src, dst),
+        Some(tables) => read_flat_pairs(tables, src, dst),
         None => 0,
     }
 }
