@@ -4,5 +4,5 @@ pub mod ReadingAhead
 pub mod PlainServes
 pub mod PairAnswers
 pub mod CachedPairs
-pub mod UnitTurns
+pub mod WrittenUnits
 pub mod WalkedPairs

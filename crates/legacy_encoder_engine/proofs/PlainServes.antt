@@ -11,7 +11,7 @@ use Rattle.legacy_text.proofs.CodeUnits.{encoding}
 use Rattle.legacy_base.proofs.SameUnits.{some_unit}
 use Rattle.legacy_encoder_engine.specs.{declared.moves.EncoderMove.TheVariants.{One, Two}, declared.moves.EncoderMove.EncoderMove}
 use Rattle.legacy_encoder_engine.specs.Moves.{Moves, IsCode, is_escape, move_bytes, move_report, wants_escape}
-use Rattle.legacy_encoder_engine.specs.{ProfileSuffices.{mode_need, Serves}, UnfinishedCall.{PutsCode, ReadsByte}, UnitTurns.{HasUnitCode, ReadsUnit}}
+use Rattle.legacy_encoder_engine.specs.{ProfileSuffices.{mode_need, Serves}, UnfinishedCall.{PutsCode, ReadsByte}, WrittenUnits.{HasUnitCode, ReadsUnit}}
 use Rattle.legacy_encoder_engine.specs.PlainCodecs.{HasPlainLengths, IsPlainCodec, HasByte}
 use Rattle.legacy_encoder_engine.proofs.{CallUnderWay.state_stays}
 

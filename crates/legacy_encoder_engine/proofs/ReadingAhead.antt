@@ -2,7 +2,7 @@
 use Rattle.std.proofs.Common.{◌≡◌, ◌∙◌, ℕ, suc, ◌+◌, ◌-◌, ◌≤◌, ◌<◌, List, [], ◌∷◌, ◌++◌, length, get_or, take, drop, refl, ap, sym, subst, arith, append_assoc}
 use Rattle.std.proofs.{Common.{append-nil, length-append, false, IsAscii}, lemmas.List.{get_or-take, length-take, length-take-le}}
 use Rattle.std.proofs.lemmas.List.{take-append-drop, take-append-le, take-take, take_at, drop-take, drop_at}
-use Rattle.legacy_text.specs.{EncodingForm.{EncodingForm, code_units, all_code_units, total_unit_count}, NextScalars.IsFirst, UnitCodes.WritesCodes}
+use Rattle.legacy_text.specs.{EncodingForm.{EncodingForm, code_units, unit_count, all_code_units, total_unit_count}, NextScalars.IsFirst, UnitCodes.WritesCodes}
 use Rattle.legacy_text.proofs.CodeUnits.{length-code_units-ascii, total_unit_count-append}
 use Rattle.legacy_base.specs.Encoders.{EncoderState, encoder_profile, scalar_need}
 use Rattle.legacy_encoder_engine.specs.{declared.moves.EncoderMove.EncoderMove, Moves.{Moves, move_bytes, move_report, is_escape}, UnfinishedCall.KeepsOn}
@@ -121,6 +121,20 @@ module _ (start n limit : ℕ) (dst new left : List ℕ) (fits : start + n ≤ l
   pub written_part : take n (drop start (new ++ drop limit dst)) ≡ take n left
   written_part = rw (← drop-take start n (new ++ drop limit dst), copied_part)
       (drop_at (take start dst) (take n left) start (length-take-le start dst (omega (arith, length-take limit dst))))
+
+-- the first scalar
+pub first_some : {left rest : List ℕ} {c : ℕ} → left ≡ c ∷ rest → 0 < length left
+first_some is = rw is (omega arith)
+
+pub first_count : (form : EncodingForm) {left : List ℕ} {c n : ℕ} → IsFirst form left c n → n ≡ unit_count form (get_or left 0 0)
+first_count form is = rw is.0 (sym is.1)
+
+pub past_ascii : (form : EncodingForm) {c n : ℕ} → unit_count form c ≡ n → 2 ≤ n → 128 ≤ c
+past_ascii form {c} is two = grind (arith, length-code_units-ascii form c)
+
+-- a code that is written has a byte
+pub puts_some : {state : EncoderState} {c at end : ℕ} {old new : List ℕ} → PutsCode state c old at new end → at < end
+puts_some put = let reads = put.reads in let silent = put.silent in let ends = put.ends in grind arith
 
 -- one more scalar
 pub encodes_put : {state : EncoderState} (form : EncodingForm) {free passed passed' passed'' start at end c n room : ℕ}

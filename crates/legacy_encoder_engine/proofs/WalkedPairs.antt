@@ -6,7 +6,7 @@ use Rattle.legacy_tables.specs.{declared.tables.packed.PackedPart.PackedPart, Pa
 use Rattle.legacy_tables.proofs.{PackedAccepted.entry-scalar, PackedPointers.pointer-taken}
 use Rattle.legacy_text.specs.UnitCodes.{IsNoSurrogate}
 use Rattle.legacy_base.specs.Encoders.{Codec, encoder_profile}
-use Rattle.legacy_encoder_engine.specs.{UnitTurns.two_bytes, CachedPairs.{AreAllPairsOf, IsNoPair, IsOutside, IsRightEntry}}
+use Rattle.legacy_encoder_engine.specs.{WrittenUnits.two_bytes, CachedPairs.{AreAllPairsOf, IsNoPair, IsOutside, IsRightEntry}}
 use Rattle.legacy_encoder_engine.proofs.CachedPairs.{all-right, asked, outside-first}
 
 -- a lead and a trail are the bytes of their number

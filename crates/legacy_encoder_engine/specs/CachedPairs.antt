@@ -4,7 +4,7 @@ use Rattle.std.specs.Prelude.{◌≡◌, ◌≢◌, ℕ, ◌+◌, ◌<◌, ◌�
 use Rattle.std.specs.Char.{IsScalar}
 use Rattle.legacy_text.specs.UnitCodes.{IsNoSurrogate}
 use Rattle.legacy_base.specs.Encoders.{Codec, encoder_profile}
-use Rattle.legacy_encoder_engine.specs.UnitTurns.{HasUnitCode}
+use Rattle.legacy_encoder_engine.specs.WrittenUnits.{HasUnitCode}
 
 -- the entry is the code of the scalar c, or 0
 abbrev pub IsPairEntry : Codec → ℕ → ℕ → Type 0

@@ -6,6 +6,6 @@ pub mod UnfinishedCall
 pub mod PlainCodecs
 pub mod PlainLengths
 pub mod PairCodecs
-pub mod UnitTurns
+pub mod WrittenUnits
 pub mod CachedPairs
 pub mod Guesses

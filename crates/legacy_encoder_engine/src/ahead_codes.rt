@@ -4,7 +4,7 @@ ghost use Rattle.legacy_base.specs.Encoders.{EncoderState, encoder_profile, scal
 ghost use Rattle.legacy_encoder_engine.specs.Guesses.{IsGuess};
 ghost use Rattle.legacy_encoder_engine.specs.ProfileSuffices.{Serves};
 ghost use Rattle.legacy_encoder_engine.specs.UnfinishedCall.{EncodesBy, PutsCode};
-ghost use Rattle.legacy_encoder_engine.specs.UnitTurns.{ReadsUnit};
+ghost use Rattle.legacy_encoder_engine.specs.WrittenUnits.{ReadsUnit};
 
 use legacy_tables::RangePart;
 use legacy_text::TextCursor;

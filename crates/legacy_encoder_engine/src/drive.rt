@@ -1,8 +1,8 @@
 //! The loop of all encoders, over the small moves that each encoder makes.
-ghost use Rattle.std.specs.Prelude.{◌≡◌, ◌+◌, ◌<◌, ◌≤◌, [], ◌∷◌, ◌++◌, length, take};
+ghost use Rattle.std.specs.Prelude.{◌≡◌, ◌+◌, ◌<◌, ◌≤◌, ℕ, List, [], ◌∷◌, ◌++◌, length, take, true};
 ghost use Rattle.legacy_text.specs.EncodingForm.{total_unit_count};
-ghost use Rattle.legacy_base.specs.EncoderCalls.{EncoderCall};
-ghost use Rattle.legacy_encoder_engine.specs.Moves.{move_bytes};
+ghost use Rattle.legacy_base.specs.{EncoderCalls.EncoderCall, Encoders.{EncoderState, encoder_profile, is_pending}};
+ghost use Rattle.legacy_encoder_engine.specs.{Moves.move_bytes, ProfileSuffices.Serves, UnfinishedCall.Underway};
 
 use crate::moves::{EncoderMove, EncoderMoves};
 use legacy_base::{EncoderResult, Source};
@@ -59,12 +59,34 @@ pub fn put_move(dst: &mut [u8], at: usize, step: EncoderMove) -> usize
         }
         EncoderMove::Escape(a, b) => {
             put(dst, at, 0x1B);
-            put(dst, at + 1, a);
-            put(dst, at + 2, b);
+            put_two(dst, at + 1, a, b);
             at + 3
         }
         EncoderMove::Unmappable(_) => at,
     }
+}
+
+/// Writes the escape to ASCII at the end of the text from a place on, or returns that it does not fit.
+#[inline]
+fn write_end<E: EncoderMoves>(
+    encoder: &mut E,
+    dst: &mut [u8],
+    written: usize,
+) -> (EncoderResult, usize)
+    requires pending { is_pending (E.state encoder.old) ≡ true }
+    requires serves { Serves (encoder_profile (E.state encoder.old).codec) }
+    requires within { written ≤ length dst.old }
+    ensures call { (before : EncoderState) (source : List ℕ) →
+        Underway before source true (length dst.old) (E.state encoder.old) [] (take written dst.old) →
+        EncoderCall before source true (length dst.old) (E.state encoder.new) result.0 [] (take result.1 dst.new) }
+    ensures written { result.1 ≤ length dst.new }
+{
+    if dst.len() - written < 3 {
+        return (EncoderResult::OutputFull, written);
+    }
+    encoder.finish();
+    let end = put_move(dst, written, EncoderMove::TO_ASCII);
+    (EncoderResult::InputEmpty, end)
 }
 
 /// Runs one call of an encoder.
@@ -105,11 +127,7 @@ pub fn drive_encoder<E: EncoderMoves, S: Source>(
         src.advance();
     }
     if encoder.is_pending() && last {
-        if dst.len() - written < 3 {
-            return (EncoderResult::OutputFull, written);
-        }
-        encoder.finish();
-        written = put_move(dst, written, EncoderMove::TO_ASCII);
+        return write_end(encoder, dst, written);
     }
     (EncoderResult::InputEmpty, written)
 }

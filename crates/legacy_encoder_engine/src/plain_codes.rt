@@ -5,7 +5,7 @@ ghost use Rattle.legacy_base.specs.Encoders.{Codec, encoder_profile};
 ghost use Rattle.legacy_encoder_engine.specs.Moves.{IsCode};
 ghost use Rattle.legacy_encoder_engine.specs.Guesses.{IsGuess};
 ghost use Rattle.legacy_encoder_engine.specs.PlainCodecs.{IsPlainCodec, HasByte};
-ghost use Rattle.legacy_encoder_engine.specs.UnitTurns.{HasUnitCode};
+ghost use Rattle.legacy_encoder_engine.specs.WrittenUnits.{HasUnitCode};
 
 use crate::moves::EncoderMove;
 use legacy_tables::RangePart;

@@ -7,7 +7,7 @@ ghost use Rattle.legacy_base.specs.Encoders.{encoder_profile, scalar_need};
 ghost use Rattle.legacy_encoder_engine.specs.Guesses.{IsGuess};
 ghost use Rattle.legacy_encoder_engine.specs.ProfileSuffices.{Serves};
 ghost use Rattle.legacy_encoder_engine.specs.UnfinishedCall.{EncodesBy, EncodesFrom, KeepsOn};
-ghost use Rattle.legacy_encoder_engine.specs.UnitTurns.{PutsUnits};
+ghost use Rattle.legacy_encoder_engine.specs.WrittenUnits.{PutsUnits};
 
 use crate::ahead_codes::AheadCodes;
 use crate::drive::put_two;

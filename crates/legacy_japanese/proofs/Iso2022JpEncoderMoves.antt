@@ -8,7 +8,7 @@ use Rattle.legacy_base.specs.Iso2022Jp.{iso_2022_jp_encoder, iso_2022_jp_code, i
 use Rattle.legacy_base.proofs.Iso2022JpEncoding.{code-short, text_events, text_events-here, text_events-escape, text_events-end, text_events-open, mode_for}
 use Rattle.legacy_base.proofs.{Iso2022JpEncoding.{mode_by, mode_for-by, mode_for-twice, code_by}, SameUnits.some_unit}
 use Rattle.legacy_encoder_engine.specs.{Moves.{is_escape, move_bytes, move_report, Moves, Finishes}, ProfileSuffices.{Serves, mode_need}}
-use Rattle.legacy_encoder_engine.specs.{UnfinishedCall.{PutsCode, ReadsByte}, UnitTurns.{ReadsUnit, two_bytes}}
+use Rattle.legacy_encoder_engine.specs.{UnfinishedCall.{PutsCode, ReadsByte}, WrittenUnits.{ReadsUnit, two_bytes}}
 use Rattle.legacy_encoder_engine.specs.declared.moves.EncoderMove.{EncoderMove, TheVariants.{One, Two}}
 use Rattle.legacy_encoder_engine.proofs.PlainServes.{two_units, differs-same, here_moves}
 use Rattle.{legacy_base.specs.declared.modes.EncoderMode.{EncoderMode, TheVariants.{Ascii, TwoByte}}, legacy_japanese.specs.Iso2022JpEncoder.{state_in, Asks}}

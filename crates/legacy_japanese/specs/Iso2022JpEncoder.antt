@@ -3,7 +3,7 @@ use Rattle.std.proofs.Common.{◌≡◌, ◌≢◌, ℕ, ◌+◌, ◌*◌, ◌/�
 use Rattle.{legacy_tables.specs.Indexes.FlatIndexes, legacy_text.specs.UnitCodes.IsNoSurrogate}
 use Rattle.legacy_base.specs.Iso2022Jp.{iso_2022_jp_code, iso_2022_jp_reported, mode_after_text}
 use Rattle.legacy_base.specs.{declared.modes.EncoderMode.EncoderMode, Encoders.{EncoderState, iso_2022_jp}}
-use Rattle.legacy_encoder_engine.specs.{Moves.IsCode, UnitTurns.two_bytes, declared.moves.EncoderMove.EncoderMove}
+use Rattle.legacy_encoder_engine.specs.{Moves.IsCode, WrittenUnits.two_bytes, declared.moves.EncoderMove.EncoderMove}
 
 -- the codec with these indexes, in a mode
 abbrev pub state_in : FlatIndexes → EncoderMode → EncoderState

@@ -203,7 +203,6 @@ impl DecoderMoves for Gb18030Decoder<'_> {
     }
 
     #[inline]
-    #[tactic(auto, using(crate::proofs::Gb18030Held::covered))]
     fn reading_need(&self, byte: u8) -> Need {
         if byte < 0x80 && matches!(self.held, Held::Nothing) {
             Need::Unit
@@ -213,13 +212,11 @@ impl DecoderMoves for Gb18030Decoder<'_> {
     }
 
     #[inline]
-    #[tactic(auto, using(crate::proofs::Gb18030Held::covered))]
     fn release_need(&self) -> Need {
         Need::Wide
     }
 
     #[inline]
-    #[tactic(auto, using(crate::proofs::Gb18030Held::releases))]
     fn release(&mut self) -> Option<char> {
         match self.held {
             Held::Digit(digit) => {
@@ -235,7 +232,6 @@ impl DecoderMoves for Gb18030Decoder<'_> {
     }
 
     #[inline(always)]
-    #[tactic(auto, using(std::proofs::lemmas::Grind::common_steps, crate::proofs::Gb18030Held::feeds, crate::proofs::Gb18030Held::takes_pair))]
     fn feed(&mut self, byte: u8) -> Fed {
         if let Held::First(first) = self.held {
             if let Some(scalar) = form_scalar(self.tables, first.byte, byte) {
@@ -243,10 +239,12 @@ impl DecoderMoves for Gb18030Decoder<'_> {
                 return Fed::One(scalar);
             }
         }
-        let (fed, held) = match self.held {
-            Held::Nothing => read_first(byte),
-            held => read_next(self.tables, &self.guess, held, byte),
-        };
+        if let Held::Nothing = self.held {
+            let (fed, kept) = read_first(byte);
+            self.held = kept;
+            return fed;
+        }
+        let (fed, held) = read_next(self.tables, &self.guess, self.held, byte);
         self.held = held;
         fed
     }
@@ -262,7 +260,6 @@ impl DecoderMoves for Gb18030Decoder<'_> {
         !matches!(self.held, Held::Nothing)
     }
 
-    #[tactic(auto, using(crate::proofs::Gb18030Held::ends_none, crate::proofs::Gb18030Held::reports))]
     fn report(&mut self) -> Option<(u8, u8)> {
         let length = held_length(self.held);
         if length == 0 {
@@ -280,7 +277,6 @@ impl DecoderMoves for Gb18030Decoder<'_> {
 
     /// Holds back the first bytes of a sequence: those before the end of the input, and those that go on with held-back ones.
     #[inline(always)]
-    #[tactic(auto, using(legacy_decoder_engine::proofs::CallUnderWay::holds_none))]
     fn hold_back<T: Destination>(&mut self, src: &[u8], dst: &T) -> usize {
         if dst.free() < T::wide() {
             return 0;
@@ -297,7 +293,6 @@ impl DecoderMoves for Gb18030Decoder<'_> {
     }
 
     #[inline(always)]
-    #[tactic(auto, using(legacy_decoder_engine::proofs::WrittenReads::no_bytes))]
     fn read_common<T: Destination>(&mut self, src: &[u8], dst: &mut T) -> usize {
         if !matches!(self.held, Held::Nothing) {
             return 0;

@@ -289,21 +289,21 @@ impl<V: EncoderTables, const EXTENDED: bool, const LISTED: bool> PastPairs
     }
 }
 
-/// Reads ahead in GB18030 by the pairs of a list, and returns the place after the bytes.
+/// Reads ahead in GB18030 or GBK by the pairs of a list, and returns the place after the bytes.
 #[inline(always)]
-fn read_listed_by<V: EncoderTables, S: Source>(
+fn read_listed_by<V: EncoderTables, S: Source, const EXTENDED: bool>(
     tables: &V,
     pairs: &[u16],
     src: &mut S,
     dst: &mut [u8],
     start: usize,
 ) -> usize
-    requires pairs { AreAllPairsOf (gb18030_codec (V.indexes tables.now).flat true) pairs.now }
+    requires pairs { AreAllPairsOf (gb18030_codec (V.indexes tables.now).flat EXTENDED) pairs.now }
     requires start { start ≤ length dst.old }
-    ensures { EncodesFrom S.Source (new_encoder (gb18030_codec (V.indexes tables.now).flat true))
+    ensures { EncodesFrom S.Source (new_encoder (gb18030_codec (V.indexes tables.now).flat EXTENDED))
         src.old dst.old start src.new dst.new result }
 {
-    let codes = Gb18030Codes::<V, true, true> { tables };
+    let codes = Gb18030Codes::<V, EXTENDED, true> { tables };
     read_common(&WithPairs::new(&codes, pairs), src, dst, start)
 }
 
@@ -330,11 +330,13 @@ impl EncodesPairs for Gb18030Encoder<'_> {
         start: usize,
     ) -> usize {
         if !self.extended_range {
-            return read_common(&WithPairs::new(self, pairs), src, dst, start);
+            return read_listed_by::<Tables<'_>, S, false>(self.tables, pairs, src, dst, start);
         }
         match self.tables.flat() {
-            Some(tables) => read_listed_by::<FlatTables<'_>, S>(tables, pairs, src, dst, start),
-            None => read_listed_by::<Tables<'_>, S>(self.tables, pairs, src, dst, start),
+            Some(tables) => {
+                read_listed_by::<FlatTables<'_>, S, true>(tables, pairs, src, dst, start)
+            }
+            None => read_listed_by::<Tables<'_>, S, true>(self.tables, pairs, src, dst, start),
         }
     }
 }

@@ -6,7 +6,7 @@ ghost use Rattle.{legacy_tables.specs.{Indexes.range, RangeParts.IsRangePart}, l
 ghost use Rattle.legacy_chinese.specs.{Gb18030Shown.ascii, PairPlaces.pair_place};
 
 use super::four_lanes::read_fours;
-use super::four_places::four_pointer;
+use super::four_places::pointer_at;
 use super::pair_places::TRAILS;
 use legacy_base::{Destination, IndexName};
 use legacy_decoder_engine::common_forms::CommonForm;
@@ -161,7 +161,7 @@ impl LaneCodec for Gb18030 {
                     return at;
                 }
             } else {
-                let pointer = four_pointer(byte, src[at + 1], src[at + 2], src[at + 3]);
+                let pointer = pointer_at(src, at);
                 let Some((scalar, found)) = scalar_and_part(ranges, guess, part, pointer) else {
                     return at;
                 };
@@ -176,7 +176,6 @@ impl LaneCodec for Gb18030 {
 
     // It reads nothing unless the first byte past ASCII begins a sequence of four bytes, and blocks may follow.
     #[inline(always)]
-    #[tactic(auto, using(legacy_decoder_engine::proofs::WrittenReads::no_bytes))]
     fn read_longer_blocks<T: Destination>(
         tables: &FlatTables<'_>,
         guess: usize,
@@ -206,7 +205,7 @@ impl LaneCodec for Gb18030 {
         if src.len() < 4 {
             return None;
         }
-        let pointer = four_pointer(src[0], src[1], src[2], src[3]);
+        let pointer = pointer_at(src, 0);
         let scalar = guessed_scalar(tables.ranges(), guess, pointer)?;
         Some((scalar, 4))
     }

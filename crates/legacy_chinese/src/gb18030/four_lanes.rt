@@ -86,7 +86,6 @@ fn form_length(code: u16) -> usize
 /// Returns the number of bytes of the first `count` forms, given the codes of their first two bytes.
 // Never inlined, because few blocks have a sequence outside of the part.
 #[inline(never)]
-#[tactic(auto, using(crate::proofs::FourWrites::counted_forms), unfolding(crate::specs::FourForms::fours_of))]
 fn byte_total(front: &[u16], count: usize) -> usize
     requires { count ≤ length front.now }
     ensures { (back : List ℕ) → count ≤ length back → result ≡ length (fours_of (take count front.now) (take count back)) }
@@ -169,7 +168,6 @@ fn read_front<T: Destination>(
 ///
 /// It stops at a sequence outside of the range at the guess. Returns the number of bytes read, which may be 0.
 #[inline(always)]
-#[tactic(auto, using(legacy_decoder_engine::proofs::WrittenReads::no_bytes))]
 pub fn read_fours<T: Destination>(
     tables: &FlatTables<'_>,
     guess: usize,

@@ -90,7 +90,6 @@ fn pick_block(block: &[u8], front: &mut [u16], back: &mut [u16], count: usize) -
 ///
 /// Returns the number of codes, and the number of bytes of their forms.
 #[inline(always)]
-#[tactic(auto, using(crate::proofs::FourStarts::next_forms), unfolding(crate::specs::FourForms::fours_of))]
 pub fn pick_fours(src: &[u8], front: &mut [u16], back: &mut [u16]) -> (usize, usize)
     requires same { length front.old ≡ length back.old }
     requires some { 8 ≤ length front.old }

@@ -1,4 +1,4 @@
-use Rattle.std.proofs.{Common.{◌≡◌, ◌∙◌, length, ℕ, false, IsTrue, refl, sym, ap, arith}, lemmas.List.length-take}
+use Rattle.std.proofs.{Common.{◌≡◌, ◌∙◌, length, ℕ, false, IsTrue, refl, sym, ap, arith}, lemmas.List.length-take-le}
 use Rattle.legacy_base.specs.Encoders.{is_pending}
 use Rattle.legacy_text.proofs.Texts.{first_cons, none_left}
 use Rattle.legacy_encoder_engine.specs.Moves.{is_escape}
@@ -18,25 +18,28 @@ loop-c-init g c = (
 pub returns-then-dst-written-clause-call : goal.returns-then-dst-written-clause-call
 returns-then-dst-written-clause-call g c =
     let a = c.read_ahead-written in
+    let long = length-take-le a.result a.new.dst (omega (arith, a.ensures.end)) in
     let under = (rw c.loop-c.auto.dst at a.ensures.keeps).keeps _ _ _ c.loop-c.invariant.0 in
-    call_full_scalar under c.need.ensures.serves (first_cons _ _ c.in-Some.ensures) (omega (arith, length-take {A = ℕ}))
+    call_full_scalar under c.need.ensures.serves (first_cons _ _ c.in-Some.ensures) (omega (arith, long, c.need.ensures.bytes))
 
 pub returns-in-Unmappable-clause-call : goal.returns-in-Unmappable-clause-call
 returns-in-Unmappable-clause-call g c =
     let a = c.read_ahead-written in
+    let long = length-take-le a.result a.new.dst (omega (arith, a.ensures.end)) in
     let under = (rw c.loop-c.auto.dst at a.ensures.keeps).keeps _ _ _ c.loop-c.invariant.0 in
     rw c.advance.ensures.left
     (call_unmappable under c.need.ensures.serves (first_cons _ _ c.in-Some.ensures)
-    (rw c.in-Unmappable.is at c.next-step.ensures) (omega (arith, length-take {A = ℕ})))
+    (rw c.in-Unmappable.is at c.next-step.ensures) (omega (arith, long, c.need.ensures.bytes)))
 
 pub loop-c-preserved : goal.loop-c-preserved
 loop-c-preserved g c =
     let a = c.read_ahead-written in
+    let long = length-take-le a.result a.new.dst (omega (arith, a.ensures.end)) in
     let under = (rw c.loop-c.auto.dst at a.ensures.keeps).keeps _ _ _ c.loop-c.invariant.0 in
     let cons = first_cons _ _ c.in-Some.ensures in (
       rw (c.advance-in-loop-c.ensures.left, c.put_move-written.ensures.bytes)
           (underway_read under c.need.ensures.serves cons c.next-step.ensures
-          (omega (arith, length-take {A = ℕ})) (grind (arith, c.in_default-step-2.not-Escape))
+          (omega (arith, long, c.need.ensures.bytes)) (grind (arith, c.in_default-step-2.not-Escape))
           (grind (arith, c.in_default-step.not-Unmappable))),
       omega arith,
       rw c.advance-in-loop-c.ensures.left (omega (
@@ -48,53 +51,21 @@ loop-c-preserved g c =
       )),
     )
 
-pub returns-else-is_pending-clause-call : goal.returns-else-is_pending-clause-call
-returns-else-is_pending-clause-call g c =
-    let a = c.read_ahead-written in
-    let under = (rw c.loop-c.auto.dst at a.ensures.keeps).keeps _ _ _ c.loop-c.invariant.0 in
-    let none : IsTrue c.args.last → is_pending (g.E.EncoderMoves.state c.loop-c.encoder) ≡ false = grind (arith, c.else-is_pending.branch) in
-    call_done under c.is_pending.ensures.serves (none_left _ (sym c.in_default.is ∙ c.peek.ensures)) none
-
 pub loop-c-preserved-in-Escape : goal.loop-c-preserved-in-Escape
 loop-c-preserved-in-Escape g c =
     let a = c.read_ahead-written in
+    let long = length-take-le a.result a.new.dst (omega (arith, a.ensures.end)) in
     let under = (rw c.loop-c.auto.dst at a.ensures.keeps).keeps _ _ _ c.loop-c.invariant.0 in
     let cons = first_cons _ _ c.in-Some.ensures in (
       rw c.put_move-written.ensures.bytes
           (underway_escape under c.need.ensures.serves cons c.next-step.ensures
-          (omega (arith, length-take {A = ℕ})) (ap is_escape c.in-Escape.is)),
+          (omega (arith, long, c.need.ensures.bytes)) (ap is_escape c.in-Escape.is)),
       omega arith,
       omega (arith, a.ensures.units, c.loop-c.invariant.2),
     )
 
-pub returns-then-dst-written-lt3-clause-call : goal.returns-then-dst-written-lt3-clause-call
-returns-then-dst-written-lt3-clause-call g c =
-    let a = c.read_ahead-written in
-    let under = (rw c.loop-c.auto.dst at a.ensures.keeps).keeps _ _ _ c.loop-c.invariant.0 in
-    let pending = sym c.is_pending.ensures.is ∙ c.if-is_pending.true in
-    call_full_end under c.is_pending.ensures.serves (none_left _ (sym c.in_default.is ∙ c.peek.ensures)) c.if-last.true pending
-    (omega (arith, length-take {A = ℕ}))
-
-pub returns-else-dst-written-lt3-clause-call : goal.returns-else-dst-written-lt3-clause-call
-returns-else-dst-written-lt3-clause-call g c =
-    let a = c.read_ahead-written in
-    let under = (rw c.loop-c.auto.dst at a.ensures.keeps).keeps _ _ _ c.loop-c.invariant.0 in
-    let pending = sym c.is_pending.ensures.is ∙ c.if-is_pending.true in
-    rw c.put_move-written-then-last.ensures.bytes
-    (call_finish under c.is_pending.ensures.serves (none_left _ (sym c.in_default.is ∙ c.peek.ensures)) c.if-last.true pending
-    (c.finish.ensures pending) (omega (arith, length-take {A = ℕ})))
-
 pub returns-then-dst-written-clause-passed : goal.returns-then-dst-written-clause-passed
 returns-then-dst-written-clause-passed g c = c.read_ahead-written.ensures.units ∙ c.loop-c.invariant.2
-
-pub returns-then-dst-written-lt3-clause-passed : goal.returns-then-dst-written-lt3-clause-passed
-returns-then-dst-written-lt3-clause-passed g c = c.read_ahead-written.ensures.units ∙ c.loop-c.invariant.2
-
-pub returns-else-dst-written-lt3-clause-passed : goal.returns-else-dst-written-lt3-clause-passed
-returns-else-dst-written-lt3-clause-passed g c = c.read_ahead-written.ensures.units ∙ c.loop-c.invariant.2
-
-pub returns-else-is_pending-clause-passed : goal.returns-else-is_pending-clause-passed
-returns-else-is_pending-clause-passed g c = c.read_ahead-written.ensures.units ∙ c.loop-c.invariant.2
 
 pub returns-in-Unmappable-clause-passed : goal.returns-in-Unmappable-clause-passed
 returns-in-Unmappable-clause-passed g c =
@@ -114,12 +85,6 @@ returns-then-dst-written-clause-written g c = omega arith
 pub returns-in-Unmappable-clause-written : goal.returns-in-Unmappable-clause-written
 returns-in-Unmappable-clause-written g c = omega arith
 
-pub returns-then-dst-written-lt3-clause-written : goal.returns-then-dst-written-lt3-clause-written
-returns-then-dst-written-lt3-clause-written g c = omega arith
-
-pub returns-else-is_pending-clause-written : goal.returns-else-is_pending-clause-written
-returns-else-is_pending-clause-written g c = omega arith
-
 pub put_move-written-requires : goal.put_move-written-requires
 put_move-written-requires g c = omega (arith, c.next-step.ensures.fits, c.need.ensures.bytes)
 
@@ -128,3 +93,44 @@ advance-requires g c = grind (arith, common_steps)
 
 pub advance-requires-in-loop-c : goal.advance-requires-in-loop-c
 advance-requires-in-loop-c g c = grind (arith, common_steps)
+
+pub read_ahead-written-requires : goal.read_ahead-written-requires
+read_ahead-written-requires g c = c.loop-c.invariant.1
+
+pub overflow_sub-dst : goal.overflow_sub-dst
+overflow_sub-dst g c = omega (arith, c.read_ahead-written.ensures.end)
+
+pub loop-c-smaller : goal.loop-c-smaller
+loop-c-smaller g c = grind (arith, common_steps)
+
+pub write_end-requires-clause-pending : goal.write_end-requires-clause-pending
+write_end-requires-clause-pending g c = sym c.is_pending.ensures.is ∙ c.if-is_pending.true
+
+pub write_end-requires-clause-serves : goal.write_end-requires-clause-serves
+write_end-requires-clause-serves g c = c.is_pending.ensures.serves
+
+pub write_end-requires-clause-within : goal.write_end-requires-clause-within
+write_end-requires-clause-within g c = omega (arith, c.read_ahead-written.ensures.end)
+
+pub returns-then-last : goal.returns-then-last
+returns-then-last g c =
+    let a = c.read_ahead-written in
+    let under = (rw c.loop-c.auto.dst at a.ensures.keeps).keeps _ _ _ c.loop-c.invariant.0 in
+    let none = none_left _ (sym c.in_default.is ∙ c.peek.ensures) in
+    let same : length a.new.dst ≡ length c.args.dst.now = omega (arith, a.auto.dst, c.loop-c.auto.dst) in
+    record {
+      call = rw (none, c.if-last.true, ← same) (c.write_end.ensures.call _ _ (rw (none, c.if-last.true, ← same) at under));
+      written = c.write_end.ensures.written;
+      passed = a.ensures.units ∙ c.loop-c.invariant.2;
+    }
+
+pub returns : goal.returns
+returns g c =
+    let a = c.read_ahead-written in
+    let under = (rw c.loop-c.auto.dst at a.ensures.keeps).keeps _ _ _ c.loop-c.invariant.0 in
+    let no_end : IsTrue c.args.last → is_pending (g.E.EncoderMoves.state c.loop-c.encoder) ≡ false = grind (arith, c.else-is_pending.branch) in
+    record {
+      call = call_done under c.is_pending.ensures.serves (none_left _ (sym c.in_default.is ∙ c.peek.ensures)) no_end;
+      written = omega arith;
+      passed = a.ensures.units ∙ c.loop-c.invariant.2;
+    }

@@ -1,6 +1,6 @@
 use Rattle.std.proofs.{Common.{◌≡◌, ◌∙◌, ◌+◌, ◌≤◌, ◌++◌, length, take, get_or, refl, arith}, lemmas.Bool.and_parts, lemmas.List.length-take-le}
-use Rattle.legacy_encoder_engine.specs.UnitTurns.{two_bytes}
-use Rattle.legacy_encoder_engine.proofs.UnitTurns.{kept, stays, units_more}
+use Rattle.legacy_encoder_engine.specs.WrittenUnits.{two_bytes}
+use Rattle.legacy_encoder_engine.proofs.WrittenUnits.{kept, stays, units_more}
 use Rattle.std.proofs.lemmas.Grind.{common_steps}
 use Rattle.legacy_encoder_engine.proofs.read_ahead.put_ten.Goals as goal
 

@@ -1,5 +1,5 @@
 use Rattle.std.proofs.Common.{◌≡◌, ◌-◌, ◌+◌, ◌*◌, ◌≤◌, length, take, true}
-use Rattle.legacy_encoder_engine.specs.UnitTurns.{PutsUnits}
+use Rattle.legacy_encoder_engine.specs.WrittenUnits.{PutsUnits}
 use Rattle.legacy_encoder_engine.proofs.read_ahead.put_ten.Given as goal
 
 -- k code units are written, if all of them are known

@@ -1,5 +1,5 @@
 use Rattle.std.proofs.{Common.{◌≤◌, length, arith}, lemmas.List.length-take-le}
-use Rattle.legacy_encoder_engine.proofs.ReadingAhead.{encodes_none, encodes_put}
+use Rattle.legacy_encoder_engine.proofs.ReadingAhead.{encodes_none, encodes_put, first_some, first_count, puts_some}
 use Rattle.legacy_encoder_engine.proofs.read_ahead.read_past_ascii.Goals as goal
 
 pub returns-clause-ahead : goal.returns-clause-ahead
@@ -17,3 +17,21 @@ returns-in_default-clause-ahead g c = rw c.in_default.ensures.puts (encodes_none
 
 pub returns-clause-guess : goal.returns-clause-guess
 returns-clause-guess g c = c.in-Some.ensures.guess
+
+pub put_past_ascii-requires-clause-room : goal.put_past_ascii-requires-clause-room
+put_past_ascii-requires-clause-room g c = c.requires.room
+
+pub put_past_ascii-requires-clause-past : goal.put_past_ascii-requires-clause-past
+put_past_ascii-requires-clause-past g c = c.requires.past
+
+pub put_past_ascii-requires-clause-guess : goal.put_past_ascii-requires-clause-guess
+put_past_ascii-requires-clause-guess g c = c.requires.guess
+
+pub pass-requires-clause-some : goal.pass-requires-clause-some
+pass-requires-clause-some g c = first_some c.requires.front.0
+
+pub pass-requires-clause-count : goal.pass-requires-clause-count
+pass-requires-clause-count g c = first_count g.S.TextCursor.form c.requires.front
+
+pub returns-clause-some : goal.returns-clause-some
+returns-clause-some g c = puts_some c.in-Some.ensures.puts

@@ -1,5 +1,5 @@
 use Rattle.std.proofs.{Common.arith, lemmas.List.length-take-le}
-use Rattle.legacy_encoder_engine.proofs.ReadingAhead.{encodes_none, encodes_then, encodes_put}
+use Rattle.legacy_encoder_engine.proofs.ReadingAhead.{encodes_none, encodes_then, encodes_put, first_some, first_count, past_ascii, puts_some}
 use Rattle.legacy_encoder_engine.proofs.read_ahead.read_scalars.Goals as goal
 
 pub loop-dst-preserved-else-by_tens : goal.loop-dst-preserved-else-by_tens
@@ -102,3 +102,49 @@ returns-in-Four-clause-guess g c = c.loop-dst.invariant.1
 
 pub returns-clause-guess : goal.returns-clause-guess
 returns-clause-guess g c = c.loop-dst.invariant.1
+
+pub overflow_sub-dst : goal.overflow_sub-dst
+overflow_sub-dst g c = omega (arith, c.loop-dst.invariant.0.end)
+
+pub pass-requires-clause-some : goal.pass-requires-clause-some
+pass-requires-clause-some g c = first_some c.in-One.ensures.0
+
+pub pass-requires-clause-count : goal.pass-requires-clause-count
+pass-requires-clause-count g c = first_count g.S.TextCursor.form c.in-One.ensures
+
+pub read_tens-at-requires : goal.read_tens-at-requires
+read_tens-at-requires g c = let widest = c.widest-widest.ensures in omega (arith, c.in-Some.ensures.puts.moves.fits, c.in-Some.ensures.puts.ends, widest.fits c.in-One.c, widest.is)
+
+pub loop-dst-smaller-then-has_tens : goal.loop-dst-smaller-then-has_tens
+loop-dst-smaller-then-has_tens g c =
+    let widest = c.widest-widest.ensures in
+    let puts = c.in-Some.ensures.puts in omega (arith, puts_some puts, puts.moves.fits, puts.ends, widest.fits c.in-One.c, widest.is)
+
+pub loop-dst-smaller-else-by_tens : goal.loop-dst-smaller-else-by_tens
+loop-dst-smaller-else-by_tens g c =
+    let widest = c.widest-widest.ensures in
+    let puts = c.in-Some.ensures.puts in omega (arith, puts_some puts, puts.moves.fits, puts.ends, widest.fits c.in-One.c, widest.is)
+
+pub read_past_ascii-requires-clause-past : goal.read_past_ascii-requires-clause-past
+read_past_ascii-requires-clause-past g c = past_ascii g.S.TextCursor.form c.in-Two.ensures.1 (omega arith)
+
+pub read_past_ascii-requires-clause-front : goal.read_past_ascii-requires-clause-front
+read_past_ascii-requires-clause-front g c = c.in-Two.ensures
+
+pub read_turns-at-requires : goal.read_turns-at-requires
+read_turns-at-requires g c = omega (arith, c.in-Some-read_past_ascii.ensures.ahead.end)
+
+pub loop-dst-smaller-then-goes_on : goal.loop-dst-smaller-then-goes_on
+loop-dst-smaller-then-goes_on g c = let past = c.in-Some-read_past_ascii.ensures in omega (arith, past.some, past.ahead.end, c.read_turns-at.ensures.start)
+
+pub loop-dst-smaller-else-goes_on : goal.loop-dst-smaller-else-goes_on
+loop-dst-smaller-else-goes_on g c = let past = c.in-Some-read_past_ascii.ensures in omega (arith, past.some, past.ahead.end)
+
+pub read_past_ascii-requires-in-Three-clause-past : goal.read_past_ascii-requires-in-Three-clause-past
+read_past_ascii-requires-in-Three-clause-past g c = past_ascii g.S.TextCursor.form c.in-Three.ensures.1 (omega arith)
+
+pub read_past_ascii-requires-in-Three-clause-front : goal.read_past_ascii-requires-in-Three-clause-front
+read_past_ascii-requires-in-Three-clause-front g c = c.in-Three.ensures
+
+pub loop-dst-smaller : goal.loop-dst-smaller
+loop-dst-smaller g c = let past = c.in-Some-read_past_ascii-2.ensures in omega (arith, past.some, past.ahead.end)

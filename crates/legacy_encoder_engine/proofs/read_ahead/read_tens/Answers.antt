@@ -1,5 +1,5 @@
 use Rattle.std.proofs.Common.{arith}
-use Rattle.legacy_encoder_engine.proofs.{ReadingAhead.{encodes_none}, UnitTurns.{encodes_units}}
+use Rattle.legacy_encoder_engine.proofs.{ReadingAhead.{encodes_none}, WrittenUnits.{encodes_units}}
 use Rattle.legacy_encoder_engine.proofs.read_ahead.read_tens.Goals as goal
 
 pub returns-then-widest-gt12 : goal.returns-then-widest-gt12

@@ -31,3 +31,18 @@ loop-at-preserved g c =
     c.units_of-units.result c.loop-at.invariant c.loop-at-test.true c.requires.front c.requires.back c.free.ensures c.if-free.true long units.small
     c.known_count.ensures.known (units.units c.args.tables.now.flat.ranges c.requires.part) e.loan c.min-few.result c.min-few.ensures c.known_count.ensures.most
     c.if-few-lt8.false e.contents e.room
+
+pub returns-else-free : goal.returns-else-free
+returns-else-free g c = let before = c.loop-at.invariant in record { most = before.within; writes = before.writes; slack = before.slack; had = before.had }
+
+pub returns-after-loop-at : goal.returns-after-loop-at
+returns-after-loop-at g c = let before = c.loop-at.invariant in record { most = before.within; writes = before.writes; slack = before.slack; had = before.had }
+
+pub put_first-requires-clause-count : goal.put_first-requires-clause-count
+put_first-requires-clause-count g c = omega (arith, c.known_count.ensures.most)
+
+pub units_of-units-requires-clause-pointers : goal.units_of-units-requires-clause-pointers
+units_of-units-requires-clause-pointers g c = c.requires.part.reach
+
+pub units_of-units-requires-clause-scalars : goal.units_of-units-requires-clause-scalars
+units_of-units-requires-clause-scalars g c = c.requires.part.narrow

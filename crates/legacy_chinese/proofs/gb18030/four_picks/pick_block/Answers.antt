@@ -1,5 +1,5 @@
 use Rattle.std.proofs.lemmas.List.{take_rest}
-use Rattle.std.proofs.Common.{◌∙◌, ◌<◌, ◌++◌, ℕ, List, ap, arith, flat_map, get_or, take}
+use Rattle.std.proofs.Common.{◌∙◌, ◌<◌, ◌++◌, ℕ, List, ap, append-nil, arith, flat_map, get_or, sym, take}
 use Rattle.{legacy_text.specs.PastAscii.ArePast, legacy_decoder_engine.proofs.{Picking.{front_chunk, below_end}}}
 use Rattle.legacy_chinese.{specs.FourForms.{fours_of, form_at}, proofs.FourStarts.{block_picked, picked}}
 use Rattle.legacy_chinese.proofs.gb18030.four_picks.pick_block.Goals as goal
@@ -23,3 +23,9 @@ returns-clause-forms c =
     ∙ ap (λ (l : List ℕ). fours_of (take c.args.count c.args.front.now) (take c.args.count c.args.back.now) ++ l)
     (ap (λ ps. flat_map (form_at block) ps) (below_end end starts w.most)
     ∙ picked block past starts end (omega (arith, c.requires.block)) small are_past c.in-Some.ensures w.most w.end)
+
+pub returns-then-past-lt16 : goal.returns-then-past-lt16
+returns-then-past-lt16 c = record { most = omega arith; limit = omega arith; forms = sym (append-nil _) }
+
+pub returns-in_default : goal.returns-in_default
+returns-in_default c = record { most = omega arith; limit = omega arith; forms = sym (append-nil _) }

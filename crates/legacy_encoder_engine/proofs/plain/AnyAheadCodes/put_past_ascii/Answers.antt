@@ -1,6 +1,6 @@
-use Rattle.std.proofs.Common.{refl}
+use Rattle.std.proofs.Common.{arith, refl}
 use Rattle.legacy_encoder_engine.specs.declared.moves.EncoderMove.TheVariants.{Two, Four}
-use Rattle.legacy_encoder_engine.proofs.PlainServes.{plain_puts}
+use Rattle.legacy_encoder_engine.proofs.PlainServes.{plain_fits, plain_puts}
 use Rattle.legacy_encoder_engine.proofs.plain.AnyAheadCodes.put_past_ascii.Goals as goal
 
 pub returns-in-Some-clause-puts : goal.returns-in-Some-clause-puts
@@ -43,3 +43,24 @@ returns-then-not-has_bytes-clause-guess g c = c.four_of.ensures.guess
 
 pub returns-clause-guess : goal.returns-clause-guess
 returns-clause-guess g c = c.four_of.ensures.guess
+
+pub pair_of-requires : goal.pair_of-requires
+pair_of-requires g c = c.requires.past
+
+pub put_two-requires : goal.put_two-requires
+put_two-requires g c =
+    let move = Two c.in-Some.lead c.in-Some.trail in
+    omega (arith, plain_fits _ _ (g.C.PlainCodes.plain c.args.self.now) c.args.c move c.in-Some.ensures, c.requires.room)
+
+pub put_four-requires : goal.put_four-requires
+put_four-requires g c =
+    let four = c.in-Some-four_of.four in
+    let move = Four four.0 four.1 four.2 four.3 in
+    omega (arith, plain_fits _ _ (g.C.PlainCodes.plain c.args.self.now) c.args.c move c.in-Some-four_of.ensures.code, c.requires.room)
+
+pub returns-then-not-GOES_PAST_PAIRS-clause-puts : goal.returns-then-not-GOES_PAST_PAIRS-clause-puts
+returns-then-not-GOES_PAST_PAIRS-clause-puts g c = refl
+
+pub put_move-requires : goal.put_move-requires
+put_move-requires g c =
+    omega (arith, plain_fits _ _ (g.C.PlainCodes.plain c.args.self.now) c.args.c c.code_of-step.result c.code_of-step.ensures, c.requires.room)

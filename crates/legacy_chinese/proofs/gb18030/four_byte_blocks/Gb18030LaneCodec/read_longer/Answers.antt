@@ -1,3 +1,4 @@
+use Rattle.std.proofs.Common.{arith}
 use Rattle.legacy_chinese.proofs.LongerReads.{has_room, has_unit, four_read, none_read, one_read, reads}
 use Rattle.legacy_chinese.proofs.gb18030.four_byte_blocks.Gb18030LaneCodec.read_longer.Goals as goal
 
@@ -44,7 +45,7 @@ loop-at-preserved g c =
     let e = c.put-else-byte-lt128.ensures in
     let p = c.put_ascii-at.ensures in
     let ranges = c.ranges-ranges in
-    let pointer = c.four_pointer-pointer in
+    let pointer = c.pointer_at-pointer in
     record {
       read = four_read c.args.tables.now c.in-Some.scalar c.loop-at.invariant.read c.loop-at-test.true e.contents e.room e.loan ranges.result.list.now
           pointer.result c.put_ascii-at.result ranges.ensures pointer.ensures.place c.in-Some.ensures.0 p.read p.ascii p.contents p.room p.loan;
@@ -53,3 +54,21 @@ loop-at-preserved g c =
 
 pub returns : goal.returns
 returns g c = reads c.args.tables.now c.loop-at.invariant.read
+
+pub overflow_sub-most : goal.overflow_sub-most
+overflow_sub-most g c = omega (arith, c.loop-at.invariant.read.within, c.loop-at.invariant.read.there)
+
+pub bounds-src-at : goal.bounds-src-at
+bounds-src-at g c = omega (arith, c.loop-at.invariant.read.within, c.loop-at.invariant.read.there)
+
+pub bounds-src-at-then-byte-lt128 : goal.bounds-src-at-then-byte-lt128
+bounds-src-at-then-byte-lt128 g c = omega (arith, c.loop-at.invariant.read.within, c.loop-at.invariant.read.there)
+
+pub bounds-src-at-else-byte-lt128 : goal.bounds-src-at-else-byte-lt128
+bounds-src-at-else-byte-lt128 g c = omega (arith, c.loop-at.invariant.read.within, c.loop-at.invariant.read.there)
+
+pub scalar_and_part-requires-clause-small : goal.scalar_and_part-requires-clause-small
+scalar_and_part-requires-clause-small g c = c.pointer_at-pointer.ensures.small
+
+pub pointer_at-pointer-requires : goal.pointer_at-pointer-requires
+pointer_at-pointer-requires g c = omega (arith, c.loop-at.invariant.read.within, c.loop-at.invariant.read.there)

@@ -3,7 +3,7 @@ use Rattle.std.proofs.Common.{◌≡◌, ◌∙◌, ℕ, suc, ◌+◌, ◌<◌, 
 use Rattle.std.proofs.{Math.Seq.{take-suc, take-append-add}, lemmas.Bool.cases_lt, lemmas.List.{length-take-le, take-take}}
 use Rattle.std.proofs.lemmas.Grind.{common_steps}
 use Rattle.legacy_base.specs.Encoders.{EncoderState, encoder_profile, scalar_need}
-use Rattle.legacy_encoder_engine.specs.{ProfileSuffices.Serves, UnitTurns.{PutsUnits, ReadsUnit, two_bytes}}
+use Rattle.legacy_encoder_engine.specs.{ProfileSuffices.Serves, WrittenUnits.{PutsUnits, ReadsUnit, two_bytes}}
 use Rattle.legacy_text.{specs.{EncodingForm.EncodingForm, UnitTurns.TakesUnits}, proofs.CodeUnits.total_unit_count-append}
 use Rattle.legacy_encoder_engine.specs.UnfinishedCall.{EncodesAhead, KeepsOn}
 use Rattle.legacy_encoder_engine.proofs.ReadingAhead.{keeps_then, keeps_move}

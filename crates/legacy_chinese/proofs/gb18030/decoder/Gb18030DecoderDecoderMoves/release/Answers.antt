@@ -1,0 +1,8 @@
+use Rattle.{std.proofs.Common.{[], ◌∷◌, refl}, legacy_chinese.proofs.Gb18030Held.releases}
+use Rattle.legacy_chinese.proofs.gb18030.decoder.Gb18030DecoderDecoderMoves.release.Goals as goal
+
+pub returns-in-Digit : goal.returns-in-Digit
+returns-in-Digit c = rw c.from.ensures (releases c.args.self.now.tables.now c.args.self.now.held c.in-Digit.digit [] (rw c.in-Digit.is refl))
+
+pub returns-in-DigitLead : goal.returns-in-DigitLead
+returns-in-DigitLead c = rw c.from-in-DigitLead.ensures (releases c.args.self.now.tables.now c.args.self.now.held c.in-DigitLead.digit (c.in-DigitLead.lead.byte ∷ []) (rw c.in-DigitLead.is refl))
