@@ -1,7 +1,6 @@
 -- What the calls of an encoder's run give together.
-use Rattle.std.proofs.Common.{arith, ◌≡◌, ◌∙◌, ℕ, ◌+◌, ◌<◌, ◌≤◌, List, [], ◌++◌, All, map, refl, sym, ap, append_assoc, append-nil, subst, Bool, true, false}
-use Rattle.std.proofs.Common.{get_or, length, length-take, take, IsTrue, Some, inl}
-use Rattle.std.proofs.lemmas.{Bool.false≢true, Option.slice_get-get_or}
+use Rattle.std.proofs.Common.{arith, ◌≡◌, ◌∙◌, ℕ, ◌+◌, List, [], ◌++◌, map, refl, sym, ap, append_assoc, append-nil, subst, Bool, true, false, IsTrue, Some, inl}
+use Rattle.std.proofs.lemmas.Bool.{false≢true}
 use Rattle.std.specs.Prelude.{slice_get}
 use Rattle.legacy_base.specs.{declared.results.EncodeEvent.EncodeEvent, declared.results.EncodeEvent.TheVariants.Byte}
 use Rattle.legacy_base.specs.{declared.results.EncoderResult.EncoderResult, declared.results.EncoderResult.TheVariants.InputEmpty}
@@ -12,19 +11,14 @@ use Rattle.legacy_codecs.specs.{EncodeRuns.{IsEncodeRun, IsEncodeBeginning, HasN
 use Rattle.legacy_codecs.specs.EncodeRuns.EncodeReaches.{called}
 use Rattle.legacy_codecs.proofs.RunDrivers.{last_empty, place_before-state}
 
--- the length of a call's output is the next of the lengths
-free_is : (lengths output : List ℕ) {calls : ℕ} → calls < length lengths → All (λ n. n ≤ length output) lengths →
-    slice_get lengths calls ≡ Some (length (take (get_or lengths calls 0) output))
-free_is lengths output h fits = grind (arith, length-take, slice_get-get_or)
-
--- one more call, with its inputs and outputs given by equations
-module _ {from : RunPlace EncoderState} {lengths : List ℕ} {calls : ℕ} {items items' : List EncodeEvent} {p p' : RunPlace EncoderState}
-    {after : EncoderState} {last finished empty : Bool} {answer : EncoderResult} {left bytes : List ℕ} (output : List ℕ) where
-  pub reaches_call : EncodeReaches from lengths calls items false p → calls < length lengths → All (λ n. n ≤ length output) lengths →
-      EncoderCall p.state p.piece last (length (take (get_or lengths calls 0) output)) after answer left bytes →
-      last ≡ is_none p.later → empty ≡ is_input_empty answer → items' ≡ items ++ (map Byte bytes ++ reported answer) →
-      finished ≡ ends_run p empty → p' ≡ place_after p after empty left → EncodeReaches from lengths (calls + 1) items' finished p'
-  reaches_call r few fits c l e i f q = rw (i, f, q, e) (called calls items p r _ (free_is lengths output few fits) after answer left bytes (rw l at c))
+-- one more call, with its outputs given by equations
+module _ {from : RunPlace EncoderState} {lengths : List ℕ} {calls : ℕ} {items items' : List EncodeEvent} {p p' : RunPlace EncoderState} {free : ℕ}
+    {after : EncoderState} {last finished empty : Bool} {answer : EncoderResult} {left bytes : List ℕ} where
+  pub reaches_call : EncodeReaches from lengths calls items false p → slice_get lengths calls ≡ Some free →
+      EncoderCall p.state p.piece last free after answer left bytes → last ≡ is_none p.later → empty ≡ is_input_empty answer →
+      items' ≡ items ++ (map Byte bytes ++ reported answer) → finished ≡ ends_run p empty → p' ≡ place_after p after empty left →
+      EncodeReaches from lengths (calls + 1) items' finished p'
+  reaches_call r given c l e i f q = rw (i, f, q, e) (called calls items p r free given after answer left bytes (rw l at c))
 
 -- the events of what is unread and of the pieces after it
 abbrev pub encoded_ahead : RunPlace EncoderState → List EncodeEvent

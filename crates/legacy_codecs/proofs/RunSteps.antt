@@ -1,14 +1,13 @@
 -- A run in progress, call by call.
-use Rattle.std.proofs.Common.{◌≡◌, ℕ, ◌+◌, ◌-◌, ◌≤◌, List, [], ◌∷◌, ◌++◌, length, drop, map, Bool, false, Some, refl, ap, arith, append_assoc, length-drop}
-use Rattle.std.proofs.lemmas.List.{drop-drop}
-use Rattle.std.specs.Prelude.{slice_get, slice_index_or, sum_by}
-use Rattle.legacy_base.specs.{declared.results.DecodeEvent.DecodeEvent, declared.results.DecodeEvent.TheVariants.{Scalar, Bad}}
-use Rattle.legacy_base.specs.{declared.results.DecoderResult.DecoderResult, declared.results.DecoderResult.TheVariants.{InputEmpty, OutputFull, Malformed}}
+use Rattle.std.proofs.Common.{◌≡◌, ℕ, ◌+◌, ◌≤◌, List, [], ◌++◌, length, drop, Bool, false, Some, refl, ap, arith, append_assoc, length-drop}
+use Rattle.std.specs.Prelude.{slice_get, sum_by}
+use Rattle.legacy_base.specs.declared.results.DecodeEvent.{DecodeEvent}
+use Rattle.legacy_base.specs.{declared.results.DecoderResult.DecoderResult, declared.results.DecoderResult.TheVariants.InputEmpty}
 use Rattle.legacy_base.specs.{Events.shift, States.DecoderState, Calls.{DecoderCall, HoldsBack, reported_events, out_events}}
 use Rattle.legacy_text.specs.EncodingForm.{EncodingForm}
 use Rattle.legacy_base.proofs.Shifts.{shift-append, shift-scalars}
-use Rattle.legacy_codecs.specs.{Pieces.{RunPlace, is_none, ends_run}, Runs.{is_input_empty, Reaches, IsRun, placed}, Runs.Reaches.{begun, called}}
-use Rattle.legacy_codecs.proofs.{RunDrivers.{place_after-state, pieces-length, place_at}, RunEvents.{place_after_call, placed-append, placed-scalars}}
+use Rattle.legacy_codecs.specs.{Pieces.{RunPlace, is_none, place_after, ends_run}, Runs.{is_input_empty, Reaches, IsRun, placed}, Runs.Reaches.{begun, called}}
+use Rattle.legacy_codecs.proofs.{RunDrivers.{place_after-state, pieces-length}, RunEvents.{place_after_call, placed-append, placed-scalars}}
 
 -- A run in progress: its calls lead to the place `p`, gave these events, and read `total` bytes.
 pub record Running (form : EncodingForm) (from : RunPlace DecoderState) (lengths : List ℕ) (calls : ℕ) (items : List DecodeEvent) (total : ℕ) (finished : Bool)
@@ -24,15 +23,9 @@ pub running_start : (form : EncodingForm) (from : RunPlace DecoderState) (length
 unfolding placed
 running_start form from lengths = record { events = []; passed = 0; reaches = begun; items_are = refl; passed_is = omega arith; bytes = omega arith }
 
--- the report of a call that ends after `total` bytes
-abbrev pub reported_after : ℕ → DecoderResult → List DecodeEvent
-reported_after total InputEmpty = []
-reported_after total OutputFull = []
-reported_after total (Malformed a b) = Bad (total - (a + b)) a ∷ []
-
--- it is the report of the law of a call, with places counted from the first byte of the run
+-- the report of a call, with places counted from the first byte of the run
 reported-placed : (h passed held total read : ℕ) (after : DecoderState) (answer : DecoderResult) → HoldsBack (held + read) after answer →
-    passed + held ≡ h + total → placed h (shift passed (reported_events (held + read) answer)) ≡ reported_after (total + read) answer
+    passed + held ≡ h + total → placed h (shift passed (reported_events (held + read) answer)) ≡ reported_events (total + read) answer
 unfolding placed
 reported-placed h passed held total read after answer h1 h2 = grind arith
 
@@ -48,11 +41,11 @@ module _ {form : EncodingForm} {from : RunPlace DecoderState} {lengths : List �
     (r : Running form from lengths calls items total false p)
     {free : ℕ} (given : slice_get lengths calls ≡ Some free) {after : DecoderState} {answer : DecoderResult} {read : ℕ} {scalars : List ℕ}
     (c : DecoderCall form p.state p.piece (is_none p.later) free after answer read scalars) where
-  items_after : (items ++ map Scalar scalars) ++ reported_after (total + read) answer
+  items_after : items ++ out_events (total + read) scalars answer
       ≡ placed (length from.state.held) (r.events ++ shift r.passed (out_events (length p.state.held + read) scalars answer))
   items_after = grind (arith, reported-placed, placed-append, shift-append, shift-scalars, placed-scalars, append_assoc)
 
-  call_after : Running form from lengths (calls + 1) ((items ++ map Scalar scalars) ++ reported_after (total + read) answer) (total + read)
+  call_after : Running form from lengths (calls + 1) (items ++ out_events (total + read) scalars answer) (total + read)
       (ends_run p (is_input_empty answer)) (place_after_call p after answer read)
   call_after = record {
     events = r.events ++ shift r.passed (out_events (length p.state.held + read) scalars answer);
@@ -67,18 +60,14 @@ module _ {form : EncodingForm} {from : RunPlace DecoderState} {lengths : List �
     bytes = let b = place_after-bytes p after answer read c.within (λ e. (c.input_empty e).0) in omega (arith, r.bytes);
   }
 
--- one more call, with its inputs and outputs given by equations
+-- one more call, with its outputs given by equations
 pub running_call : {form : EncodingForm} {from : RunPlace DecoderState} {lengths : List ℕ} {calls : ℕ} {items items' : List DecodeEvent} {total : ℕ}
-    {p p' : RunPlace DecoderState}
-    {free : ℕ} {after : DecoderState}
-    {unread : List ℕ} {last finished : Bool} {given_back answer : DecoderResult} {read : ℕ} {scalars : List ℕ} →
+    {p p' : RunPlace DecoderState} {free : ℕ} {after : DecoderState} {last finished empty : Bool} {answer : DecoderResult} {read : ℕ} {scalars : List ℕ} →
     Running form from lengths calls items total false p → slice_get lengths calls ≡ Some free →
-    DecoderCall form p.state unread last free after given_back read scalars →
-    unread ≡ p.piece → last ≡ is_none p.later → given_back ≡ answer →
-    items' ≡ (items ++ map Scalar scalars) ++ reported_after (total + read) answer → finished ≡ ends_run p (is_input_empty answer) →
-    p' ≡ place_after_call p after answer read →
+    DecoderCall form p.state p.piece last free after answer read scalars → last ≡ is_none p.later → empty ≡ is_input_empty answer →
+    items' ≡ items ++ out_events (total + read) scalars answer → finished ≡ ends_run p empty → p' ≡ place_after p after empty (drop read p.piece) →
     Running form from lengths (calls + 1) items' (total + read) finished p'
-running_call r given c u l a i f q = let c' = rw (u, l, a) at c in rw (i, f, q) (call_after r given c')
+running_call r given c l e i f q = rw (i, f, q, e) (call_after r given (rw l at c))
 
 pub is_run : {form : EncodingForm} {from : RunPlace DecoderState} {lengths : List ℕ} {calls : ℕ} {items : List DecodeEvent} {total : ℕ} {finished : Bool}
     {p : RunPlace DecoderState}
@@ -86,8 +75,3 @@ pub is_run : {form : EncodingForm} {from : RunPlace DecoderState} {lengths : Lis
     Running form from lengths calls items total finished p → p.state ≡ after → calls ≤ length lengths → (finished ≡ false → calls ≡ length lengths) →
     IsRun form from lengths calls finished items after
 is_run r state few all = grind arith
-
--- the place of a run after a call in the piece at an index
-pub place_at-more : (pieces : List (List ℕ)) (s : DecoderState) (index offset read : ℕ) → place_at pieces s index (offset + read)
-    ≡ record { state = s; piece = drop read (drop offset (slice_index_or pieces index [])); later = drop (index + 1) pieces }
-place_at-more pieces s index offset read = rw (drop-drop read offset (slice_index_or pieces index [])) refl

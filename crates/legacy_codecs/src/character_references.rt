@@ -157,7 +157,6 @@ fn encode_replacing<E: RawEncoder, S: Source>(
 ///     break;
 /// }
 /// ```
-#[tactic(auto, using(legacy_text::proofs::Texts::utf8_read))]
 pub fn encode_replacing_utf8<E: RawEncoder>(
     encoder: &mut E,
     src: &str,
@@ -180,7 +179,6 @@ pub fn encode_replacing_utf8<E: RawEncoder>(
 /// An unpaired surrogate is read as U+FFFD. It does what `encode_replacing_utf8` does, but reads
 /// code units of UTF-16 and splits no pair of surrogates. The length is that of
 /// `max_buffer_length_from_utf16_without_replacement`.
-#[tactic(auto, using(legacy_text::proofs::Texts::utf16_read))]
 pub fn encode_replacing_utf16<E: RawEncoder>(
     encoder: &mut E,
     src: &[u16],

@@ -1,15 +1,16 @@
 //! Runs of a decoder over an input in pieces, with outputs of given lengths.
-ghost use Rattle.std.specs.Prelude.{◌≡◌, ◌↔◌, ℕ, ◌+◌, ◌-◌, ◌^◌, ◌<◌, ◌≤◌, List, [], ◌++◌, length, drop, sum, sum_by, map, vec_len, vec_capacity, slice_index_or, All, IfOk, OnErr};
-ghost use Rattle.legacy_base.specs.declared.results.DecodeEvent.TheVariants.{Scalar};
+ghost use Rattle.std.specs.Prelude.{◌≡◌, ◌↔◌, ℕ, ◌+◌, ◌-◌, ◌^◌, ◌<◌, ◌≤◌, List, [], ◌++◌, length, sum, sum_by, vec_len, vec_capacity, All, IfOk, OnErr};
 ghost use Rattle.legacy_text.specs.EncodingForm.{Utf8, Utf16};
-ghost use Rattle.legacy_base.specs.Calls.{DecoderCall};
-ghost use Rattle.legacy_base.specs.States.{DecoderState};
+ghost use Rattle.legacy_base.specs.Calls.{DecoderCall, reported_events, out_events};
 ghost use Rattle.legacy_codecs.specs.Pieces.{contents_of, place_before, IsTooLong};
 ghost use Rattle.legacy_codecs.specs.RunResults.{RunDecodes};
-ghost use Rattle.legacy_codecs.specs.Runs.{IsRun};
+ghost use Rattle.legacy_codecs.specs.Runs.{is_input_empty, IsRun};
 
+use crate::replacing::rest_of;
 use crate::scalar_buffer::{OutputForm, ScalarBuffer, Utf8Form, Utf16Form};
-use crate::shared_by_runs::{RunError, is_last, longest, push_items, push_within, room_for_events};
+use crate::shared_by_runs::{
+    RunError, longest, push_items, push_within, room_for_events, split_pieces,
+};
 use legacy_base::{DecodeEvent, DecoderResult, RawDecoder};
 use std::alloc::Global;
 
@@ -27,30 +28,6 @@ pub struct DecodeRun {
     pub finished: bool,
 }
 
-/// Makes one call with an output of `free` code units, and adds the scalars that it gave.
-fn call_once<D: RawDecoder, F: OutputForm>(
-    decoder: &mut D,
-    unread: &[u8],
-    last: bool,
-    free: usize,
-    buffer: &mut [char],
-    events: &mut Vec<DecodeEvent>,
-) -> (DecoderResult, usize)
-    requires buffer { free ≤ length buffer.old }
-    requires room { vec_len events.old + free ≤ vec_capacity events.old }
-    ensures call { (scalars : List ℕ)
-        × DecoderCall F.form (D.state decoder.old) unread.now last free (D.state decoder.new)
-        result.0 result.1 scalars
-        × (events.new.items ≡ events.old.items ++ map Scalar scalars) }
-    ensures len { vec_len events.new ≤ vec_len events.old + free }
-    ensures capacity { vec_capacity events.old ≤ vec_capacity events.new }
-{
-    let mut kept = ScalarBuffer::<F>::new(buffer, free);
-    let (answer, read) = decoder.step(unread, &mut kept, last);
-    push_items(events, kept.scalars());
-    (answer, read)
-}
-
 /// Returns a malformed sequence that ends `back` bytes before the end of `total` bytes.
 ///
 /// Its place is 0 if it began before the first of them.
@@ -64,17 +41,57 @@ fn malformed_event(total: usize, length: u8, back: u8) -> DecodeEvent
     }
 }
 
-/// Returns the unread part of a piece.
-fn unread_of<'a>(pieces: &[&'a [u8]], index: usize, offset: usize) -> &'a [u8]
-    requires inside { index < length pieces.now }
-    requires within { offset ≤ length (slice_index_or (contents_of pieces.now) index []) }
-    ensures { result.now ≡ drop offset (slice_index_or (contents_of pieces.now) index []) }
+/// Adds the malformed sequence that a call reported after `total` bytes of the input.
+///
+/// Returns whether the result was `InputEmpty`.
+fn push_report(events: &mut Vec<DecodeEvent>, answer: DecoderResult, total: usize) -> bool
+    requires { vec_len events.old < vec_capacity events.old }
+    ensures empty { result ≡ is_input_empty answer }
+    ensures items { events.new.items ≡ events.old.items ++ reported_events total answer }
+    ensures len { vec_len events.new ≤ vec_len events.old + 1 }
+    ensures capacity { vec_capacity events.old ≤ vec_capacity events.new }
 {
-    let piece = pieces[index];
-    &piece[offset..]
+    match answer {
+        DecoderResult::InputEmpty => true,
+        DecoderResult::OutputFull => false,
+        DecoderResult::Malformed(length, back) => {
+            push_within(events, malformed_event(total, length, back));
+            false
+        }
+    }
 }
 
-/// Makes the calls of a run over at least one piece.
+/// Makes one call with an output of `free` code units, and adds its events.
+///
+/// `total` bytes of the input come before the unread ones. Returns whether the result was
+/// `InputEmpty`, and the number of bytes read.
+fn call_once<D: RawDecoder, F: OutputForm>(
+    decoder: &mut D,
+    unread: &[u8],
+    last: bool,
+    free: usize,
+    total: usize,
+    buffer: &mut [char],
+    events: &mut Vec<DecodeEvent>,
+) -> (bool, usize)
+    requires buffer { free ≤ length buffer.old }
+    requires total { total + length unread.now < 2 ^ 64 }
+    requires room { vec_len events.old + (free + 1) ≤ vec_capacity events.old }
+    ensures call { (answer : DecoderResult) × (scalars : List ℕ)
+        × DecoderCall F.form (D.state decoder.old) unread.now last free (D.state decoder.new)
+        answer result.1 scalars
+        × (result.0 ≡ is_input_empty answer)
+        × (events.new.items ≡ events.old.items ++ out_events (total + result.1) scalars answer) }
+    ensures len { vec_len events.new ≤ vec_len events.old + (free + 1) }
+    ensures capacity { vec_capacity events.old ≤ vec_capacity events.new }
+{
+    let mut kept = ScalarBuffer::<F>::new(buffer, free);
+    let (answer, read) = decoder.step(unread, &mut kept, last);
+    push_items(events, kept.scalars());
+    (push_report(events, answer, total + read), read)
+}
+
+/// Makes the calls of a run.
 fn run_calls<D: RawDecoder, F: OutputForm>(
     decoder: &mut D,
     pieces: &[&[u8]],
@@ -82,7 +99,6 @@ fn run_calls<D: RawDecoder, F: OutputForm>(
     mut events: Vec<DecodeEvent>,
     buffer: &mut [char],
 ) -> DecodeRun
-    requires some { 0 < length pieces.now }
     requires buffer { All (λ n. n ≤ length buffer.old) lengths.now }
     requires empty { events.items ≡ [] }
     requires room { sum lengths.now + length lengths.now ≤ vec_capacity events }
@@ -91,31 +107,33 @@ fn run_calls<D: RawDecoder, F: OutputForm>(
         IsRun F.form from lengths.now result.calls result.finished result.events.items
         (D.state decoder.new) }
 {
-    let mut index: usize = 0;
-    let mut offset: usize = 0;
+    let empty: &[u8] = &[];
+    let (mut unread, mut later) = split_pieces(pieces, empty);
     let mut total: usize = 0;
     for (calls, length) in lengths.iter().enumerate() {
-        let unread = unread_of(pieces, index, offset);
-        let last = is_last(pieces, index);
-        let (answer, read) = call_once::<D, F>(decoder, unread, last, *length, buffer, &mut events);
+        let last = later.is_empty();
+        let (all, read) = call_once::<D, F>(
+            decoder,
+            unread,
+            last,
+            *length,
+            total,
+            buffer,
+            &mut events,
+        );
         total += read;
-        match answer {
-            DecoderResult::InputEmpty => {
-                if last {
-                    return DecodeRun {
-                        events,
-                        calls: calls + 1,
-                        finished: true,
-                    };
-                }
-                index += 1;
-                offset = 0;
+        unread = rest_of(unread, read);
+        if all {
+            if last {
+                return DecodeRun {
+                    events,
+                    calls: calls + 1,
+                    finished: true,
+                };
             }
-            DecoderResult::OutputFull => offset += read,
-            DecoderResult::Malformed(length, back) => {
-                offset += read;
-                push_within(&mut events, malformed_event(total, length, back));
-            }
+            let (next, rest) = split_pieces(later, empty);
+            unread = next;
+            later = rest;
         }
     }
     DecodeRun {
@@ -123,17 +141,6 @@ fn run_calls<D: RawDecoder, F: OutputForm>(
         calls: lengths.len(),
         finished: false,
     }
-}
-
-/// Returns the pieces, or one empty piece if there are none.
-fn some_pieces<'a>(pieces: &'a [&'a [u8]]) -> &'a [&'a [u8]]
-    ensures some { 0 < length result.now }
-    ensures total { sum_by length (contents_of result.now)
-        ≡ sum_by length (contents_of pieces.now) }
-    ensures place { (state : DecoderState) → place_before state (contents_of result.now)
-        ≡ place_before state (contents_of pieces.now) }
-{
-    if pieces.is_empty() { &[&[]] } else { pieces }
 }
 
 /// Allocates the memory of a run and makes it.
@@ -156,7 +163,6 @@ fn decode_run<D: RawDecoder, F: OutputForm>(
         return Err(RunError::Memory);
     };
     let buffer = buffer.as_mut_slice();
-    let pieces = some_pieces(pieces);
     Ok(run_calls::<D, F>(decoder, pieces, lengths, events, buffer))
 }
 

@@ -1,12 +1,14 @@
 //! Runs of an encoder over a text in pieces, with outputs of given lengths.
-ghost use Rattle.std.specs.Prelude.{◌≡◌, ℕ, ◌↔◌, ◌+◌, ◌≤◌, List, [], ◌++◌, length, sum, map, vec_len, vec_capacity, slice_index_or, All, IfOk, OnErr};
+ghost use Rattle.std.specs.Prelude.{◌≡◌, ℕ, ◌↔◌, ◌+◌, ◌<◌, ◌≤◌, List, [], ◌++◌, length, sum, map, vec_len, vec_capacity, All, IfOk, OnErr};
 ghost use Rattle.legacy_base.specs.declared.results.EncodeEvent.TheVariants.{Byte};
 ghost use Rattle.legacy_base.specs.EncoderCalls.{EncoderCall, reported};
 ghost use Rattle.legacy_codecs.specs.Pieces.{contents_of, place_before, IsTooLong};
 ghost use Rattle.legacy_codecs.specs.EncodeRuns.{chars_of, unit_scalars_of, is_input_empty, IsEncodeRun};
 ghost use Rattle.legacy_codecs.specs.RunResults.{RunEncodes};
 
-use crate::shared_by_runs::{RunError, is_last, longest, push_items, push_within, room_for_events};
+use crate::shared_by_runs::{
+    RunError, longest, push_items, push_within, room_for_events, split_pieces,
+};
 use crate::source_texts::Text;
 use legacy_base::{EncodeEvent, EncoderResult, RawEncoder, Source};
 use std::alloc::Global;
@@ -22,27 +24,14 @@ pub struct EncodeRun {
     pub finished: bool,
 }
 
-/// Makes one call into the output, and adds its bytes and the scalar that it reported.
-///
-/// Returns whether it read all that the source had left.
-fn call_once<E: RawEncoder, S: Source>(
-    encoder: &mut E,
-    source: &mut S,
-    last: bool,
-    output: &mut [u8],
-    events: &mut Vec<EncodeEvent>,
-) -> bool
-    requires { vec_len events.old + (length output.old + 1) ≤ vec_capacity events.old }
-    ensures call { (answer : EncoderResult) × (bytes : List ℕ)
-        × EncoderCall (E.state encoder.old) (S.left source.old) last (length output.old)
-        (E.state encoder.new) answer (S.left source.new) bytes
-        × (result ≡ is_input_empty answer)
-        × (events.new.items ≡ events.old.items ++ (map Byte bytes ++ reported answer)) }
-    ensures len { vec_len events.new ≤ vec_len events.old + (length output.old + 1) }
+/// Adds the scalar that a call reported, and returns whether the result was `InputEmpty`.
+fn push_report(events: &mut Vec<EncodeEvent>, answer: EncoderResult) -> bool
+    requires { vec_len events.old < vec_capacity events.old }
+    ensures empty { result ≡ is_input_empty answer }
+    ensures items { events.new.items ≡ events.old.items ++ reported answer }
+    ensures len { vec_len events.new ≤ vec_len events.old + 1 }
     ensures capacity { vec_capacity events.old ≤ vec_capacity events.new }
 {
-    let (answer, written) = encoder.step(source, output, last);
-    push_items(events, &output[..written]);
     match answer {
         EncoderResult::InputEmpty => true,
         EncoderResult::OutputFull => false,
@@ -53,14 +42,31 @@ fn call_once<E: RawEncoder, S: Source>(
     }
 }
 
-/// Returns the first piece, or the empty text if there is none.
-fn first_piece<T: Text>(pieces: &[T]) -> T
-    ensures { T.scalars result ≡ slice_index_or (map T.scalars pieces.now) 0 [] }
+/// Makes one call into the first `free` bytes, and adds its events.
+///
+/// Returns whether the result was `InputEmpty`.
+fn call_once<E: RawEncoder, S: Source>(
+    encoder: &mut E,
+    source: &mut S,
+    last: bool,
+    free: usize,
+    output: &mut [u8],
+    events: &mut Vec<EncodeEvent>,
+) -> bool
+    requires output { free ≤ length output.old }
+    requires room { vec_len events.old + (free + 1) ≤ vec_capacity events.old }
+    ensures call { (answer : EncoderResult) × (bytes : List ℕ)
+        × EncoderCall (E.state encoder.old) (S.left source.old) last free (E.state encoder.new)
+        answer (S.left source.new) bytes
+        × (result ≡ is_input_empty answer)
+        × (events.new.items ≡ events.old.items ++ (map Byte bytes ++ reported answer)) }
+    ensures len { vec_len events.new ≤ vec_len events.old + (free + 1) }
+    ensures capacity { vec_capacity events.old ≤ vec_capacity events.new }
 {
-    match pieces.first() {
-        Some(piece) => *piece,
-        None => T::empty(),
-    }
+    let output = &mut output[..free];
+    let (answer, written) = encoder.step(source, output, last);
+    push_items(events, &output[..written]);
+    push_report(events, answer)
 }
 
 /// Makes the calls of a run.
@@ -78,12 +84,11 @@ fn run_calls<E: RawEncoder, T: Text>(
         IsEncodeRun from lengths.now result.calls result.finished result.events.items
         (E.state encoder.new) }
 {
-    let mut index: usize = 0;
-    let mut unread = first_piece(pieces).cursor();
+    let (first, mut later) = split_pieces(pieces, T::empty());
+    let mut unread = first.cursor();
     for (calls, length) in lengths.iter().enumerate() {
-        let last = is_last(pieces, index);
-        let output = &mut output[..*length];
-        if call_once(encoder, &mut unread, last, output, &mut events) {
+        let last = later.is_empty();
+        if call_once(encoder, &mut unread, last, *length, output, &mut events) {
             if last {
                 return EncodeRun {
                     events,
@@ -91,8 +96,9 @@ fn run_calls<E: RawEncoder, T: Text>(
                     finished: true,
                 };
             }
-            index += 1;
-            unread = pieces[index].cursor();
+            let (next, rest) = split_pieces(later, T::empty());
+            unread = next.cursor();
+            later = rest;
         }
     }
     EncodeRun {

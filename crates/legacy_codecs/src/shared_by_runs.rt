@@ -1,8 +1,8 @@
 //! Common parts of the runs of decoders and encoders: pieces, lengths of outputs, and events.
-ghost use Rattle.std.specs.Prelude.{◌≡◌, ℕ, ◌↔◌, ◌+◌, ◌^◌, ◌<◌, ◌≤◌, List, [], ◌∷◌, ◌++◌, length, drop, map, sum, sum_by, vec_len, vec_capacity, All, IfOk, SomeIff};
+ghost use Rattle.std.specs.Prelude.{◌≡◌, ℕ, ◌↔◌, ◌+◌, ◌^◌, ◌<◌, ◌≤◌, List, [], ◌∷◌, ◌++◌, length, drop, map, sum, sum_by, slice_index_or, vec_len, vec_capacity, All, IfOk, SomeIff};
 ghost use Rattle.legacy_base.specs.declared.results.DecodeEvent.TheVariants.{Scalar};
 ghost use Rattle.legacy_base.specs.declared.results.EncodeEvent.TheVariants.{Byte};
-ghost use Rattle.legacy_codecs.specs.Pieces.{is_none, IsTooLong};
+ghost use Rattle.legacy_codecs.specs.Pieces.{IsTooLong};
 
 use legacy_base::{DecodeEvent, EncodeEvent};
 use std::alloc::Global;
@@ -111,12 +111,15 @@ pub(crate) fn longest(lengths: &[usize]) -> usize
     lengths.iter().copied().max().unwrap_or(0)
 }
 
-/// Checks whether no piece is after this index.
-pub(crate) fn is_last<P: Piece>(pieces: &[P], index: usize) -> bool
-    requires { index ≤ length pieces.now }
-    ensures { result ≡ is_none (drop (index + 1) (map P.units pieces.now)) }
+/// Returns the first piece and those after it, or `empty` and no pieces if there are none.
+pub(crate) fn split_pieces<P: Copy>(pieces: &[P], empty: P) -> (P, &[P])
+    ensures first { result.0 ≡ slice_index_or pieces.now 0 empty }
+    ensures later { result.1.now ≡ drop 1 pieces.now }
 {
-    pieces.len() - index <= 1
+    if pieces.is_empty() {
+        return (empty, pieces);
+    }
+    (pieces[0], &pieces[1..])
 }
 
 /// Adds an event. The list must have room for it.

@@ -10,17 +10,23 @@ use Rattle.legacy_codecs.proofs.character_references.encode_replacing.Goals as g
 pub calls-init : goal.calls-init
 calls-init g c = grind (arith, referencing_start)
 
-pub returns-in-InputEmpty-clause-call : goal.returns-in-InputEmpty-clause-call
-returns-in-InputEmpty-clause-call g c =
-    let call = c.encode_from-answer.ensures.call in
-    rw call.2 (referencing_end c.calls.invariant.calls (omega (arith, length-take {A = ℕ})) coder.InputEmpty
-    (rw c.in-InputEmpty.is at call.1))
+pub encode_from-answer-requires : goal.encode_from-answer-requires
+encode_from-answer-requires g c = omega (arith, c.calls-test.true)
 
-pub returns-in-OutputFull-clause-call : goal.returns-in-OutputFull-clause-call
-returns-in-OutputFull-clause-call g c =
-    let call = c.encode_from-answer.ensures.call in
-    rw call.2 (referencing_end c.calls.invariant.calls (omega (arith, length-take {A = ℕ})) coder.OutputFull
-    (rw c.in-OutputFull.is at call.1))
+pub put_reference-written-requires : goal.put_reference-written-requires
+put_reference-written-requires g c = c.encode_from-answer.ensures.room
+
+pub returns-in-InputEmpty : goal.returns-in-InputEmpty
+returns-in-InputEmpty g c =
+    let made = c.encode_from-answer.ensures in
+    let end = referencing_end c.calls.invariant.calls (omega (arith, length-take {A = ℕ})) coder.InputEmpty (rw c.in-InputEmpty.is at made.call.1) in
+    record { call = rw made.call.2 end; written = omega (arith, made.room); passed = made.passed ∙ c.calls.invariant.passed }
+
+pub returns-in-OutputFull : goal.returns-in-OutputFull
+returns-in-OutputFull g c =
+    let made = c.encode_from-answer.ensures in
+    let end = referencing_end c.calls.invariant.calls (omega (arith, length-take {A = ℕ})) coder.OutputFull (rw c.in-OutputFull.is at made.call.1) in
+    record { call = rw made.call.2 end; written = omega (arith, made.room); passed = made.passed ∙ c.calls.invariant.passed }
 
 pub calls-smaller : goal.calls-smaller
 calls-smaller g c =

@@ -1,50 +1,64 @@
-use Rattle.std.proofs.{Common.{◌≡◌, ◌+◌, [], drop, length, refl, arith, ap, sym, ◌∙◌, append-nil, length-drop}, lemmas.Bool.true≢false}
-use Rattle.std.proofs.{lemmas.Option.slice_get-get_or, lemmas.List.length-map}
-use Rattle.std.specs.Prelude.{slice_index_or}
+use Rattle.std.proofs.Common.{◌≡◌, length, refl, arith, ap, sym, ◌∙◌}
+use Rattle.std.proofs.{lemmas.Bool.true≢false, lemmas.Option.slice_get-get_or}
+use Rattle.std.specs.Borrow.{Bor}
+use Rattle.std.specs.Prelude.{ℕ, List}
 use Rattle.legacy_codecs.specs.Pieces.{contents_of}
-use Rattle.legacy_codecs.proofs.{RunDrivers.{place_before-state, pieces-length, place_at-first, place_at-next, not_last}, RunSteps.running_start}
-use Rattle.legacy_codecs.proofs.RunDrivers.{room_written, room_kept, room_report, room_reported}
-use Rattle.legacy_codecs.proofs.{RunSteps.{running_call, is_run, place_at-more}, decode_run.run_calls.Goals.{in-InputEmpty+else-last, in-OutputFull}}
-use Rattle.legacy_codecs.proofs.decode_run.run_calls.Goals.{in-Malformed}
+use Rattle.legacy_codecs.proofs.RunDrivers.{place_before-state, pieces-length, place_split, none_is, room_now, room_later}
+use Rattle.legacy_codecs.proofs.{RunSteps.{running_start, running_call, is_run}, decode_run.run_calls.Goals.{then-all+else-last, else-all}}
 use Rattle.legacy_codecs.proofs.decode_run.run_calls.Goals as goal
 
+-- the bytes of a piece
+abbrev bytes_of : Bor (List ℕ) → List ℕ
+bytes_of piece = piece.now
+
 pub loop-calls-init : goal.loop-calls-init
-loop-calls-init g c = let none = c.args.events.ok.0 ∙ ap length c.requires.empty in grind (arith, place_at-first, length-map, running_start)
+loop-calls-init g c =
+    let none = c.args.events.ok.0 ∙ ap length c.requires.empty in
+    let state = g.D.RawDecoder.state c.args.decoder.now in
+    let split = c.split_pieces.ensures in
+    record {
+      running = rw (c.requires.empty, place_split bytes_of state c.args.pieces.now refl split.first split.later) (running_start _ _ _);
+      room = let r = c.requires.room in omega arith;
+      buffer = c.requires.buffer;
+    }
 
-pub unread_of-unread-requires-clause-inside : goal.unread_of-unread-requires-clause-inside
-unread_of-unread-requires-clause-inside g c = c.loop-calls.invariant.inside
-
-pub unread_of-unread-requires-clause-within : goal.unread_of-unread-requires-clause-within
-unread_of-unread-requires-clause-within g c = c.loop-calls.invariant.within
-
-pub is_last-last-requires : goal.is_last-last-requires
-is_last-last-requires g c = let inside = c.loop-calls.invariant.inside in omega arith
-
-pub call_once-answer-requires-clause-buffer : goal.call_once-answer-requires-clause-buffer
-call_once-answer-requires-clause-buffer g c = c.loop-calls.invariant.buffer c.loop-calls.calls 0 c.loop-calls-test.true
-
-pub call_once-answer-requires-clause-room : goal.call_once-answer-requires-clause-room
-call_once-answer-requires-clause-room g c = room_written c.args.lengths.now c.loop-calls-test.true _ c.loop-calls.invariant.room
-
-pub push_within-requires : goal.push_within-requires
-push_within-requires g c =
-    room_report c.args.lengths.now c.loop-calls-test.true _ c.loop-calls.invariant.room c.call_once-answer.ensures.capacity c.call_once-answer.ensures.len
+pub call_once-all-requires : goal.call_once-all-requires
+call_once-all-requires g c =
+    let state = g.D.RawDecoder.state c.args.decoder.now in
+    let all = pieces-length state (contents_of c.args.pieces.now) in
+    record {
+      buffer = c.loop-calls.invariant.buffer c.loop-calls.calls 0 c.loop-calls-test.true;
+      total = omega (arith, c.loop-calls.invariant.running.bytes, all, c.requires.total);
+      room = room_now c.args.lengths.now c.loop-calls-test.true _ c.loop-calls.invariant.room;
+    }
 
 pub overflow_add-total : goal.overflow_add-total
-overflow_add-total g c = grind (arith, pieces-length)
+overflow_add-total g c =
+    let state = g.D.RawDecoder.state c.args.decoder.now in
+    let all = pieces-length state (contents_of c.args.pieces.now) in
+    omega (arith, c.call_once-all.ensures.call.2.within, c.loop-calls.invariant.running.bytes, all, c.requires.total)
+
+pub rest_of-unread-requires : goal.rest_of-unread-requires
+rest_of-unread-requires g c = c.call_once-all.ensures.call.2.within
+
+pub overflow_add-result : goal.overflow_add-result
+overflow_add-result g c = omega (arith, c.loop-calls-test.true)
+
+pub bounds-lengths-calls : goal.bounds-lengths-calls
+bounds-lengths-calls g c = c.loop-calls-test.true
 
 pub returns-then-last : goal.returns-then-last
 returns-then-last g c =
-    let after = g.D.RawDecoder.state c.call_once-answer.new.decoder in
-    let later = drop (c.loop-calls.index + 1) (contents_of c.args.pieces.now) in
-    let call = c.call_once-answer.ensures.call in
+    let after = g.D.RawDecoder.state c.call_once-all.new.decoder in
+    let later = contents_of c.loop-calls.later.now in
+    let call = c.call_once-all.ensures.call in
     let given = slice_get-get_or c.args.lengths.now c.loop-calls.calls 0 c.loop-calls-test.true in
-    let last = c.is_last-last.ensures in
-    let items = call.2 ∙ sym (append-nil _) in
+    let last = c.is_empty-last.ensures ∙ none_is bytes_of c.loop-calls.later.now in
+    let emptied = sym c.if-all.true ∙ call.3 in
     let ended = sym c.if-last.true ∙ last in
     let few = c.loop-calls-test.true in
-    is_run (running_call c.loop-calls.invariant.running given call.1 c.unread_of-unread.ensures last c.in-InputEmpty.is items ended refl)
-    (place_before-state after later) (omega arith) (λ e. absurd (true≢false e))
+    is_run (running_call c.loop-calls.invariant.running given call.2 last emptied call.4 ended refl) (place_before-state after later) (omega arith)
+    (λ e. absurd (true≢false e))
 
 pub returns : goal.returns
 returns g c =
@@ -53,60 +67,28 @@ returns g c =
 
 pub loop-calls-preserved : goal.loop-calls-preserved
 loop-calls-preserved g c =
-    let pieces = contents_of c.args.pieces.now in
-    let index = c.loop-calls.index in
-    let offset = c.loop-calls.offset in
     let i = c.loop-calls.invariant in
-    let call = c.call_once-answer.ensures.call in
-    let unread = c.unread_of-unread.ensures in
-    let last = c.is_last-last.ensures in
-    let given = slice_get-get_or c.args.lengths.now c.loop-calls.calls 0 c.loop-calls-test.true in
-    let unread_length = ap length unread in
-    let room = room_kept c.args.lengths.now c.loop-calls-test.true _ i.room c.call_once-answer.ensures.capacity c.call_once-answer.ensures.len in
-    elim c.match-answer.branch [
-      | in-InputEmpty+else-last w ↦
+    let after = g.D.RawDecoder.state c.call_once-all.new.decoder in
+    let call = c.call_once-all.ensures.call in
+    let few = c.loop-calls-test.true in
+    let last = c.is_empty-last.ensures ∙ none_is bytes_of c.loop-calls.later.now in
+    let given = slice_get-get_or c.args.lengths.now c.loop-calls.calls 0 few in
+    let room = room_later c.args.lengths.now few _ i.room c.call_once-all.ensures.capacity c.call_once-all.ensures.len in
+    elim c.if-all.branch [
+      | then-all+else-last w ↦
           let goes = sym w.if-last.false ∙ last in
-          let more = not_last pieces index (sym goes) in
-          let same : length pieces ≡ length c.args.pieces.now = simp length-map in
-          rw (w.events-is, w.index-is, w.offset-is) record {
-            running = running_call i.running given call.1 unread last w.in-InputEmpty.is (call.2 ∙ sym (append-nil _)) goes (place_at-next pieces _ index more);
+          let emptied = sym w.if-all.true ∙ call.3 in
+          let split = w.split_pieces-then-all.ensures in
+          rw (w.unread-is, w.later-is) record {
+            running = running_call i.running given call.2 last emptied call.4 goes (place_split bytes_of after c.loop-calls.later.now refl split.first split.later);
             room = room;
-            buffer = λ k d h. rw c.call_once-answer.auto.buffer (i.buffer k d h);
-            inside = omega (arith, more, same);
-            within = omega arith;
+            buffer = λ k d h. rw c.call_once-all.auto.buffer (i.buffer k d h);
           }
-      | in-OutputFull w ↦
-          rw (w.events-is, w.index-is, w.offset-is) record {
-            running =
-                running_call i.running given call.1 unread last w.in-OutputFull.is (call.2 ∙ sym (append-nil _)) refl (place_at-more pieces _ index offset _);
+      | else-all w ↦
+          let going = sym w.if-all.false ∙ call.3 in
+          rw (w.unread-is, w.later-is) record {
+            running = running_call i.running given call.2 last going call.4 refl (rw c.rest_of-unread.ensures refl);
             room = room;
-            buffer = λ k d h. rw c.call_once-answer.auto.buffer (i.buffer k d h);
-            inside = i.inside;
-            within = omega (arith, i.within, length-drop offset (slice_index_or pieces index []));
-          }
-      | in-Malformed w ↦
-          rw (w.events-is, w.index-is, w.offset-is) record {
-            running =
-                running_call i.running given call.1 unread last w.in-Malformed.is
-                (w.push_within.ensures.items ∙ (rw (w.malformed_event.ensures, call.2) refl)) refl (place_at-more pieces _ index offset _);
-            room =
-                room_reported c.args.lengths.now c.loop-calls-test.true _ i.room c.call_once-answer.ensures.capacity c.call_once-answer.ensures.len
-                w.push_within.ensures.len w.push_within.ensures.capacity;
-            buffer = λ k d h. rw c.call_once-answer.auto.buffer (i.buffer k d h);
-            inside = i.inside;
-            within = omega (arith, i.within, length-drop offset (slice_index_or pieces index []));
+            buffer = λ k d h. rw c.call_once-all.auto.buffer (i.buffer k d h);
           }
     ]
-
-pub overflow_add-result : goal.overflow_add-result
-overflow_add-result g c = omega (arith, c.loop-calls-test.true)
-
-pub bounds-lengths-calls : goal.bounds-lengths-calls
-bounds-lengths-calls g c = c.loop-calls-test.true
-
-pub overflow_add-index : goal.overflow_add-index
-overflow_add-index g c =
-    let pieces = contents_of c.args.pieces.now in
-    let more = not_last pieces c.loop-calls.index (sym (sym c.if-last.false ∙ c.is_last-last.ensures)) in
-    let same : length pieces ≡ length c.args.pieces.now = simp length-map in
-    omega (arith, more, same)

@@ -1,4 +1,4 @@
-use Rattle.std.proofs.Common.{◌∙◌, arith, append-nil, rules}
+use Rattle.std.proofs.Common.{◌∙◌, refl, arith, append-nil, rules}
 use Rattle.legacy_codecs.proofs.WholeTexts.{bytes_end, bytes_less, bytes_after}
 use Rattle.legacy_codecs.proofs.whole.encode_whole.Goals as goal
 
@@ -24,3 +24,9 @@ calls-preserved g c =
 
 pub returns-in-InputEmpty-clause-end : goal.returns-in-InputEmpty-clause-end
 returns-in-InputEmpty-clause-end g c = (c.encode_replacing_utf8-answer.ensures.call.input_empty c.in-InputEmpty.is).1 (search rules)
+
+pub calls-init : goal.calls-init
+calls-init g c = (c.utf8.text, rw c.new-bytes.ensures.items refl, omega arith, refl)
+
+pub returns-in-InputEmpty-clause-codec : goal.returns-in-InputEmpty-clause-codec
+returns-in-InputEmpty-clause-codec g c = c.encode_replacing_utf8-answer.ensures.call.codec ∙ c.calls.invariant.3
