@@ -1,11 +1,12 @@
 -- Common sequences that are read ahead within a call in progress.
 use Rattle.std.proofs.lemmas.List.{take_rest}
 use Rattle.std.proofs.lemmas.{List.{drop_more, length-map, take-append-drop, length-take-le, nil_from_length, get_or-drop}, Bool.{cases_lt, true≢false}}
-use Rattle.std.proofs.Common.{◌≡◌, ◌∙◌, ◌+◌, ◌<◌, List, [], ◌∷◌, drop, arith, append_assoc, append-nil, true, subst}
+use Rattle.std.proofs.Common.{◌≡◌, ◌∙◌, ◌+◌, ◌<◌, List, [], ◌∷◌, drop, arith, append_assoc, append-nil, add-zero, map, refl, sym, true, subst, inl, inr}
 use Rattle.std.proofs.Common.{◌≤◌, length-append, Some, Option, ℕ, ◌-◌, ◌++◌, length, take, ap, get_or, length-drop, Bool, None}
-use Rattle.legacy_text.specs.{EncodingForm.{EncodingForm, unit_count, all_code_units, total_unit_count, wide_need}, declared.destination.Destination.Ghosts}
+use Rattle.legacy_text.specs.{EncodingForm.{EncodingForm, code_units, unit_count, all_code_units, total_unit_count, wide_need}, declared.destination.Destination.Ghosts}
 use Rattle.{legacy_text.proofs.CodeUnits.{all_code_units-append, total_unit_count-append}, legacy_base.specs.States.{DecoderState, new_state, rests}}
-use Rattle.legacy_base.specs.{Grammar.Grammar, DecoderActs.HadRoom, Calls.IsDecoderCall, declared.results.DecoderResult.DecoderResult}
+use Rattle.legacy_base.specs.{Grammar.{Grammar, events_of}, DecoderActs.HadRoom, Calls.IsDecoderCall, declared.results.DecoderResult.DecoderResult}
+use Rattle.legacy_base.specs.declared.results.DecodeEvent.{TheVariants.Scalar}
 use Rattle.legacy_base.proofs.{Shifts.shift-zero, GrammarLaws.{rests-none, may_none}, Needs.{lacks_small, full_most}, SameUnits.some_unit}
 use Rattle.legacy_decoder_engine.specs.{ReadAhead.{Yields, ReadsTo}, Moves.{HoldsBytes, HasMalformedByte, WritesFed, EndsAt, fed_scalars}}
 use Rattle.legacy_decoder_engine.proofs.{CallUnderWay.{Going, going_then, going_feed, held_going, call_then, call_ends}}
@@ -18,13 +19,18 @@ ample : (form : EncodingForm) (g : Grammar) (previous : Option ℕ) (free : ℕ)
     → HadRoom form g previous free cs
 unfolding HadRoom
 ample form g previous free [] h = tt
-ample form g previous free (c ∷ cs) h = grind (arith, length-append, some_unit, full_most, wide_most, ample form g (Some c) (free - unit_count form c) cs)
+ample form g previous free (c ∷ cs) h =
+    let units = length-append (code_units form c) (all_code_units form cs) in
+    let least = some_unit form c in
+    (λ w. omega (arith, h, units, least, full_most form g, wide_most form), ample form g (Some c) (free - unit_count form c) cs (omega (arith, h, units)))
 
 with_empty : (s : DecoderState) → s.held ≡ [] → s ≡ new_state s.grammar
 with_empty s e = ap (λ h. record { grammar = s.grammar; held = h }) e
 
 yields_nothing : (g : Grammar) (cs : List ℕ) → Yields g [] cs → cs ≡ []
-yields_nothing g cs h = grind (arith, ap length (rw shift-zero at (h.events [])), nil_from_length, length-append, length-map)
+yields_nothing g cs h =
+    let events = ap length (rw shift-zero at (h.events [])) in
+    nil_from_length cs (omega (arith, events, length-append (map Scalar cs) (events_of g []), length-map cs Scalar))
 
 -- a call is in progress, and the destination contains what was written
 abbrev pub IsUnderWay : {D : Type 0} → Ghosts D → Bool → DecoderState → List ℕ → D → DecoderState → ℕ → D → Type 0
@@ -47,13 +53,21 @@ module _ {D : Type 0} {T : Ghosts D} {s next : DecoderState} {source : List ℕ}
       record {
         within = reads.within;
         passed = r;
-        progress = grind (arith, length-drop, take-append-drop r source, append_assoc, yields.events, reads.needs.codec);
+        progress = record {
+          counts = omega (arith, length-drop r source, ap length none, ap length none', reads.within);
+          rest = rw (none, none') refl;
+          codec = reads.needs.codec;
+          events = λ more h.
+              let split : source ++ more ≡ take r source ++ (drop r source ++ more) =
+              ap (λ l. l ++ more) (sym (take-append-drop r source)) ∙ append_assoc (take r source) (drop r source) more in
+              rw (none, none', split) (rw long at (yields.events (drop r source ++ more)));
+        };
         resting = rw none' (rests-none next.grammar);
         allowed = rw none' (may_none next.grammar);
         needs = reads.needs;
-        held = grind arith;
+        held = λ h ne. absurd (ne none');
         had = rw resting (ample _ _ None _ ds (omega arith));
-        released = grind (arith, true≢false);
+        released = λ e. absurd (true≢false (sym resting ∙ e));
         fits = omega arith;
         scalar = yields.scalar;
         once = λ l. absurd (omega (arith, reads.had some, lacks_small T.form s source last (T.room old) l, wide_most T.form));
@@ -71,7 +85,8 @@ module _ {D : Type 0} (T : Ghosts D) {last : Bool} {before : DecoderState} {sour
   writes_on ds going contents room loan = (
     i.0 ++ ds,
     going,
-    grind (arith, append_assoc, all_code_units-append, i.2),
+    contents ∙ ap (λ l. l ++ all_code_units T.form ds) i.2 ∙ append_assoc (T.contents first) (all_code_units T.form i.0) (all_code_units T.form ds)
+        ∙ ap (λ l. T.contents first ++ l) (sym (all_code_units-append T.form i.0 ds)),
     omega (arith, total_unit_count-append T.form i.0 ds, i.3),
     loan ∙ i.4,
   )
@@ -82,7 +97,12 @@ module _ {D : Type 0} (T : Ghosts D) {last : Bool} {before : DecoderState} {sour
   read_going {r} reads =
       let reads : ReadsTo T now next (drop read source) r old new = subst (λ l. ReadsTo T now next l r old new) (take_rest source read) reads in
       let going : Going T.form last before source (T.room first) next (read + r) (i.0 ++ reads.writes.scalars) =
-      grind (arith, cases_lt 0 r, some_going reads {last = last}, going_then i.1 _ i.3, reads.stays, reads_nothing reads, append-nil i.0) in
+      elim (cases_lt 0 r) [
+        | inl some ↦ going_then i.1 _ i.3 (some_going reads some) some
+        | inr none ↦
+            let z : r ≡ 0 = omega (arith, none) in
+            rw (reads_nothing reads z, append-nil i.0, reads.stays z, z, add-zero read) i.1
+      ] in
       writes_on reads.writes.scalars going reads.writes.written reads.writes.room reads.writes.loan
 
   -- a byte was read

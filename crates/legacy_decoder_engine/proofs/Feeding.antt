@@ -2,19 +2,19 @@
 use Rattle.std.{proofs.Common.{◌≡◌, ◌≢◌, ℕ, suc, List, [], ◌++◌, refl, ap, append-nil, length-append, true, ◌&&◌, Some, ◌∙◌}, specs.Char.{IsScalar, is_ascii}}
 use Rattle.std.proofs.{Common.{◌≤◌, ◌∷◌, length, arith, length-drop, drop_of_length-le, All, drop, false, ◌⊎◌, None}, Math.Seq.drop-length}
 use Rattle.std.proofs.lemmas.{List.{drop-append-le, nil_from_length, Elements.{All-nil, All-cons}}, Bool.Decides.nat_tests}
-use Rattle.{legacy_text.specs.EncodingForm.{EncodingForm, Utf8, Utf16, unit_count, total_unit_count, bmp_need}, legacy_tables.specs.Unicode.{IsByte, AreBytes}}
+use Rattle.{legacy_text.specs.EncodingForm.{EncodingForm, Utf8, Utf16, code_units, all_code_units, unit_count, total_unit_count, bmp_need}, legacy_tables.specs.Unicode.{IsByte, AreBytes}}
 use Rattle.legacy_base.specs.{States.{rests, may_hold, state_of}, declared.results.DecodeEvent.TheVariants.Scalar, Calls.Progress, Fronts.{reads, malformed}}
 use Rattle.legacy_base.specs.{Lengths.{LengthQuery, to_utf16, to_utf8, query_form, total_need}, Grammar.{Grammar, events_of}, DecoderActs.takes}
 use Rattle.legacy_base.{specs.DecoderActs.{has_marks, act_need, full_need, has_short_ascii, has_reported, full_need_in, HadRoom}, proofs.Needs.release-full}
-use Rattle.{legacy_base.proofs.GrammarLaws.{may_none, rests-none}, legacy_decoder_engine.specs.{Moves.{Feeds, fed_scalars, Reports}, Feeding.{fed_of, Took}}}
+use Rattle.{legacy_base.proofs.GrammarLaws.{may_none, rests-none}, legacy_decoder_engine.specs.{Moves.{Feeds, fed_scalars, Reports}, Feeding.{fed_of, HasScalars, Took}}}
 use Rattle.legacy_decoder_engine.specs.{Moves.{IsCovered, read_need, Releases, FeedsMalformedByte}, Steps.{Step, step_held, step_length, StepMeets, finish}}
 use Rattle.legacy_decoder_engine.{specs.{Shown.IsShown, StatesAfterSteps.{IsOneOrMarked, Settles}}, proofs.{NeedMoves.all_needs, CallUnderWay.same_needs}}
-use Rattle.legacy_decoder_engine.specs.{Steps.DecoderMachine, StepUnits.{units, step_units}, declared.moves.Fed.{Fed, TheVariants.MalformedSequence}}
+use Rattle.legacy_decoder_engine.specs.{Steps.DecoderMachine, StepUnits.{units, step_units}, declared.moves.Fed.{Fed, TheVariants.{One, Two, MalformedSequence}}}
 
 -- the code units of scalars, counted one by one
 pub units-total : (form : EncodingForm) (cs : List ℕ) → units (unit_count form) cs ≡ total_unit_count form cs
 units-total form [] = refl
-units-total form (c ∷ cs) = grind (arith, nat_tests, length-append, units-total form cs)
+units-total form (c ∷ cs) = omega (arith, length-append (code_units form c) (all_code_units form cs), units-total form cs)
 
 -- a byte needs less than the full need only if it is ASCII and nothing is held back; then it is its own scalar
 module _ (narrow wide : ℕ) {g : Grammar} {m : DecoderMachine} (shown : IsShown g m) (b : ℕ) (unreported : has_reported g ≡ false) where
@@ -28,7 +28,12 @@ unfolding HadRoom
 had_usual form g free cs h h1 = grind (arith, nat_tests)
 
 pub all_dropped : (n : ℕ) (held : List ℕ) (b : ℕ) → n ≡ suc (length held) → drop n (held ++ b ∷ []) ≡ []
-all_dropped n held b e = grind (arith, drop_of_length-le, length-append)
+all_dropped n held b e = drop_of_length-le (held ++ b ∷ []) (omega (arith, e, length-append held (b ∷ [])))
+
+all_scalars : (fed : Fed) → HasScalars fed → All IsScalar (fed_scalars fed)
+all_scalars (One c) h = All-cons IsScalar c [] h (All-nil IsScalar)
+all_scalars (Two c d) h = All-cons IsScalar c (d ∷ []) h.0 (All-cons IsScalar d [] h.1 (All-nil IsScalar))
+all_scalars fed h = All-nil IsScalar
 
 module _ {g : Grammar} {m : DecoderMachine} (shown : IsShown g m) (held : List ℕ) (may : may_hold g held ≡ true) (bytes : AreBytes held) where
   -- no next act needs more than the total need of a query
@@ -74,7 +79,7 @@ module _ {g : Grammar} {m : DecoderMachine} (shown : IsShown g m) (held : List �
     }
 
     pub feeds : (fed : Fed) (kept : List ℕ) → Took (m.step held b) held b fed kept → Feeds (state_of g held) b (state_of (m.to held b) kept) fed
-    feeds fed kept took = grind (arith, All-cons, All-nil, step_feeds)
+    feeds fed kept took = rw (took.answer, took.holds) (step_feeds (m.step held b) refl (rw took.answer at (all_scalars fed took.scalar)))
 
   pub releases : (n c : ℕ) → rests g held ≡ false → m.pending held ≡ Some (n, c) → IsScalar c → Releases (state_of g held) (state_of g (drop n held)) c
   releases n c r e scalar =

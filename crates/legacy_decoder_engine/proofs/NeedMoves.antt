@@ -1,24 +1,29 @@
 -- From the code units that a decoder's steps write to the lengths that its queries return.
-use Rattle.std.proofs.Common.{◌≡◌, ℕ, ◌+◌, ◌*◌, ◌<◌, ◌≤◌, List, [], ◌∷◌, length, Bool, true, false, cond, ◌&&◌, mul-add, arith}
-use Rattle.std.proofs.{lemmas.Bool.{false≢true, cond_both, Decides.nat_tests}, Math.Nat.mul-le-mul_left}
+use Rattle.std.proofs.Common.{◌≡◌, refl, ℕ, ◌+◌, ◌*◌, ◌<◌, ◌≤◌, List, [], ◌∷◌, length, Bool, true, false, cond, ◌&&◌, mul-add, arith}
+use Rattle.std.specs.Char.{is_ascii}
+use Rattle.std.proofs.{lemmas.Bool.{false≢true, Decides.nat_tests}, Math.Nat.mul-le-mul_left}
 use Rattle.legacy_tables.specs.Unicode.{IsByte, AreBytes}
-use Rattle.legacy_base.{specs.States.{DecoderState, may_hold, rests, state_of}, proofs.Enough.total_need-rises}
-use Rattle.legacy_base.specs.DecoderActs.{takes, writes, act_need, need, full_need, full_need_in, release_need_in}
-use Rattle.legacy_base.specs.{Grammar.Grammar, Lengths.{LengthQuery, to_utf16, to_utf8, to_utf8_without_replacement, query_form, replacement_units, total_need}}
+use Rattle.legacy_base.{specs.States.{DecoderState, is_empty, may_hold, rests, state_of}, proofs.Enough.total_need-rises}
+use Rattle.legacy_base.specs.DecoderActs.{takes, writes, act_need, need, full_need, full_need_in, release_need_in, has_reported, has_short_ascii}
+use Rattle.legacy_base.specs.{Grammar.{Grammar, profile}, Lengths.{LengthQuery, to_utf16, to_utf8, to_utf8_without_replacement, query_form, replacement_units, total_need}}
 use Rattle.{legacy_text.specs.EncodingForm.{unit_count, bmp_need, wide_need}, legacy_decoder_engine.specs.Steps.{Step, step_held, DecoderMachine, Meets}}
 use Rattle.legacy_decoder_engine.{specs.{StepUnits.{step_units, step_left, IsWidth, Cost, WritePays}, Shown.KeepsNeeds}, proofs.Widths.width_of}
 
 pub first_need : (t : Bool) (x y : ℕ) → cond ((t && true) && true) x y ≡ cond t x y
-first_need t x y = grind (arith, nat_tests)
+first_need true x y = refl
+first_need false x y = refl
 
 pub held_need_is : (t u : Bool) (x y : ℕ) → cond ((t && false) && u) x y ≡ y
-held_need_is t u x y = grind (arith, nat_tests)
+held_need_is true u x y = refl
+held_need_is false u x y = refl
 
 pub no_short_need : (t : Bool) (x y : ℕ) → cond (t && false) x y ≡ y
-no_short_need t x y = grind (arith, nat_tests)
+no_short_need true x y = refl
+no_short_need false x y = refl
 
 pub cond_most : (t : Bool) (x y z : ℕ) → x ≤ z → y ≤ z → cond t x y ≤ z
-cond_most t x y z h k = grind (arith, nat_tests)
+cond_most true x y z h k = h
+cond_most false x y z h k = k
 
 -- no next act needs more than the total need if none of the three kinds of acts does
 pub all_needs : (narrow wide : ℕ) (total_need : ℕ → ℕ) (g : Grammar) (m : DecoderMachine) → Meets g m → rests g [] ≡ true → (held : List ℕ)
@@ -64,13 +69,30 @@ paid_of : (query : LengthQuery) (wt : List ℕ → ℕ) (paid at_most : ℕ) (he
     → Cost (unit_count (query_form query)) (bmp_need (query_form query)) at_most wt paid held b s →
     2 * step_units (unit_count (query_form query)) (replacement_units query) s + query_slope paid query *
     (wt (step_held s held b) + step_left s) ≤ query_slope paid query * (wt held + 1)
-paid_of query wt paid at_most held b s h = grind arith
+paid_of to_utf16 wt paid at_most held b s h = omega (arith, h.pays)
+paid_of to_utf8 wt paid at_most held b s h = omega (arith, h.pays)
+paid_of to_utf8_without_replacement wt paid at_most held b s h = h.pays_without
+
+between : (t : Bool) (x y : ℕ) → x ≤ y → (x ≤ cond t y x) × (cond t y x ≤ y)
+between true x y h = (h, omega arith)
+between false x y h = (omega arith, h)
+
+-- an act that needs nothing, one code unit or `full` needs at most `full`
+takes_most : (t u : Bool) (full : ℕ) → 1 ≤ full → cond t 0 (cond u 1 full) ≤ full
+takes_most true u full h = omega arith
+takes_most false true full h = h
+takes_most false false full h = omega arith
 
 pub narrow_read : (narrow wide : ℕ) → narrow ≤ wide → (g : Grammar) → (narrow ≤ full_need narrow wide g) × (full_need narrow wide g ≤ wide)
-narrow_read narrow wide rises g = grind arith
+narrow_read narrow wide rises g = between (profile g).wide_reads narrow wide rises
 
 module _ (g : Grammar) (m : DecoderMachine) (wt : List ℕ → ℕ) (paid : ℕ) (meets : Meets g m) (costs : HasCosts g m wt paid) (is : IsSloped g m wt paid)
     (query : LengthQuery) where
+  held_covered : (held : List ℕ) (n : ℕ) → may_hold g held ≡ true → 0 < length held
+      → release_need_in (query_form query) g ≤ total_need query (state_of g held) n
+  held_covered [] n h some = absurd (omega (arith, some))
+  held_covered (b ∷ held) n h some = omega (arith, is.holds query b held h, total_need-rises query (state_of g (b ∷ held)) 0 n (omega arith))
+
   pub sloped_needs : KeepsNeeds query g m
   sloped_needs =
       let w = width_of (query_form query) in
@@ -82,6 +104,10 @@ module _ (g : Grammar) (m : DecoderMachine) (wt : List ℕ → ℕ) (paid : ℕ)
             rw (costs.to_is held b) (is.falls query held _ (n + 1) (n + step_left (m.step held b)) _ (grind (arith, mul-add)));
         write_pays = is.writes query;
         report_pays = λ b held h r. is.falls query (b ∷ held) [] 0 0 _ (grind (arith, mul-le-mul_left, is.heavy b held h));
-        reads_covered = λ held b n h p. grind (arith, narrow_read, cond_both, w, total_need-rises);
-        holds_covered = λ held n h p. grind (arith, total_need-rises);
+        reads_covered = λ held b n h some.
+            let full = full_need_in (query_form query) g in
+            let one : 1 ≤ full = omega (arith, w.some, (narrow_read (bmp_need (query_form query)) (wide_need (query_form query)) w.rises g).0) in
+            let most = takes_most (has_reported g) ((is_ascii b && is_empty held) && has_short_ascii g) full one in
+            omega (arith, most, is.reads query held, total_need-rises query (state_of g held) 1 n (omega (arith, some)));
+        holds_covered = held_covered;
       }

@@ -27,7 +27,10 @@ module _ {g : Grammar} {m : DecoderMachine} (shown : IsShown g m) where
       × ((query : LengthQuery) (n : ℕ)
       → total_need query (state_of g []) n + total_unit_count (query_form query) (c ∷ []) ≤ total_need query (state_of g held) (n + length (b ∷ rest)))
   leads held b [] c may resting bytes l = (
-    λ more. grind (arith, all_dropped),
+    λ more.
+        let step = rw (l.1, l.2, all_dropped (suc (length held)) held b refl) at ((shown.meets.steps held b may resting).goes_on more) in
+        let n : length held + length (b ∷ []) ≡ suc (length held) = omega arith in
+        rw n step,
     λ query n.
         let pays = rw (l.1, l.2, all_dropped (suc (length held)) held b refl, add-zero n) at ((shown.needs query).step_pays held b n may resting bytes l.0) in
         omega (arith, pays, units-total (query_form query) (c ∷ [])),
@@ -45,7 +48,14 @@ module _ {g : Grammar} {m : DecoderMachine} (shown : IsShown g m) where
       )
 
   yields : (b : ℕ) (rest : List ℕ) (c : ℕ) → IsScalar c → Leads g m [] b rest c → Yields g (b ∷ rest) (c ∷ [])
-  yields b rest c scalar l = grind (arith, nat_tests, leads, may_none, rests-none, All-nil, All-cons)
+  yields b rest c scalar l =
+      let all = leads [] b rest c (may_none g) (rests-none g) (All-nil IsByte) l in
+      let n : 0 + length (b ∷ rest) ≡ length (b ∷ rest) = omega arith in
+      record {
+        events = λ more. rw n at (all.0 more);
+        scalar = All-cons IsScalar c [] scalar (All-nil IsScalar);
+        lowers = all.1;
+      }
 
   pub single_yields : (b c : ℕ) → IsByte b → IsScalar c → m.to [] b ≡ g → m.step [] b ≡ finish (reads 1 (c ∷ [])) → Yields g (b ∷ []) (c ∷ [])
   single_yields b c byte scalar to_is is = yields b [] c scalar (byte, to_is, is)
