@@ -2,6 +2,7 @@
 ghost use Rattle.std.specs.Prelude.{◌≡◌};
 ghost use Rattle.std.specs.Option.{option_map};
 ghost use Rattle.legacy_base.specs.States.{DecoderState};
+ghost use Rattle.legacy_base.specs.Encoders.{new_encoder};
 ghost use Rattle.legacy_encodings.specs.Coders.{decoder_of, encoder_of};
 
 use crate::tasks::{DecoderTask, EncoderTask};
@@ -12,6 +13,7 @@ use legacy_codecs::{
     SingleByteDecoder, SingleByteEncoder, SingleByteTable, Source, Tables, UserDefinedDecoder,
     UserDefinedEncoder, Utf16Decoder,
 };
+use legacy_encoder_engine::pair_encoder::{PairCodec, PairEncoder};
 use legacy_index_files::Codec;
 
 /// A decoder of any encoding.
@@ -92,7 +94,14 @@ impl<'a> RawDecoder for AnyDecoder<'a> {
     }
 
     fn malformed_bytes(&self, src: &[u8]) -> usize {
-        match_decoder!(self, coder => coder.malformed_bytes(src))
+        match self {
+            AnyDecoder::Gb18030(coder) => coder.malformed_bytes(src),
+            AnyDecoder::Big5(coder) => coder.malformed_bytes(src),
+            AnyDecoder::EucJp(coder) => coder.malformed_bytes(src),
+            AnyDecoder::ShiftJis(coder) => coder.malformed_bytes(src),
+            AnyDecoder::EucKr(coder) => coder.malformed_bytes(src),
+            _ => 0,
+        }
     }
 
     fn max_utf16_buffer_length(&self, byte_length: usize) -> Option<usize> {
@@ -238,6 +247,13 @@ fn run_with<U, D: RawDecoder + Drop, T: DecoderTask<U>>(
     task.run(&mut decoder, output)
 }
 
+/// Returns an encoder of ASCII and pairs before its first scalar.
+fn pair_encoder<'a, C: PairCodec>(tables: &'a Tables<'a>) -> PairEncoder<'a, C, Tables<'a>>
+    ensures { new_encoder (C.codec result.tables.now.flat) ≡ new_encoder (C.codec tables.now.flat) }
+{
+    PairEncoder::new(tables)
+}
+
 impl<'a> AnyEncoder<'a> {
     /// Returns an encoder of the codec before its first scalar.
     ///
@@ -260,11 +276,11 @@ impl<'a> AnyEncoder<'a> {
             }
             Codec::Gbk => AnyEncoder::Gb18030(Gb18030Encoder::new(tables, false)),
             Codec::Gb18030 => AnyEncoder::Gb18030(Gb18030Encoder::new(tables, true)),
-            Codec::Big5 => AnyEncoder::Big5(Big5Encoder::new(tables)),
-            Codec::EucJp => AnyEncoder::EucJp(EucJpEncoder::new(tables)),
+            Codec::Big5 => AnyEncoder::Big5(pair_encoder(tables)),
+            Codec::EucJp => AnyEncoder::EucJp(pair_encoder(tables)),
             Codec::Iso2022Jp => AnyEncoder::Iso2022Jp(Iso2022JpEncoder::new(tables)),
-            Codec::ShiftJis => AnyEncoder::ShiftJis(ShiftJisEncoder::new(tables)),
-            Codec::EucKr => AnyEncoder::EucKr(EucKrEncoder::new(tables)),
+            Codec::ShiftJis => AnyEncoder::ShiftJis(pair_encoder(tables)),
+            Codec::EucKr => AnyEncoder::EucKr(pair_encoder(tables)),
             Codec::UserDefined => AnyEncoder::UserDefined(UserDefinedEncoder::new()),
             Codec::Replacement | Codec::Utf16Be | Codec::Utf16Le => return None,
         };

@@ -107,7 +107,10 @@ fn list_pairs<'a, 'b, C: FillsPairs>(
     ensures { new_encoder (C.codec result.encoder.now.tables.now.flat)
         ≡ new_encoder (C.codec encoder.now.tables.now.flat) }
 {
-    CachedEncoder::new(encoder, room).unwrap()
+    let Some(listed) = CachedEncoder::new(encoder, room) else {
+        unreachable!()
+    };
+    listed
 }
 
 impl<'a, 'b> RawEncoder for ListedEncoder<'a, 'b> {
@@ -198,7 +201,10 @@ fn list_gb18030<'a, 'b>(
     ensures { ⟦<CachedEncoder<'static, Gb18030Encoder<'static>> as RawEncoder>⟧.state result
         ≡ ⟦<Gb18030Encoder<'static> as RawEncoder>⟧.state encoder.now }
 {
-    CachedEncoder::new(encoder, room).unwrap()
+    let Some(listed) = CachedEncoder::new(encoder, room) else {
+        unreachable!()
+    };
+    listed
 }
 
 /// Checks whether an encoder is of an encoding of pairs, so that `ListedEncoder` takes it.

@@ -7,6 +7,7 @@ ghost use Rattle.legacy_base.specs.Encoders.{encoded};
 ghost use Rattle.legacy_codecs.specs.References.{referenced_bytes};
 ghost use Rattle.legacy_tables.specs.TableChecks.{table_fault};
 ghost use Rattle.legacy_index_files.specs.Encodings.{encoding_name};
+ghost use Rattle.legacy_encodings.specs.Lists.{has_pairs};
 ghost use Rattle.legacy_index_files.specs.IndexTexts.{no_text};
 ghost use Rattle.legacy_index_files.specs.OwnedIndexes.{owned_lists, HoldsTexts, IsUnallocated};
 ghost use Rattle.legacy_encodings.specs.SingleByteFiles.{IsSingleByteFault};
@@ -172,6 +173,19 @@ impl Registry {
 /// The length in bytes of the shortest text that is encoded with a list of the encoder's pairs.
 const LONG_TEXT: usize = 1024;
 
+/// Encodes a whole text as `encode_whole` does, with a list of the encoder's pairs.
+fn encode_listed(alloc: Global, encoder: &AnyEncoder, text: &str) -> Result<Vec<u8>, AllocError>
+    requires { has_pairs encoder.now ≡ true }
+    ensures { IfOk result (λ bytes. bytes.items ≡ referenced_bytes
+        (encoded (⟦<AnyEncoder<'static> as RawEncoder>⟧.state encoder.now) (chars text.now) true)) }
+{
+    let mut room = pair_room(alloc)?;
+    let Some(mut listed) = ListedEncoder::new(encoder, room.as_mut_slice()) else {
+        unreachable!()
+    };
+    encode_whole(alloc, &mut listed, text)
+}
+
 /// Encodes a whole text as `encode_whole` does. For a long text it makes a list of the pairs first.
 fn encode_with_list(
     alloc: Global,
@@ -182,10 +196,7 @@ fn encode_with_list(
         (encoded (⟦<AnyEncoder<'static> as RawEncoder>⟧.state encoder.old) (chars text.now) true)) }
 {
     if text.len() >= LONG_TEXT && has_pairs(encoder) {
-        let mut room = pair_room(alloc)?;
-        if let Some(mut listed) = ListedEncoder::new(encoder, room.as_mut_slice()) {
-            return encode_whole(alloc, &mut listed, text);
-        }
+        return encode_listed(alloc, encoder, text);
     }
     encode_whole(alloc, encoder, text)
 }
@@ -279,7 +290,10 @@ impl Coders<'_> {
             error) }
     {
         let mut decoder = self.decoder(name)?;
-        Ok(decode_whole(alloc, &mut decoder, input)?)
+        match decode_whole(alloc, &mut decoder, input) {
+            Ok(text) => Ok(text),
+            Err(fault) => Err(RegistryError::Sized(fault)),
+        }
     }
 
     /// Encodes a text by the encoding of the name, with a reference for each unmappable character.
