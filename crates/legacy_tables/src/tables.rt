@@ -8,7 +8,6 @@ pub(crate) mod entries;
 pub(crate) mod flat;
 pub(crate) mod limits;
 pub(crate) mod lookups;
-mod messages;
 pub(crate) mod numbers;
 pub(crate) mod order;
 pub(crate) mod order_checks;
@@ -85,34 +84,47 @@ impl fmt::Display for IndexName {
 #[derive(Debug, Drop, PartialEq, Eq, Error)]
 pub enum TableError {
     /// The index has more entries than pointers.
+    #[error("index {0} is too long")]
     TooLong(IndexName),
     /// The entry is not 0, and is not a scalar that the index may contain.
+    #[error("index {0} has a bad entry at {1}")]
     BadEntry(IndexName, usize),
     /// The entry is not 0, though the decoder does not look it up.
+    #[error("index {0} must be empty at {1}")]
     NotEmpty(IndexName, usize),
     /// The katakana index has neither 0 nor 63 entries.
+    #[error("index katakana must have 0 or 63 entries")]
     KatakanaLength,
     /// The range at the place starts past the last pointer, or too low for the range before it.
+    #[error("ranges are out of order at {0}")]
     RangeOrder(usize),
     /// The range at the place has a scalar below U+0080, past U+FFFF, or a surrogate.
+    #[error("range {0} has a bad scalar")]
     RangeValue(usize),
     /// The scalar of the private-use row at the place is not above that of the row before.
+    #[error("private-use row {0} is out of order")]
     PuaOrder(usize),
     /// The scalar of the private-use row at the place is outside U+E000 to U+F8FF, or is U+E5E5.
+    #[error("private-use row {0} has a bad scalar")]
     PuaScalar(usize),
     /// The bytes of the private-use row at the place are no lead and trail of GB18030.
     ///
     /// The lead is outside 81 to FE, or the trail is outside 40 to 7E and 80 to FE.
+    #[error("private-use row {0} has bad bytes")]
     PuaBytes(usize),
     /// The run or the pointer at the place of the packed part is not in order.
+    #[error("packed {0} is out of order at {1}")]
     PackedOrder(PackedPart, usize),
     /// The packed part and the flat index give different results for the pointer.
     ///
     /// A run may contain U+0000 or the number of a surrogate, which no flat index gives.
+    #[error("packed {0} differs at {1}")]
     PackedDiffers(PackedPart, usize),
     /// The entry at the place is not 0, and is not a scalar that a single-byte table may contain.
+    #[error("single-byte entry {0} is bad")]
     BadByteEntry(usize),
     /// The entry at the place is not 0, and is equal to an earlier entry.
+    #[error("single-byte entry {0} is repeated")]
     Repeated(usize),
 }
 
