@@ -1,14 +1,15 @@
 -- What the x-user-defined decoder reads ahead.
-use Rattle.std.proofs.Common.{◌≡◌, true, ℕ, zero, suc, ◌+◌, ◌-◌, ◌%◌, ◌<◌, ◌≤◌, ◌^◌, ◌==◌, List, [], ◌++◌, bit_and, bit_xor, refl, arith, IsAscii, length, take}
+use Rattle.std.proofs.Common.{◌≡◌, true, ℕ, zero, suc, ◌+◌, ◌-◌, ◌*◌, ◌/◌, ◌%◌, ◌<◌, ◌≤◌, ◌^◌, ◌==◌, List, [], ◌++◌, bit_and, bit_xor, refl, arith, IsAscii, length, min, take}
 use Rattle.std.proofs.{Common.{All, drop, get_or}, lemmas.Bool.{agree_below_at, eqb-true, Decides.nat_tests}}
 use Rattle.std.proofs.lemmas.List.{take_rest, Elements.{All-nil, All-from_get_or}, take_all, take_more, get_or-drop, length-drop}
 use Rattle.std.specs.Char.{IsScalar}
 use Rattle.legacy_tables.specs.Unicode.{IsByte}
 use Rattle.legacy_base.specs.{States.new_state, Grammar.user_defined}
-use Rattle.legacy_text.specs.{declared.destination.Destination.Ghosts, EncodingForm.{all_code_units, code_units, total_unit_count}}
-use Rattle.legacy_decoder_engine.specs.{declared.moves.Fed.TheVariants.One, ReadAhead.{Yields, IsSingle, HasAscii, ReadsAhead}, Moves.Feeds}
-use Rattle.legacy_decoder_engine.proofs.{YieldedForms.{ascii_is, single_yields, has_ascii}, JoinedReads.{reads_more, reads_written, reads_ascii}}
-use Rattle.legacy_decoder_engine.proofs.WrittenReads.{all_short, yields_none, yields_more, short, reads_none, three_fit, writes_none, writes_one}
+use Rattle.legacy_text.specs.{declared.destination.Destination.Ghosts, EncodingForm.{EncodingForm, Utf8, Utf16, all_code_units, bmp_need, code_units, total_unit_count}}
+use Rattle.legacy_text.proofs.CodeUnits.{length-code_units-bmp}
+use Rattle.legacy_decoder_engine.specs.{declared.moves.Fed.TheVariants.One, ReadAhead.{Yields, IsSingle, HasAscii, Writes, ReadsAhead}, Moves.Feeds}
+use Rattle.legacy_decoder_engine.proofs.{YieldedForms.{ascii_is, single_yields, has_ascii}, JoinedReads.{reads_more, reads_written, reads_ascii, reads_front as reads-front}}
+use Rattle.legacy_decoder_engine.proofs.WrittenReads.{all_short, yields_none, yields_more, short, writes_one}
 use Rattle.legacy_miscellaneous.{specs.UserDefinedMachine.unit_of_byte, proofs.UserDefinedShown.user_defined_shown}
 use Rattle.legacy_decoder_engine.proofs.Feeding as moves
 
@@ -69,6 +70,53 @@ eight_read T source units at free bytes there count are before is enough content
     reads_more before (reads_written long (record { scalars = units; yields = rw all at yields; written = contents; room = room; loan = loan })
     (omega (arith, few, count, room, is, enough)) (omega (arith, is, enough)))
 
+-- ---- bytes one by one
+
+-- At most `most` bytes are to be read. The first ones are written, each as at most the code units of a scalar up to U+FFFF.
+pub record BytesWritten {D : Type 0} (T : Ghosts D) (source : List ℕ) (most at : ℕ) (old new : D) : Type 0 where
+  pub within : at ≤ most
+  pub room : T.room old ≤ T.room new + at * bmp_need T.form
+  pub writes : Writes T user_defined (take at source) old new
+
+room_left : (form : EncodingForm) (at most old new : ℕ) → at < most → most ≤ (old - 3) / bmp_need form → old ≤ new + at * bmp_need form
+    → bmp_need form ≤ new
+room_left Utf8 at most old new below few left = omega arith
+room_left Utf16 at most old new below few left = omega arith
+
+room_after : (form : EncodingForm) (at old mid new n : ℕ) → old ≤ mid + at * bmp_need form → new + n ≡ mid → n ≤ bmp_need form
+    → old ≤ new + (at + 1) * bmp_need form
+room_after Utf8 at old mid new n left room short = omega arith
+room_after Utf16 at old mid new n left room short = omega arith
+
+room_read : (form : EncodingForm) (at most old new : ℕ) → at ≤ most → most ≤ (old - 3) / bmp_need form → old ≤ new + at * bmp_need form → 0 < at
+    → (3 ≤ new) × (4 ≤ old)
+room_read Utf8 at most old new within few left some = omega arith
+room_read Utf16 at most old new within few left some = omega arith
+
+module _ {D : Type 0} (T : Ghosts D) (source : List ℕ) where
+  pub few_bytes : {x : D} {free left narrow most : ℕ} → free ≡ T.room x → left ≡ free - 3 → narrow ≡ bmp_need T.form
+      → most ≡ min (length source) (left / narrow) → (most ≤ (T.room x - 3) / bmp_need T.form) × (most ≤ length source)
+  few_bytes is-free is-left is-narrow is = rw (← is-free, ← is-left, ← is-narrow) (omega (arith, is))
+
+  module _ {x : D} {most : ℕ} (few : most ≤ (T.room x - 3) / bmp_need T.form) where
+    module _ {at : ℕ} {y : D} (before : BytesWritten T source most at x y) (below : at < most) {c : ℕ} where
+      pub byte_fits : c < 65536 → length (code_units T.form c) ≤ T.room y
+      byte_fits small = omega (arith, length-code_units-bmp T.form c small, room_left T.form at most (T.room x) (T.room y) below few before.room)
+
+    pub byte_written : most ≤ length source → {at : ℕ} {y : D} → BytesWritten T source most at x y → at < most → {c : ℕ}
+        → IsSingle user_defined (get_or source at 0) c → {z : D} → T.contents z ≡ T.contents y ++ code_units T.form c
+        → T.room z + length (code_units T.form c) ≡ T.room y → T.loan z ≡ T.loan y → BytesWritten T source most (at + 1) x z
+    byte_written there {at} {y} before below {c} single {z} contents room loan = record {
+      within = omega (arith, below);
+      room = room_after T.form at (T.room x) (T.room y) (T.room z) (length (code_units T.form c)) before.room room (length-code_units-bmp T.form c single.0);
+      writes = writes_one T source at c (omega (arith, below, there)) before.writes single.1 contents room loan;
+    }
+
+    pub bytes_read : most ≤ length source → {at : ℕ} {y : D} → BytesWritten T source most at x y → ReadsAhead T (new_state user_defined) source at x y
+    bytes_read there {at} {y} before =
+        let left = room_read T.form at most (T.room x) (T.room y) before.within few before.room in
+        reads-front (omega (arith, before.within, there)) before.writes (λ h. (left h).0) (λ h. (left h).1)
+
 -- ---- ASCII, and a byte after it
 
 module _ {D : Type 0} (T : Ghosts D) (source : List ℕ) (r : ℕ) {old mid : D} where
@@ -82,7 +130,3 @@ module _ {D : Type 0} (T : Ghosts D) (source : List ℕ) (r : ℕ) {old mid : D}
       IsSingle user_defined (get_or source r 0) c → T.contents new ≡ T.contents mid ++ code_units T.form c →
       T.room new + length (code_units T.form c) ≡ T.room mid → T.loan new ≡ T.loan mid → ReadsAhead T (new_state user_defined) source (r + 1) old new
   reads_byte c before within enough single contents room loan = grind (arith, writes_one, reads_written, short)
-
--- the lemmas for the functions that read blocks
-pub ruleset steps =
-    (writes_none, writes_one, three_fit, short, is_single, reads_none, reads_front, reads_byte, unit_scalar)

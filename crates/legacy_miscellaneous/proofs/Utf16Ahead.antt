@@ -143,6 +143,3 @@ module _ {D : Type 0} {T : Ghosts D} {be : Bool} {source : List ℕ} {at : ℕ} 
       room = omega (arith, one_only, before.room, room);
       writes = writes_unit T be source at c bytes (omega (arith, below, long)) before.writes (rw is at scalar) is contents room loan;
     }
-
--- the lemmas for the functions that read blocks
-pub ruleset steps = (reads_none, reads_block, writes_none, writes_unit, three_fit, short, unit_pair, one_unit, All-get_or)

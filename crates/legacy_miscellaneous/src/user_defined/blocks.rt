@@ -1,8 +1,6 @@
 //! Decodes blocks of x-user-defined: ASCII with single bytes past it, or eight bytes at a time.
 // Functions that run for each block are always inlined. A call would pass vectors through memory, and
 // keep the destination's place there.
-#![tactic(auto, using(crate::proofs::UserDefinedAhead::steps))]
-
 ghost use Rattle.std.specs.Prelude.{◌≡◌, ◌<◌, ◌≤◌, ℕ, length, slice_index};
 ghost use Rattle.{legacy_miscellaneous.specs.UserDefinedMachine.unit_of_byte, legacy_decoder_engine.specs.ReadAhead.ReadsAhead};
 ghost use Rattle.legacy_base.specs.{Grammar.user_defined, States.new_state};

@@ -75,13 +75,11 @@ impl DecoderMoves for Utf16Decoder {
     }
 
     #[inline]
-    #[tactic(auto, using(crate::proofs::Utf16Held::covered))]
     fn reading_need(&self, _byte: u8) -> Need {
         Need::Wide
     }
 
     #[inline]
-    #[tactic(auto, using(crate::proofs::Utf16Held::covered))]
     fn release_need(&self) -> Need {
         Need::Narrow
     }
@@ -124,7 +122,6 @@ impl DecoderMoves for Utf16Decoder {
 
     // The byte order is decided here, and not at each unit.
     #[inline(always)]
-    #[tactic(auto, using(legacy_decoder_engine::proofs::WrittenReads::no_bytes))]
     fn read_common<T: Destination>(&mut self, src: &[u8], dst: &mut T) -> usize {
         if !matches!(self.held, Held::Nothing) {
             0

@@ -1,8 +1,6 @@
 //! Blocks of UTF-16 code units without surrogates: to UTF-8 by 64, 32 or eight, to UTF-16 by sixteen, and one by one.
 // Functions that run for each block are always inlined. A call would pass vectors through memory, and
 // keep the destination's place there.
-#![tactic(auto, using(crate::proofs::Utf16Ahead::steps))]
-
 ghost use Rattle.std.specs.{Prelude.{◌≡◌, ◌+◌, ◌*◌, ◌%◌, ◌<◌, ◌≤◌, ℕ, length, true, false, slice_index}, Char.IsScalar};
 ghost use Rattle.{legacy_text.specs.EncodingForm.bmp_need, legacy_base.specs.{Grammar.utf16, States.new_state}};
 ghost use Rattle.{legacy_decoder_engine.specs.ReadAhead.ReadsAhead, legacy_miscellaneous.specs.Utf16Decoder.{HasAsciiUnits, KeepsAscii, AreUnitsBelow}};
@@ -24,6 +22,7 @@ impl FrontForms for Units {
     ghost grammar = { λ units. utf16 units.big_endian };
 
     #[inline(always)]
+    #[tactic(auto, using(crate::proofs::Utf16Ahead::unit_pair))]
     fn form(&self, first: u8, second: u8) -> CommonForm {
         let unit = unit(self.big_endian, first, second);
         CommonForm::of_pair(char::from_u32(u32::from(unit)))
@@ -66,21 +65,34 @@ struct AsciiUnits<'a> {
     units: &'a Units,
 }
 
+impl AsciiUnits<'_> {
+    /// Decodes the first 64 units if all are ASCII. Returns the number of bytes read, and whether any were.
+    // In text with tags the first letter past ASCII comes at any place, so its block is read whole by `read_groups`.
+    #[inline(always)]
+    fn read_whole<T: Destination>(&self, src: &[u8], dst: &mut T) -> (usize, bool)
+        requires source { 128 ≤ length src.now }
+        requires room { 64 + SLACK ≤ T.room dst.old }
+        ensures ahead { ReadsAhead T.Destination (new_state (utf16 self.now.units.now.big_endian)) src.now result.0 dst.old dst.new }
+        ensures goes_on { result.1 ≡ true → 0 < result.0 }
+    {
+        if !self.units.are_below(src, 8, 0x80) {
+            return (0, false);
+        }
+        let mut block = [0; 64];
+        self.units.narrow(src, &mut block);
+        dst.put_block(&block, 64);
+        (128, true)
+    }
+}
+
 impl BlockReader for AsciiUnits<'_> {
     ghost grammar = { λ blocks. utf16 blocks.units.now.big_endian };
 
     /// Decodes 64 units if all are ASCII. If fewer are left, it decodes the ASCII at the start of sixteen.
-    // In text with tags the first letter past ASCII comes at any place, so its block is read whole by `read_groups`.
     #[inline(always)]
     fn read_block<T: Destination>(&self, src: &[u8], dst: &mut T) -> (usize, bool) {
         if src.len() >= 128 && dst.free() >= 64 + SLACK {
-            if !self.units.are_below(src, 8, 0x80) {
-                return (0, false);
-            }
-            let mut block = [0; 64];
-            self.units.narrow(src, &mut block);
-            dst.put_block(&block, 64);
-            return (128, true);
+            return self.read_whole(src, dst);
         }
         if src.len() < 32 || dst.free() < 16 + SLACK {
             return (0, false);

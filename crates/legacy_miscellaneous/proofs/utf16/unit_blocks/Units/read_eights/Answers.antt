@@ -1,5 +1,5 @@
-use Rattle.std.{proofs.{Common.{◌<◌, arith}, lemmas.List.Elements.All-from_get_or}, specs.Char.IsScalar}
-use Rattle.legacy_decoder_engine.proofs.JoinedReads.{reads_written}
+use Rattle.std.{proofs.{Common.{◌≡◌, ◌<◌, arith}, lemmas.List.Elements.All-from_get_or}, specs.Char.IsScalar}
+use Rattle.legacy_decoder_engine.proofs.{JoinedReads.{reads_front, reads_written}, WrittenReads.writes_none}
 use Rattle.legacy_miscellaneous.proofs.Utf16Ahead.{below_scalar, eight_more, short_eight}
 use Rattle.legacy_miscellaneous.proofs.utf16.unit_blocks.Units.read_eights.Goals.{then-is_short, else-is_short+else-has_surrogate}
 use Rattle.legacy_miscellaneous.proofs.utf16.unit_blocks.Units.read_eights.Goals as goal
@@ -33,3 +33,13 @@ returns-then-has_surrogate g c =
     let before = c.loop-group.invariant in
     let few = c.loop-group-test.true in
     reads_written (omega (arith, c.requires.source, few)) before.writes (omega (arith, before.room, c.requires.room, few)) (omega (arith, c.requires.room, few))
+
+pub loop-group-init : goal.loop-group-init
+loop-group-init g c = record { within = omega arith; room = omega arith; writes = writes_none g.T.Destination _ c.args.dst.now }
+
+pub returns : goal.returns
+returns g c =
+    let before = c.loop-group.invariant in
+    let all : c.loop-group.group ≡ c.args.eights = omega (arith, before.within, c.loop-group-test.false) in
+    reads_front (omega (arith, c.requires.source)) (rw all at before.writes) (λ h. omega (arith, before.room, before.within, c.requires.room, h))
+    (λ h. omega (arith, c.requires.room, h))
