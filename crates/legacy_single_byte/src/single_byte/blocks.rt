@@ -245,11 +245,10 @@ impl Parts for AnyBytes<'_> {
             return read_eights(self.scalars, src, most, dst);
         }
         let units = self.scalars.units(src);
-        let vector = u16x8::from_array(units);
-        if !are_known(vector) {
+        if !are_known(units) {
             return (read_singly(self.scalars, src, 8, dst), false);
         }
-        put_units(dst, vector);
+        put_units(dst, units);
         (8, has_past_ascii(&src[8..]))
     }
 }
