@@ -2,7 +2,7 @@
 use Rattle.std.proofs.lemmas.List.{take_rest}
 use Rattle.std.proofs.Common.{◌≡◌, ◌∙◌, ℕ, zero, suc, ◌+◌, ◌-◌, ◌*◌, ◌/◌, ◌^◌, ◌<◌, ◌≤◌, List, [], ◌∷◌, ◌++◌, cond, ◌==◌, length, map, flat_map, take, drop}
 use Rattle.std.proofs.Common.{get_or, w64, inl, inr, bit_and, bit_or, bit_xor, refl, sym, ap, arith, length-append, append_assoc, append-nil}
-use Rattle.std.proofs.{lemmas.{List.{length-drop, take_more, get_or-drop, length-map, length-take-le}, Bool.{Decides.nat_tests, cases_lt}}, Math.Seq.take-add}
+use Rattle.std.proofs.{lemmas.{List.{take_more, get_or-drop, length-map, length-take-le}, Bool.{Decides.nat_tests, cases_lt}}, Math.Seq.take-add}
 use Rattle.std.{proofs.lemmas.Nat.{shr-shr, or_lt, and_le_l}, specs.Int.{bit_at, trailing_zeros}}
 use Rattle.std.proofs.lemmas.Nat.Bits.{bit_at-lt, bit_at-zero, bit_at_and, bit_at_xor, bit_at_or, bit_at_ones, bit_at-trailing_zeros, bit_at-pow_other}
 use Rattle.{legacy_decoder_engine.{proofs.WrittenReads.take_two, specs.PickedForms.{places, code_at}}, legacy_text.specs.PastAscii.ArePast}
@@ -130,5 +130,3 @@ block_picked count n m ps block fronts backs front-now back-now f b within withi
 pub forms_more : (at bytes : ℕ) (src before now : List ℕ) → before ≡ take at src → now ≡ before ++ take bytes (take (length src - at) (drop at src))
     → now ≡ take (at + bytes) src
 forms_more at bytes src before now front more = grind (arith, take-add, take_rest)
-
-pub ruleset next_forms = (forms_more, length-drop, take_rest)

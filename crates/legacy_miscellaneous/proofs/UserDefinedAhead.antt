@@ -1,14 +1,15 @@
 -- What the x-user-defined decoder reads ahead.
-use Rattle.std.proofs.Common.{◌≡◌, true, ℕ, zero, suc, ◌+◌, ◌-◌, ◌*◌, ◌/◌, ◌%◌, ◌<◌, ◌≤◌, ◌^◌, ◌==◌, List, [], ◌++◌, bit_and, bit_xor, refl, arith, IsAscii, length, min, take}
-use Rattle.std.proofs.{Common.{All, drop, get_or}, lemmas.Bool.{agree_below_at, eqb-true, Decides.nat_tests}}
+use Rattle.std.proofs.Common.{◌≡◌, true, ℕ, zero, suc, ◌+◌, ◌-◌, ◌*◌, ◌/◌, ◌%◌, ◌<◌, ◌≤◌, ◌^◌, ◌==◌, List, [], ◌++◌, bit_and, bit_xor, refl, arith}
+use Rattle.std.proofs.{Common.{All, IsAscii, drop, get_or, length, min, take}, lemmas.Bool.{agree_below_at, eqb-true, Decides.nat_tests}}
 use Rattle.std.proofs.lemmas.List.{take_rest, Elements.{All-nil, All-from_get_or}, take_all, take_more, get_or-drop, length-drop}
 use Rattle.std.specs.Char.{IsScalar}
 use Rattle.legacy_tables.specs.Unicode.{IsByte}
 use Rattle.legacy_base.specs.{States.new_state, Grammar.user_defined}
-use Rattle.legacy_text.specs.{declared.destination.Destination.Ghosts, EncodingForm.{EncodingForm, Utf8, Utf16, all_code_units, bmp_need, code_units, total_unit_count}}
-use Rattle.legacy_text.proofs.CodeUnits.{length-code_units-bmp}
+use Rattle.legacy_text.specs.EncodingForm.{EncodingForm, Utf8, Utf16, all_code_units, bmp_need, code_units, total_unit_count}
+use Rattle.legacy_text.{specs.declared.destination.Destination.Ghosts, proofs.CodeUnits.length-code_units-bmp}
 use Rattle.legacy_decoder_engine.specs.{declared.moves.Fed.TheVariants.One, ReadAhead.{Yields, IsSingle, HasAscii, Writes, ReadsAhead}, Moves.Feeds}
-use Rattle.legacy_decoder_engine.proofs.{YieldedForms.{ascii_is, single_yields, has_ascii}, JoinedReads.{reads_more, reads_written, reads_ascii, reads_front as reads-front}}
+use Rattle.legacy_decoder_engine.proofs.YieldedForms.{ascii_is, single_yields, has_ascii}
+use Rattle.legacy_decoder_engine.proofs.JoinedReads.{reads_more, reads_written, reads_ascii, reads_front as reads-front}
 use Rattle.legacy_decoder_engine.proofs.WrittenReads.{all_short, yields_none, yields_more, short, writes_one}
 use Rattle.legacy_miscellaneous.{specs.UserDefinedMachine.unit_of_byte, proofs.UserDefinedShown.user_defined_shown}
 use Rattle.legacy_decoder_engine.proofs.Feeding as moves

@@ -1,14 +1,14 @@
 -- What the UTF-16 decoders read ahead.
 use Rattle.std.proofs.lemmas.List.{take_rest}
 use Rattle.std.proofs.Common.{rules, ◌≡◌, ℕ, zero, suc, ◌+◌, ◌-◌, ◌*◌, ◌<◌, ◌≤◌, List, ◌++◌, Bool, length, take, drop, get_or, sym, arith, refl}
-use Rattle.std.proofs.lemmas.{Bool.Decides.nat_tests, List.{Elements.All-get_or, take_more, length-take-le, length-drop, get_or-take, get_or-drop, take_all}}
+use Rattle.std.proofs.lemmas.{Bool.Decides.nat_tests, List.{take_more, length-take-le, length-drop, get_or-take, get_or-drop, take_all}}
 use Rattle.std.specs.{Prelude.IsAscii, Char.IsScalar}
 use Rattle.legacy_text.{specs.EncodingForm.{bmp_need, code_units, all_code_units, total_unit_count}, proofs.Ascii.ascii_front}
 use Rattle.legacy_text.specs.declared.destination.Destination.{Ghosts}
 use Rattle.{legacy_tables.specs.Unicode.IsByte, legacy_base.specs.{Grammar.utf16, Utf16.unit_of, States.new_state}}
 use Rattle.legacy_decoder_engine.{specs.ReadAhead.{Yields, IsPair, Writes, ReadsAhead}, proofs.{YieldedForms.pair_yields, JoinedReads.reads_written}}
 use Rattle.legacy_decoder_engine.proofs.WrittenReads.{yields_none, yields_more, take_two, writes_two, writes_next, all_code_units_ascii, all_short}
-use Rattle.legacy_decoder_engine.proofs.WrittenReads.{one_unit, short, three_fit, writes_none, reads_none}
+use Rattle.legacy_decoder_engine.proofs.WrittenReads.{one_unit, writes_none}
 use Rattle.legacy_miscellaneous.{specs.Utf16Decoder.{HasAsciiUnits, AreUnitsBelow, unit_at}, proofs.Utf16Held.{unit_below, utf16_shown}}
 use Rattle.legacy_miscellaneous.proofs.UserDefinedAhead.{rest_bytes}
 

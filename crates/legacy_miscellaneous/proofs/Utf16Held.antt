@@ -5,7 +5,8 @@ use Rattle.{legacy_tables.specs.Unicode.{IsByte, AreBytes}, legacy_base.specs.{F
 use Rattle.legacy_base.{specs.{Utf16.utf16_events, States.{utf16_may_hold, rests, state_of}, Lengths.{LengthQuery, query_form}}, proofs.Cuts.cut-nil}
 use Rattle.{legacy_text.specs.EncodingForm.{unit_count, bmp_need, wide_need}, legacy_miscellaneous.specs.{Utf16Fronts.utf16_front, Utf16Machine.utf16_step}}
 use Rattle.legacy_miscellaneous.specs.{Utf16Machine.utf16_machine, declared.utf16.held_bytes.Held.{Held, TheVariants.{Nothing, Pending}}}
-use Rattle.legacy_miscellaneous.{specs.{declared.utf16.held_bytes.UnitScalar.UnitScalar, Utf16Decoder.{first_byte, second_byte, held_bytes}}, proofs.Utf16Cut.utf16_cut}
+use Rattle.legacy_miscellaneous.{specs.declared.utf16.held_bytes.UnitScalar.UnitScalar, proofs.Utf16Cut.utf16_cut}
+use Rattle.legacy_miscellaneous.specs.Utf16Decoder.{first_byte, second_byte, held_bytes}
 use Rattle.legacy_decoder_engine.specs.{Steps.{WriteMeets, end_events, Meets, step_held}, StepUnits.{step_units, step_left, IsWidth}, Shown.KeepsNeeds}
 use Rattle.legacy_decoder_engine.specs.{Shown.IsShown, declared.moves.Fed.Fed, Moves.{IsCovered, Feeds, Releases, Reports}, Feeding.Took}
 use Rattle.legacy_decoder_engine.proofs.{FrontMoves.{Fits, fits_meets, write_meets, end_meets, report_meets}, CallUnderWay.same_needs, Widths.width_of}

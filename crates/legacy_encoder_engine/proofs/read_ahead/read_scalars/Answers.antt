@@ -23,14 +23,16 @@ loop-dst-preserved-then-has_tens g c =
 pub loop-dst-init : goal.loop-dst-init
 loop-dst-init g c = (encodes_none c.requires.start, c.requires.guess)
 
-pub returns-then-at-start-clause-ahead : goal.returns-then-at-start-clause-ahead
-returns-then-at-start-clause-ahead g c = c.loop-dst.invariant.0
+pub returns-then-at-start : goal.returns-then-at-start
+returns-then-at-start g c = record { ahead = c.loop-dst.invariant.0; guess = c.loop-dst.invariant.1 }
 
-pub returns-in_default-clause-ahead : goal.returns-in_default-clause-ahead
-returns-in_default-clause-ahead g c = rw c.in_default.ensures.puts c.loop-dst.invariant.0
+pub returns-in_default : goal.returns-in_default
+returns-in_default g c = record { ahead = rw c.in_default.ensures.puts c.loop-dst.invariant.0; guess = c.in_default.ensures.guess }
 
-pub returns-in_default-read_past_ascii-clause-ahead : goal.returns-in_default-read_past_ascii-clause-ahead
-returns-in_default-read_past_ascii-clause-ahead g c = encodes_then c.loop-dst.invariant.0 c.in_default-read_past_ascii.ensures.ahead (omega arith)
+pub returns-in_default-read_past_ascii : goal.returns-in_default-read_past_ascii
+returns-in_default-read_past_ascii g c =
+    let past = c.in_default-read_past_ascii.ensures in
+    record { ahead = encodes_then c.loop-dst.invariant.0 past.ahead (omega arith); guess = past.guess }
 
 pub loop-dst-preserved-then-goes_on : goal.loop-dst-preserved-then-goes_on
 loop-dst-preserved-then-goes_on g c =
@@ -46,14 +48,14 @@ loop-dst-preserved g c =
     let three = c.in-Some-read_past_ascii-2.ensures in
     (encodes_then c.loop-dst.invariant.0 three.ahead (omega arith), three.guess)
 
-pub returns-in-None-clause-ahead : goal.returns-in-None-clause-ahead
-returns-in-None-clause-ahead g c = encodes_then c.loop-dst.invariant.0 c.in-None.ensures.ahead (omega arith)
+pub returns-in-None : goal.returns-in-None
+returns-in-None g c = record { ahead = encodes_then c.loop-dst.invariant.0 c.in-None.ensures.ahead (omega arith); guess = c.in-None.ensures.guess }
 
-pub returns-in-Four-clause-ahead : goal.returns-in-Four-clause-ahead
-returns-in-Four-clause-ahead g c = c.loop-dst.invariant.0
+pub returns-in-Four : goal.returns-in-Four
+returns-in-Four g c = record { ahead = c.loop-dst.invariant.0; guess = c.loop-dst.invariant.1 }
 
-pub returns-clause-ahead : goal.returns-clause-ahead
-returns-clause-ahead g c = c.loop-dst.invariant.0
+pub returns : goal.returns
+returns g c = record { ahead = c.loop-dst.invariant.0; guess = c.loop-dst.invariant.1 }
 
 pub put_code-requires-clause-room : goal.put_code-requires-clause-room
 put_code-requires-clause-room g c = omega (arith, c.widest-widest.ensures.is)
@@ -64,14 +66,8 @@ read_past_ascii-requires-clause-room g c = omega (arith, c.widest-widest.ensures
 pub read_past_ascii-requires-in-Three-clause-room : goal.read_past_ascii-requires-in-Three-clause-room
 read_past_ascii-requires-in-Three-clause-room g c = omega (arith, c.widest-widest.ensures.is)
 
-pub returns-then-at-start-clause-guess : goal.returns-then-at-start-clause-guess
-returns-then-at-start-clause-guess g c = c.loop-dst.invariant.1
-
 pub put_code-requires-clause-guess : goal.put_code-requires-clause-guess
 put_code-requires-clause-guess g c = c.loop-dst.invariant.1
-
-pub returns-in_default-clause-guess : goal.returns-in_default-clause-guess
-returns-in_default-clause-guess g c = c.in_default.ensures.guess
 
 pub read_past_ascii-requires-clause-fits : goal.read_past_ascii-requires-clause-fits
 read_past_ascii-requires-clause-fits g c = c.widest-widest.ensures.fits _
@@ -91,18 +87,6 @@ read_past_ascii-requires-in-Three-clause-serves g c = c.widest-widest.ensures.se
 pub read_past_ascii-requires-in-Three-clause-guess : goal.read_past_ascii-requires-in-Three-clause-guess
 read_past_ascii-requires-in-Three-clause-guess g c = c.loop-dst.invariant.1
 
-pub returns-in_default-read_past_ascii-clause-guess : goal.returns-in_default-read_past_ascii-clause-guess
-returns-in_default-read_past_ascii-clause-guess g c = c.in_default-read_past_ascii.ensures.guess
-
-pub returns-in-None-clause-guess : goal.returns-in-None-clause-guess
-returns-in-None-clause-guess g c = c.in-None.ensures.guess
-
-pub returns-in-Four-clause-guess : goal.returns-in-Four-clause-guess
-returns-in-Four-clause-guess g c = c.loop-dst.invariant.1
-
-pub returns-clause-guess : goal.returns-clause-guess
-returns-clause-guess g c = c.loop-dst.invariant.1
-
 pub overflow_sub-dst : goal.overflow_sub-dst
 overflow_sub-dst g c = omega (arith, c.loop-dst.invariant.0.end)
 
@@ -113,7 +97,9 @@ pub pass-requires-clause-count : goal.pass-requires-clause-count
 pass-requires-clause-count g c = first_count g.S.TextCursor.form c.in-One.ensures
 
 pub read_tens-at-requires : goal.read_tens-at-requires
-read_tens-at-requires g c = let widest = c.widest-widest.ensures in omega (arith, c.in-Some.ensures.puts.moves.fits, c.in-Some.ensures.puts.ends, widest.fits c.in-One.c, widest.is)
+read_tens-at-requires g c =
+    let widest = c.widest-widest.ensures in
+    let puts = c.in-Some.ensures.puts in omega (arith, puts.moves.fits, puts.ends, widest.fits c.in-One.c, widest.is)
 
 pub loop-dst-smaller-then-has_tens : goal.loop-dst-smaller-then-has_tens
 loop-dst-smaller-then-has_tens g c =

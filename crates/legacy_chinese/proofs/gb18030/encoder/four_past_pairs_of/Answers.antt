@@ -1,4 +1,3 @@
-use Rattle.legacy_base.specs.Gb18030.{gb18030_code}
 use Rattle.legacy_chinese.proofs.gb18030.encoder.four_past_pairs_of.Goals as goal
 
 pub pointer_in-requires-clause-part : goal.pointer_in-requires-clause-part

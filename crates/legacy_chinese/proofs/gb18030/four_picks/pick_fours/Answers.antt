@@ -26,7 +26,11 @@ returns-then-bytes-eq0 c =
     }
 
 pub returns-else-src-at-ge74 : goal.returns-else-src-at-ge74
-returns-else-src-at-ge74 c = record { most = omega (arith, c.loop-front.invariant.room, c.loop-front.auto.front); read = c.loop-front.invariant.read; forms = c.loop-front.invariant.forms }
+returns-else-src-at-ge74 c =
+    let before = c.loop-front.invariant in
+    record { most = omega (arith, before.room, c.loop-front.auto.front); read = before.read; forms = before.forms }
 
 pub returns-after-loop-front : goal.returns-after-loop-front
-returns-after-loop-front c = record { most = omega (arith, c.loop-front.invariant.room, c.loop-front.auto.front); read = c.loop-front.invariant.read; forms = c.loop-front.invariant.forms }
+returns-after-loop-front c =
+    let before = c.loop-front.invariant in
+    record { most = omega (arith, before.room, c.loop-front.auto.front); read = before.read; forms = before.forms }

@@ -12,13 +12,7 @@ overflow_add-result c =
     let w = whole_end c.args.past c.args.starts _ (omega arith) c.requires refl in
     omega (arith, w.0)
 
-pub returns-clause-most : goal.returns-clause-most
-returns-clause-most c =
+pub returns : goal.returns
+returns c =
     let w = whole_end c.args.past c.args.starts _ (omega arith) c.requires refl in
-    omega (arith, w.0)
-
-pub returns-clause-some : goal.returns-clause-some
-returns-clause-some c = omega arith
-
-pub returns-clause-end : goal.returns-clause-end
-returns-clause-end c = (whole_end c.args.past c.args.starts _ (omega arith) c.requires refl).1
+    record { most = omega (arith, w.0); some = omega arith; end = w.1 }

@@ -3,28 +3,34 @@ use Rattle.legacy_encoder_engine.specs.declared.moves.EncoderMove.TheVariants.{T
 use Rattle.legacy_encoder_engine.proofs.PlainServes.{plain_fits, plain_puts}
 use Rattle.legacy_encoder_engine.proofs.plain.AnyAheadCodes.put_past_ascii.Goals as goal
 
-pub returns-in-Some-clause-puts : goal.returns-in-Some-clause-puts
-returns-in-Some-clause-puts g c =
+pub returns-in-Some : goal.returns-in-Some
+returns-in-Some g c =
     let move = Two c.in-Some.lead c.in-Some.trail in
-    plain_puts _ _ (g.C.PlainCodes.plain c.args.self.now) c.args.c move c.in-Some.ensures refl refl _ _ _ _ c.put_two.ensures refl
+    record {
+      puts = plain_puts _ _ (g.C.PlainCodes.plain c.args.self.now) c.args.c move c.in-Some.ensures refl refl _ _ _ _ c.put_two.ensures refl;
+      guess = c.requires.guess;
+    }
 
-pub returns-in-Some-four_of-clause-puts : goal.returns-in-Some-four_of-clause-puts
-returns-in-Some-four_of-clause-puts g c =
+pub returns-in-Some-four_of : goal.returns-in-Some-four_of
+returns-in-Some-four_of g c =
     let four = c.in-Some-four_of.four in
     let move = Four four.0 four.1 four.2 four.3 in
-    plain_puts _ _ (g.C.PlainCodes.plain c.args.self.now) c.args.c move c.in-Some-four_of.ensures.code refl refl _ _ _ _ c.put_four.ensures refl
+    record {
+      puts = plain_puts _ _ (g.C.PlainCodes.plain c.args.self.now) c.args.c move c.in-Some-four_of.ensures.code refl refl _ _ _ _ c.put_four.ensures refl;
+      guess = c.in-Some-four_of.ensures.guess;
+    }
 
-pub returns-clause-puts : goal.returns-clause-puts
-returns-clause-puts g c =
+pub returns : goal.returns
+returns g c =
     let common = c.has_bytes.ensures c.if-not-has_bytes.false in
-    plain_puts _ _ (g.C.PlainCodes.plain c.args.self.now) c.args.c c.code_of-step.result c.code_of-step.ensures common.0 common.1 _ _ _ _
-    c.put_move.ensures.bytes c.put_move.ensures.end
+    record {
+      puts = plain_puts _ _ (g.C.PlainCodes.plain c.args.self.now) c.args.c c.code_of-step.result c.code_of-step.ensures common.0 common.1
+          _ _ _ _ c.put_move.ensures.bytes c.put_move.ensures.end;
+      guess = c.four_of.ensures.guess;
+    }
 
-pub returns-then-not-has_bytes-clause-puts : goal.returns-then-not-has_bytes-clause-puts
-returns-then-not-has_bytes-clause-puts g c = refl
-
-pub returns-in-Some-clause-guess : goal.returns-in-Some-clause-guess
-returns-in-Some-clause-guess g c = c.requires.guess
+pub returns-then-not-has_bytes : goal.returns-then-not-has_bytes
+returns-then-not-has_bytes g c = record { puts = refl; guess = c.four_of.ensures.guess }
 
 pub four_of-requires-clause-past : goal.four_of-requires-clause-past
 four_of-requires-clause-past g c = c.requires.past
@@ -32,17 +38,8 @@ four_of-requires-clause-past g c = c.requires.past
 pub four_of-requires-clause-guess : goal.four_of-requires-clause-guess
 four_of-requires-clause-guess g c = c.requires.guess
 
-pub returns-in-Some-four_of-clause-guess : goal.returns-in-Some-four_of-clause-guess
-returns-in-Some-four_of-clause-guess g c = c.in-Some-four_of.ensures.guess
-
-pub returns-then-not-GOES_PAST_PAIRS-clause-guess : goal.returns-then-not-GOES_PAST_PAIRS-clause-guess
-returns-then-not-GOES_PAST_PAIRS-clause-guess g c = c.four_of.ensures.guess
-
-pub returns-then-not-has_bytes-clause-guess : goal.returns-then-not-has_bytes-clause-guess
-returns-then-not-has_bytes-clause-guess g c = c.four_of.ensures.guess
-
-pub returns-clause-guess : goal.returns-clause-guess
-returns-clause-guess g c = c.four_of.ensures.guess
+pub returns-then-not-GOES_PAST_PAIRS : goal.returns-then-not-GOES_PAST_PAIRS
+returns-then-not-GOES_PAST_PAIRS g c = record { puts = refl; guess = c.four_of.ensures.guess }
 
 pub pair_of-requires : goal.pair_of-requires
 pair_of-requires g c = c.requires.past
@@ -57,9 +54,6 @@ put_four-requires g c =
     let four = c.in-Some-four_of.four in
     let move = Four four.0 four.1 four.2 four.3 in
     omega (arith, plain_fits _ _ (g.C.PlainCodes.plain c.args.self.now) c.args.c move c.in-Some-four_of.ensures.code, c.requires.room)
-
-pub returns-then-not-GOES_PAST_PAIRS-clause-puts : goal.returns-then-not-GOES_PAST_PAIRS-clause-puts
-returns-then-not-GOES_PAST_PAIRS-clause-puts g c = refl
 
 pub put_move-requires : goal.put_move-requires
 put_move-requires g c =

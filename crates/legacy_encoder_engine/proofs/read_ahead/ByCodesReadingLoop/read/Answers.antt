@@ -14,18 +14,8 @@ loop-at-preserved g c =
     let blocks = encodes_then c.loop-at.invariant.0 c.read_blocks-at.ensures (omega arith) in
     (encodes_then blocks c.read_scalars-end.ensures.ahead (omega arith), c.read_scalars-end.ensures.guess)
 
-pub returns-then-end-at-clause-keeps : goal.returns-then-end-at-clause-keeps
-returns-then-end-at-clause-keeps g c =
+pub returns-then-end-at : goal.returns-then-end-at
+returns-then-end-at g c =
     let blocks = encodes_then c.loop-at.invariant.0 c.read_blocks-at.ensures (omega arith) in
-    (encodes_then blocks c.read_scalars-end.ensures.ahead (omega arith)).keeps
-
-pub returns-then-end-at-clause-passed : goal.returns-then-end-at-clause-passed
-returns-then-end-at-clause-passed g c =
-    let blocks = encodes_then c.loop-at.invariant.0 c.read_blocks-at.ensures (omega arith) in
-    (encodes_then blocks c.read_scalars-end.ensures.ahead (omega arith)).units
-
-pub returns-then-end-at-clause-start : goal.returns-then-end-at-clause-start
-returns-then-end-at-clause-start g c = omega arith
-
-pub returns-then-end-at-clause-end : goal.returns-then-end-at-clause-end
-returns-then-end-at-clause-end g c = omega arith
+    let all = encodes_then blocks c.read_scalars-end.ensures.ahead (omega arith) in
+    record { keeps = all.keeps; passed = all.units; start = omega arith; end = omega arith }

@@ -9,13 +9,17 @@ loop-at-init g c = record { within = omega arith; room = omega arith; writes = w
 pub put-requires : goal.put-requires
 put-requires g c =
     let few = few_bytes g.T.Destination c.args.src.now c.free.ensures c.saturating_sub.ensures c.narrow.ensures c.min-most.ensures in
-    byte_fits g.T.Destination c.args.src.now few.0 c.loop-at.invariant c.loop-at-test.true (is_single (get_or c.args.src.now c.loop-at.at 0) c.scalar_of.result (omega arith) c.scalar_of.type_inv.1.1 c.scalar_of.ensures).0
+    let byte = get_or c.args.src.now c.loop-at.at 0 in
+    let single = is_single byte c.scalar_of.result (omega arith) c.scalar_of.type_inv.1.1 c.scalar_of.ensures in
+    byte_fits g.T.Destination c.args.src.now few.0 c.loop-at.invariant c.loop-at-test.true single.0
 
 pub loop-at-preserved : goal.loop-at-preserved
 loop-at-preserved g c =
     let e = c.put.ensures in
     let few = few_bytes g.T.Destination c.args.src.now c.free.ensures c.saturating_sub.ensures c.narrow.ensures c.min-most.ensures in
-    byte_written g.T.Destination c.args.src.now few.0 few.1 c.loop-at.invariant c.loop-at-test.true (is_single (get_or c.args.src.now c.loop-at.at 0) c.scalar_of.result (omega arith) c.scalar_of.type_inv.1.1 c.scalar_of.ensures) e.contents e.room e.loan
+    let byte = get_or c.args.src.now c.loop-at.at 0 in
+    let single = is_single byte c.scalar_of.result (omega arith) c.scalar_of.type_inv.1.1 c.scalar_of.ensures in
+    byte_written g.T.Destination c.args.src.now few.0 few.1 c.loop-at.invariant c.loop-at-test.true single e.contents e.room e.loan
 
 pub returns : goal.returns
 returns g c =

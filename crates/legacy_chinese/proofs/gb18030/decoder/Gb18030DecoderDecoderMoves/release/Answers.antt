@@ -5,4 +5,7 @@ pub returns-in-Digit : goal.returns-in-Digit
 returns-in-Digit c = rw c.from.ensures (releases c.args.self.now.tables.now c.args.self.now.held c.in-Digit.digit [] (rw c.in-Digit.is refl))
 
 pub returns-in-DigitLead : goal.returns-in-DigitLead
-returns-in-DigitLead c = rw c.from-in-DigitLead.ensures (releases c.args.self.now.tables.now c.args.self.now.held c.in-DigitLead.digit (c.in-DigitLead.lead.byte ∷ []) (rw c.in-DigitLead.is refl))
+returns-in-DigitLead c =
+    let both = c.in-DigitLead in
+    rw c.from-in-DigitLead.ensures
+    (releases c.args.self.now.tables.now c.args.self.now.held both.digit (both.lead.byte ∷ []) (rw both.is refl))

@@ -5,4 +5,6 @@ pub returns-then-length-eq0 : goal.returns-then-length-eq0
 returns-then-length-eq0 c = ends_none c.args.self.now.tables.now c.args.self.now.held (omega (arith, c.held_length-length.ensures))
 
 pub returns : goal.returns
-returns c = rw c.held_length-length.ensures (reports c.args.self.now.tables.now c.args.self.now.held c.requires (λ e. absurd (omega (arith, ap length e, c.held_length-length.ensures))))
+returns c =
+    let is = c.held_length-length.ensures in
+    rw is (reports c.args.self.now.tables.now c.args.self.now.held c.requires (λ none. absurd (omega (arith, ap length none, is))))

@@ -3,8 +3,8 @@ use Rattle.legacy_decoder_engine.proofs.{JoinedReads.reads_more, WrittenReads.{r
 use Rattle.legacy_miscellaneous.proofs.UserDefinedAhead.{is_single, reads_front, reads_byte}
 use Rattle.legacy_miscellaneous.proofs.user_defined.blocks.MixedBlockReader.read_block.Goals as goal
 
-pub returns-then-src-le64-clause-ahead : goal.returns-then-src-le64-clause-ahead
-returns-then-src-le64-clause-ahead g c = reads_none g.T.Destination _ c.args.src.now c.args.dst.now
+pub returns-then-src-le64 : goal.returns-then-src-le64
+returns-then-src-le64 g c = record { ahead = reads_none g.T.Destination _ c.args.src.now c.args.dst.now; goes_on = λ h. cc }
 
 pub returns-then-count-eq64-clause-ahead : goal.returns-then-count-eq64-clause-ahead
 returns-then-count-eq64-clause-ahead g c =

@@ -1,4 +1,4 @@
-use Rattle.{std.proofs.Common.{◌≡◌, arith, length}, legacy_decoder_engine.proofs.WrittenReads.reads_none}
+use Rattle.{std.proofs.Common.arith, legacy_decoder_engine.proofs.WrittenReads.reads_none}
 use Rattle.legacy_miscellaneous.proofs.Utf16Ahead.{ascii_block, reads_block}
 use Rattle.legacy_miscellaneous.proofs.utf16.unit_blocks.AsciiUnits.read_whole.Goals as goal
 
