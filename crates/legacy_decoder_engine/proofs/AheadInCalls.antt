@@ -3,7 +3,8 @@ use Rattle.std.proofs.lemmas.List.{take_rest}
 use Rattle.std.proofs.lemmas.{List.{drop_more, length-map, take-append-drop, length-take-le, nil_from_length, get_or-drop}, Bool.{cases_lt, true≢false}}
 use Rattle.std.proofs.Common.{◌≡◌, ◌∙◌, ◌+◌, ◌<◌, List, [], ◌∷◌, drop, arith, append_assoc, append-nil, add-zero, map, refl, sym, true, subst, inl, inr}
 use Rattle.std.proofs.Common.{◌≤◌, length-append, Some, Option, ℕ, ◌-◌, ◌++◌, length, take, ap, get_or, length-drop, Bool, None}
-use Rattle.legacy_text.specs.{EncodingForm.{EncodingForm, code_units, unit_count, all_code_units, total_unit_count, wide_need}, declared.destination.Destination.Ghosts}
+use Rattle.legacy_text.specs.EncodingForm.{EncodingForm, code_units, unit_count, all_code_units, total_unit_count, wide_need}
+use Rattle.legacy_text.specs.declared.destination.Destination.{Ghosts}
 use Rattle.{legacy_text.proofs.CodeUnits.{all_code_units-append, total_unit_count-append}, legacy_base.specs.States.{DecoderState, new_state, rests}}
 use Rattle.legacy_base.specs.{Grammar.{Grammar, events_of}, DecoderActs.HadRoom, Calls.IsDecoderCall, declared.results.DecoderResult.DecoderResult}
 use Rattle.legacy_base.specs.declared.results.DecodeEvent.{TheVariants.Scalar}

@@ -2,11 +2,13 @@
 use Rattle.std.{proofs.Common.{◌≡◌, ◌≢◌, ℕ, suc, List, [], ◌++◌, refl, ap, append-nil, length-append, true, ◌&&◌, Some, ◌∙◌}, specs.Char.{IsScalar, is_ascii}}
 use Rattle.std.proofs.{Common.{◌≤◌, ◌∷◌, length, arith, length-drop, drop_of_length-le, All, drop, false, ◌⊎◌, None}, Math.Seq.drop-length}
 use Rattle.std.proofs.lemmas.{List.{drop-append-le, nil_from_length, Elements.{All-nil, All-cons}}, Bool.Decides.nat_tests}
-use Rattle.{legacy_text.specs.EncodingForm.{EncodingForm, Utf8, Utf16, code_units, all_code_units, unit_count, total_unit_count, bmp_need}, legacy_tables.specs.Unicode.{IsByte, AreBytes}}
+use Rattle.legacy_text.specs.EncodingForm.{EncodingForm, Utf8, Utf16, code_units, all_code_units, unit_count, total_unit_count, bmp_need}
+use Rattle.legacy_tables.specs.Unicode.{IsByte, AreBytes}
 use Rattle.legacy_base.specs.{States.{rests, may_hold, state_of}, declared.results.DecodeEvent.TheVariants.Scalar, Calls.Progress, Fronts.{reads, malformed}}
 use Rattle.legacy_base.specs.{Lengths.{LengthQuery, to_utf16, to_utf8, query_form, total_need}, Grammar.{Grammar, events_of}, DecoderActs.takes}
 use Rattle.legacy_base.{specs.DecoderActs.{has_marks, act_need, full_need, has_short_ascii, has_reported, full_need_in, HadRoom}, proofs.Needs.release-full}
-use Rattle.{legacy_base.proofs.GrammarLaws.{may_none, rests-none}, legacy_decoder_engine.specs.{Moves.{Feeds, fed_scalars, Reports}, Feeding.{fed_of, HasScalars, Took}}}
+use Rattle.legacy_base.proofs.GrammarLaws.{may_none, rests-none}
+use Rattle.legacy_decoder_engine.specs.{Moves.{Feeds, fed_scalars, Reports}, Feeding.{fed_of, HasScalars, Took}}
 use Rattle.legacy_decoder_engine.specs.{Moves.{IsCovered, read_need, Releases, FeedsMalformedByte}, Steps.{Step, step_held, step_length, StepMeets, finish}}
 use Rattle.legacy_decoder_engine.{specs.{Shown.IsShown, StatesAfterSteps.{IsOneOrMarked, Settles}}, proofs.{NeedMoves.all_needs, CallUnderWay.same_needs}}
 use Rattle.legacy_decoder_engine.specs.{Steps.DecoderMachine, StepUnits.{units, step_units}, declared.moves.Fed.{Fed, TheVariants.{One, Two, MalformedSequence}}}

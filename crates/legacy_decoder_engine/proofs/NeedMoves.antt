@@ -5,7 +5,8 @@ use Rattle.std.proofs.{lemmas.Bool.{false≢true, Decides.nat_tests}, Math.Nat.m
 use Rattle.legacy_tables.specs.Unicode.{IsByte, AreBytes}
 use Rattle.legacy_base.{specs.States.{DecoderState, is_empty, may_hold, rests, state_of}, proofs.Enough.total_need-rises}
 use Rattle.legacy_base.specs.DecoderActs.{takes, writes, act_need, need, full_need, full_need_in, release_need_in, has_reported, has_short_ascii}
-use Rattle.legacy_base.specs.{Grammar.{Grammar, profile}, Lengths.{LengthQuery, to_utf16, to_utf8, to_utf8_without_replacement, query_form, replacement_units, total_need}}
+use Rattle.legacy_base.specs.Grammar.{Grammar, profile}
+use Rattle.legacy_base.specs.Lengths.{LengthQuery, to_utf16, to_utf8, to_utf8_without_replacement, query_form, replacement_units, total_need}
 use Rattle.{legacy_text.specs.EncodingForm.{unit_count, bmp_need, wide_need}, legacy_decoder_engine.specs.Steps.{Step, step_held, DecoderMachine, Meets}}
 use Rattle.legacy_decoder_engine.{specs.{StepUnits.{step_units, step_left, IsWidth, Cost, WritePays}, Shown.KeepsNeeds}, proofs.Widths.width_of}
 

@@ -118,7 +118,6 @@ fn read_long<C: LaneCodec, T: Destination>(
 // Most rows of such blocks between tags are short: the larger arrays are made after a few blocks, and a copy of the tables,
 // whose parts a loop keeps in registers.
 #[inline(always)]
-#[tactic(auto, using(crate::proofs::JoinedReads::reads_more, crate::proofs::WrittenReads::no_bytes))]
 fn read_short<C: LaneCodec, T: Destination>(
     tables: &FlatTables<'_>,
     guess: &Cell<usize>,
@@ -329,7 +328,6 @@ fn form_at<C: LaneCodec>(
 /// Returns the number of bytes read, which may be 0.
 // For the last bytes of the input, which are fewer than any block, and for outputs with little room.
 #[inline(always)]
-#[tactic(auto, using(crate::proofs::WrittenReads::writes_none, crate::proofs::WrittenReads::four_fit))]
 pub(crate) fn read_last<C: LaneCodec, T: Destination>(
     blocks: &LaneBlocks<'_, '_, C>,
     src: &[u8],
@@ -380,7 +378,6 @@ fn read_one_kind<C: LaneCodec, T: Destination>(
 /// Returns the number of bytes read, and whether a block with many bytes past ASCII may follow.
 // Most rows of pairs between tags are short, and lanes are no faster in them. Forms are counted since the last long ASCII.
 #[inline(always)]
-#[tactic(auto, using(crate::proofs::JoinedReads::reads_more, crate::proofs::WrittenReads::no_bytes))]
 fn read_few<C: LaneCodec, T: Destination>(
     blocks: &LaneBlocks<'_, '_, C>,
     src: &[u8],

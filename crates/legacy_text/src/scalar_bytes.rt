@@ -19,7 +19,6 @@ pub(crate) fn put_byte(dst: &mut [u8], at: usize, byte: u8)
 // Most scalars past ASCII take three bytes: that case is tested first. The last of one or two bytes is stored after a
 // lead, or over it if there is none: so there is no branch, which no pattern in text would predict.
 #[inline(always)]
-#[tactic(auto, using(crate::proofs::CodeUnits::encoding))]
 pub(crate) fn put_scalar(dst: &mut [u8], at: usize, c: char) -> usize
     requires room { at + length (encode_utf8 c) ≤ length dst.old }
     ensures place { result ≡ at + length (encode_utf8 c) }

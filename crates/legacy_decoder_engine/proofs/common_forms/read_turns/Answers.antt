@@ -43,3 +43,45 @@ loop-left-preserved g c =
 
 pub returns-clause-writes : goal.returns-clause-writes
 returns-clause-writes g c = c.loop-left.invariant.3
+
+pub bounds-src-at : goal.bounds-src-at
+bounds-src-at g c = omega arith
+
+pub bounds-src-at-in-loop-left : goal.bounds-src-at-in-loop-left
+bounds-src-at-in-loop-left g c = omega arith
+
+pub overflow_add-at : goal.overflow_add-at
+overflow_add-at g c = omega arith
+
+pub overflow_add-at-in-Single : goal.overflow_add-at-in-Single
+overflow_add-at-in-Single g c = omega arith
+
+pub overflow_add-next : goal.overflow_add-next
+overflow_add-next g c = omega arith
+
+pub overflow_sub-left : goal.overflow_sub-left
+overflow_sub-left g c = omega arith
+
+pub returns-clause-goes_on : goal.returns-clause-goes_on
+returns-clause-goes_on g c = omega arith
+
+pub returns-clause-read : goal.returns-clause-read
+returns-clause-read g c = omega arith
+
+pub returns-clause-slack : goal.returns-clause-slack
+returns-clause-slack g c = omega arith
+
+pub returns-in-Other-clause-ends : goal.returns-in-Other-clause-ends
+returns-in-Other-clause-ends g c = omega arith
+
+pub returns-in-Other-clause-read : goal.returns-in-Other-clause-read
+returns-in-Other-clause-read g c = omega arith
+
+pub returns-in-Other-clause-slack : goal.returns-in-Other-clause-slack
+returns-in-Other-clause-slack g c = omega arith
+
+pub returns-then-byte-next-lt128-clause-ends : goal.returns-then-byte-next-lt128-clause-ends
+returns-then-byte-next-lt128-clause-ends g c = omega arith
+
+pub returns-then-byte-next-lt128-clause-read : goal.returns-then-byte-next-lt128-clause-read
+returns-then-byte-next-lt128-clause-read g c = omega arith

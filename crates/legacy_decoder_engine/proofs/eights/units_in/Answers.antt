@@ -25,3 +25,15 @@ returns g c =
           ((first_forms grammar g.C.LaneCodec.place c.args.last codes kept places c.chosen.result long c.kept_and_places.ensures forms n most (omega arith)
           (omega arith) known).0);
     }
+
+pub chosen-requires : goal.chosen-requires
+chosen-requires g c = omega arith
+
+pub entries_at-requires-clause-eight : goal.entries_at-requires-clause-eight
+entries_at-requires-clause-eight g c = omega arith
+
+pub kept_and_places-requires : goal.kept_and_places-requires
+kept_and_places-requires g c = omega arith
+
+pub slice_bounds-entries_at-end : goal.slice_bounds-entries_at-end
+slice_bounds-entries_at-end g c = omega arith

@@ -13,3 +13,6 @@ returns-then-done-count-clause-ahead g c =
     let read = rw (← bytes) at (front_forms done p.result.0 p.result.1 p.new.codes src (omega arith) p.ensures.forms) in
     let within : c.byte_total.result ≤ length src = omega (arith, bytes, ap length read, length-take c.byte_total.result src) in
     reads_front within (rw read e.writes.writes) (λ h. e.slack (omega arith)) (λ h. e.had (omega arith))
+
+pub byte_total-requires : goal.byte_total-requires
+byte_total-requires g c = omega arith

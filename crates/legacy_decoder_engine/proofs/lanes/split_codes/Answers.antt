@@ -16,3 +16,9 @@ loop-group-preserved g c =
 
 pub returns : goal.returns
 returns g c k h = c.loop-group.invariant.lanes k (omega arith)
+
+pub kept_and_places-requires : goal.kept_and_places-requires
+kept_and_places-requires g c = omega arith
+
+pub overflow_mul-at : goal.overflow_mul-at
+overflow_mul-at g c = omega arith

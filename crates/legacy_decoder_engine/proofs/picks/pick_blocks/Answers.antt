@@ -35,3 +35,48 @@ returns-else-src-at-ge16 g c = let i = c.loop-left.invariant in record { most = 
 
 pub returns-after-loop-left : goal.returns-after-loop-left
 returns-after-loop-left g c = let i = c.loop-left.invariant in record { most = omega (arith, i.room); read = i.read; forms = i.forms }
+
+pub overflow_sub-left : goal.overflow_sub-left
+overflow_sub-left g c = omega arith
+
+pub overflow_sub-src : goal.overflow_sub-src
+overflow_sub-src g c = omega arith
+
+pub pick_block-requires-clause-block : goal.pick_block-requires-clause-block
+pick_block-requires-clause-block g c = omega arith
+
+pub pick_block-requires-clause-most : goal.pick_block-requires-clause-most
+pick_block-requires-clause-most g c = omega arith
+
+pub pick_block-requires-clause-room : goal.pick_block-requires-clause-room
+pick_block-requires-clause-room g c = omega arith
+
+pub pick_block-requires-clause-some : goal.pick_block-requires-clause-some
+pick_block-requires-clause-some g c = omega arith
+
+pub pick_block-requires-else-rest-ge72-clause-block : goal.pick_block-requires-else-rest-ge72-clause-block
+pick_block-requires-else-rest-ge72-clause-block g c = omega arith
+
+pub pick_block-requires-else-rest-ge72-clause-most : goal.pick_block-requires-else-rest-ge72-clause-most
+pick_block-requires-else-rest-ge72-clause-most g c = omega arith
+
+pub pick_block-requires-else-rest-ge72-clause-room : goal.pick_block-requires-else-rest-ge72-clause-room
+pick_block-requires-else-rest-ge72-clause-room g c = omega arith
+
+pub pick_block-requires-else-rest-ge72-clause-some : goal.pick_block-requires-else-rest-ge72-clause-some
+pick_block-requires-else-rest-ge72-clause-some g c = omega arith
+
+pub returns-then-bytes-eq0-clause-read : goal.returns-then-bytes-eq0-clause-read
+returns-then-bytes-eq0-clause-read g c = omega arith
+
+pub slice_bounds-pick_block-end : goal.slice_bounds-pick_block-end
+slice_bounds-pick_block-end g c = omega arith
+
+pub slice_bounds-rest-count : goal.slice_bounds-rest-count
+slice_bounds-rest-count g c = omega arith
+
+pub slice_bounds-rest-end : goal.slice_bounds-rest-end
+slice_bounds-rest-end g c = omega arith
+
+pub slice_bounds-rest-start : goal.slice_bounds-rest-start
+slice_bounds-rest-start g c = omega arith

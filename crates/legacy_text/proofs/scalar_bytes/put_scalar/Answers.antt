@@ -1,5 +1,4 @@
-use Rattle.std.proofs.Common.{arith}
-use Rattle.std.proofs.Common.{append_assoc}
+use Rattle.std.proofs.Common.{ap, append_assoc, arith, length}
 use Rattle.legacy_text.proofs.CodeUnits.{encoding, encode_3, encode_4}
 use Rattle.legacy_text.proofs.scalar_bytes.put_scalar.Goals as goal
 
@@ -11,3 +10,30 @@ returns-then-scalar-lt2048 c = grind (arith, encoding)
 
 pub returns : goal.returns
 returns c = grind (arith, encode_4, append_assoc)
+
+pub put_byte-requires : goal.put_byte-requires
+put_byte-requires c = omega (arith, ap length (encode_3 c.args.c (omega arith) (omega arith)))
+
+pub put_byte-requires-then-scalar-lt65536 : goal.put_byte-requires-then-scalar-lt65536
+put_byte-requires-then-scalar-lt65536 c = omega (arith, ap length (encode_3 c.args.c (omega arith) (omega arith)))
+
+pub put_byte-requires-then-scalar-lt65536-2 : goal.put_byte-requires-then-scalar-lt65536-2
+put_byte-requires-then-scalar-lt65536-2 c = omega (arith, ap length (encode_3 c.args.c (omega arith) (omega arith)))
+
+pub put_byte-requires-then-scalar-lt2048 : goal.put_byte-requires-then-scalar-lt2048
+put_byte-requires-then-scalar-lt2048 c = grind (arith, encoding)
+
+pub put_byte-requires-then-scalar-lt2048-2 : goal.put_byte-requires-then-scalar-lt2048-2
+put_byte-requires-then-scalar-lt2048-2 c = grind (arith, encoding)
+
+pub put_byte-requires-2 : goal.put_byte-requires-2
+put_byte-requires-2 c = omega (arith, ap length (encode_4 c.args.c (omega arith)))
+
+pub put_byte-requires-3 : goal.put_byte-requires-3
+put_byte-requires-3 c = omega (arith, ap length (encode_4 c.args.c (omega arith)))
+
+pub put_byte-requires-4 : goal.put_byte-requires-4
+put_byte-requires-4 c = omega (arith, ap length (encode_4 c.args.c (omega arith)))
+
+pub put_byte-requires-5 : goal.put_byte-requires-5
+put_byte-requires-5 c = omega (arith, ap length (encode_4 c.args.c (omega arith)))
