@@ -8,9 +8,7 @@ ghost use Rattle.legacy_codecs.specs.Runs.{is_input_empty, IsRun};
 
 use crate::replacing::rest_of;
 use crate::scalar_buffer::{OutputForm, ScalarBuffer, Utf8Form, Utf16Form};
-use crate::shared_by_runs::{
-    RunError, longest, push_items, push_within, room_for_events, split_pieces,
-};
+use crate::shared_by_runs::{RunError, push_items, push_within, room_for_run, split_pieces};
 use legacy_base::{DecodeEvent, DecoderResult, RawDecoder};
 use std::alloc::Global;
 
@@ -158,10 +156,7 @@ fn decode_run<D: RawDecoder, F: OutputForm>(
         ↔ IsTooLong (contents_of pieces.now) lengths.now }
     ensures unchanged { OnErr result (decoder.new ≡ decoder.old) }
 {
-    let events = room_for_events(alloc, pieces, lengths)?;
-    let Ok(mut buffer) = vec![in alloc; '\0'; longest(lengths)] else {
-        return Err(RunError::Memory);
-    };
+    let (events, mut buffer) = room_for_run(alloc, pieces, lengths, '\0')?;
     let buffer = buffer.as_mut_slice();
     Ok(run_calls::<D, F>(decoder, pieces, lengths, events, buffer))
 }

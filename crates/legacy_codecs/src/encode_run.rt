@@ -6,9 +6,7 @@ ghost use Rattle.legacy_codecs.specs.Pieces.{contents_of, place_before, IsTooLon
 ghost use Rattle.legacy_codecs.specs.EncodeRuns.{chars_of, unit_scalars_of, is_input_empty, IsEncodeRun};
 ghost use Rattle.legacy_codecs.specs.RunResults.{RunEncodes};
 
-use crate::shared_by_runs::{
-    RunError, longest, push_items, push_within, room_for_events, split_pieces,
-};
+use crate::shared_by_runs::{RunError, push_items, push_within, room_for_run, split_pieces};
 use crate::source_texts::Text;
 use legacy_base::{EncodeEvent, EncoderResult, RawEncoder, Source};
 use std::alloc::Global;
@@ -123,10 +121,7 @@ fn encode_run<E: RawEncoder, T: Text>(
         ↔ IsTooLong (map T.units pieces.now) lengths.now }
     ensures unchanged { OnErr result (encoder.new ≡ encoder.old) }
 {
-    let events = room_for_events(alloc, pieces, lengths)?;
-    let Ok(mut output) = vec![in alloc; 0_u8; longest(lengths)] else {
-        return Err(RunError::Memory);
-    };
+    let (events, mut output) = room_for_run(alloc, pieces, lengths, 0_u8)?;
     let output = output.as_mut_slice();
     Ok(run_calls(encoder, pieces, lengths, events, output))
 }

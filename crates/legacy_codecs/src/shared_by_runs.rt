@@ -72,23 +72,25 @@ fn event_capacity(lengths: &[usize]) -> Option<usize>
 {
     let mut total: usize = 0;
     for length in lengths {
-        total = total.checked_add(*length)?.checked_add(1)?;
+        total = total.checked_add(*length)?;
     }
-    Some(total)
+    total.checked_add(lengths.len())
 }
 
-/// Allocates the memory for the events of a run over the pieces, with outputs of these lengths.
+/// Allocates the memory of a run over the pieces: for its events, and for outputs of these lengths.
 ///
 /// Each code unit of an output is at most one event, and so is the report of each call.
-pub(crate) fn room_for_events<P: Piece, T: Copy>(
+pub(crate) fn room_for_run<P: Piece, T: Copy, U: Copy>(
     alloc: Global,
     pieces: &[P],
     lengths: &[usize],
-) -> Result<Vec<T>, RunError>
-    ensures empty { IfOk result (λ events. events.items ≡ []) }
-    ensures room { IfOk result (λ events.
-        sum lengths.now + length lengths.now ≤ vec_capacity events) }
-    ensures total { IfOk result (λ events. sum_by length (map P.units pieces.now) < 2 ^ 64) }
+    unit: U,
+) -> Result<(Vec<T>, Vec<U>), RunError>
+    ensures empty { IfOk result (λ room. room.0.items ≡ []) }
+    ensures room { IfOk result (λ room.
+        sum lengths.now + length lengths.now ≤ vec_capacity room.0) }
+    ensures output { IfOk result (λ room. All (λ n. n ≤ vec_len room.1) lengths.now) }
+    ensures total { IfOk result (λ room. sum_by length (map P.units pieces.now) < 2 ^ 64) }
     ensures too_long { (result ≡ Err RunError.TooLong)
         ↔ IsTooLong (map P.units pieces.now) lengths.now }
 {
@@ -101,11 +103,14 @@ pub(crate) fn room_for_events<P: Piece, T: Copy>(
     let Ok(events) = Vec::with_capacity(alloc, capacity) else {
         return Err(RunError::Memory);
     };
-    Ok(events)
+    let Ok(output) = vec![in alloc; unit; longest(lengths)] else {
+        return Err(RunError::Memory);
+    };
+    Ok((events, output))
 }
 
 /// Returns the greatest of the lengths, or 0 if there is none.
-pub(crate) fn longest(lengths: &[usize]) -> usize
+fn longest(lengths: &[usize]) -> usize
     ensures { All (λ n. n ≤ result) lengths.now }
 {
     lengths.iter().copied().max().unwrap_or(0)

@@ -2,9 +2,9 @@
 use Rattle.std.proofs.Common.{◌≡◌, ◌≢◌, ◌⊎◌, ◌∙◌, ℕ, ◌+◌, ◌-◌, ◌≤◌, ◌<◌, List, [], ◌∷◌, ◌++◌, length, take, drop, take-append-drop, refl, sym, ap}
 use Rattle.std.proofs.Common.{subst, arith, append_assoc, append-nil, length-append, length-drop, Bool, true, false, Option, None, IsUtf8, inl, ⊎_elim}
 use Rattle.std.proofs.{Common.{drop-drop, take_all, zero-add}, lemmas.Str.{utf8_valid_len-IsValidUpTo, utf8_valid_len-IsUtf8, chars-nil}}
-use Rattle.std.proofs.{KnownBytes.{Appends-nil, Appends-trans, Consumes-nil, Consumes-trans}, lemmas.Grind.flat_map-append, lemmas.Bool.cases_lt}
+use Rattle.std.proofs.{KnownBytes.{Appends-nil, Appends-trans, Consumes-nil, Consumes-trans, Consumes-kept, Keeps-refl}, lemmas.Grind.flat_map-append, lemmas.Bool.cases_lt}
 use Rattle.std.proofs.{lemmas.List.{drop_at, length-take-le, length-take, drop-take, nil_from_length}, lemmas.List.Edits.take-paste, Math.Seq.paste}
-use Rattle.std.specs.{Str.{chars, IsValidUpTo}, Str.Lossy.{utf8_valid_len, utf8_error_len}, Io.KnownBytes.{Appends, Consumes, IsAtEnd}}
+use Rattle.std.specs.{Str.{chars, IsValidUpTo}, Str.Lossy.{utf8_valid_len, utf8_error_len}, Io.KnownBytes.{Appends, Consumes, IsAtEnd, Keeps}}
 use Rattle.legacy_base.specs.{Encoders.{EncoderState, encoded}}
 use Rattle.legacy_base.proofs.EncoderLaws.{end-encoded}
 use Rattle.legacy_codecs.specs.{declared.results.CoderResult.CoderResult, declared.results.CoderResult.TheVariants.InputEmpty, References.event_bytes}
@@ -254,10 +254,10 @@ input_start before left old =
 
 module _ {before now : EncoderState} {held : List ℕ} {left_old left old mid : Option (List ℕ)} (u : InputUnderWay before now held left_old left old mid) where
   -- what holds if no more can be read
-  input_beginning : EncodesBeginning before now left_old left old mid
-  input_beginning = record {
+  pub input_beginning : {left_new : Option (List ℕ)} → Keeps left left_new → EncodesBeginning before now left_old left_new old mid
+  input_beginning k = record {
     bytes = u.bytes;
-    read = u.read;
+    read = Consumes-kept _ _ _ _ u.read k;
     held = held;
     short = u.short;
     cut = u.cut;
@@ -300,7 +300,7 @@ module _ {before now : EncoderState} {held : List ℕ} {left_old left old mid : 
           between = now;
           input_between = left;
           output_between = mid;
-          earlier = input_beginning;
+          earlier = input_beginning (Keeps-refl left);
           piece = piece;
           near = near;
           parts = refl;
@@ -348,7 +348,7 @@ module _ {before now : EncoderState} {held : List ℕ} {left_old left old mid : 
       between = now;
       input_between = left;
       output_between = mid;
-      earlier = input_beginning;
+      earlier = input_beginning (Keeps-refl left);
       piece = [];
       near = omega arith;
       parts = sym (append-nil u.bytes);

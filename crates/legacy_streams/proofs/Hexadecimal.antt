@@ -60,7 +60,12 @@ hexadecimal_3 n l h =
 
 hexadecimal_exact : (n : ℕ) → 0x1000 ≤ n → n < 0x1_0000 → hexadecimal n ≡ last_four n
 unfolding hexadecimal
-hexadecimal_exact n l h = grind (arith, digits_are 3 n)
+hexadecimal_exact n l h =
+    let third : n / 0x10 / 0x10 ≡ n / 0x100 = omega arith in
+    let fourth : n / 0x100 / 0x10 ≡ n / 0x1000 = omega arith in
+    let some : 16 ≤ n / 0x10 / 0x10 = omega arith in
+    let last : n / 0x10 / 0x10 / 0x10 < 16 = rw (third, fourth) (omega arith) in
+    rw (digits_are 3 n (omega arith) (omega arith, (omega arith, (some, last))), third, fourth) refl
 
 pub hexadecimal_4 : (n : ℕ) → n < 0x1_0000 → hexadecimal n ≡ last_four n
 hexadecimal_4 n h =
@@ -70,8 +75,24 @@ hexadecimal_4 n h =
 
 pub hexadecimal_5 : (n : ℕ) → 0x1_0000 ≤ n → n < 0x10_0000 → hexadecimal n ≡ glyph (n / 0x1_0000) ∷ last_four n
 unfolding hexadecimal
-hexadecimal_5 n l h = grind (arith, digits_are 4 n)
+hexadecimal_5 n l h =
+    let third : n / 0x10 / 0x10 ≡ n / 0x100 = omega arith in
+    let fourth : n / 0x100 / 0x10 ≡ n / 0x1000 = omega arith in
+    let fifth : n / 0x1000 / 0x10 ≡ n / 0x1_0000 = omega arith in
+    let some : 16 ≤ n / 0x10 / 0x10 = omega arith in
+    let more : 16 ≤ n / 0x10 / 0x10 / 0x10 = rw (third, fourth) (omega arith) in
+    let last : n / 0x10 / 0x10 / 0x10 / 0x10 < 16 = rw (third, fourth, fifth) (omega arith) in
+    rw (digits_are 4 n (omega arith) (omega arith, (omega arith, (some, (more, last)))), third, fourth, fifth) refl
 
 pub hexadecimal_6 : (n : ℕ) → 0x10_0000 ≤ n → n < 0x100_0000 → hexadecimal n ≡ glyph (n / 0x10_0000) ∷ glyph (n / 0x1_0000) ∷ last_four n
 unfolding hexadecimal
-hexadecimal_6 n l h = grind (arith, digits_are 5 n)
+hexadecimal_6 n l h =
+    let third : n / 0x10 / 0x10 ≡ n / 0x100 = omega arith in
+    let fourth : n / 0x100 / 0x10 ≡ n / 0x1000 = omega arith in
+    let fifth : n / 0x1000 / 0x10 ≡ n / 0x1_0000 = omega arith in
+    let sixth : n / 0x1_0000 / 0x10 ≡ n / 0x10_0000 = omega arith in
+    let some : 16 ≤ n / 0x10 / 0x10 = omega arith in
+    let more : 16 ≤ n / 0x10 / 0x10 / 0x10 = rw (third, fourth) (omega arith) in
+    let most : 16 ≤ n / 0x10 / 0x10 / 0x10 / 0x10 = rw (third, fourth, fifth) (omega arith) in
+    let last : n / 0x10 / 0x10 / 0x10 / 0x10 / 0x10 < 16 = rw (third, fourth, fifth, sixth) (omega arith) in
+    rw (digits_are 5 n (omega arith) (omega arith, (omega arith, (some, (more, (most, last))))), third, fourth, fifth, sixth) refl

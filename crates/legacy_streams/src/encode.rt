@@ -75,8 +75,10 @@ fn first_chunk(bytes: &[u8]) -> Option<(&str, &[u8])>
     ensures { MatchOption result (length bytes.now ≡ 0)
         (λ chunk. IsChunk bytes.now chunk.0.now chunk.1.now) }
 {
-    let chunk = bytes.utf8_chunks().next()?;
-    Some((chunk.valid(), chunk.invalid()))
+    match bytes.utf8_chunks().next() {
+        Some(chunk) => Some((chunk.valid(), chunk.invalid())),
+        None => None,
+    }
 }
 
 /// Encodes the text of a piece.

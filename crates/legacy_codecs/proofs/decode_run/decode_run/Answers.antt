@@ -1,16 +1,9 @@
-use Rattle.std.proofs.Common.{arith, refl}
+use Rattle.std.proofs.Common.{arith}
 use Rattle.legacy_codecs.proofs.decode_run.decode_run.Goals as goal
-
--- ---- memory is refused
-
-pub returns-in_default : goal.returns-in_default
-returns-in_default g c = record { run = tt; too_long = ((λ e. cc), (λ h. let e = c.in_ok-events.ensures.too_long.1 h in cc)); unchanged = refl }
-
--- ---- the calls
 
 pub run_calls-requires : goal.run_calls-requires
 run_calls-requires g c = record {
-  buffer = λ k d h. let small = c.longest.ensures k d h in omega (arith, c.as_mut_slice-buffer.ensures.len, c.in-Ok.ensures.len);
+  buffer = λ k d h. let small = c.in_ok-events.ensures.output k d h in omega (arith, c.as_mut_slice-buffer.ensures.len);
   empty = c.in_ok-events.ensures.empty;
   room = c.in_ok-events.ensures.room;
   total = c.in_ok-events.ensures.total;

@@ -1,4 +1,5 @@
 use Rattle.std.proofs.Common.{◌∙◌, refl, arith, append-nil, rules}
+use Rattle.std.proofs.lemmas.Result.{err_from_is_err_and}
 use Rattle.legacy_codecs.proofs.WholeTexts.{bytes_end, bytes_less, bytes_after}
 use Rattle.legacy_codecs.proofs.whole.encode_whole.Goals as goal
 
@@ -30,3 +31,10 @@ calls-init g c = (c.utf8.text, rw c.new-bytes.ensures.items refl, omega arith, r
 
 pub returns-in-InputEmpty-clause-codec : goal.returns-in-InputEmpty-clause-codec
 returns-in-InputEmpty-clause-codec g c = c.encode_replacing_utf8-answer.ensures.call.codec ∙ c.calls.invariant.3
+
+pub returns-in_err-extend_from_slice : goal.returns-in_err-extend_from_slice
+returns-in_err-extend_from_slice g c = record {
+  bytes = rw (err_from_is_err_and c.from_residual.result c.from_residual.ensures.1).1 tt;
+  end = rw (err_from_is_err_and c.from_residual.result c.from_residual.ensures.1).1 tt;
+  codec = rw (err_from_is_err_and c.from_residual.result c.from_residual.ensures.1).1 tt;
+}

@@ -1,7 +1,7 @@
 use Rattle.std.proofs.{Common.{◌≡◌, ◌<◌, ◌∙◌, ℕ, false, eqb, refl, sym, arith, inl, inr, ⊎_elim}, lemmas.Bool.{eqb-true, eqb-false}}
 use Rattle.std.proofs.lemmas.Result.{err_from_is_err_and}
 use Rattle.legacy_streams.proofs.{Utf8Pieces.replacement_chars, EncodingUnderWay.{piece_start, piece_end, chunk_front, chunk_end, malformed_front}}
-use Rattle.legacy_streams.proofs.EncodingUnderWay.{malformed_step, held_valid, held_nothing, held_cut, nothing_cut}
+use Rattle.legacy_streams.proofs.EncodingUnderWay.{chunk_lengths, malformed_step, held_valid, held_nothing, held_cut, nothing_cut}
 use Rattle.legacy_streams.proofs.encode.push_piece.Goals as goal
 
 some_invalid : (n : ℕ) → eqb n 0 ≡ false → 0 < n
@@ -74,3 +74,17 @@ chunks-preserved g c =
     let told = ⊎_elim (λ ne. inl (eqb-false _ _ ne)) (λ f. inr f) (c.is_held.ensures.malformed_sequence c.if-is_held.false) in
     let second = rw replacement_chars at c.in_ok-push_text-2.ensures.text in
     malformed_step c.chunks.invariant k some told c.in_ok-push_text.ensures.text second
+
+pub overflow_add-passed : goal.overflow_add-passed
+overflow_add-passed g c =
+    let k = rw c.rest_of.ensures at c.in-Some.ensures in omega (arith, chunk_lengths c.chunks.invariant k)
+
+pub overflow_add-passed-in-chunks : goal.overflow_add-passed-in-chunks
+overflow_add-passed-in-chunks g c =
+    let k = rw c.rest_of.ensures at c.in-Some.ensures in omega (arith, chunk_lengths c.chunks.invariant k)
+
+pub chunks-smaller : goal.chunks-smaller
+chunks-smaller g c =
+    let k = rw c.rest_of.ensures at c.in-Some.ensures in
+    let some = some_invalid _ (sym c.is_empty.ensures ∙ c.if-is_empty.false) in
+    omega (arith, chunk_lengths c.chunks.invariant k, some)

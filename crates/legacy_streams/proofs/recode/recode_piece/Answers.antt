@@ -1,4 +1,4 @@
-use Rattle.std.proofs.{Common.{arith, ap, length, length-drop}, lemmas.Result.{on_ok_weaker, on_err_weaker, err_from_is_err_and}}
+use Rattle.std.proofs.{Common.{◌+◌, ◌∙◌, arith, ap, length, length-drop}, lemmas.Result.{on_ok_weaker, on_err_weaker, err_from_is_err_and}}
 use Rattle.legacy_streams.proofs.PieceUnderWay.{piece_start, call_step, piece_front, call_end, call_less, piece_ahead, piece_malformed_less}
 use Rattle.legacy_streams.proofs.recode.recode_piece.Goals as goal
 
@@ -77,3 +77,18 @@ calls-smaller g c =
     let less = call_less ahead c.rest_of-unread.ensures c.lines_of_one_call-answer.ensures c.in_default.not-InputEmpty in
     let most = piece_malformed_less _ (g.D.RawDecoder.state c.calls.decoder) c.args.piece.now c.calls.offset c.rest_of.ensures m.count m.malformed_byte in
     omega (arith, less, most)
+
+pub lines_of_one_call-answer-requires-clause-total : goal.lines_of_one_call-answer-requires-clause-total
+lines_of_one_call-answer-requires-clause-total g c =
+    let count = c.lines_of_malformed_bytes-offset.ensures.count in
+    let before = length-drop c.calls.offset c.args.piece.now in
+    let unread = ap length c.rest_of-unread.ensures ∙ length-drop (c.calls.offset + c.lines_of_malformed_bytes-offset.result) c.args.piece.now in
+    omega (arith, c.calls.invariant.within, c.requires.total, ap length c.rest_of.ensures, before, count, unread)
+
+pub overflow_add-offset-in-calls : goal.overflow_add-offset-in-calls
+overflow_add-offset-in-calls g c =
+    let count = c.lines_of_malformed_bytes-offset.ensures.count in
+    let before = length-drop c.calls.offset c.args.piece.now in
+    let unread = ap length c.rest_of-unread.ensures ∙ length-drop (c.calls.offset + c.lines_of_malformed_bytes-offset.result) c.args.piece.now in
+    let read = c.lines_of_one_call-answer.ensures.1.within in
+    omega (arith, c.calls.invariant.within, c.requires.total, ap length c.rest_of.ensures, before, count, unread, read)
