@@ -1,17 +1,33 @@
-use Rattle.std.proofs.Common.{sym, ◌∙◌, inl, inr}
+use Rattle.std.proofs.Common.{sym, ◌∙◌, inl, inr, arith, refl}
 use Rattle.legacy_command.proofs.CommandLine.{works_with}
 use Rattle.legacy_command.proofs.program.run.Goals as goal
 
-pub returns-in-Ok-clause-recoded : goal.returns-in-Ok-clause-recoded
-returns-in-Ok-clause-recoded g c e =
+pub returns-in-Ok : goal.returns-in-Ok
+returns-in-Ok g c =
     let named = sym c.codec_in.ensures ∙ c.in-Some.is in
-    rw (c.request-rest.ensures, c.output_asked-kind.ensures)
-    at (works_with _ _ c.request-rest.result.now _ named c.in-Ok.ensures.well_formed c.in-Ok.ensures.recoded)
+    let asked = rw c.request-rest.ensures at named in
+    record {
+      statuses = omega arith;
+      usage = (λ e. absurd (omega arith), λ none. absurd cc);
+      unread = λ e. absurd (omega arith);
+      recoded = λ e. rw (c.request-rest.ensures, c.output_asked-kind.ensures)
+          at (works_with _ _ c.request-rest.result.now _ named c.in-Ok.ensures.well_formed c.in-Ok.ensures.recoded);
+      stops = λ e. absurd (omega arith);
+      silent = λ e. refl;
+    }
 
-pub returns-in-Err-clause-stops : goal.returns-in-Err-clause-stops
-returns-in-Err-clause-stops g c e =
+pub returns-in-Err : goal.returns-in-Err
+returns-in-Err g c =
     let named = sym c.codec_in.ensures ∙ c.in-Some.is in
-    elim c.in-Err.ensures.stops [
-      | inl untouched ↦ inl untouched
-      | inr by ↦ inr (rw (c.request-rest.ensures, c.output_asked-kind.ensures) at (works_with _ _ c.request-rest.result.now _ named by.0 by.1))
-    ]
+    let asked = rw c.request-rest.ensures at named in
+    record {
+      statuses = omega arith;
+      usage = (λ e. absurd (omega arith), λ none. absurd cc);
+      unread = λ e. absurd (omega arith);
+      recoded = λ e. absurd (omega arith);
+      stops = λ e. elim c.in-Err.ensures.stops [
+        | inl untouched ↦ inl untouched
+        | inr by ↦ inr (rw (c.request-rest.ensures, c.output_asked-kind.ensures) at (works_with _ _ c.request-rest.result.now _ named by.0 by.1))
+      ];
+      silent = λ e. absurd (omega arith);
+    }
