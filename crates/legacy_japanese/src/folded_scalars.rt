@@ -7,7 +7,8 @@ ghost use Rattle.legacy_tables.specs.Pointers.{minus_as_hyphen};
 pub fn minus_as_hyphen(c: char) -> char
     ensures { result ≡ minus_as_hyphen c }
 {
-    if c == '\u{2212}' { '\u{FF0D}' } else { c }
+    let is_minus = c == '\u{2212}';
+    if is_minus { '\u{FF0D}' } else { c }
 }
 
 /// Returns whether a scalar is one of U+2213 to U+FF60, as most of Japanese text is.

@@ -1,5 +1,5 @@
 //! The decoder of EUC-JP.
-ghost use Rattle.std.specs.{Prelude.{◌*◌, ◌≡◌, [], length, option_to_list, IfSome}, Char.IsScalar};
+ghost use Rattle.std.specs.{Prelude.{◌+◌, ◌*◌, ◌/◌, ◌^◌, ◌≡◌, ◌≤◌, [], length, option_to_list, IfSome, MatchOption}, Char.IsScalar};
 ghost use Rattle.legacy_base.specs.{EucJp.euc_jp_scalars, Grammar.euc_jp, States.{is_neutral, new_state}};
 ghost use Rattle.legacy_tables.specs.Tables.{index_list};
 ghost use Rattle.legacy_decoder_engine.specs.{Feeding.Took, LanePlaces.row_place};
@@ -128,6 +128,14 @@ fn held_length(held: Held) -> u8
     }
 }
 
+/// Returns the length, half of it rounded up, and two more, or `None` if that overflows.
+fn half_more(length: usize) -> Option<usize>
+    ensures { MatchOption result (2 ^ 64 ≤ length + (length + 1) / 2 + 2) (λ n. n ≡ length + (length + 1) / 2 + 2) }
+{
+    let half = length / 2 + length % 2;
+    length.checked_add(half)?.checked_add(2)
+}
+
 impl<'a> EucJpDecoder<'a> {
     ghost use Rattle.legacy_base.specs.Lengths.{answer, weighted};
 
@@ -167,7 +175,6 @@ impl DecoderMoves for EucJpDecoder<'_> {
     }
 
     #[inline]
-    #[tactic(auto, using(crate::proofs::EucJpHeld::covered))]
     fn reading_need(&self, byte: u8) -> Need {
         if byte < 0x80 && matches!(self.held, Held::Nothing) {
             Need::Unit
@@ -177,7 +184,6 @@ impl DecoderMoves for EucJpDecoder<'_> {
     }
 
     #[inline]
-    #[tactic(auto, using(crate::proofs::EucJpHeld::covered))]
     fn release_need(&self) -> Need {
         Need::Narrow
     }
@@ -208,7 +214,6 @@ impl DecoderMoves for EucJpDecoder<'_> {
         !matches!(self.held, Held::Nothing)
     }
 
-    #[tactic(auto, using(crate::proofs::EucJpHeld::ends_none, crate::proofs::EucJpHeld::reports))]
     fn report(&mut self) -> Option<(u8, u8)> {
         let length = held_length(self.held);
         if length == 0 {
@@ -229,7 +234,6 @@ impl DecoderMoves for EucJpDecoder<'_> {
     }
 
     #[inline(always)]
-    #[tactic(auto, using(legacy_decoder_engine::proofs::WrittenReads::no_bytes))]
     fn read_common<T: Destination>(&mut self, src: &[u8], dst: &mut T) -> usize {
         match self.held {
             Held::Nothing => {
@@ -307,9 +311,7 @@ impl RawDecoder for EucJpDecoder<'_> {
     }
 
     fn max_utf8_buffer_length_without_replacement(&self, byte_length: usize) -> Option<usize> {
-        let weighted = self.weighted_length(byte_length)?;
-        let half = weighted.checked_add(1)? / 2;
-        weighted.checked_add(half)?.checked_add(2)
+        half_more(self.weighted_length(byte_length)?)
     }
 
     fn max_utf8_buffer_length(&self, byte_length: usize) -> Option<usize> {

@@ -72,13 +72,11 @@ impl<'a> DecoderMoves for Iso2022JpDecoder<'a> {
     }
 
     #[inline]
-    #[tactic(auto, using(crate::proofs::Iso2022JpNeeds::covered))]
     fn reading_need(&self, _byte: u8) -> Need {
         Need::Narrow
     }
 
     #[inline]
-    #[tactic(auto, using(crate::proofs::Iso2022JpNeeds::covered))]
     fn release_need(&self) -> Need {
         Need::Narrow
     }
@@ -95,7 +93,6 @@ impl<'a> DecoderMoves for Iso2022JpDecoder<'a> {
     }
 
     #[inline(always)]
-    #[tactic(auto, using(crate::proofs::Iso2022JpFeeding::kept, crate::proofs::Iso2022JpFeeding::feeds))]
     fn feed(&mut self, byte: u8) -> Fed {
         let (fed, mode, held) = read(self.tables, self.mode, self.held, byte);
         self.mode = mode;
@@ -108,7 +105,7 @@ impl<'a> DecoderMoves for Iso2022JpDecoder<'a> {
         finish(self.mode, self.held).is_some()
     }
 
-    #[tactic(auto, using(crate::proofs::Iso2022JpEnding::ends_none, crate::proofs::Iso2022JpEnding::ends_reports))]
+    #[tactic(auto, using(crate::proofs::Iso2022JpEnding::ends_none))]
     fn report(&mut self) -> Option<(u8, u8)> {
         let (mode, held) = finish(self.mode, self.held)?;
         self.mode = mode;
@@ -123,7 +120,6 @@ impl<'a> DecoderMoves for Iso2022JpDecoder<'a> {
     }
 
     #[inline(always)]
-    #[tactic(auto, using(legacy_decoder_engine::proofs::WrittenReads::no_bytes))]
     fn read_common<T: Destination>(&mut self, src: &[u8], dst: &mut T) -> usize {
         if !self.held.is_nothing() {
             return 0;
@@ -135,7 +131,7 @@ impl<'a> DecoderMoves for Iso2022JpDecoder<'a> {
 
     // Holds back an escape that no text of its mode follows. Byte by byte it takes three turns of the loop.
     #[inline(always)]
-    #[tactic(auto, using(legacy_decoder_engine::proofs::CallUnderWay::holds_none, crate::proofs::Iso2022JpFeeding::holds_escape))]
+    #[tactic(auto, using(crate::proofs::Iso2022JpFeeding::holds_escape))]
     fn hold_back<T: Destination>(&mut self, src: &[u8], dst: &T) -> usize {
         if !self.held.is_nothing() || dst.free() < T::narrow() {
             return 0;

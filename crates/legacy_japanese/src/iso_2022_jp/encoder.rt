@@ -56,7 +56,6 @@ impl<P: FindsPairs> EncoderMoves for EncoderBy<P> {
     ghost state = { λ encoder. state_in (P.flat encoder.pairs) encoder.mode };
 
     #[inline]
-    #[tactic(auto, using(crate::proofs::Iso2022JpEncoderMoves::serves))]
     fn need(&self, _c: char) -> usize {
         3
     }
@@ -73,7 +72,6 @@ impl<P: FindsPairs> EncoderMoves for EncoderBy<P> {
     }
 
     #[inline]
-    #[tactic(auto, using(crate::proofs::Iso2022JpEncoderMoves::serves))]
     fn is_pending(&self) -> bool {
         self.has_pending_state()
     }
@@ -98,7 +96,7 @@ impl<P: FindsPairs> RawEncoder for EncoderBy<P> {
 
     fn max_buffer_length_from_utf16_without_replacement(&self, u16_length: usize) -> Option<usize> {
         let scalars = 3usize.checked_add(u16_length.checked_mul(4)?)?;
-        scalars.checked_add(u16_length.checked_add(1)? / 2)
+        scalars.checked_add(u16_length / 2 + u16_length % 2)
     }
 
     #[tactic(auto, using(std::proofs::lemmas::Grind::common_steps))]
@@ -171,10 +169,7 @@ impl FindsPairs for TablePairs<'_> {
         match scalar {
             _ if is_control(scalar) => (settled, EncoderMove::Unmappable('\u{FFFD}')),
             // In Roman mode these two bytes are other scalars.
-            0..0x80 if scalar == 0x5C || scalar == 0x7E => (
-                EncoderMode::Ascii,
-                EncoderMove::One(c as u8),
-            ),
+            0x5C | 0x7E => (EncoderMode::Ascii, EncoderMove::One(c as u8)),
             0..0x80 => (settled, EncoderMove::One(c as u8)),
             0xA5 => (EncoderMode::Roman, EncoderMove::One(0x5C)),
             0x203E => (EncoderMode::Roman, EncoderMove::One(0x7E)),

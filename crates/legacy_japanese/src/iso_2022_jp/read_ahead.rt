@@ -2,7 +2,7 @@
 //! escapes between them.
 // Functions that run for each sequence or block are always inlined, and so are their callers. A call would pass vectors
 // through memory, and keep the destination's place there.
-ghost use Rattle.std.specs.Prelude.{◌≡◌, ◌≤◌, All, IfSome, take, true};
+ghost use Rattle.std.specs.Prelude.{◌≡◌, ◌≤◌, All, IfSome, length, take, true};
 ghost use Rattle.{legacy_base.specs.{Grammar.iso_2022_jp, declared.modes.DecoderMode.TheVariants.{Ascii, TwoByte}, States.new_state}, legacy_decoder_engine.specs.ReadAhead.{ReadsAhead, ReadsInto}};
 ghost use Rattle.legacy_japanese.specs.Iso2022JpAhead.{BeginsEscape, HasEscape, IsAsciiText, ReadsModes};
 
@@ -17,15 +17,16 @@ use legacy_text::FillsBuffer;
 use legacy_text::past_ascii::{ascii_front, past_ascii};
 use std::simd::prelude::*;
 
-/// The pairs of two-byte mode.
+/// Text that begins with pairs of two-byte mode.
 // A loop keeps the parts of a copy of the tables in registers.
 #[derive(Drop)]
-struct Jis0208Pairs<'a> {
-    tables: FlatTables<'a>,
+struct PairsAhead<'a, 'b> {
+    tables: FlatTables<'b>,
+    src: &'a [u8],
 }
 
-impl FrontForms for Jis0208Pairs<'_> {
-    ghost grammar = { λ pairs. iso_2022_jp pairs.tables.flat.jis0208 TwoByte };
+impl FrontForms for PairsAhead<'_, '_> {
+    ghost grammar = { λ ahead. iso_2022_jp ahead.tables.flat.jis0208 TwoByte };
 
     #[inline(always)]
     fn form(&self, first: u8, second: u8) -> CommonForm {
@@ -34,40 +35,53 @@ impl FrontForms for Jis0208Pairs<'_> {
     }
 }
 
-/// Text that begins with pairs.
-#[derive(Drop)]
-struct PairsAhead<'a, 'b> {
-    pairs: Jis0208Pairs<'b>,
-    src: &'a [u8],
-}
-
 impl FillsBuffer for PairsAhead<'_, '_> {
-    ghost fills = { λ ahead. ReadsInto (iso_2022_jp ahead.pairs.tables.flat.jis0208 TwoByte) ahead.src.now };
+    ghost fills = { λ ahead. ReadsInto (iso_2022_jp ahead.tables.flat.jis0208 TwoByte) ahead.src.now };
 
     /// Reads pairs from the front of the text, and returns the numbers of bytes read and written.
     // It is a function of its own, so that its loop has the registers of a call for itself.
     #[inline(never)]
     fn fill(&self, buffer: &mut [u8]) -> (usize, usize) {
         let mut dst = Utf8Destination::new(buffer);
-        let read = read_forms(&self.pairs, self.src, self.src.len(), &mut dst);
+        let read = read_forms(self, self.src, self.src.len(), &mut dst);
         (read, dst.written())
     }
 }
 
-/// Reads pairs from the front, and returns the number of bytes read, which may be 0.
+/// Reads pairs from the front of the text, and returns the number of bytes read, which may be 0.
 #[inline(always)]
-fn read_pairs<T: Destination>(tables: &FlatTables, src: &[u8], dst: &mut T) -> usize
+fn read_pairs<T: Destination>(ahead: &PairsAhead<'_, '_>, dst: &mut T) -> usize
+    ensures { ReadsAhead T.Destination (new_state (iso_2022_jp ahead.now.tables.flat.jis0208 TwoByte)) ahead.now.src.now result
+        dst.old dst.new }
+{
+    match dst.lend(ahead) {
+        Some(read) => read,
+        None => read_forms(ahead, ahead.src, ahead.src.len(), dst),
+    }
+}
+
+/// Reads pairs from the front over flat tables, and returns the number of bytes read, which may be 0.
+#[inline(always)]
+fn read_flat_pairs<T: Destination>(tables: &FlatTables, src: &[u8], dst: &mut T) -> usize
     ensures { ReadsAhead T.Destination (new_state (iso_2022_jp tables.now.flat.jis0208 TwoByte)) src.now result dst.old dst.new }
 {
-    let ahead = PairsAhead {
-        pairs: Jis0208Pairs {
-            tables: tables.copied(),
-        },
-        src,
-    };
-    match dst.lend(&ahead) {
-        Some(read) => read,
-        None => read_forms(&ahead.pairs, src, src.len(), dst),
+    let tables = tables.copied();
+    read_pairs(&PairsAhead { tables, src }, dst)
+}
+
+/// Reads pairs from the front, if the first byte may be a lead and the tables are flat.
+///
+/// Returns the number of bytes read, which may be 0.
+#[inline(always)]
+fn read_any_pairs<T: Destination>(tables: &Tables, src: &[u8], dst: &mut T) -> usize
+    ensures { ReadsModes T.Destination tables.now.flat.jis0208 TwoByte TwoByte src.now result dst.old dst.new }
+{
+    if src.is_empty() || src[0] < 0x21 {
+        return 0;
+    }
+    match tables.flat() {
+        Some(tables) => read_flat_pairs(tables, src, dst),
+        None => 0,
     }
 }
 
@@ -112,16 +126,22 @@ fn read_ascii_text_blocks<T: Destination>(tables: &Tables, src: &[u8], dst: &mut
     at
 }
 
-/// Reads bytes of ASCII text one by one from the front in ASCII mode.
+/// Reads at most `most` bytes of ASCII text one by one from the front in ASCII mode.
 ///
 /// Returns the number of bytes read, which may be 0. If it reads any, three code units stay free.
 #[inline(always)]
-fn read_ascii_text_bytes<T: Destination>(tables: &Tables, src: &[u8], dst: &mut T) -> usize
+fn read_ascii_text_bytes<T: Destination>(
+    tables: &Tables,
+    src: &[u8],
+    most: usize,
+    dst: &mut T,
+) -> usize
+    requires { most ≤ length src.now }
     ensures { ReadsModes T.Destination tables.now.flat.jis0208 Ascii Ascii src.now result dst.old dst.new }
 {
     let _ = tables;
     let mut at = 0;
-    while at < src.len() && is_ascii_text(src[at]) && dst.free() >= 1 + SLACK {
+    while at < most && is_ascii_text(src[at]) && dst.free() >= 1 + SLACK {
         dst.put(char::from(src[at]));
         at += 1;
     }
@@ -130,16 +150,22 @@ fn read_ascii_text_bytes<T: Destination>(tables: &Tables, src: &[u8], dst: &mut 
 
 /// Reads bytes of ASCII text from the front in ASCII mode. Returns the number of bytes read, which may be 0.
 #[inline(always)]
-#[tactic(auto, using(std::proofs::lemmas::Grind::common_steps))]
 fn read_ascii_text<T: Destination>(tables: &Tables, src: &[u8], dst: &mut T) -> usize
     ensures { ReadsModes T.Destination tables.now.flat.jis0208 Ascii Ascii src.now result dst.old dst.new }
 {
     // A single byte before a malformed one is read without a block.
     if src.len() > 1 && src[1] >= 0x80 {
-        return read_ascii_text_bytes(tables, &src[..1], dst);
+        return read_ascii_text_bytes(tables, src, 1, dst);
     }
     let blocks = read_ascii_text_blocks(tables, src, dst);
-    blocks + read_ascii_text_bytes(tables, &src[blocks..], dst)
+    let rest = &src[blocks..];
+    blocks + read_ascii_text_bytes(tables, rest, rest.len(), dst)
+}
+
+/// Checks whether the first byte is of ASCII text.
+#[inline(always)]
+fn begins_ascii_text(src: &[u8]) -> bool {
+    !src.is_empty() && is_ascii_text(src[0])
 }
 
 /// Reads text of the mode from the front, if the first byte says that any may begin there.
@@ -149,15 +175,9 @@ fn read_ascii_text<T: Destination>(tables: &Tables, src: &[u8], dst: &mut T) -> 
 fn read_begun<T: Destination>(tables: &Tables, mode: DecoderMode, src: &[u8], dst: &mut T) -> usize
     ensures { ReadsModes T.Destination tables.now.flat.jis0208 mode mode src.now result dst.old dst.new }
 {
-    if src.is_empty() {
-        return 0;
-    }
     match mode {
-        DecoderMode::Ascii if is_ascii_text(src[0]) => read_ascii_text(tables, src, dst),
-        DecoderMode::TwoByte if src[0] >= 0x21 => match tables.flat() {
-            Some(tables) => read_pairs(tables, src, dst),
-            None => 0,
-        },
+        DecoderMode::Ascii if begins_ascii_text(src) => read_ascii_text(tables, src, dst),
+        DecoderMode::TwoByte => read_any_pairs(tables, src, dst),
         _ => 0,
     }
 }

@@ -69,7 +69,6 @@ pub(crate) fn katakana(byte: u8) -> char
 /// Returns the scalar of a pointer, or `None`; the pointers 8836 to 10715 are for private use.
 // No entry is at such a pointer. So the index is asked first, as nearly all text needs nothing else.
 #[inline]
-#[tactic(auto, using(crate::proofs::ShiftJisPlaces::entry_alone))]
 fn pointer_scalar<V: DecoderTables>(tables: &V, pointer: usize) -> Option<char>
     ensures { option_to_list result ≡ shift_jis_scalars (V.indexes tables.now).flat.jis0208 pointer }
 {

@@ -2,7 +2,7 @@
 ghost use Rattle.std.specs.Prelude.{◌≡◌, [], ◌∷◌, option_map};
 ghost use Rattle.legacy_tables.specs.Pointers.{shift_jis_pointer_of, minus_as_hyphen};
 ghost use Rattle.legacy_base.specs.{ShiftJis.shift_jis_bytes, Encoders.shift_jis};
-ghost use Rattle.legacy_japanese.specs.ShiftJisCodes.{shift_jis_pairs, shift_jis_mark, shift_jis_mark-some};
+ghost use Rattle.legacy_japanese.specs.ShiftJisCodes.{shift_jis_pairs, shift_jis_lead_of, shift_jis_trail_of, shift_jis_mark, shift_jis_mark-some};
 
 use super::decoder::ShiftJis;
 use crate::asked_scalars::ask_others;
@@ -19,6 +19,28 @@ use legacy_tables::{EncoderTables, Marks, PackedPart, Tables};
 /// U+FF0D. All other scalars are unmappable.
 pub type ShiftJisEncoder<'a> = PairEncoder<'a, ShiftJis, Tables<'a>>;
 
+/// Returns the lead of a pointer.
+#[inline(always)]
+fn lead_of(pointer: usize) -> usize
+    ensures { result ≡ shift_jis_lead_of pointer }
+{
+    let row = pointer / 188;
+    if row < 0x1F { row + 0x81 } else { row + 0xC1 }
+}
+
+/// Returns the trail of a pointer.
+#[inline(always)]
+fn trail_of(pointer: usize) -> usize
+    ensures { result ≡ shift_jis_trail_of pointer }
+{
+    let column = pointer % 188;
+    if column < 0x3F {
+        column + 0x40
+    } else {
+        column + 0x41
+    }
+}
+
 /// Returns the lead and the trail of a scalar in index jis0208, or `None`.
 #[inline(always)]
 fn pair<V: EncoderTables>(tables: &V, c: char) -> Option<(u8, u8)>
@@ -26,9 +48,7 @@ fn pair<V: EncoderTables>(tables: &V, c: char) -> Option<(u8, u8)>
         (shift_jis_pointer_of (V.indexes tables.now).flat.jis0208 (minus_as_hyphen c)) }
 {
     let p = tables.shift_jis_pointer(minus_as_hyphen(c))?;
-    let first = if p / 188 < 0x1F { 0x81 } else { 0xC1 };
-    let second = if p % 188 < 0x3F { 0x40 } else { 0x41 };
-    Some(((p / 188 + first) as u8, (p % 188 + second) as u8))
+    Some((lead_of(p) as u8, trail_of(p) as u8))
 }
 
 // The lead and the trail of a pointer, as one number.
@@ -37,9 +57,7 @@ impl Marks for ShiftJis {
 
     #[inline(always)]
     fn mark(&self, pointer: usize) -> u16 {
-        let first = if pointer / 188 < 0x1F { 0x81 } else { 0xC1 };
-        let second = if pointer % 188 < 0x3F { 0x40 } else { 0x41 };
-        (pointer / 188 + first) as u16 + 256 * (pointer % 188 + second) as u16
+        lead_of(pointer) as u16 + 256 * trail_of(pointer) as u16
     }
 
     ghost some = { shift_jis_mark-some };
@@ -57,10 +75,8 @@ impl PairCodec for ShiftJis {
     #[tactic(auto, unfolding(legacy_base::specs::ShiftJis::shift_jis_code))]
     fn code_of<V: EncoderTables>(tables: &V, c: char) -> EncoderMove {
         let scalar = c as u32;
-        if scalar < 0x80 {
+        if scalar <= 0x80 {
             EncoderMove::One(scalar as u8)
-        } else if scalar == 0x80 {
-            EncoderMove::One(0x80)
         } else if scalar == 0xA5 {
             EncoderMove::One(0x5C)
         } else if scalar == 0x203E {

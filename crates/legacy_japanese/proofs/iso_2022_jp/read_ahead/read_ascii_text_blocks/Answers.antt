@@ -21,3 +21,9 @@ loop-at-preserved g c =
     let e = c.ascii_text_count-count.ensures in
     let put = c.put_block.ensures in
     reads_ascii_text_block _ _ c.args.src.now _ _ (omega arith) (omega arith) e.most e.text put.contents put.room put.loan c.loop-at.invariant
+
+pub returns-else-free : goal.returns-else-free
+returns-else-free g c = c.loop-at.invariant
+
+pub returns-after-loop-at : goal.returns-after-loop-at
+returns-after-loop-at g c = c.loop-at.invariant

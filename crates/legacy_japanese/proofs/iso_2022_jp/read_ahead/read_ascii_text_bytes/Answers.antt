@@ -13,3 +13,17 @@ loop-at-preserved g c =
     let unit = ap length (code_units_ascii g.T.Destination.form byte text.0) in
     let yields = ascii_text_yields c.args.tables.now.flat.jis0208 byte text in
     grind (arith, reads_front, writes_one, yields, unit)
+
+pub put-requires : goal.put-requires
+put-requires g c =
+    let text = c.is_ascii_text.ensures c.if-is_ascii_text.true in
+    let unit = ap length (code_units_ascii g.T.Destination.form (get_or c.args.src.now c.loop-at.at 0) text.0) in grind (arith, unit)
+
+pub returns-else-free : goal.returns-else-free
+returns-else-free g c = c.loop-at.invariant
+
+pub returns-else-is_ascii_text : goal.returns-else-is_ascii_text
+returns-else-is_ascii_text g c = c.loop-at.invariant
+
+pub returns-after-loop-at : goal.returns-after-loop-at
+returns-after-loop-at g c = c.loop-at.invariant

@@ -9,3 +9,9 @@ loop-escape-preserved g c =
 
 pub returns-then-read-eq0 : goal.returns-then-read-eq0
 returns-then-read-eq0 g c = reads_end c.if-read-eq0.true c.loop-escape.invariant c.read_begun-read.ensures
+
+pub loop-escape-init : goal.loop-escape-init
+loop-escape-init g c = c.read_begun-at.ensures
+
+pub returns-in_default : goal.returns-in_default
+returns-in_default g c = c.loop-escape.invariant

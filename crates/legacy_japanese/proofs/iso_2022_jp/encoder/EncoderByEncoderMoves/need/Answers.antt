@@ -1,5 +1,5 @@
-use Rattle.std.proofs.Common.{rules}
+use Rattle.{std.proofs.Common.rules, legacy_japanese.proofs.Iso2022JpEncoderMoves.serves}
 use Rattle.legacy_japanese.proofs.iso_2022_jp.encoder.EncoderByEncoderMoves.need.Goals as goal
 
-pub returns-clause-bytes : goal.returns-clause-bytes
-returns-clause-bytes g c = search rules
+pub returns : goal.returns
+returns g c = record { bytes = search rules; serves = serves _ _ }

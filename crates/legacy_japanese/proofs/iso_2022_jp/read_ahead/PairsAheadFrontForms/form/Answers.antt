@@ -1,7 +1,7 @@
 use Rattle.std.proofs.Common.{◌∙◌, refl, sym}
 use Rattle.{legacy_decoder_engine.proofs.CommonPairs.common_pair, legacy_base.specs.{Grammar.iso_2022_jp, declared.modes.DecoderMode.TheVariants.TwoByte}}
 use Rattle.legacy_japanese.{specs.Iso2022JpAhead.jis_place, proofs.Iso2022JpAhead.placed_scalar}
-use Rattle.legacy_japanese.proofs.iso_2022_jp.read_ahead.Jis0208PairsFrontForms.form.Goals as goal
+use Rattle.legacy_japanese.proofs.iso_2022_jp.read_ahead.PairsAheadFrontForms.form.Goals as goal
 
 pub returns : goal.returns
 unfolding jis_place
