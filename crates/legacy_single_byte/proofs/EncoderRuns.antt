@@ -1,17 +1,26 @@
 -- The facts that the check of an encoder's run proves, and the codes that follow from a table's places.
-use Rattle.std.proofs.Common.{◌≡◌, ◌↔◌, IfSome, ℕ, ◌+◌, ◌-◌, ◌≤◌, ◌<◌, ◌==◌, List, ◌∷◌, [], get_or, refl, arith, Some, None}
+use Rattle.std.proofs.Common.{◌≡◌, ◌≢◌, ◌↔◌, sym, IfSome, ℕ, ◌+◌, ◌-◌, ◌≤◌, ◌<◌, ◌==◌, List, ◌∷◌, [], get_or, refl, arith, Some, None}
 use Rattle.std.proofs.{Common.{Option, option_map, not, position}, lemmas.Bool.lt-ltb, lemmas.Bool.Decides.nat_tests}
 use Rattle.std.specs.List.{position_or_len}
 use Rattle.legacy_text.specs.UnitCodes.{IsNoSurrogate}
 use Rattle.legacy_tables.specs.{Indexes.{idx}, AcceptedTables.AcceptedTable}
 use Rattle.legacy_base.specs.SingleByte.{single_byte_code}
 use Rattle.legacy_tables.proofs.{Accepted.entry_scalar-is, PackedAccepted.entry-narrow, AcceptedTable.{position-idx, within, table-scalars, table-below}}
-use Rattle.{std.proofs.lemmas.Grind.common_steps, legacy_tables.proofs.FirstPlaces.{find-first, find-none-at}}
+use Rattle.{std.proofs.lemmas.Grind.common_steps, legacy_tables.proofs.FirstPlaces.{find-first, find-none, find-none-at, find-some}}
 use Rattle.legacy_single_byte.specs.SingleByteRun.{IsSingleByteRun, first_mismatch}
 
 pub run_holds : (table : List ℕ) (scalar start count : ℕ) → first_mismatch table scalar start count ≡ None → IsSingleByteRun table scalar start count
 run_holds table scalar start count e k h =
     let same = find-none-at (λ k. not (get_or table (start + k) 0 == scalar + k)) 0 count e k (omega arith) (omega arith) in grind (arith, nat_tests)
+
+module _ (table : List ℕ) (scalar start count : ℕ) where
+  pub mismatch_at : (k : ℕ) → k < count → get_or table (start + k) 0 ≢ scalar + k → ((j : ℕ) → j < k → get_or table (start + j) 0 ≡ scalar + j)
+      → Some k ≡ first_mismatch table scalar start count
+  mismatch_at k below other same =
+      sym (find-some _ 0 count k (omega arith) (omega arith) (grind (arith, nat_tests)) (λ j low h. let e = same j h in grind (arith, nat_tests)))
+
+  pub no_mismatch : ((j : ℕ) → j < count → get_or table (start + j) 0 ≡ scalar + j) → None ≡ first_mismatch table scalar start count
+  no_mismatch same = sym (find-none _ 0 count (λ j low h. let e = same j (omega arith) in grind (arith, nat_tests)))
 
 pub run_below : (table : AcceptedTable) (scalar start count : ℕ) → scalar < 0x1_0000 → first_mismatch table.entries scalar start count ≡ None
     → scalar + count ≤ 0x1_0000

@@ -3,9 +3,9 @@
 // and keep the destination's place there.
 #![tactic(auto, using(crate::proofs::SingleByteAhead::steps))]
 
-ghost use Rattle.std.specs.{Prelude.{◌≡◌, ◌+◌, ◌*◌, ◌<◌, ◌≤◌, ◌++◌, All, true, length, take}, Char.IsScalar};
-ghost use Rattle.{legacy_base.specs.{Grammar.{Grammar, single_byte}, States.new_state}, legacy_decoder_engine.specs.ReadAhead.ReadsAhead};
-ghost use Rattle.legacy_text.specs.EncodingForm.{all_code_units, bmp_need, total_unit_count};
+ghost use Rattle.std.specs.{Prelude.{◌≡◌, ◌+◌, ◌*◌, ◌<◌, ◌≤◌, ◌++◌, [], ◌∷◌, All, true, false, length, take}, Char.IsScalar};
+ghost use Rattle.{legacy_base.specs.{Grammar.{Grammar, single_byte}, States.new_state}, legacy_decoder_engine.specs.ReadAhead.{ReadsAhead, Writes}};
+ghost use Rattle.legacy_text.specs.{EncodingForm.{all_code_units, bmp_need, total_unit_count}, PastAscii.ArePastFrom};
 
 use super::scalars::ByteScalars;
 use legacy_base::Destination;
@@ -81,6 +81,65 @@ fn ended(read: usize, end: usize) -> (usize, bool)
 // In French text one byte of twenty is past ASCII.
 const MANY: u32 = 16;
 
+/// Writes the scalar of a byte past ASCII, if it has one, and returns whether it has.
+#[inline(always)]
+fn put_past<T: Destination>(scalars: &ByteScalars, byte: u8, dst: &mut T) -> bool
+    requires past { 0x80 ≤ byte }
+    requires room { 4 ≤ T.room dst.old }
+    ensures some { result ≡ true →
+        Writes T.Destination (single_byte scalars.now.table.now.entries) (byte ∷ []) dst.old dst.new × (T.room dst.old ≤ T.room dst.new + 3) }
+    ensures none { result ≡ false → dst.new ≡ dst.old }
+{
+    match scalars.scalar(byte) {
+        Some(scalar) => {
+            dst.put_entry(scalar, scalars.utf8_entry(byte));
+            true
+        }
+        None => false,
+    }
+}
+
+/// Reads up to `end` bytes, given the bits of the bytes past ASCII.
+///
+/// It stops before two bytes past ASCII beside each other. Returns the number of bytes read, and whether another part may
+/// follow.
+#[inline(always)]
+fn read_mostly_ascii<T: Destination>(
+    scalars: &ByteScalars,
+    src: &[u8],
+    bits: u64,
+    end: usize,
+    dst: &mut T,
+) -> (usize, bool)
+    requires source { 64 < length src.now }
+    requires bits { ArePastFrom bits src.now 0 }
+    requires end { end ≤ 64 }
+    requires room { 70 ≤ T.room dst.old }
+    ensures most { result.0 ≤ end }
+    ensures ahead { ReadsAhead T.Destination (new_state (single_byte scalars.now.table.now.entries)) src.now result.0
+        dst.old dst.new }
+    ensures goes_on { result.1 ≡ true → 0 < result.0 }
+{
+    let mut past = bits;
+    let mut at = 0;
+    loop {
+        let count = ascii_front(past).min(end - at);
+        dst.put_block(&src[at..], count);
+        at += count;
+        if at == end || src[at + 1] >= 0x80 {
+            return ended(at, end);
+        }
+        if !put_past(scalars, src[at], dst) {
+            return (at, false);
+        }
+        at += 1;
+        if at == end || src.len() - at < 64 || dst.free() < 64 + 3 + SLACK {
+            return (at, true);
+        }
+        past = past_after(past, count);
+    }
+}
+
 /// Few bytes past ASCII, among ASCII.
 // If a scalar may be several code units, a whole block is stored after each byte past ASCII, and the output after the
 // next ASCII bytes is overwritten. So no branch depends on the place of the next byte past ASCII, which no processor
@@ -98,7 +157,7 @@ impl Parts for MostlyAscii<'_> {
     /// If a scalar may be several code units, it stops before two bytes past ASCII beside each other.
     #[inline(always)]
     fn read_part<T: Destination>(&self, src: &[u8], most: usize, dst: &mut T) -> (usize, bool) {
-        let mut past = past_ascii(u8x64::from_slice(src));
+        let past = past_ascii(u8x64::from_slice(src));
         if past.count_ones() > MANY {
             return (0, false);
         }
@@ -106,24 +165,7 @@ impl Parts for MostlyAscii<'_> {
         if T::narrow() == 1 {
             return ended(dst.put_bytes(src, self.scalars.entries(), end), end);
         }
-        let mut at = 0;
-        loop {
-            let count = ascii_front(past).min(end - at);
-            dst.put_block(&src[at..], count);
-            at += count;
-            if at == end || src[at + 1] >= 0x80 {
-                return ended(at, end);
-            }
-            match self.scalars.scalar(src[at]) {
-                Some(scalar) => dst.put_entry(scalar, self.scalars.utf8_entry(src[at])),
-                None => return (at, false),
-            }
-            at += 1;
-            if at == end || src.len() - at < 64 || dst.free() < 64 + 3 + SLACK {
-                return (at, true);
-            }
-            past = past_after(past, count);
-        }
+        read_mostly_ascii(self.scalars, src, past, end, dst)
     }
 }
 
@@ -203,11 +245,10 @@ impl Parts for AnyBytes<'_> {
             return read_eights(self.scalars, src, most, dst);
         }
         let units = self.scalars.units(src);
-        let vector = u16x8::from_array(units);
-        if !are_known(vector) {
+        if !are_known(units) {
             return (read_singly(self.scalars, src, 8, dst), false);
         }
-        put_units(dst, vector);
+        put_units(dst, units);
         (8, has_past_ascii(&src[8..]))
     }
 }

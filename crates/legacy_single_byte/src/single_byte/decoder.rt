@@ -82,7 +82,6 @@ impl DecoderMoves for SingleByteDecoder<'_> {
     }
 
     #[inline]
-    #[tactic(auto, using(crate::proofs::SingleByteShown::covered))]
     fn reading_need(&self, byte: u8) -> Need {
         if byte < 0x80 {
             Need::Unit
@@ -92,7 +91,6 @@ impl DecoderMoves for SingleByteDecoder<'_> {
     }
 
     #[inline]
-    #[tactic(auto, using(crate::proofs::SingleByteShown::covered))]
     fn release_need(&self) -> Need {
         Need::Narrow
     }

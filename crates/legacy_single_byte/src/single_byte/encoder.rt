@@ -3,7 +3,7 @@ ghost use Rattle.std.specs.Prelude.{◌≡◌, ◌+◌, ◌-◌, ◌<◌, ◌≤
 ghost use Rattle.legacy_base.specs.Encoders.{single_byte, new_encoder};
 ghost use Rattle.legacy_base.specs.SingleByte.{single_byte_code};
 ghost use Rattle.legacy_single_byte.specs.SingleByteRun.{IsSingleByteRun, IsLongestRun, single_byte_run_fault};
-ghost use Rattle.legacy_single_byte.specs.SingleByteCodes.{single_byte_plain};
+ghost use Rattle.{legacy_single_byte.specs.SingleByteCodes.single_byte_plain, legacy_encoder_engine.specs.Moves.IsCode};
 
 use super::run::{SingleByteRun, SingleByteRunError, check_run};
 use legacy_base::{EncoderStep, RawEncoder, SingleByteTable, Source};
@@ -36,6 +36,18 @@ fn place_of(table: &SingleByteTable, c: char) -> Option<usize>
     ensures code { single_byte_code table.now.entries c ≡ option_map (λ place. (0x80 + place) ∷ []) result }
 {
     table.place(c)
+}
+
+/// Returns the byte of a scalar past ASCII by a search of the table, or the scalar itself as unmappable.
+#[inline(always)]
+fn searched(table: &SingleByteTable, c: char) -> EncoderMove
+    requires { 0x80 ≤ c }
+    ensures { IsCode (single_byte_code table.now.entries c) c result }
+{
+    match place_of(table, c) {
+        Some(place) => EncoderMove::One((0x80 + place) as u8),
+        None => EncoderMove::Unmappable(c),
+    }
 }
 
 impl<'a> SingleByteEncoder<'a> {
@@ -149,10 +161,7 @@ impl PlainCodes for SingleByteEncoder<'_> {
                 self.run_byte(place as u16)
             });
         }
-        match place_of(self.table, c) {
-            Some(place) => EncoderMove::One((0x80 + place) as u8),
-            None => EncoderMove::Unmappable(c),
-        }
+        searched(self.table, c)
     }
 
     const GOES_PAST_PAIRS: bool = true;

@@ -38,6 +38,7 @@ fn entry(table: &SingleByteTable, place: usize) -> usize
 }
 
 /// Returns how far after `start` the table first differs from the scalars from `scalar` upwards.
+#[tactic(auto, using(crate::proofs::EncoderRuns::mismatch_at, crate::proofs::EncoderRuns::no_mismatch))]
 fn first_mismatch(
     table: &SingleByteTable,
     scalar: usize,
@@ -48,7 +49,12 @@ fn first_mismatch(
     requires start { start + count ≤ 128 }
     ensures { result ≡ first_mismatch table.now.entries scalar start count }
 {
-    (0..count).find(|k| entry(table, start + *k) != scalar + *k)
+    for k in 0..count {
+        if entry(table, start + k) != scalar + k {
+            return Some(k);
+        }
+    }
+    None
 }
 
 /// Checks that `count` places from `start` on contain the scalars from `scalar` upwards.

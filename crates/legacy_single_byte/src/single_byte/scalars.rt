@@ -8,6 +8,7 @@ ghost use Rattle.{legacy_text.specs.{ByteUnits.AreByteScalars, UnitBytes.IsUtf8E
 
 use legacy_base::SingleByteTable;
 use legacy_text::utf8_entry;
+use std::simd::prelude::*;
 
 /// A checked table, and the entry of each byte: its scalar, or 0 if it has none.
 ///
@@ -109,7 +110,7 @@ impl<'a> ByteScalars<'a> {
 
     /// Returns the code units of the first eight bytes: 0 for a byte that has no scalar, and for the byte 00.
     #[inline(always)]
-    pub fn units(&self, src: &[u8]) -> [u16; 8]
+    pub fn units(&self, src: &[u8]) -> u16x8
         requires { 8 ≤ length src.now }
         ensures count { length result ≡ 8 }
         ensures same { (k : ℕ) → k < 8 → IsByteEntry self.now.table.now.entries (slice_index src.now k) (slice_index result k) }
@@ -120,6 +121,6 @@ impl<'a> ByteScalars<'a> {
             units[at] = self.entries[usize::from(src[at])];
             at += 1;
         }
-        units
+        u16x8::from_array(units)
     }
 }

@@ -1,5 +1,5 @@
 use Rattle.std.proofs.Common.{arith}
-use Rattle.legacy_decoder_engine.proofs.{JoinedReads.reads_more}
+use Rattle.legacy_decoder_engine.proofs.{JoinedReads.reads_more, WrittenReads.reads_none}
 use Rattle.legacy_single_byte.proofs.single_byte.blocks.read_parts.Goals as goal
 
 pub loop-at-preserved : goal.loop-at-preserved
@@ -10,3 +10,6 @@ returns-then-not-goes_on-clause-ahead g c = reads_more c.loop-at.invariant.1 c.r
 
 pub read_part-read-requires-clause-room : goal.read_part-read-requires-clause-room
 read_part-read-requires-clause-room g c = omega (arith, c.free.ensures, c.if-free.true)
+
+pub loop-at-init : goal.loop-at-init
+loop-at-init g c = (omega arith, reads_none _ _ _ _)
