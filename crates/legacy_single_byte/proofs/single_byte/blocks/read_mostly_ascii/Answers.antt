@@ -3,7 +3,8 @@ use Rattle.legacy_single_byte.proofs.single_byte.blocks.read_mostly_ascii.Goals 
 
 pub loop-at-init : goal.loop-at-init
 loop-at-init g c =
-    let e = c.requires in none_mostly c.args.scalars.now.table.now g.T.Destination c.args.src.now c.args.end c.args.bits c.args.dst.now e.end e.source e.room e.bits
+    let e = c.requires in
+    none_mostly c.args.scalars.now.table.now g.T.Destination c.args.src.now c.args.end c.args.bits c.args.dst.now e.end e.source e.room e.bits
 
 pub put_block-requires-clause-ascii : goal.put_block-requires-clause-ascii
 put_block-requires-clause-ascii g c =
