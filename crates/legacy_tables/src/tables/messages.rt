@@ -2,30 +2,41 @@
 // Each text that differs between faults comes from a function of its own: in `fmt`, each would be a separate path
 // through the call.
 
-use super::TableError;
+use super::{IndexName, TableError};
 use std::fmt;
 
 impl TableError {
-    /// Returns the kind of a row, which its place follows.
-    fn row(&self) -> &'static str {
+    /// Returns the kind of what is wrong, which its name or its place follows.
+    fn kind(&self) -> &'static str {
         match self {
+            TableError::TooLong(_)
+            | TableError::BadEntry(_, _)
+            | TableError::NotEmpty(_, _)
+            | TableError::KatakanaLength => "index",
+            TableError::RangeOrder(_) => "ranges",
             TableError::RangeValue(_) => "range",
+            TableError::PuaOrder(_) | TableError::PuaScalar(_) | TableError::PuaBytes(_) => {
+                "private-use row"
+            }
+            TableError::PackedOrder(_, _) | TableError::PackedDiffers(_, _) => "packed",
             TableError::BadByteEntry(_) | TableError::Repeated(_) => "single-byte entry",
-            _ => "private-use row",
         }
     }
 
-    /// Returns what is wrong with a row, or with an entry of an index or a packed part.
+    /// Returns what is wrong with it.
     fn fault(&self) -> &'static str {
         match self {
+            TableError::TooLong(_) => "is too long",
             TableError::BadEntry(_, _) => "has a bad entry",
             TableError::NotEmpty(_, _) => "must be empty",
-            TableError::PuaBytes(_) => "has bad bytes",
+            TableError::KatakanaLength => "must have 0 or 63 entries",
+            TableError::RangeOrder(_) => "are out of order",
             TableError::RangeValue(_) | TableError::PuaScalar(_) => "has a bad scalar",
+            TableError::PuaOrder(_) | TableError::PackedOrder(_, _) => "is out of order",
+            TableError::PuaBytes(_) => "has bad bytes",
             TableError::PackedDiffers(_, _) => "differs",
             TableError::BadByteEntry(_) => "is bad",
             TableError::Repeated(_) => "is repeated",
-            _ => "is out of order",
         }
     }
 }
@@ -54,22 +65,24 @@ fn write_fault_at<N: fmt::Display, W: fmt::Write>(
 /// Writes what is wrong, and where.
 impl fmt::Display for TableError {
     fn fmt<W: fmt::Write>(&self, f: &mut fmt::Formatter<W>) -> fmt::Result {
+        let kind = self.kind();
+        let fault = self.fault();
         match self {
-            TableError::TooLong(index) => write_fault(f, "index", index, "is too long"),
+            TableError::TooLong(index) => write_fault(f, kind, index, fault),
             TableError::BadEntry(index, place) | TableError::NotEmpty(index, place) => {
-                write_fault_at(f, "index", index, self.fault(), place)
+                write_fault_at(f, kind, index, fault, place)
             }
-            TableError::KatakanaLength => f.write_str("index katakana must have 0 or 63 entries"),
-            TableError::RangeOrder(place) => write!(f, "ranges are out of order at {place}"),
+            TableError::KatakanaLength => write_fault(f, kind, &IndexName::Katakana, fault),
+            TableError::RangeOrder(place) => write!(f, "{kind} {fault} at {place}"),
             TableError::PackedOrder(part, place) | TableError::PackedDiffers(part, place) => {
-                write_fault_at(f, "packed", part, self.fault(), place)
+                write_fault_at(f, kind, part, fault, place)
             }
             TableError::RangeValue(place)
             | TableError::PuaOrder(place)
             | TableError::PuaScalar(place)
             | TableError::PuaBytes(place)
             | TableError::BadByteEntry(place)
-            | TableError::Repeated(place) => write_fault(f, self.row(), place, self.fault()),
+            | TableError::Repeated(place) => write_fault(f, kind, place, fault),
         }
     }
 }
