@@ -176,7 +176,6 @@ fn check_short_lists(indexes: &Indexes<'_>) -> Result<(), TableError>
 }
 
 /// Checks indexes in the order of the fields, and returns the first fault.
-#[tactic(auto, unfolding(crate::specs::TableChecks::table_fault))]
 pub(super) fn check_indexes(indexes: &Indexes<'_>) -> Result<(), TableError>
     ensures { let found = table_fault (flat_indexes indexes.now) in
         MatchResult result (λ _. found ≡ None) (λ fault. found ≡ Some fault) }

@@ -239,7 +239,6 @@ impl<'a> CheckedOrders<'a> {
 }
 
 /// Checks the orders of the five codecs, and returns the first fault.
-#[tactic(auto, using(crate::proofs::TableLoops::fault_steps), unfolding(crate::specs::Packed::all_orders_fault))]
 pub(super) fn check_all_orders(indexes: &Indexes<'_>, packed: &Packed<'_>) -> Result<(), TableError>
     ensures { let found = all_orders_fault (flat_indexes indexes.now) packed.now in
         MatchResult result (λ _. found ≡ None) (λ fault. found ≡ Some fault) }

@@ -103,7 +103,6 @@ impl<'a> CheckedRuns<'a> {
 }
 
 /// Checks the runs of the five indexes, and returns the first fault.
-#[tactic(auto, using(crate::proofs::TableLoops::fault_steps), unfolding(crate::specs::Packed::all_runs_fault))]
 pub(super) fn check_all_runs(indexes: &Indexes<'_>, packed: &Packed<'_>) -> Result<(), TableError>
     ensures { let found = all_runs_fault (flat_indexes indexes.now) packed.now in
         MatchResult result (λ _. found ≡ None) (λ fault. found ≡ Some fault) }
