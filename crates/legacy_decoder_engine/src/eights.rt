@@ -76,6 +76,7 @@ fn read_eight<C: LaneCodec, T: Destination>(
 /// Begins no eight after `most` bytes. Returns the number of bytes read, which may be 0. It reads none to UTF-16, where eights
 /// are no faster.
 #[inline(always)]
+#[tactic(auto)]
 pub(crate) fn read_eights<C: LaneCodec, T: Destination>(
     tables: &FlatTables<'_>,
     src: &[u8],

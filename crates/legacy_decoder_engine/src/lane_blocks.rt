@@ -92,6 +92,7 @@ fn begins_many<C: LaneCodec>(src: &[u8]) -> bool {
 /// Returns the number of bytes read, which may be 0.
 // A load of codes that were stored in parts waits for these stores. All of four blocks are stored before it.
 #[inline(always)]
+#[tactic(auto)]
 fn read_long<C: LaneCodec, T: Destination>(
     tables: &FlatTables<'_>,
     guess: &Cell<usize>,
@@ -118,6 +119,7 @@ fn read_long<C: LaneCodec, T: Destination>(
 // Most rows of such blocks between tags are short: the larger arrays are made after a few blocks, and a copy of the tables,
 // whose parts a loop keeps in registers.
 #[inline(always)]
+#[tactic(auto)]
 fn read_short<C: LaneCodec, T: Destination>(
     tables: &FlatTables<'_>,
     guess: &Cell<usize>,
@@ -378,6 +380,7 @@ fn read_one_kind<C: LaneCodec, T: Destination>(
 /// Returns the number of bytes read, and whether a block with many bytes past ASCII may follow.
 // Most rows of pairs between tags are short, and lanes are no faster in them. Forms are counted since the last long ASCII.
 #[inline(always)]
+#[tactic(auto)]
 fn read_few<C: LaneCodec, T: Destination>(
     blocks: &LaneBlocks<'_, '_, C>,
     src: &[u8],
@@ -415,6 +418,7 @@ impl<C: LaneCodec> BlockReader for LaneBlocks<'_, '_, C> {
     // Malformed sequences often follow one another. No block is begun at an uncommon byte. After lanes a piece of text has
     // at most one byte left, mostly a lead. The machine reads it.
     #[inline(always)]
+    #[tactic(auto)]
     fn read_block<T: Destination>(&self, src: &[u8], dst: &mut T) -> (usize, bool) {
         if begins_uncommon::<C>(src) {
             return (0, false);

@@ -201,6 +201,7 @@ pub(crate) fn put_known<T: Destination>(dst: &mut T, units: u16x8, most: usize) 
 ///
 /// Stops before a group of eight if fewer than 32 code units are free. Stores what is kept of the codes over them.
 #[inline(always)]
+#[tactic(auto)]
 pub(crate) fn put_codes<C: LaneCodec, T: Destination>(
     tables: &FlatTables<'_>,
     codes: &mut [u16],

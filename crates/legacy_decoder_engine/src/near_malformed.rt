@@ -17,7 +17,6 @@ pub const AFTER_MALFORMED: usize = 64;
 ///
 /// Returns the number of bytes read, which may be 0.
 #[inline(always)]
-#[tactic(auto, using(crate::proofs::WrittenReads::no_bytes))]
 pub(crate) fn read_without_lanes<C: LaneCodec, T: Destination>(
     blocks: &LaneBlocks<'_, '_, C>,
     src: &[u8],

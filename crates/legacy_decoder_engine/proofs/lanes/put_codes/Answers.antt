@@ -46,12 +46,6 @@ returns-clause-slack g c h =
           c.put_known-few.ensures.eight,
     )
 
-pub put_eight-requires-clause-room : goal.put_eight-requires-clause-room
-put_eight-requires-clause-room g c = omega arith
-
-pub returns-then-at-most-clause-slack : goal.returns-then-at-most-clause-slack
-returns-then-at-most-clause-slack g c = omega arith
-
 pub returns-then-entries-eq0-clause-writes : goal.returns-then-entries-eq0-clause-writes
 returns-then-entries-eq0-clause-writes g c = record { writes = writes_none g.T.Destination _ _; counted = refl }
 
@@ -71,9 +65,6 @@ units_of-units-requires-clause-within g c k h =
 pub returns-then-at-most-clause-writes : goal.returns-then-at-most-clause-writes
 returns-then-at-most-clause-writes g c = c.loop-group.invariant.writes
 
-pub returns-then-at-most-clause-had : goal.returns-then-at-most-clause-had
-returns-then-at-most-clause-had g c = omega arith
-
 pub units_of-units-requires-2-clause-within : goal.units_of-units-requires-2-clause-within
 units_of-units-requires-2-clause-within g c k h =
     let at : ℕ = 8 * c.loop-group.group in
@@ -82,87 +73,3 @@ units_of-units-requires-2-clause-within g c k h =
 
 pub returns-clause-had : goal.returns-clause-had
 returns-clause-had g c = omega (arith, c.loop-group.invariant.writes.writes.room)
-
-pub are_known-requires : goal.are_known-requires
-are_known-requires g c = omega arith
-
-pub overflow_add-group : goal.overflow_add-group
-overflow_add-group g c = omega arith
-
-pub overflow_add-most : goal.overflow_add-most
-overflow_add-most g c = omega arith
-
-pub overflow_add-result : goal.overflow_add-result
-overflow_add-result g c = omega arith
-
-pub overflow_cast-entries : goal.overflow_cast-entries
-overflow_cast-entries g c = omega arith
-
-pub overflow_mul-at : goal.overflow_mul-at
-overflow_mul-at g c = omega arith
-
-pub overflow_mul-at-2 : goal.overflow_mul-at-2
-overflow_mul-at-2 g c = omega arith
-
-pub overflow_sub-entries : goal.overflow_sub-entries
-overflow_sub-entries g c = omega arith
-
-pub overflow_sub-most : goal.overflow_sub-most
-overflow_sub-most g c = omega arith
-
-pub returns-clause-most : goal.returns-clause-most
-returns-clause-most g c = omega arith
-
-pub returns-then-at-most-clause-most : goal.returns-then-at-most-clause-most
-returns-then-at-most-clause-most g c = omega arith
-
-pub returns-then-entries-eq0-clause-most : goal.returns-then-entries-eq0-clause-most
-returns-then-entries-eq0-clause-most g c = omega arith
-
-pub returns-then-entries-eq0-clause-slack : goal.returns-then-entries-eq0-clause-slack
-returns-then-entries-eq0-clause-slack g c = omega arith
-
-pub slice_bounds-units_of-count : goal.slice_bounds-units_of-count
-slice_bounds-units_of-count g c = omega arith
-
-pub slice_bounds-units_of-count-2 : goal.slice_bounds-units_of-count-2
-slice_bounds-units_of-count-2 g c = omega arith
-
-pub slice_bounds-units_of-count-3 : goal.slice_bounds-units_of-count-3
-slice_bounds-units_of-count-3 g c = omega arith
-
-pub slice_bounds-units_of-count-in-loop-group : goal.slice_bounds-units_of-count-in-loop-group
-slice_bounds-units_of-count-in-loop-group g c = omega arith
-
-pub slice_bounds-units_of-end : goal.slice_bounds-units_of-end
-slice_bounds-units_of-end g c = omega arith
-
-pub slice_bounds-units_of-end-2 : goal.slice_bounds-units_of-end-2
-slice_bounds-units_of-end-2 g c = omega arith
-
-pub slice_bounds-units_of-end-3 : goal.slice_bounds-units_of-end-3
-slice_bounds-units_of-end-3 g c = omega arith
-
-pub slice_bounds-units_of-end-in-loop-group : goal.slice_bounds-units_of-end-in-loop-group
-slice_bounds-units_of-end-in-loop-group g c = omega arith
-
-pub slice_bounds-units_of-start : goal.slice_bounds-units_of-start
-slice_bounds-units_of-start g c = omega arith
-
-pub slice_bounds-units_of-start-2 : goal.slice_bounds-units_of-start-2
-slice_bounds-units_of-start-2 g c = omega arith
-
-pub slice_bounds-units_of-start-3 : goal.slice_bounds-units_of-start-3
-slice_bounds-units_of-start-3 g c = omega arith
-
-pub slice_bounds-units_of-start-in-loop-group : goal.slice_bounds-units_of-start-in-loop-group
-slice_bounds-units_of-start-in-loop-group g c = omega arith
-
-pub split_codes-requires-clause-codes : goal.split_codes-requires-clause-codes
-split_codes-requires-clause-codes g c = omega arith
-
-pub split_codes-requires-clause-places : goal.split_codes-requires-clause-places
-split_codes-requires-clause-places g c = omega arith
-
-pub split_codes-requires-clause-pointers : goal.split_codes-requires-clause-pointers
-split_codes-requires-clause-pointers g c = omega arith
