@@ -20,18 +20,3 @@ returns-after-loop-at g c = let i = c.loop-at.invariant in reads_front i.0 i.1 i
 
 pub put-requires : goal.put-requires
 put-requires g c = four_fit g.T.Destination.form c.in-Some.scalar (g.T.Destination.room c.loop-at.dst) (omega arith)
-
-pub form_at-requires : goal.form_at-requires
-form_at-requires g c = omega arith
-
-pub overflow_add-t-14 : goal.overflow_add-t-14
-overflow_add-t-14 g c = omega arith
-
-pub slice_bounds-form_at-count : goal.slice_bounds-form_at-count
-slice_bounds-form_at-count g c = omega arith
-
-pub slice_bounds-form_at-end : goal.slice_bounds-form_at-end
-slice_bounds-form_at-end g c = omega arith
-
-pub slice_bounds-form_at-start : goal.slice_bounds-form_at-start
-slice_bounds-form_at-start g c = omega arith

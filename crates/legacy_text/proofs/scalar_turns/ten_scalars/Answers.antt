@@ -27,27 +27,6 @@ loop-k-preserved c =
           some i.2 some_rest (λ j h here. rw here (made (trailing_zeros w32 bits) (rw here at h))) (i.3 some))),
     )
 
-pub overflow_add-k : goal.overflow_add-k
-overflow_add-k c = omega arith
-
-pub overflow_add-start : goal.overflow_add-start
-overflow_add-start c = omega arith
-
-pub overflow_sub-bytes : goal.overflow_sub-bytes
-overflow_sub-bytes c = omega arith
-
-pub put_units-requires-clause-read : goal.put_units-requires-clause-read
-put_units-requires-clause-read c = omega arith
-
-pub put_units-requires-clause-room : goal.put_units-requires-clause-room
-put_units-requires-clause-room c = omega arith
-
-pub put_units-requires-2-clause-read : goal.put_units-requires-2-clause-read
-put_units-requires-2-clause-read c = omega arith
-
-pub put_units-requires-2-clause-room : goal.put_units-requires-2-clause-room
-put_units-requires-2-clause-room c = omega arith
-
 pub returns-then-bytes-start-lt34 : goal.returns-then-bytes-start-lt34
 returns-then-bytes-start-lt34 c = tt
 

@@ -21,18 +21,3 @@ loop-k-preserved g c =
           let stored = ap (λ n. take n (slice_set c.loop-k.dst at b.result.0)) place ∙ take_more_set c.loop-k.dst at b.result.0 inside in
           scalars_append before (scalars_one b.result.0 read (b.ensures flags.1).1 stored)),
     )
-
-pub bounds-bytes-place : goal.bounds-bytes-place
-bounds-bytes-place g c = omega arith
-
-pub bounds-dst-at : goal.bounds-dst-at
-bounds-dst-at g c = omega arith
-
-pub overflow_add-dst : goal.overflow_add-dst
-overflow_add-dst g c = omega arith
-
-pub overflow_add-k : goal.overflow_add-k
-overflow_add-k g c = omega arith
-
-pub overflow_add-place : goal.overflow_add-place
-overflow_add-place g c = omega arith
