@@ -65,10 +65,10 @@ fn decode_over_indexes<C: DecoderCalls<U>, U: CodeUnit>(
     output: &mut [U],
 ) -> Option<usize>
     requires { ranges.now ≡ map range_pair indexes.now.ranges.now }
-    ensures units { IfSome result (λ written. written ≤ length output.new) }
     ensures text { IfSome result (λ written. HoldsOverTables decoder_of codec indexes.now
         (RepeatsFrom (DecodesSource C.kind U.form reading.now.source.now (length output.old))
         reading.now.times (U.units (take written output.new)))) }
+    ensures units { IfSome result (λ written. written ≤ length output.new) }
     ensures unchanged { IfNone result (output.new ≡ output.old) }
     ensures taken { IsSome result ↔ AreTakenLists codec indexes.now }
 {

@@ -21,13 +21,13 @@ pub returns-in-Err : goal.returns-in-Err
 returns-in-Err g c =
     let named = sym c.encoder_in.ensures ∙ c.in-Some.is in
     record {
-      statuses = omega arith;
-      usage = (λ e. absurd (omega arith), λ none. absurd cc);
-      unread = λ e. absurd (omega arith);
-      encoded = λ e. absurd (omega arith);
       stops = λ e. elim c.in-Err.ensures.stops [
         | inl untouched ↦ inl untouched
         | inr by ↦ inr (works_with _ _ c.args.words.now _ named by.0 by.1)
       ];
+      statuses = omega arith;
+      usage = (λ e. absurd (omega arith), λ none. absurd cc);
+      unread = λ e. absurd (omega arith);
+      encoded = λ e. absurd (omega arith);
       silent = λ e. absurd (omega arith);
     }

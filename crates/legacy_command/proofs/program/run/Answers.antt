@@ -21,13 +21,13 @@ returns-in-Err g c =
     let named = sym c.codec_in.ensures ∙ c.in-Some.is in
     let asked = rw c.request-rest.ensures at named in
     record {
-      statuses = omega arith;
-      usage = (λ e. absurd (omega arith), λ none. absurd cc);
-      unread = λ e. absurd (omega arith);
-      recoded = λ e. absurd (omega arith);
       stops = λ e. elim c.in-Err.ensures.stops [
         | inl untouched ↦ inl untouched
         | inr by ↦ inr (rw (c.request-rest.ensures, c.output_asked-kind.ensures) at (works_with _ _ c.request-rest.result.now _ named by.0 by.1))
       ];
+      statuses = omega arith;
+      usage = (λ e. absurd (omega arith), λ none. absurd cc);
+      unread = λ e. absurd (omega arith);
+      recoded = λ e. absurd (omega arith);
       silent = λ e. absurd (omega arith);
     }
