@@ -1,5 +1,6 @@
 -- The moves of a decoder make a call.
-use Rattle.std.proofs.Common.{◌≡◌, ◌∙◌, sym, add-zero, append-nil, drop_of_length-le, length-append, length-drop, Bool, true, IsTrue, Some, Option, ◌⊎◌, inl, inr, All}
+use Rattle.std.proofs.Common.{◌≡◌, ◌∙◌, sym, add-zero, append-nil, drop_of_length-le, length-append, length-drop}
+use Rattle.std.proofs.Common.{Bool, true, IsTrue, Some, Option, ◌⊎◌, inl, inr, All}
 use Rattle.std.proofs.Common.{◌≢◌, ℕ, suc, ◌+◌, ◌-◌, ◌≤◌, ◌<◌, List, [], ◌∷◌, ◌++◌, length, map, get_or, take, drop, refl, ap, arith, false, None, zero}
 use Rattle.std.proofs.lemmas.List.{map-append, drop-drop, drop_more, nil_from_length, Elements.{All-append, All-nil, All-cons}}
 use Rattle.std.{proofs.{lemmas.Bool.{true≢false, Decides.nat_tests}, Math.Nat.sub-zero}, specs.{Prelude.if◌then◌else◌, Char.IsScalar}}

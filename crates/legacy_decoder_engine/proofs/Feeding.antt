@@ -11,7 +11,8 @@ use Rattle.legacy_base.proofs.GrammarLaws.{may_none, rests-none}
 use Rattle.legacy_decoder_engine.specs.{Moves.{Feeds, fed_scalars, Reports}, Feeding.{fed_of, HasScalars, Took}}
 use Rattle.legacy_decoder_engine.specs.{Moves.{IsCovered, read_need, Releases, FeedsMalformedByte}, Steps.{Step, step_held, step_length, StepMeets, finish}}
 use Rattle.legacy_decoder_engine.{specs.{Shown.IsShown, StatesAfterSteps.{IsOneOrMarked, Settles}}, proofs.{NeedMoves.all_needs, CallUnderWay.same_needs}}
-use Rattle.legacy_decoder_engine.specs.{Steps.DecoderMachine, StepUnits.{units, step_units}, declared.moves.Fed.{Fed, TheVariants.{One, Two, MalformedSequence}}}
+use Rattle.legacy_decoder_engine.specs.{Steps.DecoderMachine, StepUnits.{units, step_units}}
+use Rattle.legacy_decoder_engine.specs.declared.moves.Fed.{Fed, TheVariants.{One, Two, MalformedSequence}}
 
 -- the code units of scalars, counted one by one
 pub units-total : (form : EncodingForm) (cs : List ℕ) → units (unit_count form) cs ≡ total_unit_count form cs

@@ -112,7 +112,9 @@ encodes_ascii {state} form free room serves {left} passed {n = n} within rest as
 module _ (start n limit : ℕ) (dst new left : List ℕ) (fits : start + n ≤ length (take limit dst)) (same : length new ≡ length (take limit dst))
     (bytes : take (start + n) new ≡ take start (take limit dst) ++ take n left) where
   pub copied_part : take (start + n) (new ++ drop limit dst) ≡ take start dst ++ take n left
-  copied_part = let short = length-take limit dst in rw (take-append-le (start + n) new (drop limit dst) (omega arith), bytes, take-take start limit dst (omega arith))
+  copied_part =
+      let short = length-take limit dst in
+      rw (take-append-le (start + n) new (drop limit dst) (omega arith), bytes, take-take start limit dst (omega arith))
 
   pub kept_part : take start (new ++ drop limit dst) ≡ take start dst
   kept_part = rw (← take-take start (start + n) (new ++ drop limit dst) (omega arith), copied_part)

@@ -1,7 +1,8 @@
 -- The longest run of letters: how one more place changes it, and that the encoder accepts it.
 use Rattle.std.proofs.{Common.{◌≡◌, ◌≢◌, ℕ, ◌+◌, ◌-◌, ◌<◌, ◌≤◌, ◌==◌, List, get_or, refl, arith, None, not}, lemmas.Bool.Decides.nat_tests}
 use Rattle.legacy_tables.proofs.FirstPlaces.{find-none}
-use Rattle.legacy_single_byte.{specs.{SingleByteRun.{IsSingleByteRun, single_byte_run_fault}, LongestRun.{LongestToThe, LongestUpTo}}, proofs.EncoderRuns.run_holds}
+use Rattle.legacy_single_byte.specs.{SingleByteRun.{IsSingleByteRun, single_byte_run_fault}, LongestRun.{LongestToThe, LongestUpTo}}
+use Rattle.legacy_single_byte.proofs.EncoderRuns.{run_holds}
 
 -- ---- runs that the encoder accepts
 

@@ -2,7 +2,8 @@
 use Rattle.std.proofs.Common.{◌≡◌, ◌≢◌, ◌⊎◌, ◌∙◌, ℕ, ◌+◌, ◌-◌, ◌≤◌, ◌<◌, List, [], ◌∷◌, ◌++◌, length, take, drop, take-append-drop, refl, sym, ap}
 use Rattle.std.proofs.Common.{subst, arith, append_assoc, append-nil, length-append, length-drop, Bool, true, false, Option, None, IsUtf8, inl, ⊎_elim}
 use Rattle.std.proofs.{Common.{drop-drop, take_all, zero-add}, lemmas.Str.{utf8_valid_len-IsValidUpTo, utf8_valid_len-IsUtf8, chars-nil}}
-use Rattle.std.proofs.{KnownBytes.{Appends-nil, Appends-trans, Consumes-nil, Consumes-trans, Consumes-kept, Keeps-refl}, lemmas.Grind.flat_map-append, lemmas.Bool.cases_lt}
+use Rattle.std.proofs.{KnownBytes.{Appends-nil, Appends-trans, Consumes-nil, Consumes-trans, Consumes-kept, Keeps-refl}}
+use Rattle.std.proofs.lemmas.{Grind.flat_map-append, Bool.cases_lt}
 use Rattle.std.proofs.{lemmas.List.{drop_at, length-take-le, length-take, drop-take, nil_from_length}, lemmas.List.Edits.take-paste, Math.Seq.paste}
 use Rattle.std.specs.{Str.{chars, IsValidUpTo}, Str.Lossy.{utf8_valid_len, utf8_error_len}, Io.KnownBytes.{Appends, Consumes, IsAtEnd, Keeps}}
 use Rattle.legacy_base.specs.{Encoders.{EncoderState, encoded}}

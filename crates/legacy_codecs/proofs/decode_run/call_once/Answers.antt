@@ -30,7 +30,13 @@ returns g c =
     let one = rw c.new-kept.ensures.free at call.1 in
     let few = kept_within g.F.OutputForm.form _ call.0 _ _ c.new-kept.ensures.kept units one.fits in
     record {
-      call = (c.step-answer.result.0, call.0, one, c.push_report.ensures.empty, (rw (c.push_report.ensures.items, c.push_items.ensures.items, kept, append_assoc) refl));
+      call = (
+        c.step-answer.result.0,
+        call.0,
+        one,
+        c.push_report.ensures.empty,
+        (rw (c.push_report.ensures.items, c.push_items.ensures.items, kept, append_assoc) refl),
+      );
       len = few_events _ c.requires.room few c.push_items.ensures.len c.push_report.ensures.len;
       capacity = le_trans c.push_items.ensures.capacity c.push_report.ensures.capacity;
     }

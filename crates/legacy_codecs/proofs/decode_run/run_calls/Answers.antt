@@ -80,7 +80,8 @@ loop-calls-preserved g c =
           let emptied = sym w.if-all.true ∙ call.3 in
           let split = w.split_pieces-then-all.ensures in
           rw (w.unread-is, w.later-is) record {
-            running = running_call i.running given call.2 last emptied call.4 goes (place_split bytes_of after c.loop-calls.later.now refl split.first split.later);
+            running = running_call i.running given call.2 last emptied call.4 goes
+                (place_split bytes_of after c.loop-calls.later.now refl split.first split.later);
             room = room;
             buffer = λ k d h. rw c.call_once-all.auto.buffer (i.buffer k d h);
           }

@@ -7,7 +7,8 @@ pub pieces-init : goal.pieces-init
 pieces-init g c = record { whole = whole_start (rw lines_of_none (Appends-nil _)); long = refl; small = omega arith; empty = c.new-lines.ensures }
 
 pub returns-in_default : goal.returns-in_default
-returns-in_default g c = record { ok = tt; read = λ e. whole_beginning c.pieces.invariant.whole _ (λ _ shown. shown) c.in_default.ensures.kept; write = λ e. cc }
+returns-in_default g c =
+    record { ok = tt; read = λ e. whole_beginning c.pieces.invariant.whole _ (λ _ shown. shown) c.in_default.ensures.kept; write = λ e. cc }
 
 pub returns-then-last : goal.returns-then-last
 returns-then-last g c =
