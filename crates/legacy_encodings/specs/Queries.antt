@@ -4,6 +4,6 @@ use Rattle.legacy_encodings.specs.declared.queries.TextForm.{TextForm}
 use Rattle.legacy_encodings.specs.declared.queries.TextForm.TheVariants as text
 
 -- the encoding form of such a text
-abbrev pub form_of : TextForm → EncodingForm
-form_of text.Utf8 = Utf8
-form_of text.Utf16 = Utf16
+abbrev pub encoding_form : TextForm → EncodingForm
+encoding_form text.Utf8 = Utf8
+encoding_form text.Utf16 = Utf16

@@ -100,6 +100,7 @@ impl<'a> RawDecoder for AnyDecoder<'a> {
             AnyDecoder::EucJp(coder) => coder.malformed_bytes(src),
             AnyDecoder::ShiftJis(coder) => coder.malformed_bytes(src),
             AnyDecoder::EucKr(coder) => coder.malformed_bytes(src),
+            // These do not count them.
             _ => 0,
         }
     }

@@ -5,7 +5,7 @@ ghost use Rattle.legacy_text.specs.EncodingForm.{total_unit_count};
 ghost use Rattle.legacy_base.specs.Encoders.{new_encoder, encoder_answer};
 ghost use Rattle.legacy_base.specs.EncoderCalls.{EncoderCall};
 ghost use Rattle.legacy_encodings.specs.Lists.{has_pairs};
-ghost use Rattle.legacy_encodings.specs.Queries.{form_of};
+ghost use Rattle.legacy_encodings.specs.Queries.{encoding_form};
 
 use crate::coders::AnyEncoder;
 use crate::queries::{TextForm, answer_of};
@@ -92,7 +92,7 @@ fn pairs_answer<C: FillsPairs>(
     form: TextForm,
     units: usize,
 ) -> Option<usize>
-    ensures { result ≡ encoder_answer (form_of form)
+    ensures { result ≡ encoder_answer (encoding_form form)
         (new_encoder (C.codec coder.now.encoder.now.tables.now.flat)) units }
 {
     answer_of(coder, form, units)
@@ -107,10 +107,7 @@ fn list_pairs<'a, 'b, C: FillsPairs>(
     ensures { new_encoder (C.codec result.encoder.now.tables.now.flat)
         ≡ new_encoder (C.codec encoder.now.tables.now.flat) }
 {
-    let Some(listed) = CachedEncoder::new(encoder, room) else {
-        unreachable!()
-    };
-    listed
+    CachedEncoder::new(encoder, room).unwrap()
 }
 
 impl<'a, 'b> RawEncoder for ListedEncoder<'a, 'b> {
@@ -185,7 +182,7 @@ impl<'a, 'b> ListedEncoder<'a, 'b> {
 
     /// Returns the answer to a length query.
     fn answer(&self, form: TextForm, units: usize) -> Option<usize>
-        ensures { result ≡ encoder_answer (form_of form)
+        ensures { result ≡ encoder_answer (encoding_form form)
             (⟦<ListedEncoder<'static, 'static> as RawEncoder>⟧.state self.now) units }
     {
         match_listed!(self, coder => answer_of(coder, form, units), pairs_answer(coder, form, units))
@@ -201,10 +198,7 @@ fn list_gb18030<'a, 'b>(
     ensures { ⟦<CachedEncoder<'static, Gb18030Encoder<'static>> as RawEncoder>⟧.state result
         ≡ ⟦<Gb18030Encoder<'static> as RawEncoder>⟧.state encoder.now }
 {
-    let Some(listed) = CachedEncoder::new(encoder, room) else {
-        unreachable!()
-    };
-    listed
+    CachedEncoder::new(encoder, room).unwrap()
 }
 
 /// Checks whether an encoder is of an encoding of pairs, so that `ListedEncoder` takes it.

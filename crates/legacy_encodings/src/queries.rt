@@ -1,7 +1,7 @@
 //! Length queries of encoders by the form of the text, so that both are asked in one place.
 ghost use Rattle.std.specs.Prelude.{◌≡◌};
 ghost use Rattle.legacy_base.specs.Encoders.{encoder_answer};
-ghost use Rattle.legacy_encodings.specs.Queries.{form_of};
+ghost use Rattle.legacy_encodings.specs.Queries.{encoding_form};
 
 use legacy_codecs::RawEncoder;
 
@@ -17,7 +17,7 @@ pub enum TextForm {
 /// Returns the encoder's answer to its length query for this many code units of the form.
 #[inline(always)]
 pub fn answer_of<E: RawEncoder>(encoder: &E, form: TextForm, units: usize) -> Option<usize>
-    ensures { result ≡ encoder_answer (form_of form) (E.state encoder.now) units }
+    ensures { result ≡ encoder_answer (encoding_form form) (E.state encoder.now) units }
 {
     match form {
         TextForm::Utf8 => encoder.max_buffer_length_from_utf8_without_replacement(units),

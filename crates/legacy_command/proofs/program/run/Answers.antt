@@ -5,7 +5,6 @@ use Rattle.legacy_command.proofs.program.run.Goals as goal
 pub returns-in-Ok : goal.returns-in-Ok
 returns-in-Ok g c =
     let named = sym c.codec_in.ensures ∙ c.in-Some.is in
-    let asked = rw c.request-rest.ensures at named in
     record {
       statuses = omega arith;
       usage = (λ e. absurd (omega arith), λ none. absurd cc);
@@ -19,7 +18,6 @@ returns-in-Ok g c =
 pub returns-in-Err : goal.returns-in-Err
 returns-in-Err g c =
     let named = sym c.codec_in.ensures ∙ c.in-Some.is in
-    let asked = rw c.request-rest.ensures at named in
     record {
       stops = λ e. elim c.in-Err.ensures.stops [
         | inl untouched ↦ inl untouched
