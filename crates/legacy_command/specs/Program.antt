@@ -8,7 +8,7 @@ use Rattle.legacy_tables.specs.declared.tables.private_use.TheConstants.{GB18030
 use Rattle.legacy_tables.specs.TableChecks.{AreAccepted, IsAcceptedTable}
 use Rattle.legacy_index_files.specs.declared.codec.Codec.{Codec}
 use Rattle.legacy_index_files.specs.Encodings.{has_encoder}
-use Rattle.legacy_encodings.specs.Coders.{decoder_of, encoder_of}
+use Rattle.legacy_coders.specs.Coders.{decoder_of, encoder_of}
 use Rattle.legacy_index_files.specs.declared.index_file.FileIndex.{FileIndex}
 use Rattle.legacy_index_files.specs.declared.owned_indexes.OwnedIndexes.{OwnedIndexes}
 use Rattle.legacy_index_files.specs.OwnedIndexes.{HoldsTexts}

@@ -1,5 +1,6 @@
 //! Runs the program that encodes, by its words, files and streams.
-ghost use Rattle.std.specs.Prelude.{◌≡◌, ◌↔◌, ◌≤◌, ◌⊎◌, [], OnErr, OnOk, None, Some, IsTrue};
+ghost use Rattle.std.specs.Prelude.{◌≡◌, ◌↔◌, ◌≤◌, ◌⊎◌, [], true, OnErr, OnOk, None, Some, IsTrue};
+ghost use Rattle.legacy_encodings.specs.Lists.{has_pairs};
 ghost use Rattle.legacy_command.specs.Words.{texts_of, are_indexes, codec_of_words};
 ghost use Rattle.legacy_command.specs.GivenTexts.{contents_of, text_given, AreWellFormed};
 ghost use Rattle.legacy_command.specs.Program.{with_encoder, EncodesInput, EncodesSome, Untouched};
@@ -9,7 +10,7 @@ use crate::given_indexes::read_files;
 use crate::program::{Fault, check, flush_after, write_fault};
 use crate::words::codec_in;
 use legacy_codecs::RawEncoder;
-use legacy_encodings::{AnyEncoder, ListedEncoder, has_pairs, pair_room};
+use legacy_coders::{AnyEncoder, ListedEncoder, has_pairs, pair_room};
 use legacy_index_files::{Codec, OwnedIndexes};
 use legacy_streams::encode::encode_text;
 use std::alloc::Global;
@@ -47,14 +48,37 @@ fn encode_input<'a, R: Read, W: Write>(
         (W.contents output.old) (W.contents output.new)) }
 {
     if has_pairs(encoder) {
-        let Ok(mut room) = pair_room(alloc) else {
-            return Err(Fault::Memory);
-        };
-        if let Some(mut listed) = ListedEncoder::new(encoder, room.as_mut_slice()) {
-            return encode_by(&mut listed, input, output);
-        }
+        return encode_listed(alloc, encoder, input, output);
     }
     encode_by(encoder, input, output)
+}
+
+/// Encodes the input by an encoder of pairs, with a list of its pairs in memory of its own.
+fn encode_listed<'a, R: Read, W: Write>(
+    alloc: Global,
+    encoder: &AnyEncoder,
+    input: &mut R,
+    output: &mut W,
+) -> Result<(), Fault<'a>>
+    requires { has_pairs encoder.now ≡ true }
+    ensures done { OnOk result (EncodesInput
+        (⟦<AnyEncoder<'static> as RawEncoder>⟧.state encoder.now)
+        (R.remaining input.old) (R.remaining input.new)
+        (W.contents output.old) (W.contents output.new)) }
+    ensures stops { OnErr result (
+        Untouched (R.remaining input.old) (R.remaining input.new)
+        (W.contents output.old) (W.contents output.new)
+        ⊎ EncodesSome (⟦<AnyEncoder<'static> as RawEncoder>⟧.state encoder.now)
+        (R.remaining input.old) (R.remaining input.new)
+        (W.contents output.old) (W.contents output.new)) }
+{
+    let Ok(mut room) = pair_room(alloc) else {
+        return Err(Fault::Memory);
+    };
+    let Some(mut listed) = ListedEncoder::new(encoder, room.as_mut_slice()) else {
+        unreachable!()
+    };
+    encode_by(&mut listed, input, output)
 }
 
 /// Encodes the input by an encoder and flushes the output, also if the input cannot be read.

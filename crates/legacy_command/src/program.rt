@@ -9,7 +9,7 @@ ghost use Rattle.legacy_command.specs.Program.{DecodesByTables, DecodesByTexts, 
 use crate::given_indexes::read_files;
 use crate::words::{OutputKind, codec_in, output_asked, request};
 use legacy_codecs::{RawDecoder, SingleByteTable, TableError, Tables};
-use legacy_encodings::AnyDecoder;
+use legacy_coders::AnyDecoder;
 use legacy_index_files::{Codec, OwnedIndexes};
 use legacy_streams::recode::{RecodeError, recode};
 use legacy_streams::text::recode_text;

@@ -13,7 +13,7 @@ use Rattle.legacy_encodings.specs.declared.registry.EncodingTable.{EncodingTable
 use Rattle.legacy_encodings.specs.declared.registry.RegistryError.{RegistryError}
 use Rattle.legacy_encodings.specs.declared.registry.RegistryError.TheVariants.{Unknown, NoIndex, Sized}
 use Rattle.legacy_codecs.specs.declared.whole.SizedError.TheVariants.{TooLong, Memory}
-use Rattle.legacy_encodings.specs.Coders.{decoder_of, encoder_of}
+use Rattle.legacy_coders.specs.Coders.{decoder_of, encoder_of}
 use Rattle.legacy_encodings.specs.SingleByteFiles.{IsSingleByteFile}
 use Rattle.legacy_codecs.specs.WholeTexts.{text_of}
 

@@ -5,15 +5,9 @@
 //! `RawEncoder`, so every call of `legacy_codecs` takes it.
 #![tactic(auto)]
 
-mod coders;
-mod listed;
-mod queries;
 mod registry;
-mod room;
-mod tasks;
 
-pub use coders::{AnyDecoder, AnyEncoder};
-pub use listed::{ListedEncoder, has_pairs};
+pub use legacy_coders::{
+    AnyDecoder, AnyEncoder, DecoderTask, EncoderTask, ListedEncoder, has_pairs, pair_room,
+};
 pub use registry::{Coders, EncodingTable, Registry, RegistryError};
-pub use room::pair_room;
-pub use tasks::{DecoderTask, EncoderTask};

@@ -7,7 +7,7 @@ ghost use Rattle.legacy_base.specs.Encoders.{encoded};
 ghost use Rattle.legacy_codecs.specs.References.{referenced_bytes};
 ghost use Rattle.legacy_tables.specs.TableChecks.{table_fault};
 ghost use Rattle.legacy_index_files.specs.Encodings.{encoding_name};
-ghost use Rattle.legacy_encodings.specs.Lists.{has_pairs};
+ghost use Rattle.legacy_coders.specs.Lists.{has_pairs};
 ghost use Rattle.legacy_index_files.specs.IndexTexts.{no_text};
 ghost use Rattle.legacy_index_files.specs.OwnedIndexes.{owned_lists, HoldsTexts, IsUnallocated};
 ghost use Rattle.legacy_encodings.specs.SingleByteFiles.{IsSingleByteFault};
@@ -16,13 +16,11 @@ ghost use Rattle.legacy_encodings.specs.Registries.{IsDecoderOf, IsEncoderOf};
 ghost use Rattle.legacy_encodings.specs.Registries.{IsText, IsDecodeError, AreEncodedBytes, IsEncodeError, bytes_by};
 ghost use Rattle.legacy_encodings.specs.Registries.{IsTranscoded, IsTranscodeError};
 
-use crate::coders::{AnyDecoder, AnyEncoder};
-use crate::listed::{ListedEncoder, has_pairs};
-use crate::room::pair_room;
 use legacy_codecs::{
     RawDecoder, RawEncoder, SingleByteTable, SizedError, TableError, Tables, decode_whole,
     encode_whole,
 };
+use legacy_coders::{AnyDecoder, AnyEncoder, ListedEncoder, has_pairs, pair_room};
 use legacy_index_files::{Codec, Encoding, FileIndex, IndexFileError, OwnedIndexes};
 use std::alloc::{AllocError, Global};
 use thiserror::Error;

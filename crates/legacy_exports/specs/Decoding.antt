@@ -10,7 +10,7 @@ use Rattle.legacy_base.specs.Calls.{Progress}
 use Rattle.legacy_codecs.specs.Replacing.{replaced_scalars, has_malformed, may_replace_end}
 use Rattle.legacy_codecs.specs.declared.results.CoderResult.{CoderResult}
 use Rattle.legacy_codecs.specs.declared.results.CoderResult.TheVariants.{InputEmpty, OutputFull}
-use Rattle.legacy_encodings.specs.Coders.{decoder_of}
+use Rattle.legacy_coders.specs.Coders.{decoder_of}
 use Rattle.legacy_exports.specs.NewCoders.{HoldsByNumber}
 use Rattle.legacy_exports.specs.Repeated.{RepeatsFrom}
 use Rattle.legacy_exports.specs.AcceptedIndexes.{IsRefused, IsTaken}

@@ -4,7 +4,7 @@ use Rattle.legacy_base.specs.declared.results.EncodeEvent.{EncodeEvent}
 use Rattle.legacy_base.specs.declared.results.EncodeEvent.TheVariants.{Byte, Unmappable}
 use Rattle.legacy_base.specs.Encoders.{EncoderState, end_bytes, encoder_need}
 use Rattle.legacy_codecs.specs.References.{reference, reference_need, Gives}
-use Rattle.legacy_encodings.specs.Coders.{encoder_of}
+use Rattle.legacy_coders.specs.Coders.{encoder_of}
 use Rattle.legacy_exports.specs.NewCoders.{HoldsByNumber}
 use Rattle.legacy_exports.specs.Repeated.{RepeatsFrom}
 use Rattle.legacy_exports.specs.AcceptedIndexes.{IsRefusedToEncode, IsTakenToEncode}

@@ -1,7 +1,7 @@
 //! The decoder of a codec.
 ghost use Rattle.std.specs.Prelude.{◌≡◌, ◌≤◌, ◌↔◌, length, map, take, option_map, IfNone, IfSome, IsSome};
 ghost use Rattle.legacy_exports.specs.AcceptedIndexes.{range_pair, AreTakenLists, IsRefused, IsTaken};
-ghost use Rattle.legacy_encodings.specs.Coders.{decoder_of};
+ghost use Rattle.legacy_coders.specs.Coders.{decoder_of};
 ghost use Rattle.legacy_exports.specs.NewCoders.{HoldsOfNew, HoldsOverTables, HoldsByNumber};
 ghost use Rattle.legacy_exports.specs.Decoding.{DecodesSource, ReturnsText};
 ghost use Rattle.legacy_exports.specs.Repeated.{Repeats, RepeatsFrom};
@@ -12,7 +12,7 @@ use crate::indexes::{IndexSlices, RANGE_LIMIT, range_pairs, single_byte_table, t
 use crate::pieces::{Reading, decode_once};
 use crate::unit::CodeUnit;
 use legacy_base::{RawDecoder, SingleByteTable, Tables};
-use legacy_encodings::{AnyDecoder, DecoderTask};
+use legacy_coders::{AnyDecoder, DecoderTask};
 use legacy_index_files::Codec;
 
 impl<C: DecoderCalls<U>, U: CodeUnit> DecoderTask<U> for Reading<C, &[u8]> {

@@ -3,7 +3,7 @@ ghost use Rattle.std.specs.Prelude.{◌≡◌, ◌≤◌, ◌↔◌, ⊤, IsUtf8
 ghost use Rattle.std.specs.Str.{chars};
 ghost use Rattle.legacy_index_files.specs.Encodings.{has_encoder};
 ghost use Rattle.legacy_exports.specs.AcceptedIndexes.{range_pair, AreTakenLists, IsRefusedToEncode, IsTakenToEncode};
-ghost use Rattle.legacy_encodings.specs.Coders.{encoder_of};
+ghost use Rattle.legacy_coders.specs.Coders.{encoder_of};
 ghost use Rattle.legacy_exports.specs.NewCoders.{HoldsOfNew, HoldsOverTables, HoldsByNumber};
 ghost use Rattle.legacy_exports.specs.Encoding.{ConvertsText, ReturnsBytes};
 ghost use Rattle.legacy_exports.specs.Repeated.{Repeats, RepeatsFrom};
@@ -14,7 +14,7 @@ use crate::indexes::{IndexSlices, RANGE_LIMIT, range_pairs, single_byte_table, t
 use crate::pieces::Reading;
 use crate::source_texts::Text;
 use legacy_base::{RawEncoder, SingleByteTable, Tables};
-use legacy_encodings::{AnyEncoder, EncoderTask, ListedEncoder};
+use legacy_coders::{AnyEncoder, EncoderTask, ListedEncoder};
 use legacy_index_files::Codec;
 
 /// Encodes the text once, and returns the number of bytes written.

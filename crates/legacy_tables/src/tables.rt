@@ -33,7 +33,6 @@ pub use private_use::GB18030_2022_PUA;
 pub use ranges::{RangePart, Ranges};
 use std::fmt;
 use std::marker::Model;
-use thiserror::Error;
 use unpacking::unpack;
 pub use walks::Marks;
 use walks::{shortened, walk};
@@ -81,52 +80,128 @@ impl fmt::Display for IndexName {
 }
 
 /// The reason why indexes or a single-byte table are refused.
-#[derive(Debug, Drop, PartialEq, Eq, Error)]
+#[derive(Drop, PartialEq, Eq)]
 pub enum TableError {
     /// The index has more entries than pointers.
-    #[error("index {0} is too long")]
     TooLong(IndexName),
     /// The entry is not 0, and is not a scalar that the index may contain.
-    #[error("index {0} has a bad entry at {1}")]
     BadEntry(IndexName, usize),
     /// The entry is not 0, though the decoder does not look it up.
-    #[error("index {0} must be empty at {1}")]
     NotEmpty(IndexName, usize),
     /// The katakana index has neither 0 nor 63 entries.
-    #[error("index katakana must have 0 or 63 entries")]
     KatakanaLength,
     /// The range at the place starts past the last pointer, or too low for the range before it.
-    #[error("ranges are out of order at {0}")]
     RangeOrder(usize),
     /// The range at the place has a scalar below U+0080, past U+FFFF, or a surrogate.
-    #[error("range {0} has a bad scalar")]
     RangeValue(usize),
     /// The scalar of the private-use row at the place is not above that of the row before.
-    #[error("private-use row {0} is out of order")]
     PuaOrder(usize),
     /// The scalar of the private-use row at the place is outside U+E000 to U+F8FF, or is U+E5E5.
-    #[error("private-use row {0} has a bad scalar")]
     PuaScalar(usize),
     /// The bytes of the private-use row at the place are no lead and trail of GB18030.
     ///
     /// The lead is outside 81 to FE, or the trail is outside 40 to 7E and 80 to FE.
-    #[error("private-use row {0} has bad bytes")]
     PuaBytes(usize),
     /// The run or the pointer at the place of the packed part is not in order.
-    #[error("packed {0} is out of order at {1}")]
     PackedOrder(PackedPart, usize),
     /// The packed part and the flat index give different results for the pointer.
     ///
     /// A run may contain U+0000 or the number of a surrogate, which no flat index gives.
-    #[error("packed {0} differs at {1}")]
     PackedDiffers(PackedPart, usize),
     /// The entry at the place is not 0, and is not a scalar that a single-byte table may contain.
-    #[error("single-byte entry {0} is bad")]
     BadByteEntry(usize),
     /// The entry at the place is not 0, and is equal to an earlier entry.
-    #[error("single-byte entry {0} is repeated")]
     Repeated(usize),
 }
+
+impl TableError {
+    /// Returns the name of the index or of the packed part, or nothing.
+    fn name(&self) -> &'static str {
+        match self {
+            TableError::TooLong(name)
+            | TableError::BadEntry(name, _)
+            | TableError::NotEmpty(name, _) => name.word(),
+            TableError::PackedOrder(part, _) | TableError::PackedDiffers(part, _) => part.word(),
+            _ => "",
+        }
+    }
+
+    /// Returns the place, if the message has one.
+    fn place(&self) -> Option<usize> {
+        match self {
+            TableError::TooLong(_) | TableError::KatakanaLength => None,
+            TableError::BadEntry(_, at) | TableError::NotEmpty(_, at) => Some(*at),
+            TableError::PackedOrder(_, at) | TableError::PackedDiffers(_, at) => Some(*at),
+            TableError::RangeOrder(at) | TableError::RangeValue(at) => Some(*at),
+            TableError::PuaOrder(at) | TableError::PuaScalar(at) | TableError::PuaBytes(at) => Some(
+                *at,
+            ),
+            TableError::BadByteEntry(at) | TableError::Repeated(at) => Some(*at),
+        }
+    }
+
+    /// Returns the words before the name.
+    fn first(&self) -> &'static str {
+        match self {
+            TableError::TooLong(_) | TableError::BadEntry(_, _) | TableError::NotEmpty(_, _) =>
+                "index ",
+            TableError::KatakanaLength => "index katakana must have 0 or 63 entries",
+            TableError::RangeOrder(_) => "ranges are out of order at ",
+            TableError::RangeValue(_) => "range ",
+            TableError::PuaOrder(_) | TableError::PuaScalar(_) | TableError::PuaBytes(_) =>
+                "private-use row ",
+            TableError::PackedOrder(_, _) | TableError::PackedDiffers(_, _) => "packed ",
+            TableError::BadByteEntry(_) | TableError::Repeated(_) => "single-byte entry ",
+        }
+    }
+
+    /// Returns the words between the name and the place.
+    fn middle(&self) -> &'static str {
+        match self {
+            TableError::TooLong(_) => " is too long",
+            TableError::BadEntry(_, _) => " has a bad entry at ",
+            TableError::NotEmpty(_, _) => " must be empty at ",
+            TableError::PackedOrder(_, _) => " is out of order at ",
+            TableError::PackedDiffers(_, _) => " differs at ",
+            _ => "",
+        }
+    }
+
+    /// Returns the words after the place.
+    fn last(&self) -> &'static str {
+        match self {
+            TableError::RangeValue(_) | TableError::PuaScalar(_) => " has a bad scalar",
+            TableError::PuaOrder(_) => " is out of order",
+            TableError::PuaBytes(_) => " has bad bytes",
+            TableError::BadByteEntry(_) => " is bad",
+            TableError::Repeated(_) => " is repeated",
+            _ => "",
+        }
+    }
+}
+
+/// Writes the message.
+impl fmt::Display for TableError {
+    // Here, each variant would be a separate path through every write.
+    fn fmt<W: fmt::Write>(&self, f: &mut fmt::Formatter<W>) -> fmt::Result {
+        f.write_str(self.first())?;
+        f.write_str(self.name())?;
+        f.write_str(self.middle())?;
+        if let Some(place) = self.place() {
+            write!(f, "{place}")?;
+        }
+        f.write_str(self.last())
+    }
+}
+
+/// Writes the message.
+impl fmt::Debug for TableError {
+    fn fmt<W: fmt::Write>(&self, f: &mut fmt::Formatter<W>) -> fmt::Result {
+        fmt::Display::fmt(self, f)
+    }
+}
+
+impl std::error::Error for TableError {}
 
 /// Flat indexes, not checked yet.
 ///

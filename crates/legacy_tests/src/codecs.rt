@@ -5,7 +5,7 @@ use crate::indexes::{
 };
 use crate::rows::{Row, follow};
 use legacy_codecs::{SingleByteEncoder, SingleByteTable, Tables};
-use legacy_encodings::{AnyDecoder, AnyEncoder};
+use legacy_coders::{AnyDecoder, AnyEncoder};
 use legacy_index_files::Codec;
 use std::process::Abort;
 

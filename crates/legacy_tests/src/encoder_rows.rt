@@ -8,7 +8,7 @@ use crate::encode_events::{Wanted, events_of};
 use crate::source_texts::{Text, TextPieces};
 use legacy_base::{EncodeEvent, EncoderResult, RawEncoder};
 use legacy_codecs::RunError;
-use legacy_encodings::AnyEncoder;
+use legacy_coders::AnyEncoder;
 use legacy_index_files::Codec;
 use std::process::Abort;
 

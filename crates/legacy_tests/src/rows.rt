@@ -9,7 +9,7 @@ use crate::replacing::{follow_pieces, follow_text};
 use crate::units::{Call, Form, Output, Units};
 use legacy_base::{DecodeEvent, DecoderResult, RawDecoder};
 use legacy_codecs::RunError;
-use legacy_encodings::AnyDecoder;
+use legacy_coders::AnyDecoder;
 use std::process::Abort;
 
 /// A call, a query or a run of a decoder, with its wanted result.

@@ -76,7 +76,7 @@ pub enum PackedPart {
 impl PackedPart {
     /// Returns the name of the part for messages.
     // In `fmt`, each name would be a separate path through the call.
-    fn word(self) -> &'static str {
+    pub(crate) fn word(self) -> &'static str {
         match self {
             PackedPart::Big5 => "big5",
             PackedPart::EucKr => "euc-kr",

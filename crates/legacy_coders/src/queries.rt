@@ -1,9 +1,9 @@
 //! Length queries of encoders by the form of the text, so that both are asked in one place.
 ghost use Rattle.std.specs.Prelude.{◌≡◌};
 ghost use Rattle.legacy_base.specs.Encoders.{encoder_answer};
-ghost use Rattle.legacy_encodings.specs.Queries.{encoding_form};
+ghost use Rattle.legacy_coders.specs.Queries.{encoding_form};
 
-use legacy_codecs::RawEncoder;
+use legacy_base::RawEncoder;
 
 /// The form of the text that an encoder is asked about.
 #[derive(Clone, Copy)]

@@ -3,7 +3,7 @@ ghost use Rattle.std.specs.Prelude.{ℕ, List};
 ghost use Rattle.legacy_base.specs.States.{DecoderState};
 ghost use Rattle.legacy_base.specs.Encoders.{EncoderState};
 
-use legacy_codecs::{RawDecoder, RawEncoder};
+use legacy_base::{RawDecoder, RawEncoder};
 
 /// A task for a decoder of any encoding, to which `AnyDecoder::lend` lends its decoder.
 pub trait DecoderTask<U> {

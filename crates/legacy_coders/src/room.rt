@@ -1,7 +1,7 @@
 //! Room for lists of pairs.
 ghost use Rattle.std.specs.Prelude.{◌≡◌, replicate, IfOk};
 
-use legacy_codecs::PAIR_ROOM;
+use legacy_encoder_engine::cached::PAIR_ROOM;
 use std::alloc::{AllocError, Global};
 
 /// Allocates room for the pairs of a `ListedEncoder`: `PAIR_ROOM` entries, 128 KB.

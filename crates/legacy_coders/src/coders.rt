@@ -3,18 +3,25 @@ ghost use Rattle.std.specs.Prelude.{◌≡◌};
 ghost use Rattle.std.specs.Option.{option_map};
 ghost use Rattle.legacy_base.specs.States.{DecoderState};
 ghost use Rattle.legacy_base.specs.Encoders.{new_encoder};
-ghost use Rattle.legacy_encodings.specs.Coders.{decoder_of, encoder_of};
+ghost use Rattle.legacy_coders.specs.Coders.{decoder_of, encoder_of};
 
 use crate::tasks::{DecoderTask, EncoderTask};
-use legacy_codecs::{
-    Big5Decoder, Big5Encoder, DecoderResult, Destination, EncoderResult, EucJpDecoder,
-    EucJpEncoder, EucKrDecoder, EucKrEncoder, Gb18030Decoder, Gb18030Encoder, Iso2022JpDecoder,
-    Iso2022JpEncoder, RawDecoder, RawEncoder, ReplacementDecoder, ShiftJisDecoder, ShiftJisEncoder,
-    SingleByteDecoder, SingleByteEncoder, SingleByteTable, Source, Tables, UserDefinedDecoder,
-    UserDefinedEncoder, Utf16Decoder,
+use legacy_base::{
+    DecoderResult, Destination, EncoderResult, RawDecoder, RawEncoder, SingleByteTable, Source,
+    Tables,
 };
+use legacy_chinese::{Big5Decoder, Big5Encoder, Gb18030Decoder, Gb18030Encoder};
 use legacy_encoder_engine::pair_encoder::{PairCodec, PairEncoder};
 use legacy_index_files::Codec;
+use legacy_japanese::{
+    EucJpDecoder, EucJpEncoder, Iso2022JpDecoder, Iso2022JpEncoder, ShiftJisDecoder,
+    ShiftJisEncoder,
+};
+use legacy_korean::{EucKrDecoder, EucKrEncoder};
+use legacy_miscellaneous::{
+    ReplacementDecoder, UserDefinedDecoder, UserDefinedEncoder, Utf16Decoder,
+};
+use legacy_single_byte::{SingleByteDecoder, SingleByteEncoder};
 
 /// A decoder of any encoding.
 ///
@@ -69,7 +76,7 @@ impl Drop for AnyDecoder<'_> {
 }
 
 impl<'a> RawDecoder for AnyDecoder<'a> {
-    ghost use Rattle.legacy_encodings.specs.declared.coders.AnyDecoder.TheVariants.{SingleByte, Gb18030, Big5, EucJp, Iso2022Jp, ShiftJis, EucKr, Replacement, Utf16, UserDefined};
+    ghost use Rattle.legacy_coders.specs.declared.coders.AnyDecoder.TheVariants.{SingleByte, Gb18030, Big5, EucJp, Iso2022Jp, ShiftJis, EucKr, Replacement, Utf16, UserDefined};
 
     ghost state = { elim [
       | SingleByte coder ↦ ⟦<SingleByteDecoder<'static> as RawDecoder>⟧.state coder
@@ -156,7 +163,7 @@ macro_rules! match_encoder {
 }
 
 impl<'a> RawEncoder for AnyEncoder<'a> {
-    ghost use Rattle.legacy_encodings.specs.declared.coders.AnyEncoder.TheVariants.{SingleByte, Gb18030, Big5, EucJp, Iso2022Jp, ShiftJis, EucKr, UserDefined};
+    ghost use Rattle.legacy_coders.specs.declared.coders.AnyEncoder.TheVariants.{SingleByte, Gb18030, Big5, EucJp, Iso2022Jp, ShiftJis, EucKr, UserDefined};
 
     ghost state = { elim [
       | SingleByte coder ↦ ⟦<SingleByteEncoder<'static> as RawEncoder>⟧.state coder

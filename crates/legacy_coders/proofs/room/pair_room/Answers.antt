@@ -1,4 +1,4 @@
-use Rattle.legacy_encodings.proofs.room.pair_room.Goals as goal
+use Rattle.legacy_coders.proofs.room.pair_room.Goals as goal
 
 pub returns : goal.returns
 returns c = c.in_ok-room.ensures.items_if_clones_equal (λ y same. same)

@@ -1,5 +1,5 @@
 use Rattle.std.proofs.Common.{rules}
-use Rattle.legacy_encodings.proofs.listed.has_pairs.Goals as goal
+use Rattle.legacy_coders.proofs.listed.has_pairs.Goals as goal
 
 pub returns : goal.returns
 returns c = search rules

@@ -4,17 +4,18 @@ ghost use Rattle.std.specs.Prelude.{◌+◌, take};
 ghost use Rattle.legacy_text.specs.EncodingForm.{total_unit_count};
 ghost use Rattle.legacy_base.specs.Encoders.{new_encoder, encoder_answer};
 ghost use Rattle.legacy_base.specs.EncoderCalls.{EncoderCall};
-ghost use Rattle.legacy_encodings.specs.Lists.{has_pairs};
-ghost use Rattle.legacy_encodings.specs.Queries.{encoding_form};
+ghost use Rattle.legacy_coders.specs.Lists.{has_pairs};
+ghost use Rattle.legacy_coders.specs.Queries.{encoding_form};
 
 use crate::coders::AnyEncoder;
 use crate::queries::{TextForm, answer_of};
 use crate::tasks::EncoderTask;
-use legacy_codecs::{
-    Big5Encoder, CachedEncoder, CachedIso2022JpEncoder, EncoderResult, EucJpEncoder, EucKrEncoder,
-    Gb18030Encoder, PAIR_ROOM, RawEncoder, ShiftJisEncoder, Source, Tables,
-};
+use legacy_base::{EncoderResult, RawEncoder, Source, Tables};
+use legacy_chinese::{Big5Encoder, Gb18030Encoder};
+use legacy_encoder_engine::cached::{CachedEncoder, PAIR_ROOM};
 use legacy_encoder_engine::pair_encoder::{FillsPairs, PairEncoder};
+use legacy_japanese::{CachedIso2022JpEncoder, EucJpEncoder, ShiftJisEncoder};
+use legacy_korean::EucKrEncoder;
 
 /// An encoder of any encoding of pairs, with a list of its pairs in memory that the caller lends.
 #[derive(Drop)]
@@ -111,7 +112,7 @@ fn list_pairs<'a, 'b, C: FillsPairs>(
 }
 
 impl<'a, 'b> RawEncoder for ListedEncoder<'a, 'b> {
-    ghost use Rattle.legacy_encodings.specs.declared.listed.ListedEncoder.TheVariants.{Gb18030, Big5, EucJp, Iso2022Jp, ShiftJis, EucKr};
+    ghost use Rattle.legacy_coders.specs.declared.listed.ListedEncoder.TheVariants.{Gb18030, Big5, EucJp, Iso2022Jp, ShiftJis, EucKr};
 
     ghost state = { elim [
       | Gb18030 coder ↦ ⟦<CachedEncoder<'static, Gb18030Encoder<'static>> as RawEncoder>⟧.state coder

@@ -1,4 +1,0 @@
-use Rattle.legacy_encodings.proofs.coders.run_with.Goals as goal
-
-pub returns : goal.returns
-returns g c = (_, c.run.ensures)
