@@ -1,6 +1,6 @@
 //! Runs the program that encodes, by its words, files and streams.
 ghost use Rattle.std.specs.Prelude.{◌≡◌, ◌↔◌, ◌≤◌, ◌⊎◌, [], true, OnErr, OnOk, None, Some, IsTrue};
-ghost use Rattle.legacy_encodings.specs.Lists.{has_pairs};
+ghost use Rattle.legacy_coders.specs.Lists.{has_pairs};
 ghost use Rattle.legacy_command.specs.Words.{texts_of, are_indexes, codec_of_words};
 ghost use Rattle.legacy_command.specs.GivenTexts.{contents_of, text_given, AreWellFormed};
 ghost use Rattle.legacy_command.specs.Program.{with_encoder, EncodesInput, EncodesSome, Untouched};
