@@ -1,12 +1,12 @@
 -- Two inputs, by a registry that read the index files of EUC-KR and windows-1252.
-use Rattle.std.proofs.Common.{◌≡◌, ℕ, List, [], Some, Bool, true, codes, refl, subst}
+use Rattle.std.proofs.Common.{◌≡◌, ℕ, List, [], Some, Bool, true, false, codes, refl, subst}
 use Rattle.legacy_base.specs.{EucKr.euc_kr, Grammar.single_byte, States.{DecoderState, new_state}}
 use Rattle.legacy_tables.specs.{TableChecks.AreAccepted, Indexes.FlatIndexes}
 use Rattle.legacy_index_files.specs.{declared.encodings.Encoding.Encoding, declared.index_file.FileIndex.TheVariants.EucKr, Labels.encoding_labelled}
 use Rattle.legacy_index_files.specs.declared.index_file.IndexFileError.TheVariants as reading
 use Rattle.legacy_encodings.specs.{declared.registry.Coders.Coders, declared.registry.RegistryError.RegistryError, ReadFiles.IsIndexFault}
 use Rattle.legacy_encodings.specs.{declared.registry.RegistryError.TheVariants.{File, NoIndex, Sized, Unknown, WrongKind}, SingleByteFiles.IsTableFault}
-use Rattle.legacy_encodings.specs.Registries.{IsDecodeError, IsDecoderOf, IsReadTable, IsText}
+use Rattle.legacy_encodings.specs.Registries.{can_decode, first_entries, IsDecodeError, IsDecoderOf, IsReadTable, IsText}
 use Rattle.legacy_uses.specs.IndexData.{IsEucKrFile, IsEucKrIndex, IsTextByFile, IsFaultByFile, only_euc_kr}
 use Rattle.legacy_uses.specs.IndexData.{IsTextBySingleByteFile, IsFaultBySingleByteFile}
 use Rattle.legacy_codecs.specs.declared.whole.SizedError.TheVariants.{TooLong, Memory}
@@ -83,7 +83,9 @@ module _ (coders : Coders) (file input : List ℕ) (read : IsReadTable encoding.
   pub not_decoded_by_table : (error : RegistryError) → IsDecodeError coders (codes "windows-1252") input error → IsFaultBySingleByteFile file input error
   not_decoded_by_table Unknown is = let none = known_windows_1252 in absurd cc
   not_decoded_by_table NoIndex is =
-      let none = rw (is_windows_1252 is.0 is.1, read.first, read.of) at is.2 in absurd cc
+      let some : first_entries coders.single_bytes.now encoding.Windows1252 ≡ Some read.table.table.entries = rw (read.first, read.of) refl in
+      let lacking = subst (λ e. can_decode coders e ≡ false) (is_windows_1252 is.0 is.1) is.2 in
+      let none = rw some at lacking in absurd cc
   not_decoded_by_table (Sized TooLong) is = record {
     entries = read.table.table.entries;
     of_file = read.of_file;

@@ -44,7 +44,8 @@ pub returns-in_err-western_text-clause-fault : goal.returns-in_err-western_text-
 returns-in_err-western_text-clause-fault c =
     let r = c.from_residual-in_err-western_text in
     let p = err_from_is_err_and r.result r.ensures.1 in
-    let read = rw (c.new-registry.ensures.single_bytes, ← c.in_ok-coders.ensures.1) at c.in_ok-read_single_byte.ensures.table in
+    let read = rw (c.in_ok-read_index.ensures.single_bytes, c.new-registry.ensures.single_bytes, ← c.in_ok-coders.ensures.1)
+    at c.in_ok-read_single_byte.ensures.table in
     let h = holds_well_formed c.new-registry.ensures.indexes c.new-registry.ensures.katakana c.in_ok-read_index.ensures.file.well_formed
     c.in_ok-read_index.ensures.file.holds in
     rw (p.1, p.2) (inr (h.of_file.well_formed, not_decoded_by_table c.in_ok-coders.coders _ _ read _ c.in_err-western_text.ensures))
@@ -61,7 +62,8 @@ returns-clause-korean c =
 
 pub returns-clause-western : goal.returns-clause-western
 returns-clause-western c =
-    let read = rw (c.new-registry.ensures.single_bytes, ← c.in_ok-coders.ensures.1) at c.in_ok-read_single_byte.ensures.table in
+    let read = rw (c.in_ok-read_index.ensures.single_bytes, c.new-registry.ensures.single_bytes, ← c.in_ok-coders.ensures.1)
+    at c.in_ok-read_single_byte.ensures.table in
     windows_1252_by_file c.in_ok-coders.coders _ _ read _ c.in_ok-western_text.ensures
 
 pub returns-clause-fault : goal.returns-clause-fault
