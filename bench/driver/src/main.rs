@@ -27,6 +27,8 @@ mod measure;
 mod medians;
 mod ours;
 mod packing;
+mod pattern;
+mod patterns;
 mod peers;
 mod pieces;
 mod pointers;
@@ -36,6 +38,7 @@ mod rest;
 mod rounds;
 mod sources;
 mod theirs;
+mod ways;
 
 use compare::{Builds, Ratios};
 use decoding::Codec;
@@ -66,10 +69,11 @@ enum Table {
     Flat,
     Replace,
     Checks,
+    Patterns,
 }
 
 /// The names of the tables, in the order in which they are made.
-const TABLES: [(&str, Table); 7] = [
+const TABLES: [(&str, Table); 8] = [
     ("decode", Table::Decode),
     ("encode", Table::Encode),
     ("ahead", Table::Ahead),
@@ -77,6 +81,7 @@ const TABLES: [(&str, Table); 7] = [
     ("flat", Table::Flat),
     ("replace", Table::Replace),
     ("checks", Table::Checks),
+    ("patterns", Table::Patterns),
 ];
 
 /// The tables and lines that are made. If no word names any, all are made.
@@ -135,7 +140,7 @@ fn lines(table: Table, corpus: &str, codec: &Codec, long: &[u8], short: &[u8], t
             }
             replacing::faulty_lines(corpus, codec, long, short, times)
         }
-        Table::Packed | Table::Flat | Table::Replace | Table::Checks => Ok(()),
+        Table::Packed | Table::Flat | Table::Replace | Table::Checks | Table::Patterns => Ok(()),
     }
 }
 
@@ -147,6 +152,7 @@ fn heading(table: Table) -> String {
         Table::Packed => decoding::packed_heading(),
         Table::Flat => encoding::flat_heading(),
         Table::Replace => replacing::heading(),
+        Table::Patterns => patterns::heading(),
         Table::Checks => String::new(),
     }
 }
@@ -175,6 +181,9 @@ fn table(table: Table, wanted: &Wanted, codecs: &mut Codecs, times: usize) -> Re
         return checks::table();
     }
     println!("{}", heading(table));
+    if table == Table::Patterns {
+        return patterns::lines(wanted, times);
+    }
     each_line(wanted, codecs, |corpus, codec, long, short| lines(table, corpus, codec, long, short, times))?;
     if table == Table::Replace && wanted.has_line(&["Big5", "ff"]) {
         replacing::ff_lines(&Ours::new(BIG5, Kept::Flat), times)?;
