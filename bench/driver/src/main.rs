@@ -15,16 +15,20 @@
 //! - `medians` and files with the tables of several builds: makes one table of them.
 
 mod agreement;
+mod changes;
 mod checks;
+mod climb;
 mod compare;
 mod corpora;
 mod decoding;
 mod encoding;
 mod files;
+mod forms;
 mod indexes;
 mod loaded;
 mod measure;
 mod medians;
+mod numbers;
 mod ours;
 mod packing;
 mod pattern;
@@ -253,6 +257,7 @@ fn main() -> Result<(), String> {
         Some("medians") => return medians::tables(arguments.into_iter().skip(1)),
         Some("agreement") => return agreement::report(),
         Some("files") => return files::report(),
+        Some("worst") => return climb::report(&arguments[1..]),
         Some("sources") => {
             sources::print();
             return Ok(());

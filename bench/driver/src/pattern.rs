@@ -14,9 +14,6 @@ use encoding_rs::{Encoding, UTF_16BE, UTF_16LE};
 use std::fmt::{self, Display, Formatter};
 use std::str::FromStr;
 
-/// The least length of a source in bytes or code points. A pattern is repeated up to it.
-const LENGTH: usize = 8192;
-
 /// The text of the parts `ascii`.
 const ASCII: &str = "The quick brown fox jumps over 13 lazy dogs, and they sleep on; who would wake them (at 7:45)? ";
 
@@ -86,7 +83,7 @@ fn encoded(encoding: &'static Encoding, text: &str) -> Vec<u8> {
 
 impl Pattern {
     /// Returns the code points of one repetition of a pattern for an encoder.
-    fn code_points_once(&self, texts: &Texts) -> Vec<u32> {
+    pub fn code_points_once(&self, texts: &Texts) -> Vec<u32> {
         let mut codes = Vec::new();
         for Part { repeated, count } in &self.parts {
             match repeated {
@@ -100,14 +97,8 @@ impl Pattern {
         codes
     }
 
-    /// Returns the source of an encoder in code points.
-    pub fn code_points(&self, texts: &Texts) -> Vec<u32> {
-        let once = self.code_points_once(texts);
-        once.repeat(LENGTH.div_ceil(once.len().max(1)))
-    }
-
-    /// Returns the source of a decoder.
-    pub fn bytes(&self, encoding: &'static Encoding, texts: &Texts) -> Vec<u8> {
+    /// Returns one repetition of a pattern for a decoder.
+    pub fn bytes_once(&self, encoding: &'static Encoding, texts: &Texts) -> Vec<u8> {
         let mut once = Vec::new();
         for part in &self.parts {
             match &part.repeated {
@@ -119,8 +110,13 @@ impl Pattern {
                 }
             }
         }
-        once.repeat(LENGTH.div_ceil(once.len().max(1)))
+        once
     }
+}
+
+/// Returns a source of at least this length by repeating a pattern.
+pub fn repeated<U: Copy>(once: &[U], length: usize) -> Vec<U> {
+    once.repeat(length.div_ceil(once.len().max(1)))
 }
 
 /// Returns the lines of a decoder's source, each with its end.

@@ -13,8 +13,9 @@ use std::time::Duration;
 /// The lines of patterns. What follows a `#` is a comment.
 const PATTERNS: &str = include_str!("../patterns");
 
-/// About how long a call is.
+/// About how long a call is, and how long a pattern is timed in a way.
 const SPAN: Duration = Duration::from_micros(300);
+const MOST: Duration = Duration::from_millis(400);
 
 /// Returns the converter, the encoding's label and the pattern of a line.
 fn parsed(line: &'static str) -> Result<(Converter, &'static str, Pattern), String> {
@@ -62,7 +63,7 @@ pub fn lines(wanted: &Wanted, times: usize) -> Result<(), String> {
         if !subjects.contains_key(label) {
             subjects.insert(label, Subject::new(label)?);
         }
-        lines.push(line(&subjects[label], converter, &pattern, Effort { turns: times, span: SPAN })?);
+        lines.push(line(&subjects[label], converter, &pattern, Effort { turns: times, span: SPAN, most: MOST, with_fast: true })?);
     }
     lines.sort_by(|one, other| one.least.total_cmp(&other.least));
     for line in &lines {

@@ -4,13 +4,13 @@ use crate::decoding::{self, Into, ToUtf16, ToUtf8};
 use crate::encoding::{self, fast_encoding, FastEncoding, From, FromUtf16, FromUtf8};
 use crate::measure::thread_time;
 use crate::ours::{Calls, Kept, Ours};
-use crate::pattern::{byte_lines, Cut, Pattern, Texts};
+use crate::pattern::{byte_lines, repeated, Cut, Pattern, Texts};
 use crate::pieces::Unit;
 use crate::PACKED;
 use encoding_rs::Encoding;
 use std::collections::BTreeMap;
 use std::hint::black_box;
-use std::time::Duration;
+use std::time::{Duration, Instant};
 
 /// What converts a pattern.
 #[derive(Clone, Copy, PartialEq, Eq)]
@@ -32,6 +32,15 @@ impl Converter {
             Converter::Decoder => "decode",
             Converter::Encoder => "encode",
             Converter::Searcher => "search",
+        }
+    }
+
+    /// Returns the least length of its sources in bytes or code points. A search takes long.
+    fn length(self) -> usize {
+        match self {
+            Converter::Decoder => 8192,
+            Converter::Encoder => 2048,
+            Converter::Searcher => 256,
         }
     }
 }
@@ -62,11 +71,17 @@ impl Way {
     }
 }
 
-/// How long a pattern is timed: how often each call is made in turn, and about how long a call takes.
+/// How long a pattern is timed.
 #[derive(Clone, Copy)]
 pub struct Effort {
+    /// How often each call is made, in turn with the others.
     pub turns: usize,
+    /// About how long a call takes.
     pub span: Duration,
+    /// After how long no further turn is begun.
+    pub most: Duration,
+    /// Whether the build of encoding_rs with fast tables is timed too.
+    pub with_fast: bool,
 }
 
 /// A conversion that is made a number of times, to an output.
@@ -91,7 +106,11 @@ fn times<W>(conversions: &[Conversion<'_, W>], dst: &mut [W], effort: Effort) ->
     };
     let rounds: Vec<usize> = conversions.iter().map(&mut rounds_of).collect();
     let mut least = vec![(Duration::MAX, Duration::MAX); conversions.len()];
-    for _ in 0..effort.turns {
+    let end = Instant::now() + effort.most;
+    for turn in 0..effort.turns {
+        if turn > 0 && Instant::now() > end {
+            break;
+        }
         for ((conversion, rounds), (none, all)) in conversions.iter().zip(&rounds).zip(&mut least) {
             *none = time(conversion, 0).min(*none);
             *all = time(conversion, *rounds).min(*all);
@@ -100,7 +119,7 @@ fn times<W>(conversions: &[Conversion<'_, W>], dst: &mut [W], effort: Effort) ->
     least.iter().zip(rounds).map(|((none, all), rounds)| all.saturating_sub(*none).as_secs_f64().max(1e-12) / rounds as f64).collect()
 }
 
-/// Our speed divided by that of encoding_rs, and by that of its build with fast tables.
+/// Our speed divided by that of encoding_rs, and by that of its build with fast tables if that is timed.
 #[derive(Clone, Copy)]
 pub struct Ratios {
     pub default: f64,
@@ -185,7 +204,8 @@ impl Subject {
 
     fn decoder_ratios<D: Into>(&self, calls: Calls, pattern: &Pattern, effort: Effort) -> Result<Ratios, String> {
         let encoding = self.encoding;
-        let sources = batches(pattern.cut, pattern.bytes(encoding, &self.texts), |src| byte_lines(encoding, src));
+        let src = repeated(&pattern.bytes_once(encoding, &self.texts), Converter::Decoder.length());
+        let sources = batches(pattern.cut, src, |src| byte_lines(encoding, src));
         let mut dst = vec![D::Written::default(); longest(&sources) * 3 + 64];
         let theirs = |src: &[u8], dst: &mut [D::Written], piece, rounds| D::theirs(encoding, calls, src, dst, piece, rounds);
         let ours = |src: &[u8], dst: &mut [D::Written], piece, rounds| D::ours(&self.flat, calls, src, dst, piece, rounds);
@@ -194,26 +214,29 @@ impl Subject {
         Ok(Ratios { default: times[0] / times[1], fast: times[0] / times[1] })
     }
 
-    fn encoder_ratios<D: From>(&self, ours: &Ours, calls: Calls, pattern: &Pattern, effort: Effort) -> Result<Ratios, String> {
+    fn encoder_ratios<D: From>(&self, (ours, length): (&Ours, usize), calls: Calls, pattern: &Pattern, effort: Effort) -> Result<Ratios, String> {
         let (encoding, fast) = (self.encoding, self.fast);
-        let src = D::of_code_points(&pattern.code_points(&self.texts));
+        let src = D::of_code_points(&repeated(&pattern.code_points_once(&self.texts), length));
         let sources = batches(pattern.cut, src, |src| src.split_inclusive(|unit| *unit == D::Read::LINE_END).map(<[D::Read]>::to_vec).collect());
         let mut dst = vec![0; longest(&sources) * 10 + 64];
         let theirs = |src: &[D::Read], dst: &mut [u8], piece, rounds| D::theirs(encoding, calls, src, dst, piece, rounds);
         let fast = |src: &[D::Read], dst: &mut [u8], piece, rounds| D::fast(fast, calls, src, dst, piece, rounds);
         let ours = |src: &[D::Read], dst: &mut [u8], piece, rounds| D::ours(ours, calls, src, dst, piece, rounds);
         check(&sources, &mut dst, |src, dst, _| theirs(src, dst, 0, 1), |src, dst, piece| ours(src, dst, piece, 1))?;
-        let conversions = [conversion(&sources, theirs), conversion(&sources, fast), conversion(&sources, ours)];
+        let mut conversions = vec![conversion(&sources, ours), conversion(&sources, theirs)];
+        if effort.with_fast {
+            conversions.push(conversion(&sources, fast));
+        }
         let times = times(&conversions, &mut dst, effort);
-        Ok(Ratios { default: times[0] / times[2], fast: times[1] / times[2] })
+        Ok(Ratios { default: times[1] / times[0], fast: times.last().unwrap_or(&0.0) / times[0] })
     }
 
     /// Compares the outputs of both libraries for a pattern, and returns our speed divided by that of encoding_rs.
     pub fn ratios(&self, converter: Converter, way: Way, pattern: &Pattern, effort: Effort) -> Result<Ratios, String> {
         let encoder = match converter {
             Converter::Decoder => None,
-            Converter::Encoder => Some(self.listed.as_ref().unwrap_or(&self.flat)),
-            Converter::Searcher => Some(&self.flat),
+            Converter::Encoder => Some((self.listed.as_ref().unwrap_or(&self.flat), converter.length())),
+            Converter::Searcher => Some((&self.flat, converter.length())),
         };
         let ratios = match (encoder, way.is_utf16) {
             (None, false) => self.decoder_ratios::<ToUtf8>(way.calls, pattern, effort),
