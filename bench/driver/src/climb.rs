@@ -52,7 +52,7 @@ impl Climber<'_> {
     fn kind(&self, pattern: &Pattern) -> String {
         let (encoding, texts) = (self.subject.encoding, &self.subject.texts);
         let forms = match self.converter {
-            Converter::Decoder => forms::of_bytes(encoding, &pattern.bytes_once(encoding, texts)),
+            Converter::Decoder => forms::of_bytes(encoding, &pattern.bytes_once(encoding, texts).repeat(2)),
             _ => forms::of_code_points(encoding, &pattern.code_points_once(texts)),
         };
         format!("{}: {}", forms::of_cut(pattern.cut), forms.into_iter().collect::<Vec<_>>().join(" "))

@@ -9,7 +9,7 @@
 //!   its corpus with tags.
 
 use crate::encoding::decoded;
-use crate::{corpora, CORPORA};
+use crate::{corpora, Language, CORPORA};
 use encoding_rs::{Encoding, UTF_16BE, UTF_16LE};
 use std::fmt::{self, Display, Formatter};
 use std::str::FromStr;
@@ -56,14 +56,24 @@ pub struct Texts {
 }
 
 impl Texts {
-    /// Returns the corpora of the first language that is kept in the encoding, or in windows-1252.
-    pub fn of(encoding: &'static Encoding) -> Result<Texts, String> {
-        let of = |name| CORPORA.iter().find(|(_, _, _, encodings)| encodings.contains(&name));
-        let (language, _, share, _) = of(encoding.name()).or(of("windows-1252")).ok_or("no corpus")?;
-        let pages = corpora::html(language).map_err(|error| format!("{language}: {error}"))?;
+    /// Returns the corpora of a language, as the encoding has them.
+    pub fn of(encoding: &'static Encoding, language: &Language) -> Result<Texts, String> {
+        let (folder, _, share, _) = language;
+        let pages = corpora::html(folder).map_err(|error| format!("{folder}: {error}"))?;
         let kept = |text: &str| decoded(encoding, &corpora::encode_once(encoding, text)).chars().collect();
         Ok(Texts { text: kept(&corpora::text(&pages, *share)), html: kept(&pages) })
     }
+}
+
+/// Returns the language of the patterns of an encoding: the last one with it, Chinese for UTF-16, and French for those
+/// without one.
+pub fn language_of(label: &str) -> Option<&'static Language> {
+    let wanted = match label {
+        "UTF-16LE" | "UTF-16BE" => "gb18030",
+        _ => label,
+    };
+    let last = |label: &str| CORPORA.iter().rev().find(|(_, _, _, encodings)| encodings.contains(&label));
+    last(wanted).or_else(|| last("windows-1252"))
 }
 
 /// Returns the first characters of a text, which is repeated if it has too few.

@@ -1,6 +1,6 @@
 //! The table of the patterns that were slow once: our speed divided by encoding_rs's for each.
 //!
-//! They are in the file `patterns`, one a line: `decode`, `encode` or `search`, the encoding, and the pattern
+//! They are in the file `patterns`, one a line: `decoder`, `encoder` or `searcher`, the encoding, and the pattern
 //! (`pattern.rs`).
 
 use crate::measure::ratio_cell;

@@ -4,9 +4,9 @@ use crate::decoding::{self, Into, ToUtf16, ToUtf8};
 use crate::encoding::{self, fast_encoding, FastEncoding, From, FromUtf16, FromUtf8};
 use crate::measure::thread_time;
 use crate::ours::{Calls, Kept, Ours};
-use crate::pattern::{byte_lines, repeated, Cut, Pattern, Texts};
+use crate::pattern::{byte_lines, language_of, repeated, Cut, Pattern, Texts};
 use crate::pieces::Unit;
-use crate::PACKED;
+use crate::{Language, PACKED};
 use encoding_rs::Encoding;
 use std::collections::BTreeMap;
 use std::hint::black_box;
@@ -29,9 +29,9 @@ impl Converter {
     /// Returns the word for it in lines of patterns.
     pub fn word(self) -> &'static str {
         match self {
-            Converter::Decoder => "decode",
-            Converter::Encoder => "encode",
-            Converter::Searcher => "search",
+            Converter::Decoder => "decoder",
+            Converter::Encoder => "encoder",
+            Converter::Searcher => "searcher",
         }
     }
 
@@ -187,10 +187,17 @@ pub struct Subject {
 }
 
 impl Subject {
+    /// Returns the codecs of an encoding, with the texts of the language that patterns have in it.
     pub fn new(label: &str) -> Result<Subject, String> {
+        Subject::over(label, language_of(label).ok_or("no corpus")?)
+    }
+
+    /// Returns the codecs of an encoding, with the texts of a language.
+    pub fn over(label: &str, language: &Language) -> Result<Subject, String> {
         let encoding = Encoding::for_label(label.as_bytes()).ok_or_else(|| format!("{label}: no such encoding"))?;
         let listed = PACKED.contains(&encoding.name()).then(|| Ours::new(encoding, Kept::Flat).with_list());
-        Ok(Subject { encoding, fast: fast_encoding(encoding)?, flat: Ours::new(encoding, Kept::Flat), listed, texts: Texts::of(encoding)? })
+        let (fast, flat, texts) = (fast_encoding(encoding)?, Ours::new(encoding, Kept::Flat), Texts::of(encoding, language)?);
+        Ok(Subject { encoding, fast, flat, listed, texts })
     }
 
     /// Checks whether the encoding has such a converter of its own.
