@@ -51,13 +51,16 @@ fn line(subject: &Subject, converter: Converter, pattern: &Pattern, effort: Effo
     Ok(Line { least, text: format!("| {} {} {pattern} |{cells}", converter.word(), subject.encoding.name()) })
 }
 
-/// Prints the lines of the wanted patterns, worst first.
+/// Prints the lines of the wanted patterns, worst first. The words for encodings and those for converters keep lines.
 pub fn lines(wanted: &Wanted, times: usize) -> Result<(), String> {
+    let is_converter = |word: &&str| Converter::ALL.iter().any(|converter| converter.word() == *word);
+    let (converters, labels): (Vec<&str>, Vec<&str>) = wanted.words.iter().map(String::as_str).partition(is_converter);
+    let has = |words: &[&str], name: &str| words.is_empty() || words.contains(&name);
     let (mut subjects, mut lines) = (HashMap::new(), Vec::new());
     let written = PATTERNS.lines().map(|line| line.split('#').next().unwrap_or_default().trim()).filter(|line| !line.is_empty());
     for each in written {
         let (converter, label, pattern) = parsed(each)?;
-        if !wanted.has_line(&[label, converter.word()]) {
+        if !has(&labels, label) || !has(&converters, converter.word()) {
             continue;
         }
         if !subjects.contains_key(label) {
