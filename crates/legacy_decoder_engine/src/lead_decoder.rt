@@ -127,9 +127,9 @@ impl<'a, C: LeadCodec> LeadDecoder<'a, C> {
         self.held.is_none()
     }
 
-    /// Returns the number of held-back bytes.
+    /// Returns the number of held-back bytes: 1 for a lead, otherwise 0.
     #[inline]
-    fn held_count(&self) -> usize
+    pub fn held_count(&self) -> usize
         ensures { result ≡ length (held_bytes C.byte_of self.now.held) }
     {
         usize::from(self.held.is_some())

@@ -44,6 +44,9 @@ enum Held {
 ///   not a digit (1 byte); the digit is then a scalar, and the next sequence begins after it;
 /// - four bytes that do not map (4 bytes);
 /// - an incomplete sequence at the end of the input (1 to 3 bytes).
+///
+/// It keeps the range of gb18030 that was used last in a `Cell`, so it is not `Sync`. Threads can share
+/// the tables, and each makes a decoder of its own.
 #[derive(Drop)]
 pub struct Gb18030Decoder<'a> {
     tables: &'a Tables<'a>,
@@ -183,6 +186,14 @@ impl<'a> Gb18030Decoder<'a> {
         ensures { result ≡ is_neutral (gb18030_state self.now) }
     {
         matches!(self.held, Held::Nothing)
+    }
+
+    /// Returns the number of held-back bytes, at most 3.
+    #[inline]
+    pub fn held_count(&self) -> usize
+        ensures { result ≡ length (gb18030_state self.now).held }
+    {
+        usize::from(held_length(self.held))
     }
 
     /// Returns the number of bytes plus that of held-back bytes, or `None` if that overflows.

@@ -158,6 +158,18 @@ impl<'a> EucJpDecoder<'a> {
         matches!(self.held, Held::Nothing)
     }
 
+    /// Returns the number of held-back bytes, at most 2.
+    #[inline]
+    pub fn held_count(&self) -> usize
+        ensures { result ≡ length (euc_jp_state self.now).held }
+    {
+        match self.held {
+            Held::Nothing => 0,
+            Held::Katakana | Held::Jis0212 | Held::Lead(_) => 1,
+            Held::Jis0212Lead(_) => 2,
+        }
+    }
+
     /// Returns the number of bytes, plus one if bytes are held back, or `None` if that overflows.
     fn weighted_length(&self, byte_length: usize) -> Option<usize>
         ensures { result ≡ answer (weighted (euc_jp_state self.now) byte_length) }

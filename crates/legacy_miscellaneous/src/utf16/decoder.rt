@@ -1,6 +1,6 @@
 //! The decoder of UTF-16.
-ghost use Rattle.std.specs.Prelude.{◌≡◌};
-ghost use Rattle.legacy_base.specs.{Grammar.utf16, States.{additional_from_state, new_state}, Lengths.{answer, most_code_units}};
+ghost use Rattle.std.specs.Prelude.{◌≡◌, length};
+ghost use Rattle.legacy_base.specs.{Grammar.utf16, States.{additional_from_state, is_neutral, new_state}, Lengths.{answer, most_code_units}};
 ghost use Rattle.legacy_miscellaneous.specs.Utf16Decoder.{utf16_state};
 
 use super::held_bytes::Held;
@@ -22,6 +22,10 @@ use legacy_decoder_engine::read_ahead::read_blocks;
 ///
 /// The unit after an unpaired high surrogate is read and held back, so the result is `Malformed(2,
 /// 2)`.
+///
+/// Each byte is read only if 4 bytes, or 2 code units of UTF-16, are free. So 84 5C A5 85 in little
+/// endian order, to an output of 2 code units of UTF-16, gives `OutputFull` after 2 bytes, although
+/// its text has 2 code units. An output of 3 bytes, or 1 code unit, more than the text is enough.
 #[derive(Drop)]
 pub struct Utf16Decoder {
     big_endian: bool,
@@ -53,6 +57,22 @@ impl Utf16Decoder {
             Held::High(_) | Held::Pending(_) => 3,
             Held::HighOdd(_, _) => 4,
         }
+    }
+
+    /// Checks whether no byte is held back.
+    #[inline]
+    pub fn in_neutral_state(&self) -> bool
+        ensures { result ≡ is_neutral (utf16_state self.now) }
+    {
+        matches!(self.held, Held::Nothing)
+    }
+
+    /// Returns the number of held-back bytes, at most 3.
+    #[inline]
+    pub fn held_count(&self) -> usize
+        ensures { result ≡ length (utf16_state self.now).held }
+    {
+        self.additional_from_state() - 1
     }
 
     /// Returns the most code units of `byte_length` more bytes and those held back.
