@@ -166,7 +166,9 @@ def test_files():
 
 def write_crate(folder):
     """Writes the crate to a folder, and takes away a source file of an older tree."""
+    example = "examples/index_module.rs"
     files = laid_out({**modules(), **kit_files(), **test_files()})
+    files[example] = template(example)
     for name in ("Cargo.toml", "README.md"):
         files[name] = template(name)
     for name in ("LICENSE-APACHE", "LICENSE-MIT"):
