@@ -7,6 +7,7 @@ import sys
 import tempfile
 
 import rows
+from dispatch import with_dispatch
 from public import inner_names, types_behind_aliases
 from source import mask
 from translate import Layout, Unreadable, module_of, plain
@@ -132,6 +133,7 @@ def modules():
                 text = with_types(text, crate, types)
             name = module_of(crate) if inside == "lib" else f"{module_of(crate)}/{inside}"
             files[f"src/{name}.rs"] = text
+    files = with_dispatch(files, "crate::kit")
     files["src/lib.rs"] = root(wanted, types)
     return files
 

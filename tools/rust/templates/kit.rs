@@ -4,6 +4,8 @@ pub mod memory;
 mod processor;
 pub mod simd;
 
+pub use processor::with_shuffles;
+
 /// Returns the scalar value of a number, which must be one.
 ///
 /// # Panics

@@ -9,6 +9,32 @@ pub fn has_shuffles() -> bool {
     cfg!(target_feature = "ssse3") || asked()
 }
 
+/// Does something by code for a processor that shuffles by one instruction, if this one does.
+///
+/// What is always inlined into the code is compiled for that processor too.
+#[cfg(target_arch = "x86_64")]
+#[inline(always)]
+#[allow(unsafe_code)]
+pub fn with_shuffles<R>(act: impl FnOnce() -> R) -> R {
+    #[target_feature(enable = "ssse3")]
+    fn shuffling<R>(act: impl FnOnce() -> R) -> R {
+        act()
+    }
+
+    if cfg!(target_feature = "ssse3") || !asked() {
+        return act();
+    }
+    // SAFETY: the processor has SSSE3.
+    unsafe { shuffling(act) }
+}
+
+/// Does something. Only x86-64 has code for two kinds of processors.
+#[cfg(not(target_arch = "x86_64"))]
+#[inline(always)]
+pub fn with_shuffles<R>(act: impl FnOnce() -> R) -> R {
+    act()
+}
+
 #[cfg(all(target_arch = "x86_64", feature = "std"))]
 #[inline(always)]
 fn asked() -> bool {
