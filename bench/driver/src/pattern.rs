@@ -17,6 +17,9 @@ use std::str::FromStr;
 /// The text of the parts `ascii`.
 const ASCII: &str = "The quick brown fox jumps over 13 lazy dogs, and they sleep on; who would wake them (at 7:45)? ";
 
+/// The number of characters of a corpus that patterns have.
+const TEXT_LENGTH: usize = 120_000;
+
 /// What a part repeats.
 #[derive(Clone, PartialEq, Eq)]
 pub enum Repeated {
@@ -60,7 +63,10 @@ impl Texts {
     pub fn of(encoding: &'static Encoding, language: &Language) -> Result<Texts, String> {
         let (folder, _, share, _) = language;
         let pages = corpora::html(folder).map_err(|error| format!("{folder}: {error}"))?;
-        let kept = |text: &str| decoded(encoding, &corpora::encode_once(encoding, text)).chars().collect();
+        let kept = |text: &str| {
+            let front: String = text.chars().take(TEXT_LENGTH).collect();
+            decoded(encoding, &corpora::encode_once(encoding, &front)).chars().collect()
+        };
         Ok(Texts { text: kept(&corpora::text(&pages, *share)), html: kept(&pages) })
     }
 }

@@ -169,7 +169,7 @@ fn check<U, W: Copy + PartialEq + Default>(
         let wanted = dst[..length].to_vec();
         dst[..length].fill(W::default());
         let length = given(src, dst, *piece);
-        if dst[..length] != wanted {
+        if dst.get(..length) != Some(&wanted) {
             let place = (0..wanted.len()).find(|at| dst[*at] != wanted[*at]);
             return Err(format!("{length} units, not {}; first difference at {place:?}", wanted.len()));
         }
