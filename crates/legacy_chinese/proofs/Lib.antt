@@ -8,3 +8,4 @@ pub mod Big5Places
 pub mod Big5Walk
 pub mod Gb18030Walk
 pub mod LongerReads
+pub mod AbsentScalars

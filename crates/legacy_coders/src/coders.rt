@@ -295,7 +295,7 @@ fn run_with<U, D: RawDecoder + Drop, T: DecoderTask<U>>(
 }
 
 /// Returns an encoder of ASCII and pairs before its first scalar.
-fn pair_encoder<'a, C: PairCodec>(tables: &'a Tables<'a>) -> PairEncoder<'a, C, Tables<'a>>
+fn pair_encoder<'a, C: PairCodec>(tables: &'a Tables<'a>) -> PairEncoder<'a, C>
     ensures { new_encoder (C.codec result.tables.now.flat) ≡ new_encoder (C.codec tables.now.flat) }
 {
     PairEncoder::new(tables)

@@ -2,6 +2,7 @@
 // Functions that run for each block are always inlined, because a call would pass the vector through memory.
 ghost use Rattle.std.specs.Prelude.{◌≡◌, ℕ, ◌+◌, ◌-◌, ◌<◌, ◌≤◌, ◌++◌, length, take, slice_index, IsAscii};
 
+use crate::ascii_tail::{copy_last_bytes, copy_last_units};
 use crate::eight_units::store;
 use crate::past_ascii::past_ascii;
 use std::simd::prelude::*;
@@ -54,7 +55,7 @@ pub(crate) fn store_wide(dst: &mut [u8], at: usize, bytes: &[u8])
 ///
 /// Returns the number of ASCII bytes at the block's front.
 #[inline(always)]
-fn store_front(bytes: &[u8], dst: &mut [u8], at: usize, width: usize) -> usize
+pub(crate) fn store_front(bytes: &[u8], dst: &mut [u8], at: usize, width: usize) -> usize
     requires least { 16 ≤ width }
     requires block { width ≤ length bytes.now }
     requires room { at + width ≤ length dst.old }
@@ -95,7 +96,7 @@ pub(crate) fn copy_blocks(bytes: &[u8], dst: &mut [u8], at: usize, width: usize)
     (copied, true)
 }
 
-/// Copies ASCII bytes from the front to the place `at` on, by blocks, and returns their number.
+/// Copies ASCII bytes from the front to the place `at` on, and returns their number.
 // Wide blocks come first: in text with a letter past ASCII in most lines, it is easier to predict whether
 // the next 64 bytes have one than whether the next 16 have.
 #[inline]
@@ -111,15 +112,18 @@ pub(crate) fn copy_ascii_bytes(bytes: &[u8], dst: &mut [u8], at: usize) -> usize
     if !are_ascii {
         return front;
     }
-    let (rest, _) = copy_blocks(&bytes[front..], dst, at + front, 16);
-    front + rest
+    let (rest, are_ascii) = copy_blocks(&bytes[front..], dst, at + front, 16);
+    if !are_ascii {
+        return front + rest;
+    }
+    copy_last_bytes(bytes, dst, at, front + rest)
 }
 
 /// Stores sixteen code units as bytes from the place `at` on, and returns the number of ASCII ones at their front.
 // A byte past ASCII stands for any code unit that is not ASCII.
 #[inline(always)]
 #[tactic(auto, using(crate::proofs::Ascii::units_front))]
-fn store_narrow(units: &[u16], dst: &mut [u8], at: usize) -> usize
+pub(crate) fn store_narrow(units: &[u16], dst: &mut [u8], at: usize) -> usize
     requires block { 16 ≤ length units.now }
     requires room { at + 16 ≤ length dst.old }
     ensures count { result ≤ 16 }
@@ -137,17 +141,17 @@ fn store_narrow(units: &[u16], dst: &mut [u8], at: usize) -> usize
     ascii_count(block)
 }
 
-/// Copies ASCII code units from the front as bytes to the place `at` on, by blocks.
+/// Copies ASCII code units from the front as bytes to the place `at` on, by blocks of sixteen.
 ///
-/// Returns their number.
-#[inline]
+/// Returns their number, and whether all blocks were ASCII.
+#[inline(always)]
 #[tactic(auto, using(crate::proofs::Ascii::copy_steps))]
-pub(crate) fn copy_ascii_units(units: &[u16], dst: &mut [u8], at: usize) -> usize
-    requires { at ≤ length dst.old }
-    ensures read { result ≤ length units.now }
-    ensures ascii { IsAscii (take result units.now) }
-    ensures fits { at + result ≤ length dst.old }
-    ensures stored { take (at + result) dst.new ≡ take at dst.old ++ take result units.now }
+fn copy_unit_blocks(units: &[u16], dst: &mut [u8], at: usize) -> (usize, bool)
+    requires within { at ≤ length dst.old }
+    ensures read { result.0 ≤ length units.now }
+    ensures ascii { IsAscii (take result.0 units.now) }
+    ensures fits { at + result.0 ≤ length dst.old }
+    ensures stored { take (at + result.0) dst.new ≡ take at dst.old ++ take result.0 units.now }
 {
     let most = dst.len() - at;
     let mut copied = 0;
@@ -155,8 +159,24 @@ pub(crate) fn copy_ascii_units(units: &[u16], dst: &mut [u8], at: usize) -> usiz
         let count = store_narrow(&units[copied..], dst, at + copied);
         copied += count;
         if count < 16 {
-            return copied;
+            return (copied, false);
         }
     }
-    copied
+    (copied, true)
+}
+
+/// Copies ASCII code units from the front as bytes to the place `at` on, and returns their number.
+#[inline]
+pub(crate) fn copy_ascii_units(units: &[u16], dst: &mut [u8], at: usize) -> usize
+    requires { at ≤ length dst.old }
+    ensures read { result ≤ length units.now }
+    ensures ascii { IsAscii (take result units.now) }
+    ensures fits { at + result ≤ length dst.old }
+    ensures stored { take (at + result) dst.new ≡ take at dst.old ++ take result units.now }
+{
+    let (copied, are_ascii) = copy_unit_blocks(units, dst, at);
+    if !are_ascii {
+        return copied;
+    }
+    copy_last_units(units, dst, at, copied)
 }

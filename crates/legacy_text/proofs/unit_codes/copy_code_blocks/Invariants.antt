@@ -1,6 +1,6 @@
 use Rattle.std.proofs.Common.{ℕ, ◌+◌, ◌-◌, ◌<◌, ◌≤◌, length, take, get_or}
 use Rattle.legacy_text.specs.UnitCodes.{IsNoSurrogate, WritesCodes}
-use Rattle.legacy_text.proofs.unit_codes.copy_unit_codes.Given as goal
+use Rattle.legacy_text.proofs.unit_codes.copy_code_blocks.Given as goal
 
 -- the code units passed are written
 abbrev pub invariant-loop-copied : goal.invariant-loop-copied

@@ -1,5 +1,5 @@
 use Rattle.std.proofs.Common.{◌≡◌, ◌+◌, ◌-◌, ◌≤◌, ◌++◌, length, take, IsAscii}
-use Rattle.legacy_text.proofs.blocks.copy_ascii_units.Given as goal
+use Rattle.legacy_text.proofs.blocks.copy_unit_blocks.Given as goal
 
 -- the code units passed are copied, and are ASCII
 abbrev pub invariant-loop-copied : goal.invariant-loop-copied
