@@ -4,12 +4,12 @@ ghost use Rattle.legacy_base.specs.{Grammar.utf16, States.{additional_from_state
 ghost use Rattle.legacy_miscellaneous.specs.Utf16Decoder.{utf16_state};
 
 use super::held_bytes::Held;
+use super::near_surrogates::read_text;
 use super::unit_blocks::Units;
 use super::unit_steps::read_byte;
 use legacy_base::{DecoderStep, Destination, RawDecoder};
 use legacy_decoder_engine::drive::drive_decoder;
 use legacy_decoder_engine::moves::{DecoderMoves, Fed, Need};
-use legacy_decoder_engine::read_ahead::read_blocks;
 
 /// The decoder of UTF-16 in either byte order (Encoding Standard, "shared UTF-16 decoder").
 ///
@@ -146,9 +146,9 @@ impl DecoderMoves for Utf16Decoder {
         if !matches!(self.held, Held::Nothing) {
             0
         } else if self.big_endian {
-            read_blocks(&Units { big_endian: true }, src, dst)
+            read_text(Units { big_endian: true }, src, dst)
         } else {
-            read_blocks(&Units { big_endian: false }, src, dst)
+            read_text(Units { big_endian: false }, src, dst)
         }
     }
 }
