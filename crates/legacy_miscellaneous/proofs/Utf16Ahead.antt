@@ -6,7 +6,8 @@ use Rattle.std.specs.{Prelude.IsAscii, Char.IsScalar}
 use Rattle.legacy_text.{specs.EncodingForm.{bmp_need, code_units, all_code_units, total_unit_count}, proofs.Ascii.ascii_front}
 use Rattle.legacy_text.specs.declared.destination.Destination.{Ghosts}
 use Rattle.{legacy_tables.specs.Unicode.IsByte, legacy_base.specs.{Grammar.utf16, Utf16.unit_of, States.new_state}}
-use Rattle.legacy_decoder_engine.{specs.ReadAhead.{Yields, IsPair, Writes, ReadsAhead}, proofs.{YieldedForms.{pair_yields, four_yields}, JoinedReads.reads_written}}
+use Rattle.legacy_decoder_engine.{specs.ReadAhead.{Yields, IsPair, Writes, ReadsAhead}, proofs.YieldedForms.{pair_yields, four_yields}}
+use Rattle.legacy_decoder_engine.proofs.JoinedReads.{reads_written}
 use Rattle.legacy_decoder_engine.proofs.WrittenReads.{yields_none, yields_more, take_two, writes_two, writes_next, all_code_units_ascii, all_short}
 use Rattle.legacy_decoder_engine.proofs.WrittenReads.{one_unit, writes_none, writes_four, four_fit, short}
 use Rattle.std.proofs.Common.{[], ◌∷◌, ◌∙◌, true, replicate}
@@ -29,7 +30,8 @@ surrogate_pair_scalar u v high low = grind (arith, nat_tests)
 pair_of_units : (be : Bool) (a b c d : ℕ) → IsByte a → IsByte b → IsByte c → IsByte d → is_high_surrogate (unit_of be a b) ≡ true
     → is_low_surrogate (unit_of be c d) ≡ true → Yields (utf16 be) (a ∷ b ∷ c ∷ d ∷ []) (surrogate_pair_char (unit_of be a b) (unit_of be c d) ∷ [])
 pair_of_units be a b c d byte_a byte_b byte_c byte_d high low =
-    four_yields (utf16_shown be) a b c d _ byte_a byte_b byte_c byte_d (surrogate_pair_scalar (unit_of be a b) (unit_of be c d) high low) refl (grind arith) (grind arith)
+    four_yields (utf16_shown be) a b c d _ byte_a byte_b byte_c byte_d (surrogate_pair_scalar (unit_of be a b) (unit_of be c d) high low)
+    refl (grind arith) (grind arith)
     refl (grind arith) (grind arith) (λ held byte. refl) refl (rw high refl) refl (rw low refl)
 
 -- a pair at the front was written
