@@ -8,6 +8,9 @@ from translate import Layout, plain, with_use
 CRATE = "legacy_tests"
 HEAD = """// A host does nothing here.
 #![allow(unused_variables, unused_imports, mismatched_lifetime_syntaxes)]
+// Forms of the source.
+#![allow(clippy::explicit_auto_deref, clippy::large_enum_variant, clippy::module_inception, clippy::needless_range_loop)]
+#![allow(clippy::type_complexity)]
 extern crate alloc;
 """
 HOST = ("Abort", "AllocGlobal", "HostRuntime", "Shown")

@@ -7,6 +7,13 @@
 // A provided method has parameters that only implementations read.
 #![allow(unused_variables)]
 
+// Forms of the source that its proofs follow.
+#![allow(clippy::assign_op_pattern, clippy::int_plus_one, clippy::len_zero, clippy::manual_contains, clippy::manual_div_ceil)]
+#![allow(clippy::manual_find, clippy::manual_range_contains, clippy::needless_lifetimes, clippy::needless_range_loop)]
+#![allow(clippy::question_mark)]
+// A crate of the source is a module here, coders are large, and no coder is a default.
+#![allow(clippy::large_enum_variant, clippy::module_inception, clippy::new_without_default, clippy::result_large_err)]
+
 extern crate alloc;
 #[cfg(feature = "std")]
 extern crate std;

@@ -1,18 +1,25 @@
-//! What the processor has.
+//! What the processor has, which is asked once.
 
-/// Returns whether the processor moves sixteen bytes to any places by one instruction, of SSSE3.
+use core::sync::atomic::{AtomicU8, Ordering};
+
+const UNKNOWN: u8 = 0;
+const YES: u8 = 1;
+const NO: u8 = 2;
+
+/// Whether the processor moves sixteen bytes to any places by one instruction, of SSSE3.
+static SHUFFLES: AtomicU8 = AtomicU8::new(UNKNOWN);
+
+/// Returns whether the processor is known to shuffle by one instruction: `with_shuffles` asks it.
 ///
-/// It is asked once. A crate that is compiled for processors with the instruction asks none.
-#[cfg(target_arch = "x86_64")]
+/// A crate that is compiled for processors with the instruction asks none.
 #[inline(always)]
 pub fn has_shuffles() -> bool {
-    cfg!(target_feature = "ssse3") || asked()
+    cfg!(target_feature = "ssse3") || SHUFFLES.load(Ordering::Relaxed) == YES
 }
 
 /// Does something by code for a processor that shuffles by one instruction, if this one does.
 ///
 /// What is always inlined into the code is compiled for that processor too.
-#[cfg(target_arch = "x86_64")]
 #[inline(always)]
 #[allow(unsafe_code)]
 pub fn with_shuffles<R>(act: impl FnOnce() -> R) -> R {
@@ -21,47 +28,35 @@ pub fn with_shuffles<R>(act: impl FnOnce() -> R) -> R {
         act()
     }
 
-    if cfg!(target_feature = "ssse3") || !asked() {
+    let is_known = cfg!(target_feature = "ssse3") || SHUFFLES.load(Ordering::Relaxed) != UNKNOWN;
+    if !is_known {
+        ask();
+    }
+    if cfg!(target_feature = "ssse3") || !has_shuffles() {
         return act();
     }
     // SAFETY: the processor has SSSE3.
     unsafe { shuffling(act) }
 }
 
-/// Does something. Only x86-64 has code for two kinds of processors.
-#[cfg(not(target_arch = "x86_64"))]
-#[inline(always)]
-pub fn with_shuffles<R>(act: impl FnOnce() -> R) -> R {
-    act()
+/// Asks the processor, and keeps the answer.
+#[cold]
+#[inline(never)]
+fn ask() {
+    let answer = if asked() { YES } else { NO };
+    SHUFFLES.store(answer, Ordering::Relaxed);
 }
 
-#[cfg(all(target_arch = "x86_64", feature = "std"))]
-#[inline(always)]
+#[cfg(feature = "std")]
 fn asked() -> bool {
     std::arch::is_x86_feature_detected!("ssse3")
 }
 
-#[cfg(all(target_arch = "x86_64", not(feature = "std")))]
-#[inline(always)]
+/// Asks by the instruction `cpuid`: bit 9 of leaf 1 is SSSE3.
+#[cfg(not(feature = "std"))]
+#[allow(unsafe_code, unused_unsafe)]
 fn asked() -> bool {
-    use core::sync::atomic::{AtomicU8, Ordering};
-
-    const UNKNOWN: u8 = 0;
-    const YES: u8 = 1;
-    const NO: u8 = 2;
-    static KNOWN: AtomicU8 = AtomicU8::new(UNKNOWN);
-
-    #[cold]
-    #[inline(never)]
-    fn ask() -> bool {
-        // The instructions of leaf 1, of which bit 9 is SSSE3.
-        let has_it = core::arch::x86_64::__cpuid(1).ecx & 1 << 9 != 0;
-        KNOWN.store(if has_it { YES } else { NO }, Ordering::Relaxed);
-        has_it
-    }
-
-    match KNOWN.load(Ordering::Relaxed) {
-        UNKNOWN => ask(),
-        known => known == YES,
-    }
+    // SAFETY: every x86-64 has the instruction. Later versions of Rust know that.
+    let leaf = unsafe { core::arch::x86_64::__cpuid(1) };
+    leaf.ecx & 1 << 9 != 0
 }

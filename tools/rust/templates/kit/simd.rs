@@ -276,6 +276,7 @@ impl<const B: usize> Bytes<B> {
 }
 
 /// Lanes of another width.
+#[derive(Clone, Copy)]
 pub struct Lanes<T, const N: usize>([T; N]);
 
 impl<T: Copy, const N: usize> Lanes<T, N> {
