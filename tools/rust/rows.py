@@ -36,7 +36,8 @@ def with_hosts(text):
     text = replaced(text, r"use std::process::Abort;\n", "")
     code, edits = mask(text), []
     for found in re.finditer(r"#\[test\]\nfn (\w+)\(rt: HostRuntime\)([^{]*)\{", code):
-        edits.append((found.start(), found.end(), f"#[test]\nfn {found.group(1)}(){found.group(2)}{{\n    let rt = HostRuntime;"))
+        head = f"#[test]\nfn {found.group(1)}(){found.group(2)}{{\n    let rt = HostRuntime;"
+        edits.append((found.start(), found.end(), head))
     return edited(text, edits)
 
 

@@ -1,9 +1,10 @@
 //! Prints a module of constant tables from a folder of the Standard's index files.
 //!
 //! Usage: `cargo run --example index_module FOLDER [packed] > index_data.rs`. The files have the Standard's names
-//! (`index-big5.txt` ..). A file that is not there gives an empty index. With `packed` the five large indexes are runs and
-//! orders, of about a third of the size, which are searched. The module names `legacy_codecs`. Its tables are made by
-//! `Tables::new(&index_data::INDEXES)`, or by `Tables::packed_of(&index_data::INDEXES, &index_data::PACKED)`.
+//! (`index-big5.txt` ..). A file that is not there gives an empty index. `packed` adds runs and orders of the five large
+//! indexes, by which encoders search. The module names `legacy_codecs`. Its tables are made by
+//! `Tables::new(&index_data::INDEXES)`, or by `Tables::packed_of(&index_data::INDEXES, &index_data::PACKED)`, which checks
+//! the parts against the indexes.
 
 use legacy_codecs::{ENCODINGS, Encoding, FileIndex, Indexes, KATAKANA_FILE, OwnedIndexes, Packed, pack};
 use std::error::Error;
@@ -76,19 +77,18 @@ pub static PACKED: Packed<'static> = Packed {{
     );
 }
 
-/// Prints the indexes, of which the five large ones are empty if they are packed.
-fn print_indexes(indexes: &Indexes, is_packed: bool) {
+/// Prints the other lists, and the indexes.
+fn print_indexes(indexes: &Indexes) {
     list("KATAKANA", "u16", indexes.katakana);
     list("RANGES", "(u16, u16)", indexes.ranges);
-    let large = |name| if is_packed { "[]" } else { name };
     println!("/// The indexes, which `Tables` checks.");
     println!("pub static INDEXES: Indexes<'static> = Indexes {{");
     for (field, name) in [
-        ("big5", large("BIG5")),
-        ("euc_kr", large("EUC_KR")),
-        ("jis0208", large("JIS0208")),
-        ("jis0212", large("JIS0212")),
-        ("gb18030", large("GB18030")),
+        ("big5", "BIG5"),
+        ("euc_kr", "EUC_KR"),
+        ("jis0208", "JIS0208"),
+        ("jis0212", "JIS0212"),
+        ("gb18030", "GB18030"),
         ("katakana", "KATAKANA"),
         ("ranges", "RANGES"),
         ("gb18030_pua", "GB18030_2022_PUA"),
@@ -113,10 +113,10 @@ fn main() -> Result<(), Box<dyn Error>> {
     }
     owned.tables()?;
     let indexes = owned.indexes();
-    match is_packed {
-        true => print_packed(&pack(&indexes)?.packed()),
-        false => print_flat(&indexes),
+    print_flat(&indexes);
+    if is_packed {
+        print_packed(&pack(&indexes)?.packed());
     }
-    print_indexes(&indexes, is_packed);
+    print_indexes(&indexes);
     Ok(())
 }
