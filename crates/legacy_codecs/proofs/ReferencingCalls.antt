@@ -1,11 +1,13 @@
 -- A call that writes references, in progress.
 use Rattle.std.proofs.Common.{◌≡◌, ◌∙◌, ℕ, ◌+◌, ◌-◌, ◌≤◌, ◌<◌, List, [], ◌∷◌, ◌++◌, length, map, slice_get, refl, sym, ap, arith, append_assoc}
-use Rattle.std.proofs.{Common.{append-nil, length-append, Bool, true, false, IsTrue, Some, inl, inr}, lemmas.Bool.{true≢false, false≢true}, lemmas.List.nil_from_length}
+use Rattle.std.proofs.{Common.{append-nil, length-append, Bool, true, false, IsTrue, Some, inl, inr}, lemmas.Bool.{true≢false, false≢true}}
+use Rattle.std.proofs.lemmas.List.{nil_from_length}
 use Rattle.std.proofs.{Math.Bool.{or-false, or-true}, Math.Nat.sub-zero}
 use Rattle.std.specs.Prelude.{is_some}
 use Rattle.legacy_base.specs.{declared.results.EncodeEvent.EncodeEvent, declared.results.EncodeEvent.TheVariants.Byte}
 use Rattle.legacy_base.specs.{declared.results.EncoderResult.EncoderResult, declared.results.EncoderResult.TheVariants.{InputEmpty, OutputFull, Unmappable}}
-use Rattle.legacy_base.specs.{Encoders.{Codec, EncoderState, encoded, encoder_profile, end_bytes, encoder_need, encoder_answer}, EncoderCalls.{EncoderCall, tells_end, reported}}
+use Rattle.legacy_base.specs.Encoders.{Codec, EncoderState, encoded, encoder_profile, end_bytes, encoder_need, encoder_answer}
+use Rattle.legacy_base.specs.EncoderCalls.{EncoderCall, tells_end, reported}
 use Rattle.legacy_text.specs.EncodingForm.{EncodingForm, total_unit_count}
 use Rattle.legacy_base.proofs.{Beginnings.begins_later, EncoderLaws.{end-encoded, encoder_need-small}}
 use Rattle.legacy_codecs.specs.References.{reference, reference_need, referenced_bytes, has_unmappable, Gives, KeepsReserve, LacksReferenceRoom}

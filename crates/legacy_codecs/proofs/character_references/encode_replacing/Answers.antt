@@ -3,7 +3,8 @@ use Rattle.std.proofs.lemmas.List.{length-take, length-take-le}
 use Rattle.legacy_base.specs.declared.results.EncoderResult.TheVariants.{OutputFull}
 use Rattle.legacy_codecs.specs.References.{reference}
 use Rattle.legacy_codecs.specs.declared.results.CoderResult.TheVariants as coder
-use Rattle.legacy_codecs.proofs.ReferencingCalls.{referencing_start, referencing_step, referencing_less, referencing_end, referencing_done, referencing_stops, nothing_reported}
+use Rattle.legacy_codecs.proofs.ReferencingCalls.{referencing_start, referencing_step, referencing_less, referencing_end}
+use Rattle.legacy_codecs.proofs.ReferencingCalls.{referencing_done, referencing_stops, nothing_reported}
 use Rattle.legacy_codecs.proofs.ReferencingCalls.{nothing_left}
 use Rattle.legacy_codecs.proofs.character_references.encode_replacing.Goals as goal
 
