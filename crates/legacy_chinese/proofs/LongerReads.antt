@@ -1,10 +1,20 @@
 -- Sequences of four bytes and ASCII bytes that are read one by one are written, in at most one code unit a byte.
-use Rattle.std.proofs.Common.{◌≡◌, ℕ, ◌+◌, ◌-◌, ◌<◌, ◌≤◌, List, [], ◌∷◌, ◌++◌, arith, get_or, length, min, take, IsAscii, Some}
+use Rattle.std.proofs.Common.{◌≡◌, ℕ, zero, suc, add-zero, append-nil, refl, subst, sym, ◌+◌, ◌-◌, ◌<◌, ◌≤◌, List, [], ◌∷◌, ◌++◌, arith, get_or, length, min, take, IsAscii, Some}
+use Rattle.std.proofs.lemmas.List.{take_more}
 use Rattle.legacy_text.{specs.{declared.destination.Destination.Ghosts, EncodingForm.code_units}, proofs.CodeUnits.{length-code_units-ascii}}
 use Rattle.{legacy_tables.specs.{AcceptedTables.AcceptedIndexes, Indexes.range}, legacy_base.specs.{Grammar.{Grammar, gb18030}, States.new_state}}
-use Rattle.legacy_decoder_engine.{specs.ReadAhead.{Writes, ReadsAhead}, proofs.JoinedReads.reads_front}
-use Rattle.legacy_decoder_engine.proofs.WrittenReads.{four_fit, writes_none, writes_one, writes_four, yields_byte}
-use Rattle.legacy_chinese.{specs.{FourForms.four_place, Gb18030Shown.ascii}, proofs.{FourPlaces.four_at, FourWrites.writes_after}}
+use Rattle.legacy_decoder_engine.{specs.ReadAhead.{HasAscii, Writes, ReadsAhead}, proofs.JoinedReads.reads_front}
+use Rattle.legacy_decoder_engine.proofs.WrittenReads.{four_fit, writes_ascii, writes_none, writes_one, writes_four, writes_then, yields_byte}
+use Rattle.legacy_chinese.{specs.{FourForms.four_place, Gb18030Shown.ascii}, proofs.{FourPlaces.four_at}}
+
+-- an ASCII byte after a sequence is written if it is there
+module _ {D : Type 0} (T : Ghosts D) {g : Grammar} {x y z : D} (law : HasAscii g) (src : List ℕ) (at : ℕ) (within : at < length src) where
+  writes_after : (n : ℕ) → n ≤ 1 → Writes T g (take at src) x y → IsAscii (take n (get_or src at 0 ∷ [])) →
+      T.contents z ≡ T.contents y ++ take n (get_or src at 0 ∷ []) → T.room z + n ≡ T.room y → T.loan z ≡ T.loan y → Writes T g (take (at + n) src) x z
+  writes_after (suc zero) few a ascii contents room loan =
+      let one = writes_ascii T g y z (get_or src at 0 ∷ []) law ascii contents room loan in
+      subst (λ l. Writes T g l x z) (sym (take_more src at 0 within)) (writes_then T a one)
+  writes_after n few a ascii contents room loan = grind (arith, add-zero, append-nil)
 
 module _ (tables : AcceptedIndexes) where
   abbrev grammar : Grammar

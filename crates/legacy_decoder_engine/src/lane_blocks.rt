@@ -423,11 +423,6 @@ impl<C: LaneCodec> BlockReader for LaneBlocks<'_, '_, C> {
         if begins_uncommon::<C>(src) {
             return (0, false);
         }
-        let longer = C::read_longer_blocks(self.tables, self.guess.get(), src, dst);
-        if longer > 0 {
-            self.delay.set(SHORT_DELAY);
-            return (longer, true);
-        }
         let at = read_lanes::<C, T>(self.tables, self.guess, src, dst);
         if at >= 64 {
             self.delay.set(SHORT_DELAY);

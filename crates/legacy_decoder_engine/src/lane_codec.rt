@@ -71,21 +71,6 @@ pub trait LaneCodec {
         0
     }
 
-    /// Reads forms of more than two bytes and ASCII in blocks from the front, and returns the number of bytes read.
-    ///
-    /// It reads nothing if few such forms follow. It is given what the codec keeps from the last one.
-    #[inline(always)]
-    fn read_longer_blocks<T: Destination>(
-        tables: &FlatTables<'_>,
-        guess: usize,
-        src: &[u8],
-        dst: &mut T,
-    ) -> usize
-        ensures { ReadsAhead T.Destination (new_state (grammar tables.now.flat)) src.now result dst.old dst.new }
-    {
-        0
-    }
-
     /// Returns the scalar of the form of more than two bytes at the front, and the number of its bytes.
     ///
     /// Returns `None` if there is no such form. `guess` is what the codec keeps from one such form to the next.

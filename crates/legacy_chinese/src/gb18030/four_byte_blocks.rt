@@ -5,7 +5,6 @@ ghost use Rattle.std.specs.{Prelude.{◌*◌, ◌≡◌, ◌<◌, [], Some, IfSo
 ghost use Rattle.{legacy_tables.specs.{Indexes.range, RangeParts.IsRangePart}, legacy_base.specs.{Gb18030.gb18030_scalars, Grammar.gb18030, States.is_lead}};
 ghost use Rattle.legacy_chinese.specs.{Gb18030Shown.ascii, PairPlaces.pair_place};
 
-use super::four_lanes::read_fours;
 use super::four_places::pointer_at;
 use super::pair_places::TRAILS;
 use legacy_base::{Destination, IndexName};
@@ -16,7 +15,6 @@ use legacy_decoder_engine::lane_places::{lead_places, place_sums, trail_places};
 use legacy_decoder_engine::places::{ROWS_OF_190, pair_pointer};
 use legacy_decoder_engine::read_ahead::SLACK;
 use legacy_tables::{DecoderTables, FlatTables, RangePart, Ranges};
-use legacy_text::past_ascii::{ascii_front, past_ascii};
 use std::cell::Cell;
 use std::simd::prelude::*;
 
@@ -172,28 +170,6 @@ impl LaneCodec for Gb18030 {
             }
         }
         at
-    }
-
-    // It reads nothing unless the first byte past ASCII begins a sequence of four bytes, and blocks may follow.
-    #[inline(always)]
-    fn read_longer_blocks<T: Destination>(
-        tables: &FlatTables<'_>,
-        guess: usize,
-        src: &[u8],
-        dst: &mut T,
-    ) -> usize {
-        if src.len() < 128 {
-            return 0;
-        }
-        let first = if src[0] >= 0x80 {
-            0
-        } else {
-            ascii_front(past_ascii(u8x64::from_slice(src)))
-        };
-        if !Gb18030::begins_longer(src[first], src[first + 1]) {
-            return 0;
-        }
-        read_fours(tables, guess, src, dst)
     }
 
     #[inline(always)]
