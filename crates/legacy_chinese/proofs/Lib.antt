@@ -4,4 +4,3 @@ pub mod FourPlaces
 pub mod Big5Places
 pub mod Big5Walk
 pub mod Gb18030Walk
-pub mod LongerReads

@@ -1,8 +1,6 @@
--- Sequences of four bytes of gb18030: their pointers (Encoding Standard, "gb18030 decoder"), and the codes of their first two and last two bytes.
-use Rattle.std.specs.Prelude.{◌≡◌, ℕ, ◌+◌, ◌-◌, ◌*◌, ◌/◌, ◌%◌, ◌<◌, ◌≤◌, ◌&&◌, List, [], ◌∷◌, ◌++◌, Some, cond, ltb, leb, eqb, not, min, drop, if◌then◌else◌}
-use Rattle.std.specs.{Int.bit_at, Char.{IsScalar, is_ascii_digit}}
-use Rattle.{legacy_base.specs.States.is_lead, legacy_tables.specs.{declared.tables.ranges.RangePart.RangePart, Indexes.range}}
-use Rattle.legacy_decoder_engine.specs.PickedForms.{code_at}
+-- Sequences of four bytes of gb18030: their pointers (Encoding Standard, "gb18030 decoder").
+use Rattle.std.specs.{Prelude.{ℕ, ◌+◌, ◌-◌, ◌*◌, if◌then◌else◌}, Char.is_ascii_digit}
+use Rattle.legacy_base.specs.States.{is_lead}
 
 -- The pointer is a sum of parts of the bytes. A byte that is not allowed there has a part past all pointers.
 
