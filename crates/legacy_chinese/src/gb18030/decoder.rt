@@ -12,7 +12,7 @@ use legacy_decoder_engine::held_lead::Lead;
 use legacy_decoder_engine::lane_blocks::read_by_tables;
 use legacy_decoder_engine::lead_and_trail::{malformed_through, read_trail};
 use legacy_decoder_engine::moves::{DecoderMoves, Fed, Need};
-use legacy_decoder_engine::near_malformed::AFTER_MALFORMED;
+use legacy_decoder_engine::pace::Pace;
 use legacy_tables::DecoderTables;
 use std::cell::Cell;
 
@@ -53,8 +53,7 @@ pub struct Gb18030Decoder<'a> {
     held: Held,
     /// The place of the last range that was used. The next sequence of four bytes tries it first.
     guess: Cell<usize>,
-    /// The number of bytes that are to be read without lanes, because a malformed sequence came before them.
-    without_lanes: usize,
+    pace: Pace,
 }
 
 /// Returns what a byte leads to if nothing is held back.
@@ -176,7 +175,7 @@ impl<'a> Gb18030Decoder<'a> {
             tables,
             held: Held::Nothing,
             guess: Cell::new(0),
-            without_lanes: 0,
+            pace: Pace::new(),
         }
     }
 
@@ -262,7 +261,7 @@ impl DecoderMoves for Gb18030Decoder<'_> {
 
     #[inline(always)]
     fn after_malformed(&mut self) {
-        self.without_lanes = AFTER_MALFORMED;
+        self.pace.after_malformed();
     }
 
     #[inline]
@@ -308,7 +307,7 @@ impl DecoderMoves for Gb18030Decoder<'_> {
         if !matches!(self.held, Held::Nothing) {
             return 0;
         }
-        read_by_tables::<Gb18030, T>(self.tables, &self.guess, &mut self.without_lanes, src, dst)
+        read_by_tables::<Gb18030, T>(self.tables, &self.guess, &self.pace, src, dst)
     }
 }
 
