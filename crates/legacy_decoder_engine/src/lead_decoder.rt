@@ -9,6 +9,8 @@ ghost use Rattle.legacy_base.specs.{Lengths.{answer, utf16_formula, utf8_formula
 ghost use Rattle.legacy_decoder_engine.specs.{Steps.{Step, finish, trail_step}, LeadMachines.two_byte_step, Moves.need_units, Feeding.Took};
 ghost use Rattle.legacy_decoder_engine.specs.LeadCodecs.{IsLeadCodec, held_bytes, lead_state};
 
+mod resume;
+
 use crate::drive::{count_malformed_bytes, drive_decoder};
 use crate::lane_blocks::read_by_tables;
 use crate::lane_codec::LaneCodec;
@@ -129,7 +131,7 @@ impl<'a, C: LeadCodec> LeadDecoder<'a, C> {
 
     /// Returns the number of held-back bytes.
     #[inline]
-    fn held_count(&self) -> usize
+    pub fn held_count(&self) -> usize
         ensures { result ≡ length (held_bytes C.byte_of self.now.held) }
     {
         usize::from(self.held.is_some())
