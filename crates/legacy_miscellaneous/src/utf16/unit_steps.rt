@@ -20,14 +20,14 @@ pub fn unit(big_endian: bool, first: u8, second: u8) -> u16
 }
 
 #[inline]
-fn is_high(unit: u16) -> bool
+pub fn is_high(unit: u16) -> bool
     ensures { result ≡ is_high_surrogate unit }
 {
     unit >= 0xD800 && unit < 0xDC00
 }
 
 #[inline]
-fn is_low(unit: u16) -> bool
+pub fn is_low(unit: u16) -> bool
     ensures { result ≡ is_low_surrogate unit }
 {
     unit >= 0xDC00 && unit < 0xE000
@@ -61,7 +61,7 @@ fn pair(high: HighSurrogate, low: u16) -> char
 
 /// Holds back a unit that is not a low surrogate.
 #[inline]
-fn hold_unit(unit: u16) -> Held
+pub fn hold_unit(unit: u16) -> Held
     requires { is_low_surrogate unit ≡ false }
     ensures { (big_endian : Bool) → held_bytes big_endian result ≡ first_byte big_endian unit ∷ second_byte big_endian unit ∷ [] }
 {
