@@ -9,6 +9,8 @@ ghost use Rattle.legacy_base.specs.{Lengths.{answer, utf16_formula, utf8_formula
 ghost use Rattle.legacy_decoder_engine.specs.{Steps.{Step, finish, trail_step}, LeadMachines.two_byte_step, Moves.need_units, Feeding.Took};
 ghost use Rattle.legacy_decoder_engine.specs.LeadCodecs.{IsLeadCodec, held_bytes, lead_state};
 
+mod resume;
+
 use crate::drive::{count_malformed_bytes, drive_decoder};
 use crate::lane_blocks::read_by_tables;
 use crate::lane_codec::LaneCodec;

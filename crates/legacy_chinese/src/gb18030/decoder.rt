@@ -3,6 +3,8 @@ ghost use Rattle.std.specs.Prelude.{◌≡◌, ℕ, List, ◌∷◌, [], true, l
 ghost use Rattle.{legacy_base.specs.{Grammar.gb18030, States.{is_neutral, new_state, rests}}, legacy_decoder_engine.specs.Feeding.Took};
 ghost use Rattle.legacy_chinese.specs.{Gb18030Decoder.{gb18030_state, held_bytes}, Gb18030Machine.gb18030_step};
 
+mod resume;
+
 use super::digit::Digit;
 use super::four_byte_blocks::{Gb18030, form_scalar, guessed_scalar};
 use super::four_places::four_pointer;

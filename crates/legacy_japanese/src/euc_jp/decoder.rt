@@ -5,6 +5,8 @@ ghost use Rattle.legacy_tables.specs.Tables.{index_list};
 ghost use Rattle.legacy_decoder_engine.specs.{Feeding.Took, LanePlaces.row_place, ReadAhead.IsFrontForm};
 ghost use Rattle.legacy_japanese.specs.{EucJpShown.ascii, EucJpMachine.euc_jp_step, EucJpDecoder.{euc_jp_state, held_bytes}};
 
+mod resume;
+
 use super::held_lead::EucJpLead;
 use crate::shift_jis::decoder::katakana;
 use legacy_base::{DecoderStep, Destination, IndexName, RawDecoder, Tables};

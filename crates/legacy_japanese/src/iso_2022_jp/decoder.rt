@@ -2,6 +2,8 @@
 ghost use Rattle.std.specs.Prelude.{◌≡◌, true, length};
 ghost use Rattle.{legacy_base.specs.{Grammar.iso_2022_jp, declared.modes.DecoderMode.TheVariants.Ascii, States.{is_neutral, new_state}}, legacy_japanese.specs.Iso2022JpMachine.is_held};
 
+mod resume;
+
 use super::bytes::{Held, NOTHING, Start, finish, read, single_scalar};
 use super::read_ahead::{front_escape, read_modes};
 use legacy_base::{DecoderMode, DecoderStep, Destination, RawDecoder, Tables};

@@ -4,6 +4,8 @@ ghost use Rattle.{legacy_tables.specs.Indexes.{FlatIndexes}, legacy_encoder_engi
 ghost use Rattle.legacy_base.specs.{Encoders.{iso_2022_jp, is_pending, new_encoder}, Iso2022Jp.{iso_2022_jp_code, iso_2022_jp_pointer_of, is_mode_control}};
 ghost use Rattle.{legacy_base.specs.declared.modes.EncoderMode.TheVariants.Ascii, legacy_japanese.specs.Iso2022JpEncoder.{Asks, HasNoPair, state_in}};
 
+mod resume;
+
 use crate::folded_scalars::minus_as_hyphen;
 use legacy_base::{EncoderMode, EncoderStep, IndexName, RawEncoder, Source, Tables};
 use legacy_encoder_engine::ahead_codes::AheadCodes;

@@ -3,6 +3,8 @@ ghost use Rattle.std.specs.Prelude.{◌≡◌, length};
 ghost use Rattle.legacy_base.specs.{Grammar.utf16, States.{additional_from_state, is_neutral, new_state}, Lengths.{answer, most_code_units}};
 ghost use Rattle.legacy_miscellaneous.specs.Utf16Decoder.{utf16_state};
 
+mod resume;
+
 use super::held_bytes::Held;
 use super::near_surrogates::read_text;
 use super::unit_blocks::Units;

@@ -21,7 +21,7 @@ pub fn unit(big_endian: bool, first: u8, second: u8) -> u16
 
 /// Returns whether the unit is a high surrogate.
 #[inline]
-fn is_high(unit: u16) -> bool
+pub fn is_high(unit: u16) -> bool
     ensures { result ≡ is_high_surrogate unit }
 {
     unit >= 0xD800 && unit < 0xDC00
@@ -29,7 +29,7 @@ fn is_high(unit: u16) -> bool
 
 /// Returns whether the unit is a low surrogate.
 #[inline]
-fn is_low(unit: u16) -> bool
+pub fn is_low(unit: u16) -> bool
     ensures { result ≡ is_low_surrogate unit }
 {
     unit >= 0xDC00 && unit < 0xE000
@@ -72,7 +72,7 @@ pub fn pair(high: HighSurrogate, low: u16) -> char
 
 /// Holds back a unit that is not a low surrogate.
 #[inline]
-fn hold_unit(unit: u16) -> Held
+pub fn hold_unit(unit: u16) -> Held
     requires { is_low_surrogate unit ≡ false }
     ensures { (big_endian : Bool) → held_bytes big_endian result ≡ first_byte big_endian unit ∷ second_byte big_endian unit ∷ [] }
 {
