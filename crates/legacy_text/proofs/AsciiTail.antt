@@ -1,30 +1,19 @@
 -- A block that begins before the end of what was copied.
 use Rattle.std.proofs.Common.{◌≡◌, ℕ, ◌+◌, ◌-◌, ◌≤◌, ◌<◌, List, ◌++◌, length, take, drop, get_or, arith, IsAscii}
 use Rattle.std.proofs.lemmas.{Bool.Decides.nat_tests, Grind.same_number_lists, List.{length-take-le, take_rest, take-take, get_or-take}}
-use Rattle.std.proofs.Math.Seq.{take-append-add}
-use Rattle.legacy_text.proofs.Ascii.{ascii_front, ascii_after, stored_next, none_past, mask_from}
-
--- a shorter front of ASCII
-pub ascii_before : (bytes : List ℕ) (m n : ℕ) → m ≤ n → IsAscii (take n bytes) → IsAscii (take m bytes)
-ascii_before bytes m n le all = ascii_front bytes m (λ k h. rw (get_or-take n bytes k 0 (omega arith)) at (all k))
-
--- a shorter front of what was copied
-pub stored_before : (old new bytes : List ℕ) (at m n : ℕ) → m ≤ n → at ≤ length old → n ≤ length bytes
-    → take (at + n) new ≡ take at old ++ take n bytes → take (at + m) new ≡ take at old ++ take m bytes
-stored_before old new bytes at m n le within long e =
-    grind (arith, take-take (at + m) (at + n) new, length-take-le at old within, take-append-add (take at old) (take n bytes) m, take-take m n bytes)
+use Rattle.legacy_text.proofs.Ascii.{ascii_front, ascii_before, ascii_after, stored_before, stored_next, none_past, mask_from}
 
 -- after n bytes were copied, a block from place m on was stored, where m is at most n, and has r bytes of ASCII at its front
 pub ascii_back : (bytes : List ℕ) (m n r : ℕ) → m ≤ n → IsAscii (take n bytes) → IsAscii (take r (take (length bytes - m) (drop m bytes)))
     → IsAscii (take (m + r) bytes)
-ascii_back bytes m n r le all more = ascii_after bytes m r (ascii_before bytes m n le all) (rw (take_rest bytes m) at more)
+ascii_back bytes m n r le all more = ascii_after bytes m r (ascii_before bytes n m le all) (rw (take_rest bytes m) at more)
 
 pub stored_back : (old mid new bytes : List ℕ) (at m n r : ℕ) → m ≤ n → at ≤ length old → n ≤ length bytes
     → take (at + n) mid ≡ take at old ++ take n bytes
     → take (at + m + r) new ≡ take (at + m) mid ++ take r (take (length bytes - m) (drop m bytes))
     → take (at + (m + r)) new ≡ take at old ++ take (m + r) bytes
 stored_back old mid new bytes at m n r le within long e f =
-    stored_next mid new (take at old) bytes at m r (stored_before old mid bytes at m n le within long e) (rw (take_rest bytes m) at f)
+    stored_next mid new (take at old) bytes at m r (stored_before old mid bytes at n m le within e) (rw (take_rest bytes m) at f)
 
 -- ---- the front of a short vector
 

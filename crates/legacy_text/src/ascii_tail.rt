@@ -2,26 +2,8 @@
 // Functions that run for each block are always inlined, because a call would pass the vector through memory.
 ghost use Rattle.std.specs.Prelude.{◌≡◌, ℕ, List, ◌+◌, ◌*◌, ◌<◌, ◌≤◌, ◌++◌, length, take, IsAscii};
 
-use crate::blocks::{store_front, store_narrow};
+use crate::blocks::{store_eight, store_front, store_narrow};
 use std::simd::prelude::*;
-
-/// Stores the first eight bytes from the place `at` on, and returns the number of ASCII ones at their front.
-#[inline(always)]
-fn store_eight(bytes: &[u8], dst: &mut [u8], at: usize) -> usize
-    requires block { 8 ≤ length bytes.now }
-    requires room { at + 8 ≤ length dst.old }
-    ensures count { result ≤ 8 }
-    ensures ascii { IsAscii (take result bytes.now) }
-    ensures stored { take (at + result) dst.new ≡ take at dst.old ++ take result bytes.now }
-{
-    let block = u8x8::from_slice(bytes);
-    block.copy_to_slice(&mut dst[at..]);
-    let past = block.simd_ge(u8x8::splat(0x80)).to_bitmask();
-    if past == 0 {
-        return 8;
-    }
-    (past.trailing_zeros() as usize).min(7)
-}
 
 /// Stores the first four bytes from the place `at` on, and returns the number of ASCII ones at their front.
 #[inline(always)]
