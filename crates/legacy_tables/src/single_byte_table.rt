@@ -5,6 +5,8 @@ ghost use Rattle.legacy_tables.specs.TableChecks.{IsAcceptedTable, is_byte_entry
 ghost use Rattle.legacy_tables.specs.TableChecks.{single_byte_fault};
 ghost use Rattle.legacy_tables.specs.Indexes.{idx};
 
+mod accepted;
+
 use crate::tables::TableError;
 use crate::tables::checks::is_narrow;
 use crate::tables::lookups::scalar_in;

@@ -1,6 +1,7 @@
 //! Indexes, and the tables made of checked indexes.
 ghost use Rattle.std.specs.Prelude.{◌≡◌, MatchResult, Some};
 
+mod accepted;
 pub(crate) mod checks;
 pub(crate) mod decoder_tables;
 pub(crate) mod encoder_tables;

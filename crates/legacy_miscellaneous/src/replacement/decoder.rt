@@ -2,6 +2,8 @@
 ghost use Rattle.std.specs.Prelude.{◌≡◌, false};
 ghost use Rattle.{legacy_base.specs.{Grammar.replacement, States.new_state}, legacy_miscellaneous.specs.ReplacementDecoder.replacement_state};
 
+mod resume;
+
 use legacy_base::{DecoderStep, Destination, RawDecoder};
 use legacy_decoder_engine::drive::drive_decoder;
 use legacy_decoder_engine::lead_and_trail::malformed_through;

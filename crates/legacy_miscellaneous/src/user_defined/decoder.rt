@@ -2,6 +2,8 @@
 ghost use Rattle.std.specs.Prelude.{◌≡◌};
 ghost use Rattle.{legacy_base.specs.{Grammar.user_defined, States.new_state}, legacy_miscellaneous.specs.UserDefinedDecoder.user_defined_state};
 
+mod resume;
+
 use super::blocks::{read_few, read_text, scalar_of};
 use legacy_base::{DecoderStep, Destination, RawDecoder};
 use legacy_decoder_engine::drive::drive_decoder;

@@ -3,6 +3,8 @@ ghost use Rattle.std.specs.Prelude.{◌≡◌, ◌≤◌, length, take, IsAscii}
 ghost use Rattle.legacy_base.specs.{Grammar.single_byte, Latin1.{is_latin1_byte, latin1_front}, States.new_state};
 ghost use Rattle.legacy_single_byte.specs.SingleByteDecoder.{single_byte_entries, single_byte_state};
 
+mod resume;
+
 use super::blocks::read_text;
 use super::scalars::ByteScalars;
 use legacy_base::{DecoderStep, Destination, RawDecoder, SingleByteTable};
