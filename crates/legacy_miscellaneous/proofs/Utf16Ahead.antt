@@ -5,11 +5,11 @@ use Rattle.std.proofs.lemmas.{Bool.Decides.nat_tests, List.{take_more, length-ta
 use Rattle.std.specs.{Prelude.IsAscii, Char.IsScalar}
 use Rattle.legacy_text.{specs.EncodingForm.{bmp_need, code_units, all_code_units, total_unit_count}, proofs.Ascii.ascii_front}
 use Rattle.legacy_text.specs.declared.destination.Destination.{Ghosts}
-use Rattle.{legacy_tables.specs.Unicode.IsByte, legacy_base.specs.{Grammar.utf16, Utf16.unit_of, States.new_state}}
+use Rattle.{legacy_tables.specs.Unicode.IsByte, legacy_base.specs.{Grammar.{Grammar, utf16}, Utf16.unit_of, States.new_state}}
 use Rattle.legacy_decoder_engine.{specs.ReadAhead.{Yields, IsPair, Writes, ReadsAhead}, proofs.YieldedForms.{pair_yields, four_yields}}
 use Rattle.legacy_decoder_engine.proofs.JoinedReads.{reads_written}
 use Rattle.legacy_decoder_engine.proofs.WrittenReads.{yields_none, yields_more, take_two, writes_two, writes_next, all_code_units_ascii, all_short}
-use Rattle.legacy_decoder_engine.proofs.WrittenReads.{one_unit, writes_none, writes_four, four_fit, short}
+use Rattle.legacy_decoder_engine.proofs.WrittenReads.{one_unit, writes_none, writes_put, four_fit, short}
 use Rattle.std.proofs.Common.{[], ◌∷◌, ◌∙◌, true, replicate}
 use Rattle.std.proofs.{lemmas.List.Elements.{All-append, All-replicate, All-from_get_or}}
 use Rattle.std.specs.{Prelude.All, Char.Utf16.{is_high_surrogate, is_low_surrogate, surrogate_pair_char}}
@@ -34,6 +34,16 @@ pair_of_units be a b c d byte_a byte_b byte_c byte_d high low =
     refl (grind arith) (grind arith)
     refl (grind arith) (grind arith) (λ held byte. refl) refl (rw high refl) refl (rw low refl)
 
+first_four : (src : List ℕ) → 4 ≤ length src → take 4 src ≡ get_or src 0 0 ∷ get_or src 1 0 ∷ get_or src 2 0 ∷ get_or src 3 0 ∷ []
+first_four src h = grind (arith, take_two src 2 (omega arith), take_two src 0 (omega arith))
+
+-- four bytes at the front were written as their scalar
+writes_four : {D : Type 0} (T : Ghosts D) (g : Grammar) (src : List ℕ) (c : ℕ) (y z : D) → 4 ≤ length src
+    → Yields g (get_or src 0 0 ∷ get_or src 1 0 ∷ get_or src 2 0 ∷ get_or src 3 0 ∷ []) (c ∷ [])
+    → T.contents z ≡ T.contents y ++ code_units T.form c → T.room z + length (code_units T.form c) ≡ T.room y → T.loan z ≡ T.loan y
+    → Writes T g (take 4 src) y z
+writes_four T g src c y z long yields contents room loan = rw (first_four src long) (writes_put T _ c yields contents room loan)
+
 -- a pair at the front was written
 pub reads_pair : {D : Type 0} (T : Ghosts D) (be : Bool) (source : List ℕ) (c : ℕ) (old new : D) → ((k : ℕ) → IsByte (get_or source k 0)) → 4 ≤ length source
     → is_high_surrogate (unit_at be source 0) ≡ true → is_low_surrogate (unit_at be source 1) ≡ true
@@ -43,7 +53,7 @@ pub reads_pair : {D : Type 0} (T : Ghosts D) (be : Bool) (source : List ℕ) (c 
 reads_pair T be source c old new bytes long high low is enough contents room loan =
     let yields = rw (← is) at (pair_of_units be _ _ _ _ (bytes 0) (bytes 1) (bytes 2) (bytes 3) high low) in
     let few = four_fit T.form c 4 (omega arith) in
-    reads_written long (writes_four T source 0 c (omega arith) (writes_none T (utf16 be) old) yields contents room loan) (omega (arith, few, room, enough))
+    reads_written long (writes_four T (utf16 be) source c old new long yields contents room loan) (omega (arith, few, room, enough))
     (omega (arith, enough))
 
 -- a unit at the front was written
