@@ -2,6 +2,7 @@
 
 use crate::decoding::{self, ToUtf16, ToUtf8};
 use crate::encoding::{self, From, FromUtf16, FromUtf8};
+use crate::numbers::Numbers;
 use crate::ours::{Calls, Kept, Ours};
 use crate::{corpora, pointers, CORPORA, PACKED};
 use encoding_rs::{Encoding, REPLACEMENT};
@@ -18,21 +19,9 @@ pub const ENCODINGS: [&str; 39] = [
 /// The number of bytes of each kind that are compared.
 const LENGTH: usize = 60_000;
 
-/// Pseudo-random numbers, the same in each run (Marsaglia's xorshift).
-struct Numbers(u64);
-
-impl Numbers {
-    fn below(&mut self, bound: u64) -> u64 {
-        self.0 ^= self.0 << 13;
-        self.0 ^= self.0 >> 7;
-        self.0 ^= self.0 << 17;
-        (self.0 >> 11) % bound
-    }
-}
-
 /// Returns random bytes that include escapes of ISO-2022-JP, four-byte sequences of GB18030, and ASCII.
 fn any_bytes() -> Vec<u8> {
-    let mut numbers = Numbers(0x9E37_79B9_7F4A_7C15);
+    let mut numbers = Numbers::new(0x9E37_79B9_7F4A_7C15);
     let escapes: [&[u8]; 5] = [b"\x1B$B", b"\x1B(B", b"\x1B(J", b"\x1B(I", b"\x1B$@"];
     let mut bytes = Vec::new();
     while bytes.len() < LENGTH {
@@ -77,7 +66,7 @@ fn agree(codecs: &[Ours], encoding: &'static Encoding, bytes: &[u8], what: &str)
 
 /// Returns random code units that include surrogates, ASCII, kana, ideographs, Hangul and private-use characters.
 fn any_units() -> Vec<u16> {
-    let mut numbers = Numbers(0xD1B5_4A32_D192_ED03);
+    let mut numbers = Numbers::new(0xD1B5_4A32_D192_ED03);
     let blocks: [(u16, u64); 9] = [
         (0x0000, 0x80),
         (0x0080, 0x500),

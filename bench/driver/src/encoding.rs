@@ -20,8 +20,10 @@ pub trait From {
     const NAME: &'static str;
     type Read: Unit;
     fn units(text: &str) -> Vec<Self::Read>;
+    /// Returns the code units of code points. A surrogate is U+FFFD in UTF-8.
+    fn of_code_points(codes: &[u32]) -> Vec<Self::Read>;
     fn ours(ours: &Ours, calls: Calls, src: &[Self::Read], dst: &mut [u8], piece: usize, rounds: usize) -> usize;
-    fn theirs(encoding: &'static Encoding, src: &[Self::Read], dst: &mut [u8], piece: usize, rounds: usize) -> usize;
+    fn theirs(encoding: &'static Encoding, calls: Calls, src: &[Self::Read], dst: &mut [u8], piece: usize, rounds: usize) -> usize;
     fn fast(encoding: &'static FastEncoding, calls: Calls, src: &[Self::Read], dst: &mut [u8], piece: usize, rounds: usize) -> usize;
     fn peer(peer: &dyn Peer, src: &[Self::Read], dst: &mut [u8], piece: usize, rounds: usize) -> usize;
 }
@@ -37,12 +39,20 @@ impl From for FromUtf8 {
         text.as_bytes().to_vec()
     }
 
+    fn of_code_points(codes: &[u32]) -> Vec<u8> {
+        let text: String = codes.iter().map(|code| char::from_u32(*code).unwrap_or(char::REPLACEMENT_CHARACTER)).collect();
+        text.into_bytes()
+    }
+
     fn ours(ours: &Ours, calls: Calls, src: &[u8], dst: &mut [u8], piece: usize, rounds: usize) -> usize {
         ours.from_utf8(calls, src, dst, piece, rounds)
     }
 
-    fn theirs(encoding: &'static Encoding, src: &[u8], dst: &mut [u8], piece: usize, rounds: usize) -> usize {
-        theirs::from_utf8(encoding, src, dst, piece, rounds)
+    fn theirs(encoding: &'static Encoding, calls: Calls, src: &[u8], dst: &mut [u8], piece: usize, rounds: usize) -> usize {
+        match calls {
+            Calls::Raw => theirs::from_utf8(encoding, src, dst, piece, rounds),
+            Calls::Replacing => theirs::replacing_from_utf8(encoding, src, dst, piece, rounds),
+        }
     }
 
     fn fast(encoding: &'static FastEncoding, calls: Calls, src: &[u8], dst: &mut [u8], piece: usize, rounds: usize) -> usize {
@@ -65,12 +75,26 @@ impl From for FromUtf16 {
         text.encode_utf16().collect()
     }
 
+    fn of_code_points(codes: &[u32]) -> Vec<u16> {
+        let mut units = Vec::new();
+        for code in codes {
+            match char::from_u32(*code) {
+                Some(c) => units.extend_from_slice(c.encode_utf16(&mut [0; 2])),
+                None => units.push(*code as u16),
+            }
+        }
+        units
+    }
+
     fn ours(ours: &Ours, calls: Calls, src: &[u16], dst: &mut [u8], piece: usize, rounds: usize) -> usize {
         ours.from_utf16(calls, src, dst, piece, rounds)
     }
 
-    fn theirs(encoding: &'static Encoding, src: &[u16], dst: &mut [u8], piece: usize, rounds: usize) -> usize {
-        theirs::from_utf16(encoding, src, dst, piece, rounds)
+    fn theirs(encoding: &'static Encoding, calls: Calls, src: &[u16], dst: &mut [u8], piece: usize, rounds: usize) -> usize {
+        match calls {
+            Calls::Raw => theirs::from_utf16(encoding, src, dst, piece, rounds),
+            Calls::Replacing => theirs::replacing_from_utf16(encoding, src, dst, piece, rounds),
+        }
     }
 
     fn fast(encoding: &'static FastEncoding, calls: Calls, src: &[u16], dst: &mut [u8], piece: usize, rounds: usize) -> usize {
@@ -90,9 +114,9 @@ pub fn ours<'a, D: From>(ours: &'a Ours, calls: Calls, src: &'a [D::Read], piece
     Box::new(move |dst: &mut [u8]| D::ours(ours, calls, src, dst, piece, rounds))
 }
 
-/// Returns a call of encoding_rs with its default tables.
+/// Returns a raw call of encoding_rs with its default tables.
 pub fn theirs<'a, D: From>(encoding: &'static Encoding, src: &'a [D::Read], piece: usize, rounds: usize) -> Call<'a, u8> {
-    Box::new(move |dst: &mut [u8]| D::theirs(encoding, src, dst, piece, rounds))
+    Box::new(move |dst: &mut [u8]| D::theirs(encoding, Calls::Raw, src, dst, piece, rounds))
 }
 
 /// Returns a call of encoding_rs with its fast tables.

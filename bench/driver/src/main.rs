@@ -4,30 +4,38 @@
 //!
 //! - Words and a number. A line is made if it has one of the words: a corpus, a language, a kind of text or an encoding,
 //!   as `ja-text`, `ja`, `text` or `Big5`.
-//!   The name of a table (`decode`, `encode`, `ahead`, `packed`, `flat`, `replace`, `checks`) makes that table, and `recode` the
-//!   program's. Without words all lines of all tables are made. The number is how often each call of a codec is timed
+//!   The name of a table (`decode`, `encode`, `ahead`, `packed`, `flat`, `replace`, `checks`, `pieces`, `patterns`) makes that
+//!   table, and `recode` the program's. Without words all lines of all tables are made. The number is how often each call of a codec is timed
 //!   at least.
 //! - `agreement`: compares all codecs and times nothing.
 //! - `files`: compares what both programs write for files, and times nothing.
+//! - `worst`, an encoding, a number of seconds, and a seed: searches for patterns that are slow (`climb.rs`).
 //! - `compare`, two builds of the library as shared ones, and words and a number as above: times them beside each
 //!   other.
 //! - `sources`: prints the packed indexes as source text.
 //! - `medians` and files with the tables of several builds: makes one table of them.
 
 mod agreement;
+mod changes;
 mod checks;
+mod climb;
 mod compare;
 mod corpora;
 mod decoding;
 mod encoding;
 mod files;
+mod forms;
 mod indexes;
 mod loaded;
 mod measure;
 mod medians;
+mod numbers;
 mod ours;
 mod packing;
+mod pattern;
+mod patterns;
 mod peers;
+mod piece_table;
 mod pieces;
 mod pointers;
 mod recode;
@@ -36,6 +44,7 @@ mod rest;
 mod rounds;
 mod sources;
 mod theirs;
+mod ways;
 
 use compare::{Builds, Ratios};
 use decoding::Codec;
@@ -44,7 +53,10 @@ use ours::{Kept, Ours};
 use std::collections::HashMap;
 
 /// A language's folder, its corpus's name, the least share of letters past ASCII in a line, and its encodings.
-const CORPORA: &[(&str, &str, f64, &[&str])] = &[
+type Language = (&'static str, &'static str, f64, &'static [&'static str]);
+
+/// The languages of the corpora.
+const CORPORA: &[Language] = &[
     ("ko-KR", "ko", 0.5, &["EUC-KR", "gb18030"]),
     ("ja-JP", "ja", 0.5, &["Shift_JIS", "EUC-JP", "ISO-2022-JP", "UTF-16LE"]),
     ("zh-TW", "tw", 0.5, &["Big5"]),
@@ -66,10 +78,12 @@ enum Table {
     Flat,
     Replace,
     Checks,
+    Pieces,
+    Patterns,
 }
 
 /// The names of the tables, in the order in which they are made.
-const TABLES: [(&str, Table); 7] = [
+const TABLES: [(&str, Table); 9] = [
     ("decode", Table::Decode),
     ("encode", Table::Encode),
     ("ahead", Table::Ahead),
@@ -77,6 +91,8 @@ const TABLES: [(&str, Table); 7] = [
     ("flat", Table::Flat),
     ("replace", Table::Replace),
     ("checks", Table::Checks),
+    ("pieces", Table::Pieces),
+    ("patterns", Table::Patterns),
 ];
 
 /// The tables and lines that are made. If no word names any, all are made.
@@ -135,7 +151,7 @@ fn lines(table: Table, corpus: &str, codec: &Codec, long: &[u8], short: &[u8], t
             }
             replacing::faulty_lines(corpus, codec, long, short, times)
         }
-        Table::Packed | Table::Flat | Table::Replace | Table::Checks => Ok(()),
+        _ => Ok(()),
     }
 }
 
@@ -147,6 +163,8 @@ fn heading(table: Table) -> String {
         Table::Packed => decoding::packed_heading(),
         Table::Flat => encoding::flat_heading(),
         Table::Replace => replacing::heading(),
+        Table::Pieces => piece_table::heading(),
+        Table::Patterns => patterns::heading(),
         Table::Checks => String::new(),
     }
 }
@@ -175,6 +193,11 @@ fn table(table: Table, wanted: &Wanted, codecs: &mut Codecs, times: usize) -> Re
         return checks::table();
     }
     println!("{}", heading(table));
+    match table {
+        Table::Pieces => return piece_table::lines(wanted, times),
+        Table::Patterns => return patterns::lines(wanted, times),
+        _ => {}
+    }
     each_line(wanted, codecs, |corpus, codec, long, short| lines(table, corpus, codec, long, short, times))?;
     if table == Table::Replace && wanted.has_line(&["Big5", "ff"]) {
         replacing::ff_lines(&Ours::new(BIG5, Kept::Flat), times)?;
@@ -244,6 +267,7 @@ fn main() -> Result<(), String> {
         Some("medians") => return medians::tables(arguments.into_iter().skip(1)),
         Some("agreement") => return agreement::report(),
         Some("files") => return files::report(),
+        Some("worst") => return climb::report(&arguments[1..]),
         Some("sources") => {
             sources::print();
             return Ok(());

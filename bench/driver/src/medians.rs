@@ -12,6 +12,9 @@ struct Table {
     lines: Vec<Vec<String>>,
 }
 
+/// The title of the table whose lines are in the order of their first numbers, the worst first.
+const PATTERNS: &str = "## patterns";
+
 /// Returns the cells of a line of a table.
 fn cells(line: &str) -> Vec<String> {
     let inner = line.strip_prefix('|').and_then(|line| line.strip_suffix('|')).unwrap_or(line);
@@ -25,7 +28,11 @@ fn parse(text: &str) -> Vec<Table> {
         let title = part.lines().find(|line| line.starts_with("## ")).unwrap_or_default().to_string();
         let lines: Vec<&str> = part.lines().filter(|line| line.starts_with('|')).collect();
         if let [names, _, body @ ..] = lines.as_slice() {
-            tables.push(Table { title, names: cells(names), lines: body.iter().map(|line| cells(line)).collect() });
+            let mut lines: Vec<Vec<String>> = body.iter().map(|line| cells(line)).collect();
+            if title == PATTERNS {
+                lines.sort();
+            }
+            tables.push(Table { title, names: cells(names), lines });
         }
     }
     tables
@@ -46,6 +53,9 @@ fn cell(name: &str, same: &[&String]) -> Result<String, String> {
     }
     let mut sorted = numbers.clone();
     let median = median(&mut sorted);
+    if name.starts_with("in ") {
+        return Ok(format!("{median:.2}"));
+    }
     if name.starts_with("ratio") {
         return Ok(format!("{median:.2} ({:.2} to {:.2})", sorted[0], sorted[sorted.len() - 1]));
     }
@@ -78,6 +88,11 @@ fn chart(names: &[String], lines: &[Vec<String>]) {
     }
 }
 
+/// Returns the number at the beginning of a line's second cell.
+fn first_number(line: &[String]) -> f64 {
+    line[1].split(' ').next().and_then(|number| number.parse().ok()).unwrap_or(f64::INFINITY)
+}
+
 /// Prints the medians of one table in all builds, and its chart.
 fn print(builds: &[&Table]) -> Result<(), String> {
     let mut lines = vec![builds[0].names.clone()];
@@ -89,6 +104,9 @@ fn print(builds: &[&Table]) -> Result<(), String> {
             cells.push(cell(name, &same.ok_or("a table is shorter")?)?);
         }
         lines.push(cells);
+    }
+    if builds[0].title == PATTERNS {
+        lines[1..].sort_by(|one, other| first_number(one).total_cmp(&first_number(other)));
     }
     println!("{}\n\n```text", builds[0].title);
     print_columns(&lines);

@@ -5,6 +5,9 @@ pub const PIECE: usize = 64;
 
 /// A code unit of a text.
 pub trait Unit: Copy + PartialEq + Default {
+    /// The end of a line.
+    const LINE_END: Self;
+
     /// Checks whether the position is between two characters.
     fn is_between(text: &[Self], place: usize) -> bool;
 
@@ -13,6 +16,8 @@ pub trait Unit: Copy + PartialEq + Default {
 }
 
 impl Unit for u8 {
+    const LINE_END: u8 = b'\n';
+
     fn is_between(text: &[u8], place: usize) -> bool {
         text.get(place).is_none_or(|byte| byte & 0xC0 != 0x80)
     }
@@ -23,6 +28,8 @@ impl Unit for u8 {
 }
 
 impl Unit for u16 {
+    const LINE_END: u16 = b'\n' as u16;
+
     fn is_between(text: &[u16], place: usize) -> bool {
         let is = |at: usize, first: u16| text.get(at).is_some_and(|unit| unit & 0xFC00 == first);
         place == 0 || !is(place - 1, 0xD800) || !is(place, 0xDC00)

@@ -115,9 +115,9 @@ encode!(fast_from_utf8, encoding_rs_fast, u8, encode_from_utf8_without_replaceme
 encode!(fast_from_utf16, encoding_rs_fast, u16, encode_from_utf16_without_replacement, as_units);
 
 macro_rules! encode_replacing {
-    ($name:ident, $unit:ty, $call:ident, $as_source:ident) => {
-        /// Encodes likewise with the fast tables and by calls with replacement, which write references.
-        pub fn $name(encoding: &'static encoding_rs_fast::Encoding, src: &[$unit], dst: &mut [u8], piece: usize, rounds: usize) -> usize {
+    ($name:ident, $library:ident, $unit:ty, $call:ident, $as_source:ident) => {
+        /// Encodes likewise by calls with replacement, which write references.
+        pub fn $name(encoding: &'static $library::Encoding, src: &[$unit], dst: &mut [u8], piece: usize, rounds: usize) -> usize {
             let mut written = 0;
             for _ in 0..rounds {
                 let mut encoder = encoding.new_encoder();
@@ -129,9 +129,9 @@ macro_rules! encode_replacing {
                     read += more;
                     written += bytes;
                     match answer {
-                        encoding_rs_fast::CoderResult::InputEmpty if last => break,
-                        encoding_rs_fast::CoderResult::InputEmpty => end = end_of_piece(src, read, piece),
-                        encoding_rs_fast::CoderResult::OutputFull => break,
+                        $library::CoderResult::InputEmpty if last => break,
+                        $library::CoderResult::InputEmpty => end = end_of_piece(src, read, piece),
+                        $library::CoderResult::OutputFull => break,
                     }
                 }
             }
@@ -140,5 +140,7 @@ macro_rules! encode_replacing {
     };
 }
 
-encode_replacing!(fast_replacing_from_utf8, u8, encode_from_utf8, as_text);
-encode_replacing!(fast_replacing_from_utf16, u16, encode_from_utf16, as_units);
+encode_replacing!(replacing_from_utf8, encoding_rs, u8, encode_from_utf8, as_text);
+encode_replacing!(replacing_from_utf16, encoding_rs, u16, encode_from_utf16, as_units);
+encode_replacing!(fast_replacing_from_utf8, encoding_rs_fast, u8, encode_from_utf8, as_text);
+encode_replacing!(fast_replacing_from_utf16, encoding_rs_fast, u16, encode_from_utf16, as_units);

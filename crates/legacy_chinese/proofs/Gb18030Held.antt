@@ -5,7 +5,8 @@ use Rattle.legacy_base.specs.{Gb18030.{gb18030_scalars, gb18030_range_pointer}, 
 use Rattle.{legacy_base.specs.States.{is_lead, gb18030_may_hold, rests, DecoderState, state_of}, legacy_chinese.specs.Gb18030Decoder.held_bytes}
 use Rattle.legacy_chinese.specs.{Gb18030Machine.{gb18030_step, gb18030_machine}, Gb18030Shown.{lead_other, gb18030_shown}, PairPlaces.pair_place}
 use Rattle.legacy_chinese.specs.declared.gb18030.{decoder.Held.{Held, TheVariants.Nothing}, digit.Digit.Digit as HeldDigit}
-use Rattle.legacy_decoder_engine.proofs.{LanePlaces.entry_is, PairPlaces.{none_past, pair_entry}, Widths.idx_below, YieldedForms.{pair_yields, four_yields}}
+use Rattle.legacy_decoder_engine.proofs.{LanePlaces.entry_is, PairPlaces.{none_past, pair_entry}, Widths.idx_below}
+use Rattle.legacy_decoder_engine.proofs.YieldedForms.{single_yields, pair_yields, four_yields}
 use Rattle.legacy_decoder_engine.specs.{Feeding.Took, LaneCodes.ArePairs, LanePlaces.trail_place, Places.lead_place, ReadAhead.{Yields, IsPair}}
 use Rattle.legacy_decoder_engine.specs.{Moves.{IsCovered, Feeds, FeedsMalformedByte, Releases, Reports, read_need}, Shown.IsShown, declared.held_lead.Lead.Lead}
 use Rattle.{legacy_decoder_engine.specs.declared.moves.Fed.{Fed, TheVariants.One}, legacy_tables.specs.{Indexes.{range, idx}, Unicode.{IsByte, AreBytes}}}
@@ -89,6 +90,14 @@ module _ (tables : AcceptedIndexes) where
       let narrow = gb18030-below tables.flat tables.accepted in
       let yields = pair_yields shown lead trail c byte byte' scalar in
       grind (arith, nat_tests, idx_below tables.flat.gb18030, trail_not_digit tables.flat.gb18030 lead trail c, lead_other, yields)
+
+  pub pair_read : (lead trail c : ℕ) → IsByte lead → IsByte trail → IsScalar c
+      → c ∷ [] ≡ cond (is_lead lead) (gb18030_scalars tables.flat.gb18030 lead trail) [] → Yields g (lead ∷ trail ∷ []) (c ∷ [])
+  pair_read lead trail c byte byte' scalar e = (pair_form lead trail c byte byte' scalar e).1
+
+  -- the byte of the euro sign
+  pub euro_read : (b : ℕ) → b ≡ 0x80 → Yields g (b ∷ []) (0x20AC ∷ [])
+  euro_read b e = rw e (single_yields shown 0x80 0x20AC (omega arith) (grind (arith, nat_tests)) refl refl)
 
   -- the same of a code of two bytes
   pub lane_pair : ArePairs g tables.flat.gb18030 (pair_place 190 0x80)

@@ -3,8 +3,6 @@ pub mod decoder;
 pub mod digit;
 pub mod encoder;
 pub mod four_byte_blocks;
-mod four_lanes;
-mod four_picks;
 pub mod four_places;
 pub mod list;
 pub mod pair_places;

@@ -1,6 +1,7 @@
 -- Laws of the grammars and of runs.
 pub mod SoundEvents
 pub mod KeptAsWritten
+pub mod SoundPieces
 pub mod RunDrivers
 pub mod RunEvents
 pub mod RunSteps

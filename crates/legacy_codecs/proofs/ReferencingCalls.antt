@@ -1,15 +1,18 @@
 -- A call that writes references, in progress.
 use Rattle.std.proofs.Common.{◌≡◌, ◌∙◌, ℕ, ◌+◌, ◌-◌, ◌≤◌, ◌<◌, List, [], ◌∷◌, ◌++◌, length, map, slice_get, refl, sym, ap, arith, append_assoc}
-use Rattle.std.proofs.{Common.{append-nil, length-append, Bool, true, false, IsTrue, Some, inl, inr}, lemmas.Bool.true≢false, lemmas.List.nil_from_length}
+use Rattle.std.proofs.{Common.{append-nil, length-append, Bool, true, false, IsTrue, Some, inl, inr}, lemmas.Bool.{true≢false, false≢true}}
+use Rattle.std.proofs.lemmas.List.{nil_from_length}
 use Rattle.std.proofs.{Math.Bool.{or-false, or-true}, Math.Nat.sub-zero}
 use Rattle.std.specs.Prelude.{is_some}
 use Rattle.legacy_base.specs.{declared.results.EncodeEvent.EncodeEvent, declared.results.EncodeEvent.TheVariants.Byte}
 use Rattle.legacy_base.specs.{declared.results.EncoderResult.EncoderResult, declared.results.EncoderResult.TheVariants.{InputEmpty, OutputFull, Unmappable}}
-use Rattle.legacy_base.specs.{Encoders.{EncoderState, encoded, end_bytes, encoder_need, encoder_answer}, EncoderCalls.{EncoderCall, tells_end, reported}}
+use Rattle.legacy_base.specs.Encoders.{Codec, EncoderState, encoded, encoder_profile, end_bytes, encoder_need, encoder_answer}
+use Rattle.legacy_base.specs.EncoderCalls.{EncoderCall, tells_end, reported}
 use Rattle.legacy_text.specs.EncodingForm.{EncodingForm, total_unit_count}
 use Rattle.legacy_base.proofs.{Beginnings.begins_later, EncoderLaws.{end-encoded, encoder_need-small}}
 use Rattle.legacy_codecs.specs.References.{reference, reference_need, referenced_bytes, has_unmappable, Gives, KeepsReserve, LacksReferenceRoom}
-use Rattle.legacy_codecs.specs.{References.{ReplacingEncoderCall, tells_text_end}, declared.results.CoderResult.CoderResult}
+use Rattle.legacy_codecs.specs.{References.{ReplacingEncoderCall, UnmappableCalls, raw_result, tells_text_end}, declared.results.CoderResult.CoderResult}
+use Rattle.legacy_codecs.specs.References.{UnmappableCalls.{begun, replaced}, LastCall.{made, left_out}}
 use Rattle.legacy_codecs.proofs.ReferenceTexts.{referenced-append, referenced-of_bytes, has_unmappable-append, has_unmappable-of_bytes}
 use Rattle.legacy_base.specs.declared.results.EncodeEvent.TheVariants as event
 use Rattle.legacy_codecs.specs.declared.results.CoderResult.TheVariants as coder
@@ -49,24 +52,19 @@ nothing_reported {before} call =
 
 -- ---- the result of all calls
 
--- the result of the last call of the encoder, after which the calls end with this result
-abbrev pub last_answer : CoderResult → EncoderResult
-last_answer coder.InputEmpty = InputEmpty
-last_answer coder.OutputFull = OutputFull
-
-no_report : (result : CoderResult) → reported (last_answer result) ≡ []
+no_report : (result : CoderResult) → reported (raw_result result) ≡ []
 no_report result = grind arith
 
-no_bytes : (result : CoderResult) → reported_bytes (last_answer result) ≡ []
+no_bytes : (result : CoderResult) → reported_bytes (raw_result result) ≡ []
 no_bytes result = grind arith
 
-same_found : (found : Bool) (result : CoderResult) → found ≡ found_after found (last_answer result)
+same_found : (found : Bool) (result : CoderResult) → found ≡ found_after found (raw_result result)
 same_found found result = grind arith
 
-same_end : (last : Bool) (result : CoderResult) → tells_end last (last_answer result) ≡ tells_text_end last result
+same_end : (last : Bool) (result : CoderResult) → tells_end last (raw_result result) ≡ tells_text_end last result
 same_end last result = grind arith
 
-is_full : (result : CoderResult) → last_answer result ≡ OutputFull → result ≡ coder.OutputFull
+is_full : (result : CoderResult) → raw_result result ≡ OutputFull → result ≡ coder.OutputFull
 is_full result e = grind arith
 
 -- ---- the need of a reference
@@ -93,6 +91,20 @@ reserve-append free (event.Unmappable c ∷ xs) ys a b =
     omega (arith, length-append (reference c) (referenced_bytes xs)) in
     (a.0, reserve-append (free - length (reference c)) xs ys a.1 (rw less b))
 
+-- each scalar needs something
+scalar_need-some : (codec : Codec) (c : ℕ) → 0 < (encoder_profile codec).scalar_need c
+scalar_need-some codec c = grind arith
+
+scalar_left : (s : EncoderState) (left : List ℕ) (last : Bool) → is_some (slice_get left 0) ≡ true → 0 < encoder_need s left last
+scalar_left s [] last some = absurd (false≢true some)
+scalar_left s (c ∷ left) last some = scalar_need-some s.codec c
+
+-- if nothing is written until an unmappable scalar is found, and too little is free after what was written, one was found
+found_if_short : {free : ℕ} {bytes : List ℕ} {found : Bool} → (found ≡ false → bytes ≡ []) → free < length bytes + reference_need → reference_need ≤ free →
+    IsTrue found
+found_if_short {bytes = bytes} {found = true} none short much = refl
+found_if_short {bytes = bytes} {found = false} none short much = let empty = ap length (none refl) in absurd (omega (arith, empty))
+
 -- ---- calls in progress
 
 -- The scalars that are left, the bytes that were written, and whether an unmappable scalar was found.
@@ -107,6 +119,7 @@ pub record IsReferencing (before : EncoderState) (source : List ℕ) (last : Boo
   pub text : bytes ≡ referenced_bytes out
   pub reserve : KeepsReserve free out
   pub found_is : found ≡ has_unmappable out
+  pub calls : UnmappableCalls before source last free now left bytes
   -- if no unmappable scalar was found, nothing was done yet
   pub untouched : found ≡ false → (now ≡ before) × (left ≡ source) × (bytes ≡ [])
   -- if the room was lacking as the call began, no unmappable scalar was found
@@ -124,6 +137,7 @@ referencing_start before source last free = record {
   text = refl;
   reserve = tt;
   found_is = refl;
+  calls = begun;
   untouched = λ _. (refl, refl, refl);
   unfound = λ _ _. refl;
 }
@@ -191,6 +205,7 @@ module _ {before : EncoderState} {source : List ℕ} {last : Bool} {free : ℕ} 
           text = text_after written x;
           reserve = reserve_after room room_is written x call.fits (some, tt);
           found_is = ap (λ b. found_after b x) u.found_is ∙ found-call u.out written x;
+          calls = replaced now left bytes u.calls after c rest written (rw room_is at call);
           untouched = λ e. absurd (true≢false e);
           unfound = λ need lacks. let never : x ≡ OutputFull = (full_so x call need lacks).0 in cc;
         }
@@ -209,11 +224,11 @@ module _ {before : EncoderState} {source : List ℕ} {last : Bool} {free : ℕ} 
         (form : EncodingForm) (n k : ℕ) → total_unit_count form source ≤ n → encoder_answer form before n ≡ Some k → k + reference_need ≤ free → IsTrue found
     found_if_full found h h1 form n k h2 h3 h4 = grind arith
 
-    pub referencing_end : (result : CoderResult) → EncoderCall now left last room after (last_answer result) rest written →
+    pub referencing_end : (result : CoderResult) → EncoderCall now left last room after (raw_result result) rest written →
         ReplacingEncoderCall before source last free after result rest (bytes ++ written) found
     unfolding KeepsReserve
     referencing_end result c =
-        let x = last_answer result in
+        let x = raw_result result in
         let long = length-append bytes written in
         let small = encoder_need-small after rest last in
         record {
@@ -226,10 +241,19 @@ module _ {before : EncoderState} {source : List ℕ} {last : Bool} {free : ℕ} 
           text = rw (no_bytes result, append-nil written) at (text_after written x);
           reserve = reserve_after room room_is written x c.fits (rw (no_report result) tt);
           found_is = u.found_is ∙ same_found (has_unmappable u.out) result ∙ found-call u.out written x;
-          input_empty = λ e. c.input_empty (ap last_answer e);
+          calls = record {
+            now = now;
+            left_before = left;
+            written_before = bytes;
+            replaced = u.calls;
+            bytes = written;
+            ends = made after result rest written (rw room_is at c);
+            written_is = refl;
+          };
+          input_empty = λ e. c.input_empty (ap raw_result e);
           output_full = λ e.
-              let lacks = c.output_full (ap last_answer e) in (omega (arith, lacks), omega (arith, long, c.fits, u.fits, lacks));
-          few = λ e. let lacks = c.output_full (ap last_answer e) in omega (arith, long, c.fits, u.fits, lacks, small);
+              let lacks = c.output_full (ap raw_result e) in (omega (arith, lacks), omega (arith, long, c.fits, u.fits, lacks));
+          few = λ e. let lacks = c.output_full (ap raw_result e) in omega (arith, long, c.fits, u.fits, lacks, small);
           full_at_once = λ need l. let full = full_so x c need l in (is_full result full.0, full.1, full.2, u.unfound need l, full.3);
           enough = λ form n k h e f full. found_if_full found u.untouched (rw full at c) form n k h e f;
         }
@@ -238,9 +262,41 @@ module _ {before : EncoderState} {source : List ℕ} {last : Bool} {free : ℕ} 
 
   -- no scalar is left, and a call without room shows whether the end has something to write
   pub referencing_done : free < length bytes + reference_need → {after : EncoderState} {rest written : List ℕ} (result : CoderResult) →
-      EncoderCall now left last 0 after (last_answer result) rest written → ReplacingEncoderCall before source last free after result rest bytes found
+      EncoderCall now left last 0 after (raw_result result) rest written → ReplacingEncoderCall before source last free after result rest bytes found
   referencing_done none {after} {rest} {written} result c =
       rw (nil_from_length written (omega (arith, c.fits)), append-nil bytes) at (referencing_end (omega arith) result c)
+
+  -- a scalar is left, and its reference has no room: no call is made
+  pub referencing_stops : free < length bytes + reference_need → is_some (slice_get left 0) ≡ true →
+      ReplacingEncoderCall before source last free now coder.OutputFull left bytes found
+  referencing_stops none some =
+      let need = scalar_left now left last some in
+      let lacks : LacksReferenceRoom now left last (free - length bytes) = omega (arith, none, need) in
+      record {
+        taken = u.taken;
+        cut = u.cut;
+        codec = u.codec;
+        fits = u.fits;
+        out = u.out;
+        gives = u.gives;
+        text = u.text;
+        reserve = u.reserve;
+        found_is = u.found_is;
+        calls = record {
+          now = now;
+          left_before = left;
+          written_before = bytes;
+          replaced = u.calls;
+          bytes = [];
+          ends = left_out need lacks;
+          written_is = sym (append-nil bytes);
+        };
+        input_empty = λ e. cc;
+        output_full = λ e. (need, lacks);
+        few = λ e. omega (arith, none);
+        full_at_once = λ n l. let same = u.untouched (u.unfound n l) in (refl, same.1, same.2, u.unfound n l, same.0);
+        enough = λ form n k h e f full. found_if_short (λ e. (u.untouched e).2) none (omega (arith, f));
+      }
 
 -- the list of scalars is at its end
 pub nothing_left : (xs : List ℕ) → is_some (slice_get xs 0) ≡ false → xs ≡ []

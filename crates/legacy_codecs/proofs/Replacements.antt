@@ -11,7 +11,8 @@ use Rattle.legacy_base.specs.Calls.{Progress, DecoderCall, may_report_end, out_e
 use Rattle.legacy_text.specs.EncodingForm.{EncodingForm, code_units, all_code_units, total_unit_count, bmp_need}
 use Rattle.legacy_text.proofs.CodeUnits.{encode_3, all_code_units-append}
 use Rattle.legacy_base.proofs.{Enough.total_need-answer, Progress.{stay, at_less, after_that}}
-use Rattle.legacy_codecs.specs.Replacing.{replaced_scalars, has_malformed, replacing_query, may_replace_end, ReplacingDecoderCall}
+use Rattle.legacy_codecs.specs.Replacing.{replaced_scalars, has_malformed, replacing_query, may_replace_end, MalformedCalls, raw_result, ReplacingDecoderCall}
+use Rattle.legacy_codecs.specs.Replacing.MalformedCalls.{begun, replaced}
 use Rattle.legacy_codecs.proofs.Replaced.{replaced-append, replaced-shift, replaced-of_scalars, malformed_less}
 use Rattle.legacy_codecs.proofs.Replaced.{has_malformed-append, has_malformed-shift, has_malformed-of_scalars}
 use Rattle.legacy_codecs.specs.declared.results.CoderResult.{CoderResult}
@@ -41,21 +42,16 @@ found-call events k seen cs answer = grind (arith, has_malformed-shift, has_malf
 
 -- ---- the result of all calls
 
--- the result of the last call of the decoder, after which the calls end with this result
-abbrev pub last_answer : CoderResult → DecoderResult
-last_answer coder.InputEmpty = InputEmpty
-last_answer coder.OutputFull = OutputFull
-
-no_report : (result : CoderResult) → reported_scalars (last_answer result) ≡ []
+no_report : (result : CoderResult) → reported_scalars (raw_result result) ≡ []
 no_report result = grind arith
 
-same_found : (found : Bool) (result : CoderResult) → found ≡ found_after found (last_answer result)
+same_found : (found : Bool) (result : CoderResult) → found ≡ found_after found (raw_result result)
 same_found found result = grind arith
 
-is_full : (result : CoderResult) → last_answer result ≡ OutputFull → result ≡ coder.OutputFull
+is_full : (result : CoderResult) → raw_result result ≡ OutputFull → result ≡ coder.OutputFull
 is_full result e = grind arith
 
-is_empty : (result : CoderResult) → (last_answer result ≡ OutputFull → ⊥) → result ≡ coder.InputEmpty
+is_empty : (result : CoderResult) → (raw_result result ≡ OutputFull → ⊥) → result ≡ coder.InputEmpty
 is_empty result h = grind arith
 
 -- ---- the room for U+FFFD
@@ -94,6 +90,7 @@ pub record Replaces (form : EncodingForm) (before : DecoderState) (source : List
   pub scalar : All IsScalar (replaced_scalars out)
   pub text : written ≡ all_code_units form (replaced_scalars out)
   pub found_is : found ≡ has_malformed out
+  pub calls : MalformedCalls form before source last free now read (replaced_scalars out)
   pub untouched : LacksRoom form before source last free → (read ≡ 0) × (written ≡ []) × (found ≡ false) × (now ≡ before)
   pub unfound : found ≡ false → (read ≡ 0) × (written ≡ []) × (now ≡ before)
   pub lowers : (more : ℕ) → (IsTrue last → more ≡ 0) →
@@ -113,6 +110,7 @@ replaces_start form before source last free old = record {
   scalar = All-nil IsScalar;
   text = refl;
   found_is = refl;
+  calls = begun;
   untouched = λ _. (refl, refl, refl, refl);
   unfound = λ _. (refl, refl, refl);
   lowers = λ more _. omega arith;
@@ -148,6 +146,10 @@ module _ {form : EncodingForm} {before : DecoderState} {source : List ℕ} {last
 
   found_is_after : (count : ℕ) (scalars : List ℕ) (answer : DecoderResult) → found_after found answer ≡ has_malformed (out_after count scalars answer)
   found_is_after count scalars answer = ap (λ b. found_after b answer) r.found_is ∙ found-call r.out r.passed (length now.held + count) scalars answer
+
+  -- what is left is what was free, without what was written
+  left_is : left ≡ free - total_unit_count form (replaced_scalars r.out)
+  left_is = omega (arith, r.fits, ap length r.text)
 
   -- a call with the room that is left
   module _ {after : DecoderState} {count : ℕ} {scalars : List ℕ} {answer : DecoderResult}
@@ -215,6 +217,8 @@ module _ {form : EncodingForm} {before : DecoderState} {source : List ℕ} {last
             scalar = scalar_after c;
             text = rw (all_code_units-append form scalars (0xFFFD ∷ []), append-nil fffd) at (text_after count scalars x);
             found_is = found_is_after count scalars x;
+            calls =
+                rw (replaced_after count scalars x) (replaced now read (replaced_scalars r.out) r.calls after a b count scalars (rw left_is at c));
             untouched = λ h. let never : x ≡ OutputFull = (full_so c h).0 in cc;
             unfound = λ e. cc;
             lowers = λ more h. omega (arith, lowers_after c more h, all, counted_units form, replacement_count form);
@@ -229,10 +233,10 @@ module _ {form : EncodingForm} {before : DecoderState} {source : List ℕ} {last
 
     -- ---- the end
 
-    pub replaces_end : (result : CoderResult) → DecoderCall form now (drop read source) last left after (last_answer result) count scalars →
+    pub replaces_end : (result : CoderResult) → DecoderCall form now (drop read source) last left after (raw_result result) count scalars →
         (written : List ℕ) × ReplacingDecoderCall form before source last free after result (read + count) written found × (stepped ≡ old ++ written)
     replaces_end result c =
-        let answer = last_answer result in
+        let answer = raw_result result in
         let units = all_code_units form scalars in
         let long = length-append r.written units in
         let query = replacing_query form in
@@ -254,10 +258,21 @@ module _ {form : EncodingForm} {before : DecoderState} {source : List ℕ} {last
             scalar = scalar_after c;
             text = rw (no_report result, append-nil scalars) at (text_after count scalars answer);
             found_is = same_found found result ∙ found_is_after count scalars answer;
+            calls = record {
+              now = now;
+              read_before = read;
+              written_before = replaced_scalars r.out;
+              replaced = r.calls;
+              count = count;
+              scalars = scalars;
+              ends = rw left_is at c;
+              read_is = refl;
+              written_is = rw (no_report result, append-nil scalars) at (replaced_after count scalars answer);
+            };
             input_empty = λ e.
-                let done = c.input_empty (ap last_answer e) in
+                let done = c.input_empty (ap raw_result e) in
                 (omega (arith, done.0, r.within, length-drop read source), done.1, done.2);
-            output_full = λ e. rw (drop-drop count read source, left_now) at (c.output_full (ap last_answer e));
+            output_full = λ e. rw (drop-drop count read source, left_now) at (c.output_full (ap raw_result e));
             full_at_once = λ h. let full = full_so c h in (is_full result full.0, full.1, full.2, full.3, full.4);
             lowers = λ more h. omega (arith, lowers_after c more h, long);
             suffices = wide;

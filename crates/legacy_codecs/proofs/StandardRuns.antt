@@ -4,10 +4,10 @@ use Rattle.legacy_base.specs.declared.results.DecodeEvent.{DecodeEvent}
 use Rattle.legacy_base.specs.{declared.results.EncodeEvent.EncodeEvent, States.DecoderState, Encoders.EncoderState}
 use Rattle.legacy_base.specs.Encoders.{Codec, gb18030}
 use Rattle.legacy_base.specs.RoundTrips.{HasAcceptedLists}
-use Rattle.legacy_tables.proofs.Accepted.{parts}
+use Rattle.legacy_tables.{proofs.Accepted.parts, specs.Unicode.{AreBytes, AreScalars}}
 use Rattle.legacy_standard.specs.{DecoderLaw.HandlerDecodes, EncoderLaw.{HasAcceptedRanges, AreAcceptedRanges, HandlerEncodes}}
 use Rattle.legacy_standard.proofs.AllCodecs.{all_decoders, all_encoders}
-use Rattle.legacy_codecs.specs.{Runs.{placed, IsBeginning}, EncodeRuns.IsEncodeBeginning, StandardRuns.RunIsDecodedByHandler}
+use Rattle.legacy_codecs.specs.{Pieces.joined, Runs.{placed, IsBeginning}, EncodeRuns.IsEncodeBeginning, StandardRuns.RunIsDecodedByHandler}
 use Rattle.legacy_codecs.specs.StandardRuns.{RunIsEncodedByHandler, RunsAreDecodedByHandlers, RunsAreEncodedByHandlers}
 use Rattle.legacy_codecs.proofs.{RunEvents.finished_gives, EncodeRunEvents.finished_encodes}
 
@@ -17,9 +17,9 @@ unfolding placed
 placed-zero [] = refl
 placed-zero (event ∷ events) = grind (arith, placed-zero events)
 
-pub run_is_decoded : (before : DecoderState) (pieces : List (List ℕ)) {finished : Bool} {answered : List DecodeEvent} →
+pub run_is_decoded : (before : DecoderState) (pieces : List (List ℕ)) {finished : Bool} {answered : List DecodeEvent} → AreBytes (joined pieces) →
     IsBeginning before pieces finished answered → RunIsDecodedByHandler before pieces finished answered
-run_is_decoded before pieces {answered = answered} b decoder new done all = grind (arith, append-nil, placed-zero, all_decoders)
+run_is_decoded before pieces {answered = answered} all b decoder new done = grind (arith, append-nil, placed-zero, all_decoders)
 
 pub runs_are_decoded : RunsAreDecodedByHandlers
 runs_are_decoded decoder bytes all answered run =
@@ -32,9 +32,9 @@ accepted_ranges (gb18030 index ranges pua) (indexes, _, same, _) =
     subst AreAcceptedRanges (sym same) (record { ordered = p.ordered; valued = p.valued })
 accepted_ranges _ lists = tt
 
-pub run_is_encoded : (before : EncoderState) (pieces : List (List ℕ)) {finished : Bool} {answered : List EncodeEvent} →
+pub run_is_encoded : (before : EncoderState) (pieces : List (List ℕ)) {finished : Bool} {answered : List EncodeEvent} → AreScalars (joined pieces) →
     IsEncodeBeginning before pieces finished answered → RunIsEncodedByHandler before pieces finished answered
-run_is_encoded before pieces {answered = answered} b codec ranges has new done all = grind (arith, append-nil, all_encoders)
+run_is_encoded before pieces {answered = answered} all b codec ranges has new done = grind (arith, append-nil, all_encoders)
 
 pub runs_are_encoded : RunsAreEncodedByHandlers
 runs_are_encoded codec ranges has text all answered run =

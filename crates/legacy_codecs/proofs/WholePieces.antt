@@ -7,7 +7,7 @@ use Rattle.legacy_text.specs.EncodingForm.{EncodingForm, Utf8, all_code_units}
 use Rattle.legacy_base.specs.{Grammar.events_of, Lengths.{query_answer, to_utf8}, States.DecoderState}
 use Rattle.legacy_text.proofs.{CodeUnits.all_code_units-append, Texts.encodes-code_units}
 use Rattle.legacy_codecs.specs.{declared.results.CoderResult.CoderResult, declared.results.CoderResult.TheVariants.InputEmpty, Replacing.replaced_scalars}
-use Rattle.legacy_codecs.specs.{Replacing.ReplacingDecoderCall, WholeTexts.{text_of, TextGoesOn}}
+use Rattle.legacy_codecs.specs.{Replacing.ReplacingDecoderCall, WholeTexts.{text_of, IsReadWhole, TextGoesOn}}
 use Rattle.legacy_codecs.proofs.{Replacements.end_found-last, Replaced.{replaced-append, replaced-shift}}
 
 -- ---- scalars in UTF-8
@@ -37,6 +37,9 @@ module _ {form : EncodingForm} {before : DecoderState} {source : List ℕ} {last
   unfolding text_of
   scalars_go_on later h = grind (arith, drop_all, end_found-last, replaced-append, replaced-shift)
 
+  pub read_whole : IsReadWhole form last free before source after written
+  read_whole = let all = (c.input_empty empty).0 in (found, rw (empty, all) at c)
+
   pub text_goes_on : TextGoesOn form last before source after written
   text_goes_on later h = grind (arith, scalars_go_on, all_code_units-append)
 
@@ -54,7 +57,8 @@ pub whole_with_room : {before : DecoderState} {source : List ℕ} {free : ℕ} {
     ReplacingDecoderCall Utf8 before source true free after answer read written found →
     (k : ℕ) → query_answer to_utf8 before (length source) ≡ Some k → k ≤ free →
     IsUtf8 written × (chars written ≡ text_of before source) × (text_of after [] ≡ [])
-whole_with_room {source = source} {written = written} c k queried fits =
+    × (n : ℕ) × IsReadWhole Utf8 true n before source after written
+whole_with_room {source = source} {free = free} {written = written} c k queried fits =
     let empty = c.enough (length source) k (omega arith) queried fits in
     let utf8 = utf8_of written (replaced_scalars c.out) c.scalar c.text in
-    (utf8.0, utf8.1 ∙ sym (whole_text c empty refl), none_left c empty refl)
+    (utf8.0, utf8.1 ∙ sym (whole_text c empty refl), none_left c empty refl, free, read_whole c empty)

@@ -3,7 +3,10 @@ use Rattle.std.specs.Prelude.{◌≡◌, ℕ, ◌+◌, ◌-◌, ◌<◌, ◌≤�
 use Rattle.std.specs.List.{list_any}
 use Rattle.legacy_base.specs.declared.results.EncodeEvent.{EncodeEvent}
 use Rattle.legacy_base.specs.declared.results.EncodeEvent.TheVariants.{Byte, Unmappable}
+use Rattle.legacy_base.specs.declared.results.EncoderResult.{EncoderResult}
+use Rattle.legacy_base.specs.declared.results.EncoderResult.TheVariants as raw
 use Rattle.legacy_base.specs.Beginnings.{BeginsWith}
+use Rattle.legacy_base.specs.EncoderCalls.{EncoderCall}
 use Rattle.legacy_text.specs.EncodingForm.{EncodingForm, total_unit_count}
 use Rattle.legacy_base.specs.Encoders.{EncoderState, encoded, end_bytes, encoder_need, encoder_answer}
 use Rattle.legacy_codecs.specs.declared.results.CoderResult.{CoderResult}
@@ -58,6 +61,42 @@ KeepsReserve free (Unmappable c ∷ events) = (reference_need ≤ free) × Keeps
 abbrev pub LacksReferenceRoom : EncoderState → List ℕ → Bool → ℕ → Type 0
 LacksReferenceRoom state unread last free = free < encoder_need state unread last + reference_need
 
+-- ---- the raw calls
+
+-- Raw calls that each reported an unmappable scalar, after which its reference was written. They lead to a state, leave
+-- these scalars, and wrote these bytes together. Each has the free bytes without ten.
+pub data UnmappableCalls (before : EncoderState) (source : List ℕ) (last : Bool) (free : ℕ) : EncoderState → List ℕ → List ℕ → Type 0 where
+  begun : UnmappableCalls before source last free before source []
+  replaced : (now : EncoderState) (left written : List ℕ) → UnmappableCalls before source last free now left written →
+      (after : EncoderState) (c : ℕ) (rest bytes : List ℕ) →
+      EncoderCall now left last (free - length written - reference_need) after (raw.Unmappable c) rest bytes →
+      UnmappableCalls before source last free after rest (written ++ (bytes ++ reference c))
+
+-- the result of a raw call that is returned so
+abbrev pub raw_result : CoderResult → EncoderResult
+raw_result InputEmpty = raw.InputEmpty
+raw_result OutputFull = raw.OutputFull
+
+-- What the last raw call does with `free` bytes free: it has them without ten. It may be left out if its act and a
+-- reference lack their room, because it would do nothing.
+pub data LastCall (now : EncoderState) (left : List ℕ) (last : Bool) (free : ℕ) : EncoderState → CoderResult → List ℕ → List ℕ → Type 0 where
+  made : (after : EncoderState) (answer : CoderResult) (rest bytes : List ℕ) →
+      EncoderCall now left last (free - reference_need) after (raw_result answer) rest bytes → LastCall now left last free after answer rest bytes
+  left_out : 0 < encoder_need now left last → LacksReferenceRoom now left last free → LastCall now left last free now OutputFull left []
+
+-- Such calls, and then the one that gives the result.
+pub record IsByRawCalls (before : EncoderState) (source : List ℕ) (last : Bool) (free : ℕ) (after : EncoderState) (answer : CoderResult)
+    (left written : List ℕ) : Type 0 where
+  pub now : EncoderState
+  pub left_before : List ℕ
+  pub written_before : List ℕ
+  pub replaced : UnmappableCalls before source last free now left_before written_before
+  pub bytes : List ℕ
+  pub ends : LastCall now left_before last (free - length written_before) after answer left bytes
+  pub written_is : written ≡ written_before ++ bytes
+
+-- ---- the law
+
 -- A call from the state `before` over the scalars `source` with `free` bytes free. It returns a result, goes to the
 -- state `after`, leaves the scalars `left`, and writes `bytes`. `found` is whether it found an unmappable scalar.
 pub record ReplacingEncoderCall (before : EncoderState) (source : List ℕ) (last : Bool) (free : ℕ) (after : EncoderState) (answer : CoderResult)
@@ -79,6 +118,8 @@ pub record ReplacingEncoderCall (before : EncoderState) (source : List ℕ) (las
   pub reserve : KeepsReserve free out
   -- `found` is whether a scalar was unmappable
   pub found_is : found ≡ has_unmappable out
+  -- it does what raw calls do, so what each act and a reference need was free before it
+  pub calls : IsByRawCalls before source last free after answer left bytes
   -- at InputEmpty all is read; on a last call the end has nothing left to write
   pub input_empty : answer ≡ InputEmpty → (left ≡ []) × (IsTrue last → end_bytes after ≡ [])
   -- at OutputFull something is left to do, and the next act and a reference lack their room

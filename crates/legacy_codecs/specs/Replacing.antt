@@ -1,16 +1,18 @@
 -- Calls of a decoder that write U+FFFD for each malformed sequence.
-use Rattle.std.specs.Prelude.{◌≡◌, ◌≢◌, ℕ, ◌+◌, ◌-◌, ◌<◌, ◌≤◌, List, [], length, drop, map, Bool, true, false, IsTrue, All, Some, ◌&&◌}
+use Rattle.std.specs.Prelude.{◌≡◌, ◌≢◌, ℕ, ◌+◌, ◌-◌, ◌<◌, ◌≤◌, List, [], ◌∷◌, ◌++◌, length, drop, map, Bool, true, false, IsTrue, All, Some, ◌&&◌}
 use Rattle.std.specs.Char.{IsScalar}
 use Rattle.std.specs.List.{list_any}
 use Rattle.legacy_base.specs.declared.results.DecodeEvent.{DecodeEvent}
 use Rattle.legacy_base.specs.declared.results.DecodeEvent.TheVariants.{Scalar, Bad}
-use Rattle.legacy_text.specs.EncodingForm.{EncodingForm, Utf8, Utf16, all_code_units}
+use Rattle.legacy_base.specs.declared.results.DecoderResult.{DecoderResult}
+use Rattle.legacy_base.specs.declared.results.DecoderResult.TheVariants as raw
+use Rattle.legacy_text.specs.EncodingForm.{EncodingForm, Utf8, Utf16, all_code_units, total_unit_count}
 use Rattle.legacy_base.specs.Grammar.{events_of}
 use Rattle.legacy_base.specs.Profile.{is_empty}
 use Rattle.legacy_base.specs.States.{DecoderState, may_hold, rests}
 use Rattle.legacy_base.specs.DecoderActs.{LacksRoom, full_need_in}
 use Rattle.legacy_base.specs.Lengths.{LengthQuery, to_utf16, to_utf8, query_answer, total_need}
-use Rattle.legacy_base.specs.Calls.{Progress}
+use Rattle.legacy_base.specs.Calls.{Progress, DecoderCall}
 use Rattle.legacy_codecs.specs.declared.results.CoderResult.{CoderResult}
 use Rattle.legacy_codecs.specs.declared.results.CoderResult.TheVariants.{InputEmpty, OutputFull}
 
@@ -42,6 +44,37 @@ replacing_query Utf16 = to_utf16
 abbrev pub may_replace_end : Bool → Bool → List ℕ → Bool
 may_replace_end last found left = found && (last && is_empty left)
 
+-- ---- the raw calls
+
+-- Raw calls that each reported a malformed sequence, after which U+FFFD was written. They lead to a state, read so many
+-- bytes of the source, and wrote these scalars together.
+pub data MalformedCalls (form : EncodingForm) (before : DecoderState) (source : List ℕ) (last : Bool) (free : ℕ) : DecoderState → ℕ → List ℕ → Type 0 where
+  begun : MalformedCalls form before source last free before 0 []
+  replaced : (now : DecoderState) (read : ℕ) (written : List ℕ) → MalformedCalls form before source last free now read written →
+      (after : DecoderState) (sequence back count : ℕ) (scalars : List ℕ) →
+      DecoderCall form now (drop read source) last (free - total_unit_count form written) after (raw.Malformed sequence back) count scalars →
+      MalformedCalls form before source last free after (read + count) (written ++ (scalars ++ 0xFFFD ∷ []))
+
+-- the result of a raw call that is returned so
+abbrev pub raw_result : CoderResult → DecoderResult
+raw_result InputEmpty = raw.InputEmpty
+raw_result OutputFull = raw.OutputFull
+
+-- Such calls, and then the raw call that gives the result. Each has all free code units that are left.
+pub record IsByRawCalls (form : EncodingForm) (before : DecoderState) (source : List ℕ) (last : Bool) (free : ℕ) (after : DecoderState)
+    (answer : CoderResult) (read : ℕ) (written : List ℕ) : Type 0 where
+  pub now : DecoderState
+  pub read_before : ℕ
+  pub written_before : List ℕ
+  pub replaced : MalformedCalls form before source last free now read_before written_before
+  pub count : ℕ
+  pub scalars : List ℕ
+  pub ends : DecoderCall form now (drop read_before source) last (free - total_unit_count form written_before) after (raw_result answer) count scalars
+  pub read_is : read ≡ read_before + count
+  pub written_is : written ≡ written_before ++ scalars
+
+-- ---- the law
+
 -- A call from the state `before` with `free` code units free. It returns a result, reads `read` bytes of the source,
 -- writes these code units, and goes to the state `after`. `found` is whether it found a malformed sequence.
 pub record ReplacingDecoderCall (form : EncodingForm) (before : DecoderState) (source : List ℕ) (last : Bool) (free : ℕ) (after : DecoderState)
@@ -67,6 +100,8 @@ pub record ReplacingDecoderCall (form : EncodingForm) (before : DecoderState) (s
   pub text : written ≡ all_code_units form (replaced_scalars out)
   -- `found` is whether a sequence was malformed
   pub found_is : found ≡ has_malformed out
+  -- it does what raw calls do, so what each scalar and each U+FFFD needs was free before it
+  pub calls : IsByRawCalls form before source last free after answer read (replaced_scalars out)
   -- at InputEmpty all is read and no scalar is held back; at the last end no event is left
   pub input_empty : answer ≡ InputEmpty → (read ≡ length source) × IsTrue (rests after.grammar after.held)
       × (IsTrue last → events_of after.grammar after.held ≡ [])

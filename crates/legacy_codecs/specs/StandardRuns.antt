@@ -17,7 +17,7 @@ use Rattle.legacy_codecs.specs.EncodeRuns.{FinishedEncodeRun}
 -- all pieces together.
 abbrev pub RunIsDecodedByHandler : DecoderState → List (List ℕ) → Bool → List DecodeEvent → Type 0
 RunIsDecodedByHandler before pieces finished answered =
-    (decoder : Decoder) → before ≡ new_state (decoder_grammar decoder) → IsTrue finished → AreBytes (joined pieces) →
+    (decoder : Decoder) → before ≡ new_state (decoder_grammar decoder) → IsTrue finished →
     HandlerDecodes decoder (joined pieces) answered
 
 -- Let the encoder be new, its ranges accepted, no pointer missing, and the run finished. Then its events are what the
@@ -25,7 +25,7 @@ RunIsDecodedByHandler before pieces finished answered =
 abbrev pub RunIsEncodedByHandler : EncoderState → List (List ℕ) → Bool → List EncodeEvent → Type 0
 RunIsEncodedByHandler before pieces finished answered =
     (codec : Codec) → HasAcceptedRanges codec → HasPointers codec → before ≡ new_encoder codec →
-    IsTrue finished → AreScalars (joined pieces) →
+    IsTrue finished →
     HandlerEncodes codec (joined pieces) answered
 
 -- ---- any finished run

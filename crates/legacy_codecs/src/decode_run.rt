@@ -1,8 +1,9 @@
 //! Runs of a decoder over an input in pieces, with outputs of given lengths.
 ghost use Rattle.std.specs.Prelude.{◌≡◌, ◌↔◌, ℕ, ◌+◌, ◌-◌, ◌^◌, ◌<◌, ◌≤◌, List, [], ◌++◌, length, sum, sum_by, vec_len, vec_capacity, All, IfOk, OnErr};
+ghost use Rattle.legacy_tables.specs.Unicode.{AreBytes};
 ghost use Rattle.legacy_text.specs.EncodingForm.{Utf8, Utf16};
 ghost use Rattle.legacy_base.specs.Calls.{DecoderCall, reported_events, out_events};
-ghost use Rattle.legacy_codecs.specs.Pieces.{contents_of, place_before, IsTooLong};
+ghost use Rattle.legacy_codecs.specs.Pieces.{contents_of, joined, place_before, IsTooLong};
 ghost use Rattle.legacy_codecs.specs.RunResults.{RunDecodes};
 ghost use Rattle.legacy_codecs.specs.Runs.{is_input_empty, IsRun};
 
@@ -150,7 +151,8 @@ fn decode_run<D: RawDecoder, F: OutputForm>(
 ) -> Result<DecodeRun, RunError>
     ensures run { IfOk result (λ run.
         let from = place_before (D.state decoder.old) (contents_of pieces.now) in
-        IsRun F.form from lengths.now run.calls run.finished run.events.items
+        AreBytes (joined (contents_of pieces.now))
+        × IsRun F.form from lengths.now run.calls run.finished run.events.items
         (D.state decoder.new)) }
     ensures too_long { (result ≡ Err RunError.TooLong)
         ↔ IsTooLong (contents_of pieces.now) lengths.now }

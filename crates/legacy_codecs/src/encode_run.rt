@@ -2,7 +2,7 @@
 ghost use Rattle.std.specs.Prelude.{◌≡◌, ℕ, ◌↔◌, ◌+◌, ◌<◌, ◌≤◌, List, [], ◌++◌, length, sum, map, vec_len, vec_capacity, All, IfOk, OnErr};
 ghost use Rattle.legacy_base.specs.declared.results.EncodeEvent.TheVariants.{Byte};
 ghost use Rattle.legacy_base.specs.EncoderCalls.{EncoderCall, reported};
-ghost use Rattle.legacy_codecs.specs.Pieces.{contents_of, place_before, IsTooLong};
+ghost use Rattle.legacy_codecs.specs.Pieces.{contents_of, joined, place_before, IsTooLong};
 ghost use Rattle.legacy_codecs.specs.EncodeRuns.{chars_of, unit_scalars_of, is_input_empty, IsEncodeRun};
 ghost use Rattle.legacy_codecs.specs.RunResults.{RunEncodes};
 
@@ -78,7 +78,7 @@ fn run_calls<E: RawEncoder, T: Text>(
     requires output { All (λ n. n ≤ length output.old) lengths.now }
     requires empty { events.items ≡ [] }
     requires room { sum lengths.now + length lengths.now ≤ vec_capacity events }
-    ensures { let from = place_before (E.state encoder.old) (map T.scalars pieces.now) in
+    ensures { let from = place_before (E.state encoder.old) (map T.items pieces.now) in
         IsEncodeRun from lengths.now result.calls result.finished result.events.items
         (E.state encoder.new) }
 {
@@ -114,8 +114,9 @@ fn encode_run<E: RawEncoder, T: Text>(
     lengths: &[usize],
 ) -> Result<EncodeRun, RunError>
     ensures run { IfOk result (λ run.
-        let from = place_before (E.state encoder.old) (map T.scalars pieces.now) in
-        IsEncodeRun from lengths.now run.calls run.finished run.events.items
+        let from = place_before (E.state encoder.old) (map T.items pieces.now) in
+        All T.is_item (joined (map T.items pieces.now))
+        × IsEncodeRun from lengths.now run.calls run.finished run.events.items
         (E.state encoder.new)) }
     ensures too_long { (result ≡ Err RunError.TooLong)
         ↔ IsTooLong (map T.units pieces.now) lengths.now }

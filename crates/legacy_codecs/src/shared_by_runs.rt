@@ -1,8 +1,12 @@
 //! Common parts of the runs of decoders and encoders: pieces, lengths of outputs, and events.
-ghost use Rattle.std.specs.Prelude.{◌≡◌, ℕ, ◌↔◌, ◌+◌, ◌^◌, ◌<◌, ◌≤◌, List, [], ◌∷◌, ◌++◌, length, drop, map, sum, sum_by, slice_index_or, vec_len, vec_capacity, All, IfOk, SomeIff};
+ghost use Rattle.std.specs.Prelude.{◌≡◌, ℕ, ◌↔◌, ◌+◌, ◌^◌, ◌<◌, ◌≤◌, List, [], ◌∷◌, ◌++◌, length, drop, map, sum, sum_by, slice_index_or, vec_len, vec_capacity, All, IfOk, IfSome, SomeIff};
+ghost use Rattle.std.specs.Char.{IsScalar};
+ghost use Rattle.std.specs.Str.{chars};
 ghost use Rattle.legacy_base.specs.declared.results.DecodeEvent.TheVariants.{Scalar};
 ghost use Rattle.legacy_base.specs.declared.results.EncodeEvent.TheVariants.{Byte};
-ghost use Rattle.legacy_codecs.specs.Pieces.{IsTooLong};
+ghost use Rattle.legacy_tables.specs.Unicode.{IsByte};
+ghost use Rattle.legacy_text.specs.Texts.{unit_scalars};
+ghost use Rattle.legacy_codecs.specs.Pieces.{joined, IsTooLong};
 
 use legacy_base::{DecodeEvent, EncodeEvent};
 use std::alloc::Global;
@@ -23,14 +27,23 @@ pub enum RunError {
 pub(crate) trait Piece: Copy {
     /// Its code units.
     ghost units: { Self → List ℕ };
+    /// What a run reads of it: its bytes, or the scalars of its text.
+    ghost items: { Self → List ℕ };
+    /// What each of these is: a byte, or a Unicode scalar value.
+    ghost is_item: { ℕ → Type 0 };
 
     /// Returns its number of code units.
     fn count(self) -> usize
-        ensures { result ≡ length (units self) };
+        ensures length { result ≡ length (units self) }
+        ensures sound { All is_item (items self) };
 }
 
 impl Piece for &[u8] {
     ghost units = { λ piece. piece.now };
+
+    ghost items = { λ piece. piece.now };
+
+    ghost is_item = { IsByte };
 
     fn count(self) -> usize {
         self.len()
@@ -40,6 +53,10 @@ impl Piece for &[u8] {
 impl Piece for &str {
     ghost units = { λ piece. piece.now };
 
+    ghost items = { λ piece. chars piece.now };
+
+    ghost is_item = { IsScalar };
+
     fn count(self) -> usize {
         self.len()
     }
@@ -48,15 +65,22 @@ impl Piece for &str {
 impl Piece for &[u16] {
     ghost units = { λ piece. piece.now };
 
+    ghost items = { λ piece. unit_scalars piece.now };
+
+    ghost is_item = { IsScalar };
+
     fn count(self) -> usize {
         self.len()
     }
 }
 
 /// Returns the sum of the pieces' lengths, or `None` if it exceeds `usize::MAX`.
+///
+/// It reads each piece, so a sum shows what all pieces are.
 fn total_length<P: Piece>(pieces: &[P]) -> Option<usize>
-    ensures { SomeIff result (sum_by length (map P.units pieces.now) < 2 ^ 64)
+    ensures total { SomeIff result (sum_by length (map P.units pieces.now) < 2 ^ 64)
         (sum_by length (map P.units pieces.now)) }
+    ensures sound { IfSome result (λ total. All P.is_item (joined (map P.items pieces.now))) }
 {
     let mut total: usize = 0;
     for piece in pieces {
@@ -91,6 +115,7 @@ pub(crate) fn room_for_run<P: Piece, T: Copy, U: Copy>(
         sum lengths.now + length lengths.now ≤ vec_capacity room.0) }
     ensures output { IfOk result (λ room. All (λ n. n ≤ vec_len room.1) lengths.now) }
     ensures total { IfOk result (λ room. sum_by length (map P.units pieces.now) < 2 ^ 64) }
+    ensures sound { IfOk result (λ room. All P.is_item (joined (map P.items pieces.now))) }
     ensures too_long { (result ≡ Err RunError.TooLong)
         ↔ IsTooLong (map P.units pieces.now) lengths.now }
 {

@@ -1,7 +1,5 @@
 //! Texts in UTF-8 and UTF-16, which an encoder reads.
-ghost use Rattle.std.specs.Prelude.{◌≡◌, ℕ, List, []};
-ghost use Rattle.std.specs.Str.{chars};
-ghost use Rattle.legacy_text.specs.Texts.{unit_scalars};
+ghost use Rattle.std.specs.Prelude.{◌≡◌, []};
 
 use crate::shared_by_runs::Piece;
 use legacy_base::{Source, Utf8Source, Utf16Source};
@@ -11,22 +9,17 @@ pub(crate) trait Text: Piece {
     /// A cursor over its scalars.
     type Cursor: Source + Drop;
 
-    /// Its scalars.
-    ghost scalars: { Self → List ℕ };
-
     /// Returns the empty text.
     fn empty() -> Self
-        ensures { scalars result ≡ [] };
+        ensures { Self.items result ≡ [] };
 
     /// Returns a cursor before its first scalar.
     fn cursor(self) -> Self::Cursor
-        ensures { Self.Cursor.left result ≡ scalars self };
+        ensures { Self.Cursor.left result ≡ Self.items self };
 }
 
 impl<'a> Text for &'a str {
     type Cursor = Utf8Source<'a>;
-
-    ghost scalars = { λ text. chars text.now };
 
     fn empty() -> &'a str {
         ""
@@ -39,8 +32,6 @@ impl<'a> Text for &'a str {
 
 impl<'a> Text for &'a [u16] {
     type Cursor = Utf16Source<'a>;
-
-    ghost scalars = { λ text. unit_scalars text.now };
 
     fn empty() -> &'a [u16] {
         &[]

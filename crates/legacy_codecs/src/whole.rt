@@ -5,7 +5,7 @@ ghost use Rattle.legacy_text.specs.EncodingForm.{Utf8};
 ghost use Rattle.legacy_base.specs.Encoders.{encoded, end_bytes};
 ghost use Rattle.legacy_base.specs.Lengths.{query_answer, to_utf8};
 ghost use Rattle.legacy_codecs.specs.References.{referenced_bytes};
-ghost use Rattle.legacy_codecs.specs.WholeTexts.{text_of, IsSettled, TextGoesOn};
+ghost use Rattle.legacy_codecs.specs.WholeTexts.{text_of, IsReadWhole, IsSettled, TextGoesOn};
 
 use crate::character_references::encode_replacing_utf8;
 use crate::replacing::decode_replacing_utf8;
@@ -60,6 +60,8 @@ pub fn decode_whole<D: RawDecoder>(
     ensures text { IfOk result (λ text.
         chars (string_bytes text) ≡ text_of (D.state decoder.old) input.now) }
     ensures end { IfOk result (λ text. text_of (D.state decoder.new) [] ≡ []) }
+    ensures call { IfOk result (λ text. (free : ℕ) × IsReadWhole Utf8 true free
+        (D.state decoder.old) input.now (D.state decoder.new) (string_bytes text)) }
     ensures too_long { (result ≡ Err SizedError.TooLong)
         ↔ query_answer to_utf8 (D.state decoder.old) (length input.now) ≡ None }
     ensures unchanged { OnErr result (decoder.new ≡ decoder.old) }
@@ -98,6 +100,8 @@ pub fn decode_piece<D: RawDecoder>(
         (take result output.new) }
     ensures settled { IsSettled (D.state decoder.new) }
     ensures end { IsTrue last → text_of (D.state decoder.new) [] ≡ [] }
+    ensures call { IsReadWhole Utf8 last (length output.old) (D.state decoder.old) piece.now
+        (D.state decoder.new) (take result output.new) }
 {
     let (_, _, written, _) = decode_replacing_utf8(decoder, piece, output, last);
     written

@@ -26,7 +26,7 @@ use legacy_single_byte::{SingleByteDecoder, SingleByteEncoder};
 /// A decoder of any encoding.
 ///
 /// It implements `Drop`, so outside this crate no `match` can move its coder out: match on a
-/// reference to it.
+/// reference to it. `Gb18030Decoder` has a `Cell`, so an `AnyDecoder` is not `Sync`.
 pub enum AnyDecoder<'a> {
     /// Of a single-byte encoding.
     SingleByte(SingleByteDecoder<'a>),
@@ -195,6 +195,9 @@ impl<'a> RawEncoder for AnyEncoder<'a> {
 }
 
 impl<'a> AnyDecoder<'a> {
+    ghost use Rattle.std.specs.Prelude.{length};
+    ghost use Rattle.legacy_base.specs.States.{is_neutral};
+
     /// Returns a decoder of the codec before its first byte.
     ///
     /// The result is `None` exactly if the codec is single-byte and `single_byte` is `None`. Other
@@ -228,6 +231,42 @@ impl<'a> AnyDecoder<'a> {
         Some(decoder)
     }
 
+    /// Checks whether the decoder is neutral: it holds nothing back, and in ISO-2022-JP it is in ASCII mode.
+    pub fn in_neutral_state(&self) -> bool
+        ensures { result ≡ is_neutral (⟦<AnyDecoder<'static> as RawDecoder>⟧.state self.now) }
+    {
+        match self {
+            AnyDecoder::Gb18030(coder) => coder.in_neutral_state(),
+            AnyDecoder::Big5(coder) => coder.in_neutral_state(),
+            AnyDecoder::EucJp(coder) => coder.in_neutral_state(),
+            AnyDecoder::Iso2022Jp(coder) => coder.in_neutral_state(),
+            AnyDecoder::ShiftJis(coder) => coder.in_neutral_state(),
+            AnyDecoder::EucKr(coder) => coder.in_neutral_state(),
+            AnyDecoder::Utf16(coder) => coder.in_neutral_state(),
+            // These hold nothing back.
+            AnyDecoder::SingleByte(_) | AnyDecoder::Replacement(_) | AnyDecoder::UserDefined(_) =>
+                true,
+        }
+    }
+
+    /// Returns the number of held-back bytes: those that were read and whose meaning is still open.
+    pub fn held_count(&self) -> usize
+        ensures { result ≡ length (⟦<AnyDecoder<'static> as RawDecoder>⟧.state self.now).held }
+    {
+        match self {
+            AnyDecoder::Gb18030(coder) => coder.held_count(),
+            AnyDecoder::Big5(coder) => coder.held_count(),
+            AnyDecoder::EucJp(coder) => coder.held_count(),
+            AnyDecoder::Iso2022Jp(coder) => coder.held_count(),
+            AnyDecoder::ShiftJis(coder) => coder.held_count(),
+            AnyDecoder::EucKr(coder) => coder.held_count(),
+            AnyDecoder::Utf16(coder) => coder.held_count(),
+            // These hold nothing back.
+            AnyDecoder::SingleByte(_) | AnyDecoder::Replacement(_) | AnyDecoder::UserDefined(_) =>
+                0,
+        }
+    }
+
     /// Does a task with the decoder of the encoding, for whose type the task's code is compiled.
     ///
     /// The decoder is used up: outside the enum it can be in registers during the task. Returns
@@ -256,13 +295,15 @@ fn run_with<U, D: RawDecoder + Drop, T: DecoderTask<U>>(
 }
 
 /// Returns an encoder of ASCII and pairs before its first scalar.
-fn pair_encoder<'a, C: PairCodec>(tables: &'a Tables<'a>) -> PairEncoder<'a, C, Tables<'a>>
+fn pair_encoder<'a, C: PairCodec>(tables: &'a Tables<'a>) -> PairEncoder<'a, C>
     ensures { new_encoder (C.codec result.tables.now.flat) ≡ new_encoder (C.codec tables.now.flat) }
 {
     PairEncoder::new(tables)
 }
 
 impl<'a> AnyEncoder<'a> {
+    ghost use Rattle.legacy_base.specs.Encoders.{is_pending};
+
     /// Returns an encoder of the codec before its first scalar.
     ///
     /// The result is `None` exactly if the codec is replacement or UTF-16, which have no encoder,
@@ -293,6 +334,17 @@ impl<'a> AnyEncoder<'a> {
             Codec::Replacement | Codec::Utf16Be | Codec::Utf16Le => return None,
         };
         Some(encoder)
+    }
+
+    /// Checks whether the end of the text writes bytes: the escape back to ASCII of ISO-2022-JP.
+    pub fn has_pending_state(&self) -> bool
+        ensures { result ≡ is_pending (⟦<AnyEncoder<'static> as RawEncoder>⟧.state self.now) }
+    {
+        match self {
+            AnyEncoder::Iso2022Jp(coder) => coder.has_pending_state(),
+            // The others have no modes.
+            _ => false,
+        }
     }
 
     /// Does a task with the encoder of the encoding, for whose type the task's code is compiled.

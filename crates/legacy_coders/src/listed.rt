@@ -49,7 +49,7 @@ macro_rules! match_listed {
 }
 
 /// An encoder of ASCII and pairs, with a list of its pairs.
-type ListedPairEncoder<'a, 'b, C> = CachedEncoder<'b, PairEncoder<'a, C, Tables<'a>>>;
+type ListedPairEncoder<'a, 'b, C> = CachedEncoder<'b, PairEncoder<'a, C>>;
 
 // The functions over `ListedPairEncoder` are generic over the codec, so that what these types meet
 // is proved once, and not for each of the four codecs.
@@ -101,7 +101,7 @@ fn pairs_answer<C: FillsPairs>(
 
 /// Returns an encoder of ASCII and pairs with a list of its pairs in the room.
 fn list_pairs<'a, 'b, C: FillsPairs>(
-    encoder: &'b PairEncoder<'a, C, Tables<'a>>,
+    encoder: &'b PairEncoder<'a, C>,
     room: &'b mut [u16],
 ) -> ListedPairEncoder<'a, 'b, C>
     requires { 65536 ≤ length room.old }

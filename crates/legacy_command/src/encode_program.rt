@@ -1,6 +1,6 @@
 //! Runs the program that encodes, by its words, files and streams.
-ghost use Rattle.std.specs.Prelude.{◌≡◌, ◌↔◌, ◌≤◌, ◌⊎◌, [], true, OnErr, OnOk, None, Some, IsTrue};
-ghost use Rattle.legacy_encodings.specs.Lists.{has_pairs};
+ghost use Rattle.std.specs.Prelude.{◌≡◌, ◌↔◌, ◌≤◌, ◌⊎◌, [], length, true, OnErr, OnOk, None, Some, IsTrue};
+ghost use Rattle.legacy_coders.specs.Lists.{has_pairs};
 ghost use Rattle.legacy_command.specs.Words.{texts_of, are_indexes, codec_of_words};
 ghost use Rattle.legacy_command.specs.GivenTexts.{contents_of, text_given, AreWellFormed};
 ghost use Rattle.legacy_command.specs.Program.{with_encoder, EncodesInput, EncodesSome, Untouched};
@@ -29,7 +29,7 @@ pub fn encoder_in(words: &[&str]) -> Option<Codec>
     None
 }
 
-/// Encodes the input by the encoder, with a list of its pairs in memory of its own.
+/// Encodes the input by the encoder, with a list of its pairs if the memory for it is had.
 fn encode_input<'a, R: Read, W: Write>(
     alloc: Global,
     encoder: &mut AnyEncoder,
@@ -40,42 +40,38 @@ fn encode_input<'a, R: Read, W: Write>(
         (⟦<AnyEncoder<'static> as RawEncoder>⟧.state encoder.old)
         (R.remaining input.old) (R.remaining input.new)
         (W.contents output.old) (W.contents output.new)) }
-    ensures stops { OnErr result (
-        Untouched (R.remaining input.old) (R.remaining input.new)
-        (W.contents output.old) (W.contents output.new)
-        ⊎ EncodesSome (⟦<AnyEncoder<'static> as RawEncoder>⟧.state encoder.old)
+    ensures stops { OnErr result (EncodesSome
+        (⟦<AnyEncoder<'static> as RawEncoder>⟧.state encoder.old)
         (R.remaining input.old) (R.remaining input.new)
         (W.contents output.old) (W.contents output.new)) }
 {
     if has_pairs(encoder) {
-        return encode_listed(alloc, encoder, input, output);
+        if let Ok(mut room) = pair_room(alloc) {
+            return encode_listed(encoder, room.as_mut_slice(), input, output);
+        }
     }
     encode_by(encoder, input, output)
 }
 
-/// Encodes the input by an encoder of pairs, with a list of its pairs in memory of its own.
+/// Encodes the input by an encoder of pairs, with a list of its pairs in the room.
 fn encode_listed<'a, R: Read, W: Write>(
-    alloc: Global,
     encoder: &AnyEncoder,
+    room: &mut [u16],
     input: &mut R,
     output: &mut W,
 ) -> Result<(), Fault<'a>>
-    requires { has_pairs encoder.now ≡ true }
+    requires pairs { has_pairs encoder.now ≡ true }
+    requires room { length room.old ≡ 65536 }
     ensures done { OnOk result (EncodesInput
         (⟦<AnyEncoder<'static> as RawEncoder>⟧.state encoder.now)
         (R.remaining input.old) (R.remaining input.new)
         (W.contents output.old) (W.contents output.new)) }
-    ensures stops { OnErr result (
-        Untouched (R.remaining input.old) (R.remaining input.new)
-        (W.contents output.old) (W.contents output.new)
-        ⊎ EncodesSome (⟦<AnyEncoder<'static> as RawEncoder>⟧.state encoder.now)
+    ensures stops { OnErr result (EncodesSome
+        (⟦<AnyEncoder<'static> as RawEncoder>⟧.state encoder.now)
         (R.remaining input.old) (R.remaining input.new)
         (W.contents output.old) (W.contents output.new)) }
 {
-    let Ok(mut room) = pair_room(alloc) else {
-        return Err(Fault::Memory);
-    };
-    let Some(mut listed) = ListedEncoder::new(encoder, room.as_mut_slice()) else {
+    let Some(mut listed) = ListedEncoder::new(encoder, room) else {
         unreachable!()
     };
     encode_by(&mut listed, input, output)

@@ -1,7 +1,8 @@
 //! The programs on a host: their words as texts, the contents of the files that these name, and the
 //! streams.
-ghost use Rattle.std.specs.Prelude.{◌≡◌, ◌↔◌, ◌≤◌, ◌-◌, ◌/◌, [], None, length, map, string_bytes, IfOk, OnErr};
+ghost use Rattle.std.specs.Prelude.{◌≡◌, ◌≢◌, ◌↔◌, ◌≤◌, ◌-◌, ◌/◌, [], Some, None, Ok, Err, length, map, string_bytes, IfOk, IfErr, OnErr, MatchResult};
 ghost use Rattle.std.specs.Option.{option_map};
+ghost use Rattle.std.specs.IoError.{error_kind};
 ghost use Rattle.legacy_command.specs.Words.{texts_of};
 ghost use Rattle.legacy_command.specs.GivenTexts.{contents_of};
 ghost use Rattle.legacy_command.specs.Host.{codec_asked, StatusSays, IsDoneBy, IsDone, IsStoppedBy, IsStopped};
@@ -39,13 +40,27 @@ fn words_of<'a, A: Allocator>(
     Ok(words)
 }
 
+/// Returns what a read of a file gave: its bytes, or `None` if the file cannot be read.
+///
+/// If the read failed because an allocation did, the result is its error.
+fn contents_of_read<A: Allocator>(read: io::Result<Vec<u8, A>>) -> io::Result<Option<Vec<u8, A>>>
+    ensures { MatchResult read
+        (λ bytes. result ≡ Ok (Some bytes))
+        (λ error. ((error_kind error ≡ ErrorKind.OutOfMemory) → (result ≡ Err error))
+        × ((error_kind error ≢ ErrorKind.OutOfMemory) → (result ≡ Ok None))) }
+{
+    match read {
+        Ok(bytes) => Ok(Some(bytes)),
+        Err(error) => match error.kind() {
+            ErrorKind::OutOfMemory => Err(error),
+            _ => Ok(None),
+        },
+    }
+}
+
 /// Returns the bytes of the file, or `None` if it cannot be read, or an error if allocation fails.
 fn contents<R: Files + Alloc>(rt: &R, path: &str) -> io::Result<Option<Vec<u8, R::A>>> {
-    match fs::read(rt, path) {
-        Ok(bytes) => Ok(Some(bytes)),
-        Err(error) if error.kind() == ErrorKind::OutOfMemory => Err(error),
-        Err(_) => Ok(None),
-    }
+    contents_of_read(fs::read(rt, path))
 }
 
 /// Returns the contents of each FILE among the words in order, or an error if allocation fails.
@@ -152,7 +167,10 @@ fn status_by<H: Files + Alloc, R: Read, W: Write, E: Write>(
         (R.remaining input.old) (R.remaining input.new)
         (W.contents output.old) (W.contents output.new)
         ((input.new ≡ input.old) × (output.new ≡ output.old)) (errors.new ≡ errors.old)) }
+    ensures usage { IfOk result (λ status.
+        (status ≡ 2) ↔ (codec_asked program (texts_of words.now) ≡ None)) }
     ensures err { OnErr result ((input.new ≡ input.old) × (output.new ≡ output.old)) }
+    ensures memory { IfErr result (λ error. error ≡ ArgumentsError.Memory) }
 {
     let Ok(files) = files_named(rt, alloc, program, words) else {
         return Err(ArgumentsError::Memory);
@@ -164,11 +182,12 @@ fn status_by<H: Files + Alloc, R: Read, W: Write, E: Write>(
     Ok(run_program(alloc, program, words, texts, input, output, errors))
 }
 
-/// Runs the program, if its words are available and allocation succeeds.
-fn status<H: Env + Files + Alloc, R: Read, W: Write, E: Write>(
+/// Runs the program on its arguments, if allocation succeeds.
+fn status<H: Files + Alloc, R: Read, W: Write, E: Write>(
     rt: &H,
     alloc: Global,
     program: Program,
+    arguments: &[String<H::A>],
     input: &mut R,
     output: &mut W,
     errors: &mut E,
@@ -177,10 +196,12 @@ fn status<H: Env + Files + Alloc, R: Read, W: Write, E: Write>(
         (R.remaining input.old) (R.remaining input.new)
         (W.contents output.old) (W.contents output.new)
         ((input.new ≡ input.old) × (output.new ≡ output.old)) (errors.new ≡ errors.old)) }
+    ensures usage { IfOk result (λ status. (status ≡ 2)
+        ↔ (codec_asked program (map (λ argument. string_bytes argument) arguments.now) ≡ None)) }
     ensures err { OnErr result ((input.new ≡ input.old) × (output.new ≡ output.old)) }
+    ensures memory { IfErr result (λ error. error ≡ ArgumentsError.Memory) }
 {
-    let arguments = arguments(rt)?;
-    let Ok(words) = words_of(alloc, arguments.as_slice()) else {
+    let Ok(words) = words_of(alloc, arguments) else {
         return Err(ArgumentsError::Memory);
     };
     let words = words.as_slice();
@@ -210,11 +231,50 @@ pub fn exit_status<H: Env + Files + Alloc, R: Read, W: Write, E: Write>(
         (W.contents output.old) (W.contents output.new) }
     ensures silent { result ≡ 0 → errors.new ≡ errors.old }
 {
-    match status(rt, alloc, program, input, output, errors) {
-        Ok(status) => status,
-        Err(error) => {
-            let _ = writeln!(errors, "{error}");
-            status_of(&error)
-        }
+    exit_status_of(rt, alloc, program, arguments(rt), input, output, errors)
+}
+
+/// Runs the program on its arguments, without its name, or on why they are not available.
+///
+/// Returns the exit status as `exit_status` does. It is 2 only if the arguments do not have the
+/// program's form or are not UTF-8 text. In the first case it is 1 if an allocation failed before.
+pub fn exit_status_of<H: Files + Alloc, R: Read, W: Write, E: Write>(
+    rt: &H,
+    alloc: Global,
+    program: Program,
+    arguments: Result<Vec<String<H::A>, H::A>, ArgumentsError>,
+    input: &mut R,
+    output: &mut W,
+    errors: &mut E,
+) -> u8
+    ensures statuses { result ≤ 2 }
+    ensures usage { MatchResult arguments
+        (λ words. let asked = codec_asked program (map (λ word. string_bytes word) words.items) in
+        ((result ≡ 2) → (asked ≡ None)) × ((asked ≡ None) → (result ≢ 0)))
+        (λ error. ((result ≡ 2) ↔ (error ≡ ArgumentsError.NotText)) × (result ≢ 0)) }
+    ensures unread { result ≡ 2 → (input.new ≡ input.old) × (output.new ≡ output.old) }
+    ensures done { result ≡ 0 → IsDone program
+        (R.remaining input.old) (R.remaining input.new)
+        (W.contents output.old) (W.contents output.new) }
+    ensures stops { result ≡ 1 → IsStopped program
+        (R.remaining input.old) (R.remaining input.new)
+        (W.contents output.old) (W.contents output.new) }
+    ensures silent { result ≡ 0 → errors.new ≡ errors.old }
+{
+    match arguments {
+        Ok(words) => match status(rt, alloc, program, words.as_slice(), input, output, errors) {
+            Ok(status) => status,
+            Err(error) => end_with(&error, errors),
+        },
+        Err(error) => end_with(&error, errors),
     }
+}
+
+/// Writes a line with the reason why there is no status, and returns the exit status for it.
+fn end_with<E: Write>(error: &ArgumentsError, errors: &mut E) -> u8
+    ensures not_text { error.now ≡ ArgumentsError.NotText → result ≡ 2 }
+    ensures others { error.now ≢ ArgumentsError.NotText → result ≡ 1 }
+{
+    let _ = writeln!(errors, "{error}");
+    status_of(error)
 }

@@ -1,5 +1,5 @@
 //! Runs the program that decodes, by its words, files and streams.
-ghost use Rattle.std.specs.Prelude.{◌≡◌, ◌↔◌, ◌≤◌, ◌⊎◌, [], IfOk, OnErr, OnOk, None, Some, IsTrue};
+ghost use Rattle.std.specs.Prelude.{◌≡◌, ◌↔◌, ◌≤◌, ◌⊎◌, [], IfOk, IfErr, OnErr, OnOk, Err, MatchResult, None, Some, IsTrue};
 ghost use Rattle.std.specs.Io.KnownBytes.{Keeps};
 ghost use Rattle.legacy_command.specs.Words.{texts_of, are_indexes, words_after_option, codec_of_words};
 ghost use Rattle.legacy_command.specs.GivenTexts.{contents_of, text_given, AreWellFormed};
@@ -14,7 +14,7 @@ use legacy_index_files::{Codec, OwnedIndexes};
 use legacy_streams::recode::{RecodeError, recode};
 use legacy_streams::text::recode_text;
 use std::alloc::Global;
-use std::io::{Read, Write};
+use std::io::{self, Read, Write};
 use thiserror::Error;
 
 /// The reason why the program ends with status 1.
@@ -51,8 +51,25 @@ pub(crate) fn flush_after<'a, T: Drop, W: Write>(
 ) -> Result<(), Fault<'a>>
     ensures bytes { Keeps (W.contents output.old) (W.contents output.new) }
     ensures ok { OnOk result (OnErr written ⊥) }
+    ensures kind { MatchResult written
+        (λ _. IfErr result (λ fault. fault ≡ Fault.Recode RecodeError.Write))
+        (λ error. result ≡ Err (Fault.Recode error)) }
 {
     let flushed = output.flush();
+    ended(written, flushed)
+}
+
+/// Returns the error of what was written if there is one, and otherwise that of the flush after it.
+fn ended<'a, T: Drop>(
+    written: Result<T, RecodeError>,
+    flushed: io::Result<()>,
+) -> Result<(), Fault<'a>>
+    ensures { MatchResult written
+        (λ _. MatchResult flushed
+        (λ _. OnErr result ⊥)
+        (λ _. result ≡ Err (Fault.Recode RecodeError.Write)))
+        (λ error. result ≡ Err (Fault.Recode error)) }
+{
     match written {
         Ok(_) => match flushed {
             Ok(()) => Ok(()),

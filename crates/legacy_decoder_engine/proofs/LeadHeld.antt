@@ -1,6 +1,6 @@
 -- The moves of a decoder with leads, by the lead that it holds back.
 use Rattle.legacy_base.specs.{States.{state_of, may_hold}, Grammar.{Grammar, events_of}}
-use Rattle.legacy_decoder_engine.proofs.{CallUnderWay.same_needs, WrittenReads.writes_none, YieldedForms.{has_ascii, pair_yields, ascii_is}}
+use Rattle.legacy_decoder_engine.proofs.{CallUnderWay.same_needs, WrittenReads.writes_none, YieldedForms.{has_ascii, pair_yields, pair_gives, ascii_is}}
 use Rattle.legacy_decoder_engine.specs.{declared.moves.Fed.Fed, ReadAhead.{Yields, HasAscii}, Moves.{IsCovered, Feeds, Reports}, Steps.Step, Feeding.Took}
 use Rattle.legacy_decoder_engine.specs.{Shown.IsShown, LeadMachines.{two_byte_machine, two_byte_step}, LeadCodecs.{IsLeadCodec, held_bytes, lead_state}}
 use Rattle.legacy_tables.specs.{Unicode.{IsByte, AreBytes}, AcceptedTables.AcceptedIndexes, Indexes.FlatIndexes}
@@ -18,6 +18,14 @@ module _ {grammar : FlatIndexes → Grammar} {is_lead_byte : ℕ → Bool} {firs
       → Yields (grammar tables.flat) (lead ∷ trail ∷ []) (c ∷ [])
   pair lead trail c is_byte is_byte' scalar is_lead e =
       pair_yields (is.shown tables.flat tables.accepted) lead trail c is_byte is_byte' scalar
+      (is.may_is tables.flat (lead ∷ []) ∙ is_lead) (is.rests_is tables.flat (lead ∷ [])) refl refl (is.lead_first lead is_lead) (rw e refl)
+
+  -- a pair that gives two scalars
+  pub two : (lead trail c d : ℕ) → IsByte lead → IsByte trail → IsScalar c → IsScalar d → is_lead_byte lead ≡ true → scalars tables.flat lead trail ≡ c ∷ d ∷ []
+      → Yields (grammar tables.flat) (lead ∷ trail ∷ []) (c ∷ d ∷ [])
+  two lead trail c d is_byte is_byte' scalar scalar' is_lead e =
+      pair_gives (is.shown tables.flat tables.accepted) lead trail (c ∷ d ∷ []) is_byte is_byte'
+      (All-cons IsScalar c (d ∷ []) scalar (All-cons IsScalar d [] scalar' (All-nil IsScalar)))
       (is.may_is tables.flat (lead ∷ []) ∙ is_lead) (is.rests_is tables.flat (lead ∷ [])) refl refl (is.lead_first lead is_lead) (rw e refl)
 
 module _ {L : Type 0} {grammar : FlatIndexes → Grammar} {is_lead_byte : ℕ → Bool} {first : ℕ → Step} {scalars : FlatIndexes → ℕ → ℕ → List ℕ}

@@ -10,6 +10,7 @@ pub mod YieldedForms
 pub mod LeadHeld
 pub mod OneByteShown
 pub mod CommonPairs
+pub mod FrontForms
 pub mod PairPlaces
 pub mod Widths
 pub mod NeedMoves

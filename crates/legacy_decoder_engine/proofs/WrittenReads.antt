@@ -52,10 +52,6 @@ one_unit form c room h = omega (arith, length-code_units-bmp form c h, some_unit
 pub take_two : (src : List ℕ) (at : ℕ) → at + 1 < length src → take (at + 2) src ≡ take at src ++ get_or src at 0 ∷ get_or src (at + 1) 0 ∷ []
 take_two src at h = grind (arith, take_more src (at + 1) 0 h, take_more src at 0, append_assoc)
 
-take_four : (src : List ℕ) (at : ℕ) → at + 3 < length src
-    → take (at + 4) src ≡ take at src ++ get_or src at 0 ∷ get_or src (at + 1) 0 ∷ get_or src (at + 2) 0 ∷ get_or src (at + 3) 0 ∷ []
-take_four src at h = grind (arith, take_two src (at + 2), take_two src at, append_assoc)
-
 -- the rest of a source, as the code takes it
 module _ {D : Type 0} (T : Ghosts D) where
   pub writes_none : (g : Grammar) (old : D) → Writes T g [] old old
@@ -85,12 +81,6 @@ module _ {D : Type 0} (T : Ghosts D) where
           → T.contents z ≡ T.contents y ++ code_units T.form c
           → T.room z + length (code_units T.form c) ≡ T.room y → T.loan z ≡ T.loan y → Writes T g (take (at + 2) src) x z
       writes_two h a yields contents room loan = grind (arith, take_two, writes_then, writes_put)
-
-      pub writes_four : at + 3 < length src → Writes T g (take at src) x y
-          → Yields g (get_or src at 0 ∷ get_or src (at + 1) 0 ∷ get_or src (at + 2) 0 ∷ get_or src (at + 3) 0 ∷ []) (c ∷ [])
-          → T.contents z ≡ T.contents y ++ code_units T.form c → T.room z + length (code_units T.form c) ≡ T.room y → T.loan z ≡ T.loan y
-          → Writes T g (take (at + 4) src) x z
-      writes_four h a yields contents room loan = grind (arith, take_four, writes_then, writes_put)
 
     pub writes_next : (src : List ℕ) (at r : ℕ) → Writes T g (take at src) x y → Writes T g (take r (take (length src - at) (drop at src))) y z
         → Writes T g (take (at + r) src) x z

@@ -4,6 +4,7 @@ use Rattle.legacy_text.specs.{declared.destination.Destination.Ghosts, EncodingF
 use Rattle.legacy_base.specs.{declared.results.DecodeEvent.TheVariants.Scalar, Events.shift, Grammar.{Grammar, events_of}, States.{DecoderState, new_state}}
 use Rattle.legacy_base.specs.Lengths.{LengthQuery, query_form, total_need}
 use Rattle.legacy_decoder_engine.specs.{declared.common_forms.CommonForm.{TheVariants.{Single, Pair, Other}, CommonForm}, Moves.SameNeeds}
+use Rattle.legacy_decoder_engine.specs.declared.forms.Form.{TheVariants.{Single as OneByte, Pair as TwoBytes, Triple, Four, Marked, Other as NoForm}, Form}
 
 -- Whatever bytes follow, the events of the bytes in the first grammar are these scalars, and then the events of the
 -- following bytes in the second grammar. The total need falls by what is written.
@@ -34,6 +35,15 @@ abbrev pub IsCommonForm : Grammar → ℕ → ℕ → CommonForm → Type 0
 IsCommonForm grammar lead trail (Single c) = IsSingle grammar lead c
 IsCommonForm grammar lead trail (Pair c) = IsPair grammar lead trail c
 IsCommonForm grammar lead trail Other = Unit {0}
+
+-- what four bytes begin with: a form of one to four of them that gives its scalar, or two below U+0800, or nothing
+abbrev pub IsFrontForm : Grammar → ℕ → ℕ → ℕ → ℕ → Form → Type 0
+IsFrontForm grammar first second third fourth (OneByte c) = Yields grammar (first ∷ []) (c ∷ [])
+IsFrontForm grammar first second third fourth (TwoBytes c) = Yields grammar (first ∷ second ∷ []) (c ∷ [])
+IsFrontForm grammar first second third fourth (Triple c) = Yields grammar (first ∷ second ∷ third ∷ []) (c ∷ [])
+IsFrontForm grammar first second third fourth (Four c) = Yields grammar (first ∷ second ∷ third ∷ fourth ∷ []) (c ∷ [])
+IsFrontForm grammar first second third fourth (Marked c d) = (c < 0x800) × (d < 0x800) × Yields grammar (first ∷ second ∷ []) (c ∷ d ∷ [])
+IsFrontForm grammar first second third fourth NoForm = Unit {0}
 
 -- The bytes were read, and their scalars were written after the text before. They took room of their size. The
 -- destination is still the same buffer.

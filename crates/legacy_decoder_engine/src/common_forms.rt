@@ -102,32 +102,6 @@ fn read_turns<F: FrontForms, T: Destination>(
     (at, true)
 }
 
-/// The most bytes that four forms have.
-pub(crate) const FOUR_BYTES: usize = 8;
-
-/// The code units that are free before four forms, so that three are free after them.
-pub(crate) const FOUR_NEED: usize = 12 + SLACK;
-
-/// Reads at most four forms from the front, up to an uncommon one or past two ASCII bytes in a row.
-///
-/// Returns the number of bytes read, and whether it read four forms. The input has bytes for four forms, and the
-/// output has room for them and three more code units.
-#[inline(always)]
-#[tactic(auto, using(crate::proofs::JoinedReads::turn_by_turn))]
-pub(crate) fn read_four<F: FrontForms, T: Destination>(
-    forms: &F,
-    src: &[u8],
-    dst: &mut T,
-) -> (usize, bool)
-    requires source { 8 ≤ length src.now }
-    requires room { 15 ≤ T.room dst.old }
-    ensures ahead { ReadsAhead T.Destination (new_state (F.grammar forms.now)) src.now result.0 dst.old dst.new }
-    ensures goes_on { result.1 ≡ true → 4 ≤ result.0 }
-    ensures ends { result.1 ≡ false → result.0 < 8 }
-{
-    read_turns(forms, src, dst, 4)
-}
-
 /// Reads common forms from the front of at most `most` bytes, up to an uncommon one.
 ///
 /// Returns the number of bytes read, which may be 0. If it reads any, three code units stay free.

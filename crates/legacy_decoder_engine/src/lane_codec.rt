@@ -1,15 +1,12 @@
 //! What a codec of pairs gives, so that eight pairs are looked up at once.
-#![tactic(auto, using(crate::proofs::WrittenReads::no_bytes))]
-
-ghost use Rattle.std.specs.Prelude.{◌≡◌, ℕ, ◌<◌, ◌≤◌, List, [], ◌∷◌, IfSome, false, length, take};
+ghost use Rattle.std.specs.Prelude.{◌≡◌, ℕ, ◌<◌, ◌≤◌, List, false};
 ghost use Rattle.legacy_tables.specs.{AcceptedTables.AcceptedIndexes, Indexes.FlatIndexes, Tables.{index_list, is_narrow_index}};
-ghost use Rattle.legacy_base.specs.{Grammar.Grammar, States.new_state};
-ghost use Rattle.legacy_decoder_engine.specs.ReadAhead.{HasAscii, IsCommonForm, ReadsAhead, Yields};
+ghost use Rattle.legacy_base.specs.Grammar.{Grammar};
+ghost use Rattle.legacy_decoder_engine.specs.ReadAhead.{HasAscii, IsFrontForm};
 ghost use Rattle.legacy_decoder_engine.specs.LaneCodes.{ArePairs, ArePlaces};
 ghost use Rattle.legacy_tables.specs.declared.tables.IndexName.TheVariants as names;
 
-use crate::common_forms::CommonForm;
-use legacy_base::Destination;
+use crate::forms::Form;
 use legacy_tables::{FlatTables, IndexName};
 use std::cell::Cell;
 use std::simd::prelude::*;
@@ -28,74 +25,19 @@ pub trait LaneCodec {
     /// The number of pointers of a lead and a trail. They are below it.
     ghost pointers: { ℕ };
 
-    /// Returns whether a quick test shows that the byte begins no common form.
-    // No block is begun at such a byte.
-    fn is_uncommon(byte: u8) -> bool;
-
-    /// Returns what is at the front of the input, given a byte past ASCII and the byte after it.
+    /// Returns the form that four bytes begin with, of which the first is past ASCII.
     ///
-    /// It is a scalar up to U+FFFF, or `Other` for an uncommon form, which the machine reads.
-    fn front(tables: &FlatTables<'_>, lead: u8, trail: u8) -> CommonForm
-        requires { 0x80 ≤ lead }
-        ensures { IsCommonForm (grammar tables.now.flat) lead trail result };
-
-    /// Returns whether a form of more than two bytes may be at the front, given its first two bytes.
-    #[inline(always)]
-    fn begins_longer(first: u8, second: u8) -> bool {
-        false
-    }
-
-    /// Returns how many of the first `end` bytes of a block are before a form of more than two bytes.
-    ///
-    /// It is given the bits of the bytes past ASCII, and those of the leads if all forms past ASCII are pairs.
-    // A block is cut there, so that no code after it is picked and looked up for nothing.
-    #[inline(always)]
-    fn end_of_pairs(block: u8x64, past: u64, leads: u64, end: usize) -> usize
-        ensures { result ≤ end }
-    {
-        end
-    }
-
-    /// Reads forms of more than two bytes from the front, and returns the number of bytes read, which may be 0.
-    ///
-    /// It may also read ASCII between them. `guess` is what the codec keeps from one such form to the next.
-    #[inline(always)]
-    fn read_longer<T: Destination>(
+    /// `guess` is what the codec keeps from one form of four bytes to the next.
+    fn form_at(
         tables: &FlatTables<'_>,
         guess: &Cell<usize>,
-        src: &[u8],
-        dst: &mut T,
-    ) -> usize
-        ensures { ReadsAhead T.Destination (new_state (grammar tables.now.flat)) src.now result dst.old dst.new }
-    {
-        0
-    }
-
-    /// Reads forms of more than two bytes and ASCII in blocks from the front, and returns the number of bytes read.
-    ///
-    /// It reads nothing if few such forms follow. It is given what the codec keeps from the last one.
-    #[inline(always)]
-    fn read_longer_blocks<T: Destination>(
-        tables: &FlatTables<'_>,
-        guess: usize,
-        src: &[u8],
-        dst: &mut T,
-    ) -> usize
-        ensures { ReadsAhead T.Destination (new_state (grammar tables.now.flat)) src.now result dst.old dst.new }
-    {
-        0
-    }
-
-    /// Returns the scalar of the form of more than two bytes at the front, and the number of its bytes.
-    ///
-    /// Returns `None` if there is no such form. `guess` is what the codec keeps from one such form to the next.
-    #[inline(always)]
-    fn longer_at(tables: &FlatTables<'_>, guess: &Cell<usize>, src: &[u8]) -> Option<(char, usize)>
-        ensures { IfSome result (λ form. (0 < form.1) × (form.1 ≤ length src.now)
-            × Yields (grammar tables.now.flat) (take form.1 src.now) (form.0 ∷ [])) }
-    {
-        None
-    }
+        first: u8,
+        second: u8,
+        third: u8,
+        fourth: u8,
+    ) -> Form
+        requires { 0x80 ≤ first }
+        ensures { IsFrontForm (grammar tables.now.flat) first second third fourth result };
 
     /// Returns the name of the index. An entry from U+0001 to U+FFFF is the scalar of its pair.
     fn index() -> IndexName
@@ -120,13 +62,6 @@ pub trait LaneCodec {
         requires { bytes ≤ 64 }
     {
         16 * past as usize > 9 * bytes
-    }
-
-    /// Returns whether pairs between tags are mostly in rows of eight or more, with few trails in ASCII.
-    // In UTF-8 such rows are read eight pairs at a time.
-    #[inline(always)]
-    fn has_eights() -> bool {
-        false
     }
 
     /// Returns whether a quick test shows forms of one byte past ASCII in a block. Such a block is read form by form.

@@ -15,7 +15,7 @@ use crate::drive::{count_malformed_bytes, drive_decoder};
 use crate::lane_blocks::read_by_tables;
 use crate::lane_codec::LaneCodec;
 use crate::moves::{DecoderMoves, Fed, Need};
-use crate::near_malformed::AFTER_MALFORMED;
+use crate::pace::Pace;
 use legacy_base::{DecoderStep, Destination, RawDecoder, Tables};
 use std::cell::Cell;
 
@@ -106,8 +106,7 @@ fn is_malformed<C: LeadCodec>(byte: u8) -> bool
 pub struct LeadDecoder<'a, C: LeadCodec> {
     tables: &'a Tables<'a>,
     held: Option<C::Lead>,
-    /// The number of bytes that are to be read without lanes, because a malformed sequence came before them.
-    without_lanes: usize,
+    pace: Pace,
 }
 
 impl<'a, C: LeadCodec> LeadDecoder<'a, C> {
@@ -118,7 +117,7 @@ impl<'a, C: LeadCodec> LeadDecoder<'a, C> {
         LeadDecoder {
             tables,
             held: None,
-            without_lanes: 0,
+            pace: Pace::new(),
         }
     }
 
@@ -129,7 +128,7 @@ impl<'a, C: LeadCodec> LeadDecoder<'a, C> {
         self.held.is_none()
     }
 
-    /// Returns the number of held-back bytes.
+    /// Returns the number of held-back bytes: 1 for a lead, otherwise 0.
     #[inline]
     pub fn held_count(&self) -> usize
         ensures { result ≡ length (held_bytes C.byte_of self.now.held) }
@@ -173,7 +172,7 @@ impl<'a, C: LeadCodec> DecoderMoves for LeadDecoder<'a, C> {
 
     #[inline(always)]
     fn after_malformed(&mut self) {
-        self.without_lanes = AFTER_MALFORMED;
+        self.pace.after_malformed();
     }
 
     #[inline]
@@ -206,7 +205,7 @@ impl<'a, C: LeadCodec> DecoderMoves for LeadDecoder<'a, C> {
             return 0;
         }
         let guess = Cell::new(0);
-        read_by_tables::<C, T>(self.tables, &guess, &mut self.without_lanes, src, dst)
+        read_by_tables::<C, T>(self.tables, &guess, &self.pace, src, dst)
     }
 }
 

@@ -161,10 +161,7 @@ fn pick_block<C: LaneCodec>(
     let ascii = past.leading_zeros() as usize;
     let end = if ascii < 8 { 64 } else { 64 - ascii };
     match form_starts(past) {
-        Some(starts) => {
-            let end = C::end_of_pairs(bytes, past, starts & past, end.min(limit));
-            pick_forms(block, past, starts, end, codes, count)
-        }
+        Some(starts) => { pick_forms(block, past, starts, end.min(limit), codes, count) }
         None => (count, 0),
     }
 }

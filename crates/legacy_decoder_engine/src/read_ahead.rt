@@ -12,9 +12,6 @@ use legacy_base::Destination;
 /// The least number of code units that stay free after text was read ahead.
 pub const SLACK: usize = 3;
 
-/// The number of bytes of a short block of ASCII.
-pub(crate) const SHORT_BLOCK: usize = 16;
-
 /// What reads text by blocks, with nothing held back between two of them.
 ///
 /// A block is a number of bytes or forms for which room is tested once.
@@ -92,32 +89,4 @@ pub fn read_ascii<T: Destination>(src: &[u8], dst: &mut T) -> usize
         return front;
     }
     front + read_short_blocks(&src[front..], dst)
-}
-
-/// Reads ASCII from the front of a short block, and returns the number of bytes read, which may be 0.
-#[inline(always)]
-pub(crate) fn read_short_block<T: Destination>(src: &[u8], dst: &mut T) -> usize
-    ensures read { result ≤ length src.now }
-    ensures ahead { (grammar : Grammar) → HasAscii grammar → ReadsAhead T.Destination (new_state grammar) src.now result dst.old dst.new }
-{
-    read_short_blocks(&src[..src.len().min(SHORT_BLOCK)], dst)
-}
-
-/// Reads ASCII from the front as `read_ascii` does, but first a short block alone.
-///
-/// Returns the number of bytes read, which may be 0. If it reads any, three code units stay free.
-// Near a malformed sequence ASCII mostly ends within a short block.
-#[inline(always)]
-pub(crate) fn read_ascii_nearby<T: Destination>(src: &[u8], dst: &mut T) -> usize
-    ensures read { result ≤ length src.now }
-    ensures ahead { (grammar : Grammar) → HasAscii grammar → ReadsAhead T.Destination (new_state grammar) src.now result dst.old dst.new }
-{
-    if src.is_empty() || src[0] >= 0x80 {
-        return 0;
-    }
-    let front = read_short_block(src, dst);
-    if front < SHORT_BLOCK {
-        return front;
-    }
-    front + read_ascii(&src[front..], dst)
 }

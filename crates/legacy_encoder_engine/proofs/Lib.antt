@@ -6,3 +6,4 @@ pub mod PairAnswers
 pub mod CachedPairs
 pub mod WrittenUnits
 pub mod WalkedPairs
+pub mod AbsentPointers

@@ -3,25 +3,22 @@
 ghost use Rattle.std.specs.Prelude.{◌≡◌, ◌<◌, ◌≤◌, [], ◌∷◌, length, Some, IfSome, MatchOption};
 ghost use Rattle.legacy_base.specs.Encoders.{encoder_profile, new_encoder};
 ghost use Rattle.legacy_encoder_engine.specs.CachedPairs.{AreAllPairsOf, IsNoPair};
-ghost use Rattle.legacy_encoder_engine.specs.Guesses.{IsGuess};
-ghost use Rattle.legacy_encoder_engine.specs.UnfinishedCall.{EncodesFrom};
+ghost use Rattle.legacy_encoder_engine.specs.{Guesses.IsGuess, Moves.IsCode};
 
 use crate::drive::drive_encoder;
 use crate::moves::EncoderMove;
-use crate::pair_encoder::{FillsPairs, PairCodec, PairEncoder};
-use crate::plain::PlainEncoder;
+use crate::pair_encoder::{FillsPairs, PairEncoder};
 use crate::plain_codes::PlainCodes;
-use crate::read_ahead::read_common;
-use legacy_base::{EncoderStep, RawEncoder, Source, Tables};
-use legacy_tables::{EncoderTables, RangePart};
+use legacy_base::{EncoderStep, RawEncoder, Source};
+use legacy_tables::RangePart;
 use std::alloc::AllocError;
 
 /// The length of the list of a codec's pairs in 16-bit entries: one for each scalar below U+10000.
 pub const PAIR_ROOM: usize = 0x1_0000;
 
-/// The codes of scalars past ASCII that have no lead and trail.
-pub trait PastPairs: PlainCodes {
-    /// Returns the four bytes of such a scalar.
+/// An encoder whose codes past ASCII are mostly pairs, so that a list of them is worth its memory.
+pub trait EncodesPairs: PlainCodes + RawEncoder + Sized {
+    /// Returns the four bytes of a scalar that has no lead and trail.
     ///
     /// The result may be `None` for any scalar: `code_of` has all codes. `guess` may change.
     #[inline(always)]
@@ -37,95 +34,19 @@ pub trait PastPairs: PlainCodes {
         let _ = c;
         None
     }
-}
 
-/// The codes of a codec, with its pairs in a list.
-#[derive(Drop)]
-pub struct WithPairs<'a, C: PastPairs> {
-    codes: &'a C,
-    pairs: &'a [u16],
-    ghost right: { AreAllPairsOf (C.codec codes.now) pairs.now },
-}
+    /// Returns the bytes of a scalar past ASCII that has no lead and trail, or the scalar itself as unmappable.
+    ///
+    /// No index of pairs is searched.
+    fn code_past_pairs(&self, c: char) -> EncoderMove
+        requires past { 0x80 ≤ c }
+        requires none { IsNoPair (Self.codec self.now) c }
+        ensures { IsCode ((encoder_profile (Self.codec self.now)).code c) c result };
 
-impl<'a, C: PastPairs> WithPairs<'a, C> {
-    /// Returns these codes with the pairs of this list.
-    #[inline(always)]
-    pub fn new(codes: &'a C, pairs: &'a [u16]) -> WithPairs<'a, C>
-        requires { AreAllPairsOf (C.codec codes.now) pairs.now }
-        ensures { result.codes.now ≡ codes.now }
-    {
-        WithPairs { codes, pairs }
-    }
-}
-
-impl<'a, C: PastPairs> PlainCodes for WithPairs<'a, C> {
-    ghost codec = { λ e. C.codec e.codes.now };
-
-    ghost past = { C.past };
-
-    ghost plain = { λ e. C.plain e.codes.now };
-
-    #[inline(always)]
-    fn past_need(&self) -> usize {
-        self.codes.past_need()
-    }
-
-    #[inline(always)]
-    fn code_of(&self, c: char) -> EncoderMove {
-        self.codes.code_of(c)
-    }
-
-    #[inline(always)]
-    fn pair_of(&self, c: char) -> Option<(u8, u8)> {
-        let scalar = c as usize;
-        if scalar >= PAIR_ROOM {
-            return None;
-        }
-        let entry = self.pairs[scalar];
-        if entry == 0 {
-            return None;
-        }
-        Some(((entry % 256) as u8, (entry / 256) as u8))
-    }
-
-    #[inline(always)]
-    fn four_of(&self, guess: &mut RangePart, c: char) -> Option<(u8, u8, u8, u8)> {
-        let scalar = c as usize;
-        if scalar >= PAIR_ROOM || self.pairs[scalar] != 0 {
-            return None;
-        }
-        self.codes.four_past_pairs(guess, c)
-    }
-
-    const GOES_PAST_PAIRS: bool = C::GOES_PAST_PAIRS;
-
-    const GOES_BY_TENS: bool = true;
-
-    #[inline(always)]
-    fn unit_code(&self, unit: u16) -> (u16, bool) {
-        let entry = self.pairs[usize::from(unit)];
-        (entry, entry != 0)
-    }
-}
-
-/// An encoder whose codes past ASCII are mostly pairs, so that a list of them is worth its memory.
-pub trait EncodesPairs: PlainEncoder + PastPairs + RawEncoder + Sized {
-    /// Reads ahead as `read_codes` does, by the pairs of a list. Returns the place after the bytes in `dst`.
-    #[inline]
-    fn read_with<S: Source>(
-        &self,
-        pairs: &[u16],
-        src: &mut S,
-        dst: &mut [u8],
-        start: usize,
-    ) -> usize
-        requires pairs { AreAllPairsOf (Self.codec self.now) pairs.now }
-        requires start { start ≤ length dst.old }
-        ensures { EncodesFrom S.Source (new_encoder (Self.codec self.now)) src.old dst.old start
-            src.new dst.new result }
-    {
-        read_listed(self, pairs, src, dst, start)
-    }
+    /// Whether codes that are not in the list, but for those of four bytes, are common.
+    ///
+    /// It is a hint: any value is right.
+    const HAS_UNLISTED: bool;
 
     /// Fills a list of `PAIR_ROOM` entries, one for each scalar below U+10000: its pair with the lead low, and 0 past ASCII
     /// if it has none.
@@ -137,29 +58,17 @@ pub trait EncodesPairs: PlainEncoder + PastPairs + RawEncoder + Sized {
     ghost same: { (encoder : Self) → Self.state encoder ≡ new_encoder (Self.codec encoder) };
 }
 
-impl<C: PairCodec, V: EncoderTables> PastPairs for PairEncoder<'_, C, V> {}
-
-/// Reads ahead by the pairs of a list, and returns the place after the bytes in `dst`.
-#[inline(always)]
-fn read_listed<C: PastPairs, S: Source>(
-    codes: &C,
-    pairs: &[u16],
-    src: &mut S,
-    dst: &mut [u8],
-    start: usize,
-) -> usize
-    requires pairs { AreAllPairsOf (C.codec codes.now) pairs.now }
-    requires start { start ≤ length dst.old }
-    ensures { EncodesFrom S.Source (new_encoder (C.codec codes.now)) src.old dst.old start
-        src.new dst.new result }
-{
-    read_common(&WithPairs::new(codes, pairs), src, dst, start)
-}
-
-impl<'a, C: FillsPairs> EncodesPairs for PairEncoder<'a, C, Tables<'a>> {
+impl<'a, C: FillsPairs> EncodesPairs for PairEncoder<'a, C> {
     ghost use Rattle.std.proofs.Common.{refl};
 
     ghost same = { λ e. refl };
+
+    #[inline(always)]
+    fn code_past_pairs(&self, c: char) -> EncoderMove {
+        C::code_past_pairs(c)
+    }
+
+    const HAS_UNLISTED: bool = C::GOES_PAST_PAIRS;
 
     #[inline]
     fn fill_pairs(&self, pairs: &mut [u16]) {
@@ -220,21 +129,54 @@ impl<'a, E: EncodesPairs> PlainCodes for CachedEncoder<'a, E> {
 
     ghost plain = { λ e. E.plain e.encoder.now };
 
-    #[inline]
+    #[inline(always)]
     fn past_need(&self) -> usize {
         self.encoder.past_need()
     }
 
-    #[inline]
+    #[inline(always)]
     fn code_of(&self, c: char) -> EncoderMove {
-        self.encoder.code_of(c)
+        let scalar = c as usize;
+        if scalar < 0x80 || scalar >= PAIR_ROOM {
+            return self.encoder.code_of(c);
+        }
+        let entry = self.pairs[scalar];
+        if entry == 0 {
+            return self.encoder.code_past_pairs(c);
+        }
+        EncoderMove::Two((entry % 256) as u8, (entry / 256) as u8)
     }
-}
 
-impl<'a, E: EncodesPairs> PlainEncoder for CachedEncoder<'a, E> {
-    #[inline]
-    fn read_codes<S: Source>(&self, src: &mut S, dst: &mut [u8], start: usize) -> usize {
-        self.encoder.read_with(self.pairs, src, dst, start)
+    #[inline(always)]
+    fn pair_of(&self, c: char) -> Option<(u8, u8)> {
+        let scalar = c as usize;
+        if scalar >= PAIR_ROOM {
+            return None;
+        }
+        let entry = self.pairs[scalar];
+        if entry == 0 {
+            return None;
+        }
+        Some(((entry % 256) as u8, (entry / 256) as u8))
+    }
+
+    #[inline(always)]
+    fn four_of(&self, guess: &mut RangePart, c: char) -> Option<(u8, u8, u8, u8)> {
+        let scalar = c as usize;
+        if scalar >= PAIR_ROOM || self.pairs[scalar] != 0 {
+            return None;
+        }
+        self.encoder.four_past_pairs(guess, c)
+    }
+
+    const GOES_PAST_PAIRS: bool = E::HAS_UNLISTED;
+
+    const GOES_BY_TENS: bool = true;
+
+    #[inline(always)]
+    fn unit_code(&self, unit: u16) -> (u16, bool) {
+        let entry = self.pairs[usize::from(unit)];
+        (entry, entry != 0)
     }
 }
 

@@ -1,19 +1,16 @@
 //! The encoder of the codecs of ASCII and pairs, whose codes have at most two bytes.
 ghost use Rattle.std.specs.Prelude.{◌≡◌, ◌≤◌, [], ◌∷◌, Some, IfSome, length};
-ghost use Rattle.legacy_encoder_engine.specs.CachedPairs.{AreAllPairsOf};
+ghost use Rattle.legacy_encoder_engine.specs.CachedPairs.{AreAllPairsOf, IsNoPair};
 ghost use Rattle.legacy_tables.specs.Indexes.{FlatIndexes};
 ghost use Rattle.legacy_base.specs.Encoders.{Codec, encoder_profile, new_encoder};
 ghost use Rattle.legacy_encoder_engine.specs.Moves.{IsCode};
-ghost use Rattle.legacy_encoder_engine.specs.UnfinishedCall.{EncodesFrom};
 ghost use Rattle.legacy_encoder_engine.specs.PairCodecs.{IsPairCodec, pair_encoder_state, pair_plain};
 
 use crate::drive::drive_encoder;
 use crate::moves::EncoderMove;
-use crate::plain::PlainEncoder;
 use crate::plain_codes::PlainCodes;
-use crate::read_ahead::read_common;
 use legacy_base::{EncoderStep, RawEncoder, Source, Tables};
-use legacy_tables::{DecoderTables, EncoderTables, FlatTables};
+use std::alloc::AllocError;
 use std::marker::PhantomData;
 
 /// A codec of ASCII and pairs: the parts in which these codecs differ.
@@ -27,9 +24,9 @@ pub trait PairCodec {
     /// Returns the lead and the trail of a scalar past ASCII.
     ///
     /// The result may be `None` for any scalar: `code_of` has all codes.
-    fn pair_of<V: EncoderTables>(tables: &V, c: char) -> Option<(u8, u8)>
+    fn pair_of(tables: &Tables<'_>, c: char) -> Option<(u8, u8)>
         requires { 0x80 ≤ c }
-        ensures { IfSome result (λ pair. (encoder_profile (codec (V.indexes tables.now).flat)).code c
+        ensures { IfSome result (λ pair. (encoder_profile (codec tables.now.flat)).code c
             ≡ Some (pair.0 ∷ pair.1 ∷ [])) };
 
     /// Whether the fast loop makes the codes of scalars past ASCII without a pair here.
@@ -38,8 +35,16 @@ pub trait PairCodec {
     const GOES_PAST_PAIRS: bool = false;
 
     /// Returns the bytes of a scalar, or the scalar itself as unmappable.
-    fn code_of<V: EncoderTables>(tables: &V, c: char) -> EncoderMove
-        ensures { IsCode ((encoder_profile (codec (V.indexes tables.now).flat)).code c) c result };
+    fn code_of(tables: &Tables<'_>, c: char) -> EncoderMove
+        ensures { IsCode ((encoder_profile (codec tables.now.flat)).code c) c result };
+
+    /// Returns the bytes of a scalar past ASCII that has no lead and trail, or the scalar itself as unmappable.
+    ///
+    /// They are the same in all indexes in which it has none.
+    fn code_past_pairs(c: char) -> EncoderMove
+        requires { 0x80 ≤ c }
+        ensures { (flat : FlatIndexes) → IsNoPair (codec flat) c →
+            IsCode ((encoder_profile (codec flat)).code c) c result };
 }
 
 /// A codec of ASCII and pairs that can list the codes of all scalars below U+10000.
@@ -47,26 +52,26 @@ pub trait PairCodec {
 // trait.
 pub trait FillsPairs: PairCodec + Sized {
     /// Fills a list of 65,536 entries, as `EncodesPairs::fill_pairs` does.
-    fn fill<V: EncoderTables>(encoder: &PairEncoder<'_, Self, V>, entries: &mut [u16])
+    fn fill(encoder: &PairEncoder<'_, Self>, entries: &mut [u16])
         requires { length entries.old ≡ 65536 }
-        ensures { AreAllPairsOf (Self.codec (V.indexes encoder.now.tables.now).flat) entries.new };
+        ensures { AreAllPairsOf (Self.codec encoder.now.tables.now.flat) entries.new };
 }
 
-/// The encoder of a codec of ASCII and pairs, by one kind of tables.
+/// The encoder of a codec of ASCII and pairs, over tables.
 #[derive(Drop)]
-pub struct PairEncoder<'a, C: PairCodec, V: EncoderTables> {
+pub struct PairEncoder<'a, C: PairCodec> {
     /// The tables in which scalars are looked up.
-    pub tables: &'a V,
+    pub tables: &'a Tables<'a>,
     codec: PhantomData<C>,
 }
 
-impl<'a, C: PairCodec, V: EncoderTables> PairEncoder<'a, C, V> {
+impl<'a, C: PairCodec> PairEncoder<'a, C> {
     /// Returns an encoder before its first scalar, which writes by the codec's index of the tables.
     #[inline]
-    pub fn new(tables: &'a V) -> PairEncoder<'a, C, V>
+    pub fn new(tables: &'a Tables<'a>) -> PairEncoder<'a, C>
         ensures tables { result.tables.now ≡ tables.now }
-        ensures state { pair_encoder_state C.codec (V.indexes result.tables.now) ≡ new_encoder
-            (C.codec (V.indexes tables.now).flat) }
+        ensures state { pair_encoder_state C.codec result.tables.now ≡ new_encoder
+            (C.codec tables.now.flat) }
     {
         PairEncoder {
             tables,
@@ -75,13 +80,27 @@ impl<'a, C: PairCodec, V: EncoderTables> PairEncoder<'a, C, V> {
     }
 }
 
-impl<'a, C: PairCodec, V: EncoderTables> PlainCodes for PairEncoder<'a, C, V> {
-    ghost codec = { λ e. C.codec (V.indexes e.tables.now).flat };
+impl<'a, C: PairCodec> Copy for PairEncoder<'a, C> {}
+
+impl<'a, C: PairCodec> Clone for PairEncoder<'a, C> {
+    ghost use Rattle.std.specs.Prelude.{⊤};
+
+    ghost is_clone = { λ x y. y ≡ x };
+
+    ghost is_infallible = { λ _. ⊤ };
+
+    fn clone(&self) -> Result<PairEncoder<'a, C>, AllocError> {
+        Ok(*self)
+    }
+}
+
+impl<'a, C: PairCodec> PlainCodes for PairEncoder<'a, C> {
+    ghost codec = { λ e. C.codec e.tables.now.flat };
 
     ghost past = { 2 };
 
-    ghost plain = { λ e. pair_plain (C.codec (V.indexes e.tables.now).flat)
-        (C.pairs (V.indexes e.tables.now).flat) };
+    ghost plain = { λ e. pair_plain (C.codec e.tables.now.flat)
+        (C.pairs e.tables.now.flat) };
 
     #[inline]
     fn past_need(&self) -> usize {
@@ -101,32 +120,7 @@ impl<'a, C: PairCodec, V: EncoderTables> PlainCodes for PairEncoder<'a, C, V> {
     }
 }
 
-/// Reads ahead by one kind of tables, and returns the place after the bytes in `dst`.
-#[inline(always)]
-fn read_pairs<C: PairCodec, V: EncoderTables, S: Source>(
-    tables: &V,
-    src: &mut S,
-    dst: &mut [u8],
-    start: usize,
-) -> usize
-    requires { start ≤ length dst.old }
-    ensures { EncodesFrom S.Source (new_encoder (C.codec (V.indexes tables.now).flat)) src.old dst.old start
-        src.new dst.new result }
-{
-    read_common(&PairEncoder::<C, V>::new(tables), src, dst, start)
-}
-
-impl<'a, C: PairCodec> PlainEncoder for PairEncoder<'a, C, Tables<'a>> {
-    #[inline]
-    fn read_codes<S: Source>(&self, src: &mut S, dst: &mut [u8], start: usize) -> usize {
-        match self.tables.flat() {
-            Some(tables) => read_pairs::<C, FlatTables<'_>, S>(tables, src, dst, start),
-            None => read_pairs::<C, Tables<'_>, S>(self.tables, src, dst, start),
-        }
-    }
-}
-
-impl<'a, C: PairCodec> RawEncoder for PairEncoder<'a, C, Tables<'a>> {
+impl<'a, C: PairCodec> RawEncoder for PairEncoder<'a, C> {
     ghost state = { λ e. pair_encoder_state C.codec e.tables.now };
 
     fn step<S: Source>(&mut self, src: &mut S, dst: &mut [u8], last: bool) -> EncoderStep {

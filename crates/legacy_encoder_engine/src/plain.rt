@@ -1,30 +1,18 @@
 //! The encoder of the codecs without modes: each `PlainCodes` makes the moves of its codes.
 ghost use Rattle.std.specs.Prelude.{◌≤◌, length};
 ghost use Rattle.legacy_base.specs.Encoders.{new_encoder};
-ghost use Rattle.legacy_encoder_engine.specs.UnfinishedCall.{EncodesFrom};
 
 use crate::ahead_codes::AheadCodes;
 use crate::drive::{put_four, put_move, put_two};
 use crate::moves::{EncoderMove, EncoderMoves};
 use crate::plain_codes::PlainCodes;
+use crate::read_ahead::read_common;
 use crate::unit_codes::Units;
 use legacy_base::Source;
 use legacy_tables::RangePart;
 use legacy_text::TextCursor;
 
-/// An encoder of a codec without modes, with its own way to read ahead.
-pub trait PlainEncoder: PlainCodes {
-    /// Reads scalars from the front of the source and writes their bytes from the place `start` on.
-    ///
-    /// Returns the place after the bytes in `dst`. It may read any number of scalars.
-    // Most encoders do it by `read_common`. An encoder with tables chooses here, once, by the form of its tables.
-    fn read_codes<S: Source>(&self, src: &mut S, dst: &mut [u8], start: usize) -> usize
-        requires { start ≤ length dst.old }
-        ensures { EncodesFrom S.Source (new_encoder (Self.codec self.now)) src.old dst.old start
-            src.new dst.new result };
-}
-
-impl<C: PlainEncoder> EncoderMoves for C {
+impl<C: PlainCodes> EncoderMoves for C {
     ghost state = { λ encoder. new_encoder (C.codec encoder) };
 
     #[inline]
@@ -50,9 +38,11 @@ impl<C: PlainEncoder> EncoderMoves for C {
 
     fn finish(&mut self) {}
 
+    // By a copy: through a reference the compiler would load its parts again after each byte that is stored.
     #[inline]
     fn read_ahead<S: Source>(&self, src: &mut S, dst: &mut [u8], at: usize) -> usize {
-        self.read_codes(src, dst, at)
+        let own = *self;
+        read_common(&own, src, dst, at)
     }
 }
 
@@ -107,9 +97,13 @@ impl<C: PlainCodes> AheadCodes for C {
 
     // Code units with one byte include ASCII: no pattern would predict a choice between the two.
     #[inline(always)]
+    #[tactic(auto, using(crate::proofs::ReadingAhead::encodes_none))]
     fn read_blocks<S: TextCursor>(&self, src: &mut S, dst: &mut [u8], at: usize) -> usize {
         if C::GOES_BY_UNITS && src.has_blocks() {
             return Units { encoder: self }.put_bytes(src, dst, at);
+        }
+        if !src.is_in_ascii() {
+            return at;
         }
         at + src.copy_ascii(dst, at)
     }

@@ -11,7 +11,7 @@ use crate::moves::EncoderMove;
 use legacy_tables::RangePart;
 
 /// The codes of a codec without modes: the parts in which these codecs differ. ASCII is itself.
-pub trait PlainCodes {
+pub trait PlainCodes: Copy {
     /// The codec with its lists.
     ghost codec: { Self → Codec };
 

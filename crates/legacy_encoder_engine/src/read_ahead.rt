@@ -217,7 +217,7 @@ impl<C: AheadCodes> ReadingLoop for ByCodes<'_, C> {
         loop {
             at = codes.read_blocks(src, dst, at);
             let end = read_scalars(codes, &mut guess, src, dst, at);
-            if end == at || !C::HAS_BLOCKS {
+            if end == at || !C::HAS_BLOCKS || !codes.may_go_by_blocks(src, '\0') {
                 return end;
             }
             at = end;

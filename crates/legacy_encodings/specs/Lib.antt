@@ -1,3 +1,4 @@
--- What a registry of encodings gives by their names.
+-- What a registry of encodings gives by their labels.
+pub mod ReadFiles
 pub mod Registries
 pub mod SingleByteFiles

@@ -1,12 +1,15 @@
 -- What the index file of a single-byte encoding says.
-use Rattle.std.specs.Prelude.{◌≡◌, ℕ, List, Some, None}
+use Rattle.std.specs.Prelude.{◌≡◌, ◌≢◌, ℕ, List, Some, None}
 use Rattle.legacy_tables.specs.TableChecks.{single_byte_fault, IsAcceptedTable}
+use Rattle.legacy_index_files.specs.declared.codec.Codec.TheVariants as codec
+use Rattle.legacy_index_files.specs.declared.encodings.Encoding.{Encoding}
 use Rattle.legacy_index_files.specs.declared.index_file.FileIndex.TheVariants.{SingleByte}
+use Rattle.legacy_index_files.specs.Encodings.{codec_of}
 use Rattle.legacy_index_files.specs.declared.index_file.IndexFileError.TheVariants as reading
 use Rattle.legacy_index_files.specs.IndexLine.{lines}
 use Rattle.legacy_index_files.specs.IndexTable.{entries_of, first_malformed, IsSingleByteIndexOf}
 use Rattle.legacy_encodings.specs.declared.registry.RegistryError.{RegistryError}
-use Rattle.legacy_encodings.specs.declared.registry.RegistryError.TheVariants.{File, Tables, Sized}
+use Rattle.legacy_encodings.specs.declared.registry.RegistryError.TheVariants.{File, Tables, Sized, WrongKind}
 use Rattle.legacy_codecs.specs.declared.whole.SizedError.TheVariants as sized
 
 -- no line of the file is malformed, and its lines say these entries
@@ -22,3 +25,8 @@ IsSingleByteFault file (File reading.Memory) = ⊥
 IsSingleByteFault file (Tables fault) = (entries : List ℕ) × IsSingleByteFile file entries × (single_byte_fault entries ≡ Some fault)
 IsSingleByteFault file (Sized sized.Memory) = (entries : List ℕ) × IsSingleByteFile file entries × IsAcceptedTable entries
 IsSingleByteFault file _ = ⊥
+
+-- the same if the file is that of an encoding, which has to be a single-byte encoding
+abbrev pub IsTableFault : Encoding → List ℕ → RegistryError → Type 0
+IsTableFault encoding file WrongKind = codec_of encoding ≢ codec.SingleByte
+IsTableFault encoding file error = (codec_of encoding ≡ codec.SingleByte) × IsSingleByteFault file error

@@ -1,39 +1,45 @@
-//! A registry that owns index data, and decodes and encodes by the Standard's name of the encoding.
-ghost use Rattle.std.specs.Prelude.{◌≡◌, [], string_bytes, Err, Some, None, true, IfOk, OnErr, MatchResult};
-ghost use Rattle.std.specs.Prelude.{find, bytes_eq, vec_capacity};
+//! A registry that owns index data, and decodes and encodes by a label of the encoding.
+ghost use Rattle.std.specs.Prelude.{◌≡◌, ◌≢◌, ℕ, List, [], string_bytes, Err, Some, None, true, IfOk, OnErr, MatchResult};
+ghost use Rattle.std.specs.Prelude.{find, bytes_eq, length, vec_capacity};
 ghost use Rattle.std.specs.Option.{option_copied, option_map};
+ghost use Rattle.std.specs.List.{list_all};
 ghost use Rattle.std.specs.Str.{chars};
 ghost use Rattle.legacy_base.specs.Encoders.{encoded};
-ghost use Rattle.legacy_codecs.specs.References.{referenced_bytes};
+ghost use Rattle.legacy_codecs.specs.References.{referenced_bytes, has_unmappable};
 ghost use Rattle.legacy_tables.specs.TableChecks.{table_fault};
-ghost use Rattle.legacy_index_files.specs.Encodings.{encoding_name};
-ghost use Rattle.legacy_coders.specs.Lists.{has_pairs};
-ghost use Rattle.legacy_index_files.specs.IndexTexts.{no_text};
+ghost use Rattle.legacy_index_files.specs.Encodings.{encoding_name, codec_of};
+ghost use Rattle.legacy_index_files.specs.Labels.{encoding_labelled};
+ghost use Rattle.legacy_index_files.specs.IndexTexts.{no_text, with_text};
 ghost use Rattle.legacy_index_files.specs.OwnedIndexes.{owned_lists, HoldsTexts, IsUnallocated};
-ghost use Rattle.legacy_encodings.specs.SingleByteFiles.{IsSingleByteFault};
-ghost use Rattle.legacy_encodings.specs.Registries.{first_entries, IsReadTable, HasNoName, IsNameError};
-ghost use Rattle.legacy_encodings.specs.Registries.{IsDecoderOf, IsEncoderOf};
-ghost use Rattle.legacy_encodings.specs.Registries.{IsText, IsDecodeError, AreEncodedBytes, IsEncodeError, bytes_by};
+ghost use Rattle.legacy_index_files.specs.declared.index_file.EncoderIndex.TheVariants.{Of, Katakana};
+ghost use Rattle.legacy_coders.specs.Lists.{has_pairs};
+ghost use Rattle.legacy_encodings.specs.ReadFiles.{IsReadFile, IsReadKatakana, IsIndexFault, IsKatakanaFault};
+ghost use Rattle.legacy_encodings.specs.SingleByteFiles.{IsTableFault};
+ghost use Rattle.legacy_encodings.specs.Registries.{first_entries, was_read, can_decode, can_encode, with_read, nothing_read};
+ghost use Rattle.legacy_encodings.specs.Registries.{IsReadTable, IsLabelError, IsDecoderOf, IsEncoderOf, output_of};
+ghost use Rattle.legacy_encodings.specs.Registries.{IsText, IsDecodeError, AreEncodedBytes, IsEncodeError, bytes_by, replaced_by};
 ghost use Rattle.legacy_encodings.specs.Registries.{IsTranscoded, IsTranscodeError};
 
-use legacy_codecs::{
-    RawDecoder, RawEncoder, SingleByteTable, SizedError, TableError, Tables, decode_whole,
-    encode_whole,
-};
+use crate::read_indexes::ReadIndexes;
+use crate::told::{decode_told, encode_told};
+use legacy_codecs::{RawDecoder, RawEncoder, SingleByteTable, SizedError, TableError, Tables};
 use legacy_coders::{AnyDecoder, AnyEncoder, ListedEncoder, has_pairs, pair_room};
-use legacy_index_files::{Codec, Encoding, FileIndex, IndexFileError, OwnedIndexes};
+use legacy_index_files::{Codec, EncoderIndex, Encoding, FileIndex, IndexFileError, OwnedIndexes};
 use std::alloc::{AllocError, Global};
 use thiserror::Error;
 
 /// Why the registry returned no result.
 #[derive(Debug, Drop, PartialEq, Eq, Error)]
 pub enum RegistryError {
-    /// No encoding has the name.
-    #[error("no encoding has this name")]
+    /// No encoding has the label.
+    #[error("no encoding has this label")]
     Unknown,
-    /// The index file of the single-byte encoding was not read.
-    #[error("the encoding's index was not read")]
+    /// An index that the encoding's decoder, or encoder, needs was not read.
+    #[error("an index of the encoding was not read")]
     NoIndex,
+    /// The index is that of single-byte encodings, or the encoding is none of these.
+    #[error("the index is of another kind")]
+    WrongKind,
     /// A line of an index file is malformed, or an allocation failed.
     #[error("index file: {0}")]
     File(IndexFileError),
@@ -43,6 +49,20 @@ pub enum RegistryError {
     /// The length of the text's buffer exceeds `usize::MAX`, or an allocation failed.
     #[error("{0}")]
     Sized(SizedError),
+}
+
+/// Why an input was not transcoded.
+#[derive(Debug, Drop, PartialEq, Eq, Error)]
+pub enum TranscodeError {
+    /// By the first encoding the input was not decoded.
+    #[error("from: {0}")]
+    From(RegistryError),
+    /// By the second encoding the text was not encoded.
+    #[error("to: {0}")]
+    To(RegistryError),
+    /// The second encoding has no encoder: its output encoding is UTF-8.
+    #[error("to: the encoding has no encoder")]
+    NoEncoder,
 }
 
 impl From<IndexFileError> for RegistryError {
@@ -84,21 +104,63 @@ pub struct EncodingTable {
     pub table: SingleByteTable,
 }
 
+/// The text of an input.
+#[derive(Drop)]
+pub struct Decoded {
+    /// The text, with U+FFFD for each malformed sequence.
+    pub text: String,
+    /// Whether there was a malformed sequence.
+    pub replaced: bool,
+}
+
+/// The encoding of encoded bytes ("get an output encoding").
+#[derive(Clone, Copy, Debug, PartialEq, Eq)]
+pub enum OutputEncoding {
+    /// UTF-8: that of replacement and UTF-16.
+    Utf8,
+    /// The encoding itself.
+    Legacy(Encoding),
+}
+
+/// The bytes of a text.
+#[derive(Drop)]
+pub struct Encoded {
+    /// The bytes, with a numeric character reference for each unmappable character.
+    pub bytes: Vec<u8>,
+    /// The encoding of the bytes.
+    pub encoding: OutputEncoding,
+    /// Whether there was an unmappable character.
+    pub replaced: bool,
+}
+
+/// The bytes of an input in another encoding.
+#[derive(Drop)]
+pub struct Transcoded {
+    /// The bytes.
+    pub bytes: Vec<u8>,
+    /// Whether the input had a malformed sequence, which is U+FFFD or a reference to it.
+    pub malformed: bool,
+    /// Whether the text had an unmappable character, for which a reference was written.
+    pub unmappable: bool,
+}
+
 /// Index data that was read from files, for multi-byte and single-byte encodings.
 ///
-/// An index that was not read is empty. The single-byte table that was read last comes first.
+/// An encoding can be used after its indexes were read (`Encoding::indexes`,
+/// `Encoding::encoder_indexes`). To use it without an index, read an empty text for that. The
+/// single-byte table that was read last comes first.
 #[derive(Drop)]
 pub struct Registry {
-    /// The indexes of the multi-byte encodings, not yet checked.
-    pub indexes: OwnedIndexes,
-    /// The tables of single-byte encodings. The first table of an encoding counts.
-    pub single_bytes: Vec<EncodingTable>,
+    indexes: OwnedIndexes,
+    read: ReadIndexes,
+    single_bytes: Vec<EncodingTable>,
 }
 
 /// The coders of all encodings, over the registry's indexes, which are checked once.
 #[derive(Drop)]
 pub struct Coders<'a> {
     tables: Tables<'a>,
+    read: ReadIndexes,
     single_bytes: &'a [EncodingTable],
 }
 
@@ -107,20 +169,79 @@ impl Registry {
     pub fn new(alloc: Global) -> Registry
         ensures indexes { HoldsTexts no_text result.indexes }
         ensures katakana { result.indexes.katakana.items ≡ [] }
+        ensures read { result.read ≡ nothing_read }
         ensures single_bytes { result.single_bytes.items ≡ [] }
         ensures unallocated { IsUnallocated result.indexes × (vec_capacity result.single_bytes ≡ 0) }
     {
         Registry {
             indexes: OwnedIndexes::new(alloc),
+            read: ReadIndexes::nothing(),
             single_bytes: Vec::new(alloc),
+        }
+    }
+
+    /// Reads the index file of multi-byte encodings, and replaces the index.
+    ///
+    /// An empty text gives an empty index. After an error the registry is unchanged.
+    ///
+    /// - `WrongKind`: the index is `FileIndex::SingleByte`, which `read_single_byte` reads.
+    /// - `File`: `text` has a malformed line, or an allocation failed (`read_index`).
+    pub fn read_index(
+        &mut self,
+        alloc: Global,
+        index: FileIndex,
+        text: &[u8],
+    ) -> Result<(), RegistryError>
+        ensures file { MatchResult result
+            (λ _. IsReadFile index text.now self.old.indexes self.new.indexes)
+            (IsIndexFault index text.now) }
+        ensures read { IfOk result (λ _. self.new.read ≡ with_read self.old.read (Of index)) }
+        ensures texts { (texts : FileIndex → List ℕ) → HoldsTexts texts self.old.indexes
+            → IfOk result (λ _. HoldsTexts (with_text texts index text.now) self.new.indexes) }
+        ensures single_bytes { self.new.single_bytes ≡ self.old.single_bytes }
+        ensures unchanged { OnErr result (self.new ≡ self.old) }
+    {
+        if index == FileIndex::SingleByte {
+            return Err(RegistryError::WrongKind);
+        }
+        match self.indexes.read(alloc, index, text) {
+            Ok(()) => {
+                self.read.add(EncoderIndex::Of(index));
+                Ok(())
+            }
+            Err(fault) => Err(RegistryError::File(fault)),
+        }
+    }
+
+    /// Reads the file of index ISO-2022-JP katakana, and replaces that index.
+    ///
+    /// ISO-2022-JP encodes half-width katakana with it. An empty text gives an empty index. The only
+    /// error is `File` (`read_katakana`), and after it the registry is unchanged.
+    pub fn read_katakana(&mut self, alloc: Global, text: &[u8]) -> Result<(), RegistryError>
+        ensures file { MatchResult result
+            (λ _. IsReadKatakana text.now self.old.indexes self.new.indexes)
+            (IsKatakanaFault text.now) }
+        ensures read { IfOk result (λ _. self.new.read ≡ with_read self.old.read Katakana) }
+        ensures texts { (texts : FileIndex → List ℕ) → HoldsTexts texts self.old.indexes
+            → HoldsTexts texts self.new.indexes }
+        ensures single_bytes { self.new.single_bytes ≡ self.old.single_bytes }
+        ensures unchanged { OnErr result (self.new ≡ self.old) }
+    {
+        match self.indexes.read_katakana(alloc, text) {
+            Ok(()) => {
+                self.read.add(EncoderIndex::Katakana);
+                Ok(())
+            }
+            Err(fault) => Err(RegistryError::File(fault)),
         }
     }
 
     /// Reads the index file of a single-byte encoding, and adds its table before the other ones.
     ///
-    /// A table that was read earlier for the encoding is used no more. For a multi-byte encoding it
-    /// adds a table that no coder uses. The indexes are unchanged, and after an error the tables too.
+    /// A table that was read earlier for the encoding is used no more. The indexes are unchanged,
+    /// and after an error the tables too.
     ///
+    /// - `WrongKind`: the encoding is not a single-byte encoding.
     /// - `File(Line)`: `text` has a malformed line (`read_index`).
     /// - `Tables`: the entries of `text` are refused (`SingleByteTable::new`).
     /// - `Sized(Memory)`: the allocation for the list of tables failed.
@@ -132,11 +253,15 @@ impl Registry {
     ) -> Result<(), RegistryError>
         ensures table { MatchResult result
             (λ _. IsReadTable encoding text.now self.old.single_bytes.items self.new.single_bytes.items)
-            (λ error. IsSingleByteFault text.now error) }
+            (λ error. IsTableFault encoding text.now error) }
         ensures indexes { self.new.indexes ≡ self.old.indexes }
+        ensures read { self.new.read ≡ self.old.read }
         ensures unchanged { OnErr result
             (self.new.single_bytes.items ≡ self.old.single_bytes.items) }
     {
+        if encoding.codec() != Codec::SingleByte {
+            return Err(RegistryError::WrongKind);
+        }
         let mut owned = OwnedIndexes::new(alloc);
         owned.read(alloc, FileIndex::SingleByte, text)?;
         let table = owned.single_byte_table()?;
@@ -155,12 +280,14 @@ impl Registry {
     pub fn coders(&self) -> Result<Coders<'_>, TableError>
         ensures { MatchResult result
             (λ coders. (coders.tables.flat ≡ owned_lists self.now.indexes)
-            × (coders.single_bytes.now ≡ self.now.single_bytes.items))
+            × (coders.single_bytes.now ≡ self.now.single_bytes.items)
+            × (coders.read ≡ self.now.read))
             (λ fault. table_fault (owned_lists self.now.indexes) ≡ Some fault) }
     {
         match self.indexes.tables() {
             Ok(tables) => Ok(Coders {
                 tables,
+                read: self.read,
                 single_bytes: &self.single_bytes,
             }),
             Err(fault) => Err(fault),
@@ -171,43 +298,63 @@ impl Registry {
 /// The length in bytes of the shortest text that is encoded with a list of the encoder's pairs.
 const LONG_TEXT: usize = 1024;
 
-/// Encodes a whole text as `encode_whole` does, with a list of the encoder's pairs.
-fn encode_listed(alloc: Global, encoder: &AnyEncoder, text: &str) -> Result<Vec<u8>, AllocError>
-    requires { has_pairs encoder.now ≡ true }
-    ensures { IfOk result (λ bytes. bytes.items ≡ referenced_bytes
-        (encoded (⟦<AnyEncoder<'static> as RawEncoder>⟧.state encoder.now) (chars text.now) true)) }
+/// Encodes a whole text as `encode_told` does, with a list of the encoder's pairs in the room.
+fn encode_listed(
+    alloc: Global,
+    encoder: &AnyEncoder,
+    room: &mut [u16],
+    text: &str,
+) -> Result<(Vec<u8>, bool), AllocError>
+    requires pairs { has_pairs encoder.now ≡ true }
+    requires room { length room.old ≡ 65536 }
+    ensures { IfOk result (λ told. (told.0.items ≡ referenced_bytes
+        (encoded (⟦<AnyEncoder<'static> as RawEncoder>⟧.state encoder.now) (chars text.now) true))
+        × (told.1 ≡ has_unmappable
+        (encoded (⟦<AnyEncoder<'static> as RawEncoder>⟧.state encoder.now) (chars text.now) true))) }
 {
-    let mut room = pair_room(alloc)?;
-    let Some(mut listed) = ListedEncoder::new(encoder, room.as_mut_slice()) else {
+    let Some(mut listed) = ListedEncoder::new(encoder, room) else {
         unreachable!()
     };
-    encode_whole(alloc, &mut listed, text)
+    encode_told(alloc, &mut listed, text)
 }
 
-/// Encodes a whole text as `encode_whole` does. For a long text it makes a list of the pairs first.
+/// Encodes a whole text as `encode_told` does. For a long text it makes a list of the pairs first,
+/// if it gets the memory.
 fn encode_with_list(
     alloc: Global,
     encoder: &mut AnyEncoder,
     text: &str,
-) -> Result<Vec<u8>, AllocError>
-    ensures { IfOk result (λ bytes. bytes.items ≡ referenced_bytes
-        (encoded (⟦<AnyEncoder<'static> as RawEncoder>⟧.state encoder.old) (chars text.now) true)) }
+) -> Result<(Vec<u8>, bool), AllocError>
+    ensures { IfOk result (λ told. (told.0.items ≡ referenced_bytes
+        (encoded (⟦<AnyEncoder<'static> as RawEncoder>⟧.state encoder.old) (chars text.now) true))
+        × (told.1 ≡ has_unmappable
+        (encoded (⟦<AnyEncoder<'static> as RawEncoder>⟧.state encoder.old) (chars text.now) true))) }
 {
     if text.len() >= LONG_TEXT && has_pairs(encoder) {
-        return encode_listed(alloc, encoder, text);
+        if let Ok(mut room) = pair_room(alloc) {
+            return encode_listed(alloc, encoder, room.as_mut_slice(), text);
+        }
     }
-    encode_whole(alloc, encoder, text)
+    encode_told(alloc, encoder, text)
 }
 
 /// Encodes a text by a new encoder, or in UTF-8 if there is none.
-#[tactic(auto, unfolding(crate::specs::Registries::bytes_by))]
-fn encode_by(alloc: Global, encoder: Option<AnyEncoder>, text: &str) -> Result<Vec<u8>, AllocError>
-    ensures { IfOk result (λ bytes. bytes.items ≡ bytes_by
-        (option_map (λ e. ⟦<AnyEncoder<'static> as RawEncoder>⟧.state e) encoder.entry) text.now) }
+#[tactic(auto, unfolding(crate::specs::Registries::bytes_by, crate::specs::Registries::replaced_by))]
+fn encode_by(
+    alloc: Global,
+    encoder: Option<AnyEncoder>,
+    text: &str,
+) -> Result<(Vec<u8>, bool), AllocError>
+    ensures { IfOk result (λ told. let state = option_map
+        (λ e. ⟦<AnyEncoder<'static> as RawEncoder>⟧.state e) encoder.entry in
+        (told.0.items ≡ bytes_by state text.now) × (told.1 ≡ replaced_by state text.now)) }
 {
     match encoder {
         Some(mut encoder) => encode_with_list(alloc, &mut encoder, text),
-        None => Vec::from_slice(alloc, text.as_bytes()),
+        None => match Vec::from_slice(alloc, text.as_bytes()) {
+            Ok(bytes) => Ok((bytes, false)),
+            Err(fault) => Err(fault),
+        },
     }
 }
 
@@ -219,13 +366,23 @@ fn first_of<'a>(tables: &'a [EncodingTable], name: &str) -> Option<&'a EncodingT
     tables.iter().find(|entry| entry.encoding.name() == name)
 }
 
-/// Returns the encoding of the name, or `Unknown`.
-fn encoding_of(name: &str) -> Result<Encoding, RegistryError>
+/// Returns the encoding of the label, or `Unknown`.
+fn encoding_of(label: &str) -> Result<Encoding, RegistryError>
     ensures { MatchResult result
-        (λ encoding. encoding_name encoding ≡ name.now)
-        (λ error. (error ≡ RegistryError.Unknown) × HasNoName name.now) }
+        (λ encoding. encoding_labelled label.now ≡ Some encoding)
+        (λ error. (error ≡ RegistryError.Unknown) × (encoding_labelled label.now ≡ None)) }
 {
-    Encoding::by_name(name).ok_or(RegistryError::Unknown)
+    Encoding::for_label(label).ok_or(RegistryError::Unknown)
+}
+
+/// Returns the output encoding of an encoding ("get an output encoding").
+fn output_of(encoding: Encoding) -> OutputEncoding
+    ensures { result ≡ output_of encoding }
+{
+    if encoding.codec().has_encoder() {
+        return OutputEncoding::Legacy(encoding);
+    }
+    OutputEncoding::Utf8
 }
 
 impl Coders<'_> {
@@ -240,98 +397,201 @@ impl Coders<'_> {
         }
     }
 
-    /// Returns a new decoder of the encoding of the name.
-    ///
-    /// It borrows the coders, and allocates nothing. The result is `Unknown` if no encoding has the
-    /// name, and `NoIndex` if the index file of the single-byte encoding was not read.
-    pub fn decoder(&self, name: &str) -> Result<AnyDecoder<'_>, RegistryError>
-        ensures { MatchResult result
-            (λ decoder. IsDecoderOf self.now.tables.flat self.now.single_bytes.now name.now
-            (⟦<AnyDecoder<'static> as RawDecoder>⟧.state decoder))
-            (λ error. IsNameError self.now.single_bytes.now name.now error) }
+    /// Returns whether an index of the encoding was read.
+    fn was_read(&self, encoding: Encoding, index: EncoderIndex) -> bool
+        ensures { result ≡ was_read self.now encoding index }
     {
-        let encoding = encoding_of(name)?;
+        if index == EncoderIndex::Of(FileIndex::SingleByte) {
+            return self.single_byte(encoding).is_some();
+        }
+        self.read.has(index)
+    }
+
+    /// Returns whether all these indexes of the encoding were read.
+    fn were_read(&self, encoding: Encoding, indexes: &[FileIndex]) -> bool
+        ensures { result ≡ list_all (λ index. was_read self.now encoding (Of index)) indexes.now }
+    {
+        match indexes {
+            [index, rest @ ..] => {
+                self.was_read(encoding, EncoderIndex::Of(*index)) && self.were_read(encoding, rest)
+            }
+            [] => true,
+        }
+    }
+
+    /// Returns whether all these indexes of the encoding's encoder were read.
+    fn were_read_to_encode(&self, encoding: Encoding, indexes: &[EncoderIndex]) -> bool
+        ensures { result ≡ list_all (was_read self.now encoding) indexes.now }
+    {
+        match indexes {
+            [index, rest @ ..] => {
+                self.was_read(encoding, *index) && self.were_read_to_encode(encoding, rest)
+            }
+            [] => true,
+        }
+    }
+
+    /// Returns the encoding of the label, if the indexes of its decoder were read.
+    fn encoding_to_decode(&self, label: &str) -> Result<Encoding, RegistryError>
+        ensures { MatchResult result
+            (λ encoding. (encoding_labelled label.now ≡ Some encoding)
+            × (can_decode self.now encoding ≡ true))
+            (λ error. IsLabelError (can_decode self.now) label.now error) }
+    {
+        let encoding = encoding_of(label)?;
+        if self.were_read(encoding, encoding.indexes()) {
+            return Ok(encoding);
+        }
+        Err(RegistryError::NoIndex)
+    }
+
+    /// Returns the encoding of the label, if the indexes of its encoder were read.
+    fn encoding_to_encode(&self, label: &str) -> Result<Encoding, RegistryError>
+        ensures { MatchResult result
+            (λ encoding. (encoding_labelled label.now ≡ Some encoding)
+            × (can_encode self.now encoding ≡ true))
+            (λ error. IsLabelError (can_encode self.now) label.now error) }
+    {
+        let encoding = encoding_of(label)?;
+        if self.were_read_to_encode(encoding, encoding.encoder_indexes()) {
+            return Ok(encoding);
+        }
+        Err(RegistryError::NoIndex)
+    }
+
+    /// Returns a new decoder of the encoding with the label (`Encoding::for_label`).
+    ///
+    /// It borrows the coders, and allocates nothing.
+    ///
+    /// - `Unknown`: no encoding has the label.
+    /// - `NoIndex`: an index that the decoder uses (`Encoding::indexes`) was not read.
+    pub fn decoder(&self, label: &str) -> Result<AnyDecoder<'_>, RegistryError>
+        ensures { MatchResult result
+            (λ decoder. IsDecoderOf self.now label.now
+            (⟦<AnyDecoder<'static> as RawDecoder>⟧.state decoder))
+            (λ error. IsLabelError (can_decode self.now) label.now error) }
+    {
+        let encoding = self.encoding_to_decode(label)?;
         let table = self.single_byte(encoding);
         match AnyDecoder::new(encoding.codec(), &self.tables, table) {
             Some(decoder) => Ok(decoder),
-            None => Err(RegistryError::NoIndex),
+            None => unreachable!(),
         }
     }
 
-    /// Returns a new encoder of the encoding of the name, or `None` for replacement and UTF-16.
+    /// Returns a new encoder of the encoding with the label, or `None` for replacement and UTF-16.
     ///
     /// The output encoding of these is UTF-8 (Encoding Standard, "get an output encoding"). The
-    /// encoder borrows the coders, and allocates nothing. The errors are those of `decoder`.
-    pub fn encoder(&self, name: &str) -> Result<Option<AnyEncoder<'_>>, RegistryError>
+    /// encoder borrows the coders, and allocates nothing.
+    ///
+    /// - `Unknown`: no encoding has the label.
+    /// - `NoIndex`: an index that the encoder uses (`Encoding::encoder_indexes`) was not read.
+    pub fn encoder(&self, label: &str) -> Result<Option<AnyEncoder<'_>>, RegistryError>
         ensures { MatchResult result
-            (λ encoder. IsEncoderOf self.now.tables.flat self.now.single_bytes.now name.now
+            (λ encoder. IsEncoderOf self.now label.now
             (option_map (λ e. ⟦<AnyEncoder<'static> as RawEncoder>⟧.state e) encoder))
-            (λ error. IsNameError self.now.single_bytes.now name.now error) }
+            (λ error. IsLabelError (can_encode self.now) label.now error) }
     {
-        let encoding = encoding_of(name)?;
-        let codec = encoding.codec();
+        let encoding = self.encoding_to_encode(label)?;
         let table = self.single_byte(encoding);
-        if codec == Codec::SingleByte && table.is_none() {
-            return Err(RegistryError::NoIndex);
-        }
-        Ok(AnyEncoder::new(codec, &self.tables, table))
+        Ok(AnyEncoder::new(encoding.codec(), &self.tables, table))
     }
 
-    /// Decodes a whole input by the encoding of the name, with U+FFFD for each malformed sequence.
+    /// Decodes a whole input by the encoding with the label, with U+FFFD for each malformed sequence.
     ///
     /// The errors are those of `decoder`, and those of `decode_whole` as `Sized`.
-    pub fn decode(&self, alloc: Global, name: &str, input: &[u8]) -> Result<String, RegistryError>
+    pub fn decode(&self, alloc: Global, label: &str, input: &[u8]) -> Result<Decoded, RegistryError>
         ensures { MatchResult result
-            (λ text. IsText self.now.tables.flat self.now.single_bytes.now name.now input.now
-            (chars (string_bytes text)))
-            (λ error. IsDecodeError self.now.tables.flat self.now.single_bytes.now name.now input.now
-            error) }
+            (λ decoded. IsText self.now label.now input.now
+            (chars (string_bytes decoded.text)) decoded.replaced)
+            (λ error. IsDecodeError self.now label.now input.now error) }
     {
-        let mut decoder = self.decoder(name)?;
-        match decode_whole(alloc, &mut decoder, input) {
-            Ok(text) => Ok(text),
+        let mut decoder = self.decoder(label)?;
+        match decode_told(alloc, &mut decoder, input) {
+            Ok((text, replaced)) => Ok(Decoded { text, replaced }),
             Err(fault) => Err(RegistryError::Sized(fault)),
         }
     }
 
-    /// Encodes a text by the encoding of the name, with a reference for each unmappable character.
+    /// Encodes a text by the encoding with the label, with a reference for each unmappable character.
     ///
-    /// Replacement and UTF-16 encode as UTF-8. A text of 1024 bytes or more is encoded with a list
-    /// of the encoding's pairs, which is made for it. To encode many texts, keep a `ListedEncoder`.
-    /// The errors are those of `encoder`, and `Sized(Memory)` if the allocation of the bytes or of the
-    /// list failed.
-    pub fn encode(&self, alloc: Global, name: &str, text: &str) -> Result<Vec<u8>, RegistryError>
+    /// Replacement and UTF-16 encode as UTF-8, and the result says so. A text of 1024 bytes or more
+    /// is encoded with a list of the encoding's pairs, if the memory for it is had. To encode many
+    /// texts, keep a `ListedEncoder`. The errors are those of `encoder`, and `Sized(Memory)` if the
+    /// allocation of the bytes failed.
+    pub fn encode(&self, alloc: Global, label: &str, text: &str) -> Result<Encoded, RegistryError>
         ensures { MatchResult result
-            (λ bytes. AreEncodedBytes self.now.tables.flat self.now.single_bytes.now name.now text.now
-            bytes.items)
-            (λ error. IsEncodeError self.now.tables.flat self.now.single_bytes.now name.now error) }
+            (λ encoded. AreEncodedBytes self.now label.now text.now
+            encoded.bytes.items encoded.encoding encoded.replaced)
+            (λ error. IsEncodeError self.now label.now error) }
     {
-        let encoder = self.encoder(name)?;
+        let encoding = self.encoding_to_encode(label)?;
+        let table = self.single_byte(encoding);
+        let encoder = AnyEncoder::new(encoding.codec(), &self.tables, table);
         match encode_by(alloc, encoder, text) {
-            Ok(bytes) => Ok(bytes),
+            Ok((bytes, replaced)) => Ok(Encoded {
+                bytes,
+                encoding: output_of(encoding),
+                replaced,
+            }),
             Err(_) => Err(RegistryError::Sized(SizedError::Memory)),
         }
     }
 
-    /// Decodes an input by the encoding of one name, and encodes its text by that of another.
+    /// Decodes an input by the encoding with one label, and encodes its text by that with another.
     ///
     /// A malformed sequence becomes U+FFFD, and each character that the new encoding lacks becomes
     /// a reference. The text is encoded as by `encode`, a long one with a list of the new encoding's
-    /// pairs. The errors are those of `decode` for `from`, and then those of `encode` for `to`.
+    /// pairs.
+    ///
+    /// - `NoEncoder`: the new encoding is replacement or UTF-16.
+    /// - `To`: the error of `encoder` for the new encoding, or `Sized(Memory)` if the allocation of
+    ///   the bytes failed.
+    /// - `From`: the error of `decode`, if the new encoding has an encoder.
     pub fn transcode(
         &self,
         alloc: Global,
         from: &str,
         to: &str,
         input: &[u8],
-    ) -> Result<Vec<u8>, RegistryError>
+    ) -> Result<Transcoded, TranscodeError>
         ensures { MatchResult result
-            (λ bytes. IsTranscoded self.now.tables.flat self.now.single_bytes.now from.now to.now
-            input.now bytes.items)
-            (λ error. IsTranscodeError self.now.tables.flat self.now.single_bytes.now from.now
-            to.now input.now error) }
+            (λ transcoded. IsTranscoded self.now from.now to.now input.now
+            transcoded.bytes.items transcoded.malformed transcoded.unmappable)
+            (λ error. IsTranscodeError self.now from.now to.now input.now error) }
     {
-        let text = self.decode(alloc, from, input)?;
-        self.encode(alloc, to, text.as_str())
+        let encoder = match self.encoder(to) {
+            Ok(Some(encoder)) => encoder,
+            Ok(None) => return Err(TranscodeError::NoEncoder),
+            Err(error) => return Err(TranscodeError::To(error)),
+        };
+        match self.decode(alloc, from, input) {
+            Ok(decoded) => encode_decoded(alloc, encoder, &decoded),
+            Err(error) => Err(TranscodeError::From(error)),
+        }
+    }
+}
+
+/// Encodes the text of an input by a new encoder.
+fn encode_decoded(
+    alloc: Global,
+    encoder: AnyEncoder,
+    decoded: &Decoded,
+) -> Result<Transcoded, TranscodeError>
+    ensures { let state = ⟦<AnyEncoder<'static> as RawEncoder>⟧.state encoder.entry in
+        let text = string_bytes decoded.now.text in
+        MatchResult result
+        (λ transcoded. (transcoded.bytes.items ≡ bytes_by (Some state) text)
+        × (transcoded.malformed ≡ decoded.now.replaced)
+        × (transcoded.unmappable ≡ replaced_by (Some state) text))
+        (λ error. error ≡ TranscodeError.To (RegistryError.Sized SizedError.Memory)) }
+{
+    match encode_by(alloc, Some(encoder), decoded.text.as_str()) {
+        Ok((bytes, unmappable)) => Ok(Transcoded {
+            bytes,
+            malformed: decoded.replaced,
+            unmappable,
+        }),
+        Err(_) => Err(TranscodeError::To(RegistryError::Sized(SizedError::Memory))),
     }
 }

@@ -4,5 +4,6 @@ pub mod IndexGrammar
 pub mod IndexLine
 pub mod IndexTable
 pub mod IndexTexts
+pub mod Labels
 pub mod OwnedIndexes
 pub mod Packing

@@ -11,6 +11,7 @@ mod encodings;
 mod index_file;
 mod index_line;
 mod index_table;
+mod labels;
 mod owned_indexes;
 mod packed_indexes;
 mod packing;

@@ -1,12 +1,14 @@
 -- The decoder of EUC-JP holds back only what its machine may, and its moves are the machine's.
-use Rattle.std.{proofs.{Common.{◌≡◌, ℕ, List, [], ◌∷◌, length, true, refl, arith, ◌≢◌, ◌/◌, ◌%◌, get_or}, lemmas.Bool.Decides.nat_tests}, specs.Char.IsScalar}
+use Rattle.std.{proofs.{Common.{◌≡◌, ℕ, List, [], ◌∷◌, length, true, refl, arith, ◌≢◌, ◌≤◌, ◌/◌, ◌%◌, get_or}, lemmas.Bool.Decides.nat_tests}, specs.Char.IsScalar}
 use Rattle.std.proofs.lemmas.List.Elements.{All-nil, All-cons}
 use Rattle.legacy_base.specs.{EucJp.euc_jp_scalars, Fronts.malformed, Grammar.{Grammar, euc_jp, events_of}, States.{euc_jp_may_hold, is_euc_jp_lead, state_of}}
-use Rattle.legacy_decoder_engine.specs.{Steps.finish, Shown.IsShown, Moves.{IsCovered, Feeds, FeedsMalformedByte, Reports}, Feeding.Took, ReadAhead.IsPair}
-use Rattle.legacy_decoder_engine.{specs.{LaneCodes.ArePairs, LanePlaces.row_place, declared.moves.Fed.Fed}, proofs.{Widths.idx_below, YieldedForms.pair_yields}}
+use Rattle.legacy_decoder_engine.specs.{Steps.finish, Shown.IsShown, Moves.{IsCovered, Feeds, FeedsMalformedByte, Reports}, Feeding.Took}
+use Rattle.legacy_decoder_engine.specs.{LaneCodes.ArePairs, LanePlaces.row_place, declared.moves.Fed.Fed, ReadAhead.{IsPair, Yields}}
+use Rattle.legacy_decoder_engine.proofs.{Widths.idx_below, YieldedForms.{pair_yields, three_yields}}
 use Rattle.{legacy_decoder_engine.proofs.LanePlaces.entry_is, legacy_japanese.specs.EucJpMachine.{euc_jp_machine, euc_jp_first, euc_jp_step}}
 use Rattle.legacy_japanese.specs.{declared.euc_jp.decoder.Held.{TheVariants.Nothing, Held}, EucJpDecoder.held_bytes, EucJpShown.euc_jp_is_shown}
-use Rattle.legacy_tables.{specs.{AcceptedTables.AcceptedIndexes, Unicode.{IsByte, AreBytes}}, proofs.Accepted.{jis0208-below, jis0208-scalars, length-jis0208}}
+use Rattle.legacy_tables.specs.{AcceptedTables.AcceptedIndexes, Unicode.{IsByte, AreBytes, katakana_of}}
+use Rattle.legacy_tables.proofs.Accepted.{jis0208-below, jis0208-scalars, length-jis0208}
 use Rattle.legacy_decoder_engine.proofs.Feeding as moves
 
 may : (held : Held) → euc_jp_may_hold (held_bytes held) ≡ true
@@ -52,6 +54,24 @@ module _ (tables : AcceptedIndexes) where
       let narrow = jis0208-below tables.flat tables.accepted in
       let yields = pair_yields shown lead trail c byte byte' scalar in
       grind (arith, nat_tests, idx_below, yields)
+
+  pub pair_read : (lead trail c : ℕ) → IsByte lead → IsByte trail → IsScalar c → is_euc_jp_lead lead ≡ true →
+      euc_jp_scalars tables.flat.jis0208 lead trail ≡ c ∷ [] → Yields grammar (lead ∷ trail ∷ []) (c ∷ [])
+  pair_read lead trail c byte byte' scalar is e = (pair lead trail c byte byte' scalar is e).1
+
+  -- half-width katakana
+  pub katakana_read : (first b c : ℕ) → first ≡ 0x8E → 0xA1 ≤ b → b ≤ 0xDF → c ≡ katakana_of b → Yields grammar (first ∷ b ∷ []) (c ∷ [])
+  katakana_read first b c is low high e =
+      let scalar : IsScalar c = grind (arith, nat_tests) in
+      let yields = pair_yields shown 0x8E b c (omega arith) (omega arith) scalar refl refl refl refl refl in
+      rw is (yields (grind (arith, nat_tests)))
+
+  -- a pair of JIS X 0212
+  pub three_read : (first lead trail c : ℕ) → first ≡ 0x8F → IsByte lead → IsByte trail → IsScalar c → is_euc_jp_lead lead ≡ true →
+      euc_jp_scalars tables.flat.jis0212 lead trail ≡ c ∷ [] → Yields grammar (first ∷ lead ∷ trail ∷ []) (c ∷ [])
+  three_read first lead trail c is byte byte' scalar is_lead e =
+      let yields = three_yields shown 0x8F lead trail c (omega arith) byte byte' scalar in
+      rw is (grind (arith, nat_tests, yields))
 
   -- the same of a code of two bytes, by the entry at its place
   pub lane_pair : ArePairs grammar tables.flat.jis0208 (row_place 0xA1 0x5D 94 0xA1)

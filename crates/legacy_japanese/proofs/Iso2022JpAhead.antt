@@ -6,13 +6,14 @@ use Rattle.std.proofs.lemmas.{Bool.{Decides.nat_tests, cases_lt, ne_eqb}, Grind.
 use Rattle.std.proofs.lemmas.{List.{length-take-le, length-map, get_or-map, take-take, drop-drop}, Nat.Bits.{bit_at-trailing_zeros, bit_at-zero}}
 use Rattle.std.{proofs.lemmas.Simd.{bit_mask_l, bitmask_splat, mask_l-lt, zip2_splat}, specs.{Char.IsScalar, Int.trailing_zeros, Prelude.All}}
 use Rattle.legacy_text.specs.declared.destination.Destination.{Ghosts}
-use Rattle.legacy_base.specs.{declared.modes.DecoderMode.{DecoderMode, TheVariants.{Ascii, TwoByte}}, Iso2022Jp.{iso_2022_jp_front, esc}}
+use Rattle.legacy_base.specs.{declared.modes.DecoderMode.{DecoderMode, TheVariants.{Ascii, Roman, Katakana, TwoByte}}, Iso2022Jp.{iso_2022_jp_front, esc}}
+use Rattle.legacy_base.specs.Fronts.{reads as front_reads}
 use Rattle.legacy_base.specs.{Grammar.{iso_2022_jp, events_of}, States.DecoderState}
 use Rattle.legacy_base.proofs.{Iso2022JpFronts.{step_one, step_two}, Iso2022JpParts.no_escape, Shifts.{shift-append, shift-shift, shift-scalars}}
 use Rattle.legacy_tables.{specs.{AcceptedTables.AcceptedIndexes, Indexes.idx}, proofs.Accepted.length-jis0208}
 use Rattle.legacy_japanese.specs.declared.iso_2022_jp.bytes.{Escape.Escape}
 use Rattle.legacy_japanese.specs.Iso2022JpAhead.{IsAsciiText, begun_state, HasEscape, jis_place}
-use Rattle.legacy_japanese.specs.Iso2022JpMachine.{mode_of, second_of, third_of}
+use Rattle.legacy_japanese.specs.Iso2022JpMachine.{mode_of, second_of, third_of, single}
 use Rattle.legacy_japanese.proofs.{Iso2022JpNeeds.{entry_narrow, one_fits, total_need-falls, times_one, same_needs}, Iso2022JpStep.{events_in, escape_alone}}
 use Rattle.legacy_decoder_engine.specs.ReadAhead.{Yields, IsPair, ReadsAhead, YieldsTo, ReadsTo}
 use Rattle.legacy_decoder_engine.proofs.{WrittenReads.{yields_none, yields_more, all_code_units_ascii}, PairPlaces.idx_past}
@@ -29,6 +30,30 @@ ascii_text_bytes : (jis0208 : List ℕ) (bytes : List ℕ) → All IsAsciiText b
 ascii_text_bytes jis0208 [] h = yields_none (iso_2022_jp jis0208 Ascii)
 ascii_text_bytes jis0208 (b ∷ bytes) h = yields_more (iso_2022_jp jis0208 Ascii) (b ∷ []) bytes (b ∷ []) bytes
     (ascii_text_yields jis0208 b (h 0 0 (omega arith))) (ascii_text_bytes jis0208 bytes (λ i y l. h (suc i) y (omega arith)))
+
+-- ---- a byte of another mode but two-byte mode
+
+front_is : (jis0208 : List ℕ) (mode : DecoderMode) (b c : ℕ) (rest : List ℕ) → single mode b ≡ Some c
+    → iso_2022_jp_front jis0208 mode b rest ≡ front_reads 1 (c ∷ [])
+unfolding iso_2022_jp_front
+front_is jis0208 Ascii b c rest is = grind (arith, nat_tests)
+front_is jis0208 Roman b c rest is = grind (arith, nat_tests)
+front_is jis0208 Katakana b c rest is = grind (arith, nat_tests)
+front_is jis0208 TwoByte b c rest is = grind arith
+
+narrow_single : (mode : DecoderMode) (b c : ℕ) → single mode b ≡ Some c → (c < 0x1_0000) × IsScalar c
+narrow_single Ascii b c is = grind (arith, nat_tests)
+narrow_single Roman b c is = grind (arith, nat_tests)
+narrow_single Katakana b c is = grind (arith, nat_tests)
+narrow_single TwoByte b c is = grind arith
+
+pub single_text_yields : (jis0208 : List ℕ) (mode : DecoderMode) (b c : ℕ) → b ≢ esc → single mode b ≡ Some c
+    → (c < 0x1_0000) × Yields (iso_2022_jp jis0208 mode) (b ∷ []) (c ∷ [])
+unfolding events_of
+single_text_yields jis0208 mode b c unescaped is =
+    let few = narrow_single mode b c is in
+    let front = λ (rest : List ℕ). front_is jis0208 mode b c rest is in
+    (few.0, grind (arith, nat_tests, few, front, step_one, ne_eqb, All-cons, All-nil, total_need-falls, times_one, one_fits))
 
 -- ---- a pair
 

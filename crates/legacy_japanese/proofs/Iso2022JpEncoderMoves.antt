@@ -1,17 +1,18 @@
 -- The length formulas of the ISO-2022-JP encoder are enough for its scalars and escapes. Its moves, by its tables and by a list of pairs.
-use Rattle.std.proofs.Common.{◌≡◌, ℕ, ◌+◌, ◌<◌, ◌≤◌, ◌/◌, ◌%◌, List, arith, Bool, true, false, [], ◌∷◌, ◌++◌, length, refl, IsTrue, Some, map, ◌⊎◌}
+use Rattle.std.proofs.Common.{◌≡◌, ◌≢◌, ℕ, ◌+◌, ◌<◌, ◌≤◌, ◌/◌, ◌%◌, List, arith, Bool, true, false, [], ◌∷◌, ◌++◌, length, refl, IsTrue, Option, Some, None, map, ◌⊎◌}
+use Rattle.std.proofs.Common.{option_map}
 use Rattle.std.{specs.List.list_any, proofs.{Common.{IsAscii, get_or, take}, lemmas.List.{length-take, get_or-take, Folds.list_any_at}}}
 use Rattle.{std.proofs.lemmas.Bool.Decides.nat_tests, legacy_tables.specs.Indexes.FlatIndexes, legacy_text.specs.UnitCodes.IsNoSurrogate}
 use Rattle.{legacy_text.specs.EncodingForm.{EncodingForm, Utf8}, legacy_base.specs.Beginnings.BeginsWith}
 use Rattle.legacy_base.specs.{EncoderProfile.{EncoderProfile, differs}, Encoders.{encoder_profile, iso_2022_jp, is_pending}}
-use Rattle.legacy_base.specs.Iso2022Jp.{iso_2022_jp_encoder, iso_2022_jp_code, is_two_byte_scalar, is_roman_scalar, is_mode_control, mode_after_text, escape_to}
+use Rattle.legacy_base.specs.Iso2022Jp.{iso_2022_jp_encoder, iso_2022_jp_code, iso_2022_jp_pair, iso_2022_jp_pointer_of, roman_or_ascii, is_two_byte_scalar, is_roman_scalar, is_mode_control, mode_after_text, escape_to}
 use Rattle.legacy_base.proofs.Iso2022JpEncoding.{code-short, text_events, text_events-here, text_events-escape, text_events-end, text_events-open, mode_for}
 use Rattle.legacy_base.proofs.{Iso2022JpEncoding.{mode_by, mode_for-by, mode_for-twice, code_by}, SameUnits.some_unit}
 use Rattle.legacy_encoder_engine.specs.{Moves.{is_escape, move_bytes, move_report, Moves, Finishes}, ProfileSuffices.{Serves, mode_need}}
 use Rattle.legacy_encoder_engine.specs.{UnfinishedCall.{PutsCode, ReadsByte}, WrittenUnits.{ReadsUnit, two_bytes}}
-use Rattle.legacy_encoder_engine.specs.declared.moves.EncoderMove.{EncoderMove, TheVariants.{One, Two}}
+use Rattle.legacy_encoder_engine.specs.declared.moves.EncoderMove.{EncoderMove, TheVariants.{One, Two, Unmappable}}
 use Rattle.legacy_encoder_engine.proofs.PlainServes.{two_units, differs-same, here_moves}
-use Rattle.{legacy_base.specs.declared.modes.EncoderMode.{EncoderMode, TheVariants.{Ascii, TwoByte}}, legacy_japanese.specs.Iso2022JpEncoder.{state_in, Asks}}
+use Rattle.{legacy_base.specs.declared.modes.EncoderMode.{EncoderMode, TheVariants.{Ascii, TwoByte}}, legacy_japanese.specs.Iso2022JpEncoder.{state_in, Asks, HasNoPair}}
 use Rattle.legacy_base.specs.declared.results.EncodeEvent.TheVariants as events
 
 module _ (jis0208 katakana_index : List ℕ) where
@@ -101,6 +102,27 @@ module _ (flat : FlatIndexes) where
   puts_ascii c mode low free here old bytes at is = rw here (puts (asks_ascii c low free) refl refl refl is refl)
 
   pub ruleset put_steps = (fits, puts, puts_ascii)
+
+  -- a scalar with a lead and a trail
+  pub asks_pair : (c lead trail : ℕ) (mode : EncoderMode) → iso_2022_jp_code flat.jis0208 flat.katakana c ≡ Some (lead ∷ trail ∷ [])
+      → Asks flat mode c TwoByte (Two lead trail)
+  unfolding mode_after_text
+  asks_pair c lead trail mode e = record { mode_is = rw e refl; code_is = e }
+
+  absent_pair : (o : Option ℕ) → ((lead trail : ℕ) → option_map iso_2022_jp_pair o ≡ Some (lead ∷ trail ∷ []) → lead + trail ≡ 0) → o ≡ None
+  absent_pair None n = refl
+  absent_pair (Some p) n = let few = n _ _ refl in absurd (omega (arith, few))
+
+  -- a scalar past ASCII without a lead and a trail, other than the two of Roman mode, has no code
+  no_code : (c : ℕ) → HasNoPair flat c → 0x80 ≤ c → c ≢ 0xA5 → c ≢ 0x203E → iso_2022_jp_code flat.jis0208 flat.katakana c ≡ None
+  unfolding iso_2022_jp_code
+  no_code c none past yen line = grind (arith, nat_tests, none, absent_pair (iso_2022_jp_pointer_of flat.jis0208 flat.katakana c))
+
+  pub asks_unmappable : (c : ℕ) (mode settled : EncoderMode) → HasNoPair flat c → 0x80 ≤ c → c ≢ 0xA5 → c ≢ 0x203E → settled ≡ roman_or_ascii mode
+      → Asks flat mode c settled (Unmappable c)
+  asks_unmappable c mode settled none past yen line is =
+      let no = no_code c none past yen line in
+      record { mode_is = grind (arith, nat_tests, mode_for-by, no); code_is = (no, grind (arith, nat_tests)) }
 
   -- a pair that is in the list
   module _ (c both : ℕ) (is : IsNoSurrogate c × (iso_2022_jp_code flat.jis0208 flat.katakana c ≡ Some (two_bytes both))) where

@@ -8,3 +8,4 @@ pub mod Iso2022JpAhead
 pub mod Iso2022JpEncoderMoves
 pub mod ShiftJisPlaces
 pub mod PointerWalks
+pub mod FoldedPointers

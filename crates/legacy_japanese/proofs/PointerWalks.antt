@@ -1,6 +1,6 @@
 -- A walk over the pointers of index jis0208 lists the codes of the scalars that have the code of their pointer. The other
 -- scalars are looked up one by one.
-use Rattle.std.proofs.{Common.{◌∙◌, ◌≡◌, ℕ, ◌+◌, ◌/◌, ◌<◌, List, length, slice_index, arith, option_map}, lemmas.Bool.Decides.nat_tests}
+use Rattle.std.proofs.{Common.{◌∙◌, ◌≡◌, ℕ, ◌+◌, ◌/◌, ◌<◌, ◌≤◌, List, length, slice_index, arith, option_map}, lemmas.Bool.Decides.nat_tests}
 use Rattle.legacy_tables.specs.{Indexes.FlatIndexes, TableChecks.AreAccepted, Walks.IsFilled, Pointers.{euc_jp_pointer_of, shift_jis_pointer_of}}
 use Rattle.legacy_tables.{specs.declared.tables.packed.PackedPart.{TheVariants.{EucJpOrder, ShiftJisOrder}, PackedPart}, proofs.Accepted.jis0208-scalars}
 use Rattle.legacy_tables.proofs.PointerBounds.{euc-jp-bound, shift-jis-bound}
@@ -8,7 +8,7 @@ use Rattle.legacy_base.specs.{EucJp.{euc_jp_code, euc_jp_bytes}, ShiftJis.{shift
 use Rattle.legacy_base.specs.Encoders.{Codec, euc_jp, shift_jis, iso_2022_jp}
 use Rattle.legacy_encoder_engine.{proofs.{WalkedPairs.{GoesByPointers, by-pairs, halves, walked-right}, CachedPairs.all-right}, specs.CachedPairs.AreAllPairsOf}
 use Rattle.legacy_encoder_engine.specs.CachedPairs.{IsRightEntry}
-use Rattle.legacy_japanese.specs.{Iso2022JpEncoder.{IsListedEntry, iso_2022_jp_mark, iso_2022_jp_mark-some}, ByPointer.GoesByPointer, EucJpCodes.euc_jp_mark}
+use Rattle.legacy_japanese.specs.{Iso2022JpEncoder.{IsWholeEntry, iso_2022_jp_mark, iso_2022_jp_mark-some}, ByPointer.GoesByPointer, EucJpCodes.euc_jp_mark}
 use Rattle.legacy_japanese.specs.{EucJpCodes.euc_jp_mark-some, ShiftJisCodes.{shift_jis_mark, shift_jis_mark-some}}
 
 -- a list that was filled by pointers has all pairs after the other scalars were looked up
@@ -45,7 +45,8 @@ module _ (flat : FlatIndexes) (accepted : AreAccepted flat) where
 
   -- so the list is right for the scalars of the walk
   pub walked-listed : (pairs : List ℕ) → length pairs ≡ 65536 → IsFilled EucJpOrder iso_2022_jp_mark flat.jis0208 pairs
-      → (c : ℕ) → c < 65536 → GoesByPointer c → IsListedEntry flat c (slice_index pairs c)
-  walked-listed pairs all filled c h d = λ n.
-      let told = (walked-right _ _ _ _ _ iso-2022-jp-by-pointers pairs all filled c h d).told n in
-      (told.0, told.1.past (grind (arith, d.ascii)))
+      → (c : ℕ) → c < 65536 → GoesByPointer c → IsWholeEntry flat c (slice_index pairs c)
+  walked-listed pairs all filled c h d =
+      let right = walked-right _ _ _ _ _ iso-2022-jp-by-pointers pairs all filled c h d in
+      let past : 0x80 ≤ c = grind (arith, d.ascii) in
+      record { told = λ n. let told = right.told n in (told.0, told.1.past past); whole = λ scalar empty. right.whole scalar past empty }

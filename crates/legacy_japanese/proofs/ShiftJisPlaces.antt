@@ -35,6 +35,15 @@ module _ (tables : AcceptedIndexes) where
   pair_form lead trail c byte byte' scalar e =
       let below = jis0208-below tables.flat tables.accepted in grind (arith, nat_tests, pair shift_jis_codec tables lead trail c, idx_below tables.flat.jis0208)
 
+  pub pair_read : (lead trail c : ℕ) → lead < 2 ^ 8 → trail < 2 ^ 8 → IsScalar c
+      → c ∷ [] ≡ cond (is_shift_jis_lead lead) (shift_jis_pair_scalars tables.flat.jis0208 lead trail) []
+      → Yields (shift_jis tables.flat.jis0208) (lead ∷ trail ∷ []) (c ∷ [])
+  pair_read lead trail c byte byte' scalar e = (pair_form lead trail c byte byte' scalar e).1
+
+  -- the byte that is its own scalar past ASCII
+  pub own_read : (b : ℕ) → b ≡ 0x80 → Yields (shift_jis tables.flat.jis0208) (b ∷ []) (0x80 ∷ [])
+  own_read b e = rw e (single_yields (shift_jis_codec.shown tables.flat tables.accepted) 0x80 0x80 (omega arith) (grind (arith, nat_tests)) refl refl)
+
   -- half-width katakana
   pub katakana_form : (b c : ℕ) → 0xA1 ≤ b → b ≤ 0xDF → c ≡ katakana_of b → (c < 0x1_0000) × Yields (shift_jis tables.flat.jis0208) (b ∷ []) (c ∷ [])
   katakana_form b c low high e =

@@ -1,9 +1,9 @@
 -- The state of the ISO-2022-JP encoder between two calls, and its moves.
 use Rattle.std.proofs.Common.{◌≡◌, ◌≢◌, ℕ, ◌+◌, ◌*◌, ◌/◌, ◌%◌, [], ◌∷◌, Some, arith}
-use Rattle.{legacy_tables.specs.Indexes.FlatIndexes, legacy_text.specs.UnitCodes.IsNoSurrogate}
+use Rattle.{std.specs.Char.IsScalar, legacy_tables.specs.Indexes.FlatIndexes, legacy_text.specs.UnitCodes.IsNoSurrogate}
 use Rattle.legacy_base.specs.Iso2022Jp.{iso_2022_jp_code, iso_2022_jp_reported, mode_after_text}
 use Rattle.legacy_base.specs.{declared.modes.EncoderMode.EncoderMode, Encoders.{EncoderState, iso_2022_jp}}
-use Rattle.legacy_encoder_engine.specs.{Moves.IsCode, WrittenUnits.two_bytes, declared.moves.EncoderMove.EncoderMove}
+use Rattle.legacy_encoder_engine.specs.{Moves.IsCode, CachedPairs.IsNoPair, WrittenUnits.two_bytes, declared.moves.EncoderMove.EncoderMove}
 
 -- the codec with these indexes, in a mode
 abbrev pub state_in : FlatIndexes → EncoderMode → EncoderState
@@ -21,6 +21,15 @@ pub record Asks (flat : FlatIndexes) (mode : EncoderMode) (c : ℕ) (new : Encod
 -- the entry is the pair of the scalar c, or 0
 abbrev pub IsListedEntry : FlatIndexes → ℕ → ℕ → Type 0
 IsListedEntry flat c entry = entry ≢ 0 → IsNoSurrogate c × (iso_2022_jp_code flat.jis0208 flat.katakana c ≡ Some (two_bytes entry))
+
+-- the code of the scalar c is not a lead and a trail
+abbrev pub HasNoPair : FlatIndexes → ℕ → Type 0
+HasNoPair flat c = IsNoPair (iso_2022_jp flat.jis0208 flat.katakana) c
+
+-- the entry is the pair of the scalar c, or 0 if it has none
+pub record IsWholeEntry (flat : FlatIndexes) (c entry : ℕ) : Type 0 where
+  pub told : IsListedEntry flat c entry
+  pub whole : IsScalar c → entry ≡ 0 → HasNoPair flat c
 
 -- the entry of a pointer
 abbrev pub iso_2022_jp_mark : ℕ → ℕ

@@ -2,7 +2,7 @@
 use Rattle.std.proofs.Common.{◌≡◌, ℕ, ◌+◌, ◌-◌, ◌/◌, ◌%◌, ◌≤◌, [], ◌∷◌, cond, if◌then◌else◌, length, get_or, option_to_list, refl, arith}
 use Rattle.{std.{proofs.lemmas.Bool.Decides.nat_tests, specs.{Char.IsScalar, Int.is_in_range}}, legacy_tables.specs.declared.tables.IndexName.TheVariants.EucKr}
 use Rattle.legacy_tables.{specs.{AcceptedTables.AcceptedIndexes, Indexes.idx, Unicode.IsByte}, proofs.Accepted.{narrow_index, index-scalars}}
-use Rattle.{legacy_base.specs.{EucKr.{euc_kr, euc_kr_pointer}, LeadForms.pair_scalars, Profile.is_lead}, legacy_decoder_engine.specs.ReadAhead.IsPair}
+use Rattle.{legacy_base.specs.{EucKr.{euc_kr, euc_kr_pointer}, LeadForms.pair_scalars, Profile.is_lead}, legacy_decoder_engine.specs.ReadAhead.{IsPair, Yields}}
 use Rattle.legacy_decoder_engine.specs.{StepUnits.IsNarrowIndex, LaneCodes.ArePairs, LanePlaces.row_place, Places.{Tabulates, lead_place}}
 use Rattle.legacy_decoder_engine.proofs.{LanePlaces.entry_is, LeadHeld.pair, PairPlaces.none_past, Widths.idx_below}
 use Rattle.legacy_korean.specs.{EucKrShown.euc_kr_codec, declared.euc_kr.places.TheConstants.TRAILS}
@@ -30,6 +30,11 @@ module _ (tables : AcceptedIndexes) where
   pub pair_form : (lead trail c : ℕ) → IsByte lead → IsByte trail → IsScalar c
       → c ∷ [] ≡ cond (is_lead lead) (pair_scalars euc_kr_pointer tables.flat.euc_kr lead trail) [] → IsPair (euc_kr tables.flat.euc_kr) lead trail c
   pair_form lead trail c byte byte' scalar e = grind (arith, pair euc_kr_codec tables lead trail c, idx_below tables.flat.euc_kr, narrow.0)
+
+  pub pair_read : (lead trail c : ℕ) → IsByte lead → IsByte trail → IsScalar c
+      → c ∷ [] ≡ cond (is_lead lead) (pair_scalars euc_kr_pointer tables.flat.euc_kr lead trail) []
+      → Yields (euc_kr tables.flat.euc_kr) (lead ∷ trail ∷ []) (c ∷ [])
+  pair_read lead trail c byte byte' scalar e = (pair_form lead trail c byte byte' scalar e).1
 
   pub euc_kr_pairs : ArePairs (euc_kr tables.flat.euc_kr) tables.flat.euc_kr (row_place 0x81 0x7D 190 0x41)
   euc_kr_pairs code small past within high some =

@@ -6,9 +6,13 @@ use Rattle.std.specs.{Prelude.IsAscii, Char.IsScalar}
 use Rattle.legacy_text.{specs.EncodingForm.{bmp_need, code_units, all_code_units, total_unit_count}, proofs.Ascii.ascii_front}
 use Rattle.legacy_text.specs.declared.destination.Destination.{Ghosts}
 use Rattle.{legacy_tables.specs.Unicode.IsByte, legacy_base.specs.{Grammar.utf16, Utf16.unit_of, States.new_state}}
-use Rattle.legacy_decoder_engine.{specs.ReadAhead.{Yields, IsPair, Writes, ReadsAhead}, proofs.{YieldedForms.pair_yields, JoinedReads.reads_written}}
+use Rattle.legacy_decoder_engine.{specs.ReadAhead.{Yields, IsPair, Writes, ReadsAhead}, proofs.YieldedForms.{pair_yields, four_yields}}
+use Rattle.legacy_decoder_engine.proofs.JoinedReads.{reads_written}
 use Rattle.legacy_decoder_engine.proofs.WrittenReads.{yields_none, yields_more, take_two, writes_two, writes_next, all_code_units_ascii, all_short}
-use Rattle.legacy_decoder_engine.proofs.WrittenReads.{one_unit, writes_none}
+use Rattle.legacy_decoder_engine.proofs.WrittenReads.{one_unit, writes_none, writes_four, four_fit, short}
+use Rattle.std.proofs.Common.{[], ◌∷◌, ◌∙◌, true, replicate}
+use Rattle.std.proofs.{lemmas.List.Elements.{All-append, All-replicate, All-from_get_or}}
+use Rattle.std.specs.{Prelude.All, Char.Utf16.{is_high_surrogate, is_low_surrogate, surrogate_pair_char}}
 use Rattle.legacy_miscellaneous.{specs.Utf16Decoder.{HasAsciiUnits, AreUnitsBelow, unit_at}, proofs.Utf16Held.{unit_below, utf16_shown}}
 use Rattle.legacy_miscellaneous.proofs.UserDefinedAhead.{rest_bytes}
 
@@ -18,6 +22,40 @@ unit_pair be a b c byte byte' is scalar = (
   rw is (unit_below be a b byte byte'),
   pair_yields (utf16_shown be) a b c byte byte' scalar refl refl refl refl refl (rw (← is) (grind (arith, nat_tests))),
 )
+
+surrogate_pair_scalar : (u v : ℕ) → is_high_surrogate u ≡ true → is_low_surrogate v ≡ true → IsScalar (surrogate_pair_char u v)
+surrogate_pair_scalar u v high low = grind (arith, nat_tests)
+
+-- a high and a low surrogate yield their scalar
+pair_of_units : (be : Bool) (a b c d : ℕ) → IsByte a → IsByte b → IsByte c → IsByte d → is_high_surrogate (unit_of be a b) ≡ true
+    → is_low_surrogate (unit_of be c d) ≡ true → Yields (utf16 be) (a ∷ b ∷ c ∷ d ∷ []) (surrogate_pair_char (unit_of be a b) (unit_of be c d) ∷ [])
+pair_of_units be a b c d byte_a byte_b byte_c byte_d high low =
+    four_yields (utf16_shown be) a b c d _ byte_a byte_b byte_c byte_d (surrogate_pair_scalar (unit_of be a b) (unit_of be c d) high low)
+    refl (grind arith) (grind arith)
+    refl (grind arith) (grind arith) (λ held byte. refl) refl (rw high refl) refl (rw low refl)
+
+-- a pair at the front was written
+pub reads_pair : {D : Type 0} (T : Ghosts D) (be : Bool) (source : List ℕ) (c : ℕ) (old new : D) → ((k : ℕ) → IsByte (get_or source k 0)) → 4 ≤ length source
+    → is_high_surrogate (unit_at be source 0) ≡ true → is_low_surrogate (unit_at be source 1) ≡ true
+    → c ≡ surrogate_pair_char (unit_at be source 0) (unit_at be source 1) → 7 ≤ T.room old
+    → T.contents new ≡ T.contents old ++ code_units T.form c → T.room new + length (code_units T.form c) ≡ T.room old → T.loan new ≡ T.loan old →
+    ReadsAhead T (new_state (utf16 be)) source 4 old new
+reads_pair T be source c old new bytes long high low is enough contents room loan =
+    let yields = rw (← is) at (pair_of_units be _ _ _ _ (bytes 0) (bytes 1) (bytes 2) (bytes 3) high low) in
+    let few = four_fit T.form c 4 (omega arith) in
+    reads_written long (writes_four T source 0 c (omega arith) (writes_none T (utf16 be) old) yields contents room loan) (omega (arith, few, room, enough))
+    (omega (arith, enough))
+
+-- a unit at the front was written
+pub reads_unit : {D : Type 0} (T : Ghosts D) (be : Bool) (source : List ℕ) (c : ℕ) (old new : D) → ((k : ℕ) → IsByte (get_or source k 0)) → 2 ≤ length source
+    → IsScalar c → c ≡ unit_at be source 0 → 7 ≤ T.room old
+    → T.contents new ≡ T.contents old ++ code_units T.form c → T.room new + length (code_units T.form c) ≡ T.room old → T.loan new ≡ T.loan old →
+    ReadsAhead T (new_state (utf16 be)) source 2 old new
+reads_unit T be source c old new bytes long scalar is enough contents room loan =
+    let yields = unit_pair be _ _ c (bytes 0) (bytes 1) is scalar in
+    let few = four_fit T.form c 4 (omega arith) in
+    reads_written long (writes_two T source 0 c (omega arith) (writes_none T (utf16 be) old) yields.1 contents room loan) (omega (arith, few, room, enough))
+    (omega (arith, enough))
 
 -- ---- units of a vector, none of them a surrogate
 
@@ -143,3 +181,54 @@ module _ {D : Type 0} {T : Ghosts D} {be : Bool} {source : List ℕ} {at : ℕ} 
       room = omega (arith, one_only, before.room, room);
       writes = writes_unit T be source at c bytes (omega (arith, below, long)) before.writes (rw is at scalar) is contents room loan;
     }
+
+-- ---- the units before a surrogate
+
+-- The first units are written, each as at most three code units.
+pub record FewWritten {D : Type 0} (T : Ghosts D) (be : Bool) (source : List ℕ) (count at : ℕ) (old new : D) : Type 0 where
+  pub within : at ≤ count
+  pub room : T.room old ≤ T.room new + 3 * at
+  pub writes : Writes T (utf16 be) (take (2 * at) source) old new
+
+module _ {D : Type 0} {T : Ghosts D} {be : Bool} {source : List ℕ} {count at : ℕ} {old mid : D} (before : FewWritten T be source count at old mid)
+    (long : 16 ≤ length source) (few : count ≤ 8) (enough : 39 ≤ T.room old) (below : at < count) (bytes : (k : ℕ) → IsByte (get_or source k 0)) (c : ℕ)
+    (is : c ≡ unit_at be source at) where
+  three_only : length (code_units T.form c) ≤ 3
+  three_only = short T.form c (rw is (unit_below be _ _ (bytes (2 * at)) (bytes (2 * at + 1))))
+
+  pub few_fit : length (code_units T.form c) ≤ T.room mid
+  few_fit = omega (arith, three_only, before.room, enough, below, few)
+
+  pub few_more : {new : D} → IsScalar c → T.contents new ≡ T.contents mid ++ code_units T.form c → T.room new + length (code_units T.form c) ≡ T.room mid
+      → T.loan new ≡ T.loan mid → FewWritten T be source count (at + 1) old new
+  few_more scalar contents room loan = record {
+    within = omega (arith, below);
+    room = omega (arith, three_only, before.room, room);
+    writes = writes_unit T be source at c bytes (omega (arith, below, long, few)) before.writes (rw is at scalar) is contents room loan;
+  }
+
+-- the first units of a vector, and zeros
+pub first_scalars : (us : List ℕ) (count : ℕ) → length us ≡ 8 → count ≤ 8 → ((k : ℕ) → k < count → IsScalar (get_or us k 0))
+    → All IsScalar (take count us ++ replicate (8 - count) 0)
+first_scalars us count long few are =
+    let length_is = length-take-le count us (omega arith) in
+    All-append IsScalar (take count us) (replicate (8 - count) 0)
+    (All-from_get_or IsScalar (take count us) 0 (λ k h. rw (get_or-take count us k 0 (omega arith)) (are k (omega arith))))
+    (All-replicate IsScalar (8 - count) 0 (search rules))
+
+-- the first units of a vector were written
+pub reads_first_units : {D : Type 0} (T : Ghosts D) (be : Bool) (source us : List ℕ) (count : ℕ) (old new : D) → ((k : ℕ) → IsByte (get_or source k 0))
+    → 16 ≤ length source → length us ≡ 8 → count ≤ 8 → ((k : ℕ) → k < 8 → get_or us k 0 ≡ unit_at be source k)
+    → ((k : ℕ) → k < count → IsScalar (unit_at be source k)) → 39 ≤ T.room old → T.contents new ≡ T.contents old ++ all_code_units T.form (take count us)
+    → T.room new + total_unit_count T.form (take count us) ≡ T.room old → T.loan new ≡ T.loan old →
+    (T.room old ≤ T.room new + 24) × ReadsAhead T (new_state (utf16 be)) source (2 * count) old new
+reads_first_units T be source us count old new bytes within long few same scalars enough contents room loan =
+    let length_is = length-take-le count us (omega arith) in
+    let are = λ (k : ℕ) (h : k < count). get_or-take count us k 0 h ∙ same k (omega (arith, h, few)) in
+    let small = all_short T.form (take count us) (λ k h. rw (are k (omega (arith, h, length_is))) (unit_below be _ _ (bytes (2 * k)) (bytes (2 * k + 1)))) in
+    let all : (k : ℕ) → k < count → (get_or (take count us) k 0 ≡ unit_at be source k) × IsScalar (get_or (take count us) k 0) =
+    λ k h. (are k h, rw (are k h) (scalars k h)) in (
+      omega (arith, small, length_is, few, room),
+      reads_written (omega arith) (writes_units T be source (take count us) count bytes (omega arith) length_is all contents room loan)
+          (omega (arith, small, length_is, few, room, enough)) (omega (arith, enough)),
+    )

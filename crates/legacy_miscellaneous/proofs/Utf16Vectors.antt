@@ -3,7 +3,9 @@ use Rattle.std.proofs.Common.{◌≡◌, ◌∙◌, ℕ, ◌+◌, ◌-◌, ◌*�
 use Rattle.std.proofs.{Common.{◌^◌, cond, ltb, ◌∷◌}, lemmas.{Bool.Decides.nat_tests, List.FromFn.{get_or-map-range_with_len, length-map-range_with_len}}}
 use Rattle.std.{proofs.lemmas.List.{get_or-take, get_or_append_left, length-take-le}, specs.{List.range_with_len, Simd.Lanes.{number_l, digits_l}}}
 use Rattle.{legacy_tables.specs.Unicode.IsByte, legacy_text.proofs.ScalarTurns.lane, legacy_miscellaneous.specs.Utf16Decoder.{unit_at, AreBelow}}
-use lib.Lanes.{zip2, sel_l, top}
+use Rattle.std.proofs.{Common.{ap, replicate, w16, Fits}, lemmas.{List.{length-map, get_or-map}, Simd.{zip2_splat, bitmask_splat, bit_mask_l, Each1-get_or}}}
+use Rattle.std.specs.{Char.IsScalar, Int.bit_at}
+use lib.Lanes.{Each1, zip2, sel_l, top, mask_l}
 
 -- units in little-endian order
 pub little : (n : ℕ) (be : Bool) (src : List ℕ) → be ≡ false → 2 * n ≤ length src → ((i : ℕ) → IsByte (get_or src i 0)) → (k : ℕ) → k < n
@@ -41,3 +43,20 @@ both_below n (x ∷ xs) (y ∷ ys) long below =
     let tail = both_below n xs ys (omega arith) (λ k h. below (suc k) (omega arith)) in
     grind (arith, nat_tests, below zero, tail)
 both_below n xs ys long below = grind arith
+
+-- ---- surrogates
+
+-- the distances from D800, which wrap
+abbrev distances : List ℕ → List ℕ
+distances us = zip2 (λ a b. (a + (2 ^ 16 - b)) % 2 ^ 16) us (replicate 8 55296)
+
+-- a lane without the bit is no surrogate
+pub scalar_lane : (us : List ℕ) → length us ≡ 8 → Each1 (Fits w16) us → (k : ℕ) → k < 8
+    → bit_at (mask_l (map (top 15) (zip2 (λ a b. cond (ltb a b) (2 ^ 16 - 1) 0) (distances us) (replicate 8 2048))) % 2 ^ 64) k ≡ 0 → IsScalar (get_or us k 0)
+scalar_lane us long fits k h unset =
+    let moved : distances us ≡ map (λ u. (u + 10240) % 65536) us = zip2_splat (λ a b. (a + (2 ^ 16 - b)) % 2 ^ 16) us 8 55296 long in
+    let same = ap length moved ∙ length-map us (λ u. (u + 10240) % 65536) ∙ long in
+    let bit = rw (bitmask_splat w16 ltb (distances us) 8 2048 same (omega arith)) at unset in
+    let none : ltb (get_or (distances us) k 0) 2048 ≡ false = grind (arith, nat_tests, bit_mask_l (map (λ d. ltb d 2048) (distances us)) k, get_or-map, bit) in
+    let fit = (Each1-get_or (Fits w16) us k 0 (omega arith) fits).fits in
+    grind (arith, nat_tests, rw moved at none, get_or-map, fit)

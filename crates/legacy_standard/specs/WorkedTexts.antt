@@ -77,6 +77,14 @@ pub record PartWithoutPointers : Type 0 where
   pub overline : Differs (iso_2022_jp_encodes (0x203E ∷ []) (0x203E ∷ [])) ascii (codecs.iso_2022_jp (0x203E ∷ []) (0x203E ∷ [])) 0xFF61
       (Byte 0x1B ∷ Byte 0x24 ∷ Byte 0x42 ∷ Byte 0x1B ∷ Byte 0x28 ∷ Byte 0x4A ∷ Byte 0x7E ∷ Byte 0x1B ∷ Byte 0x28 ∷ Byte 0x42 ∷ [])
       (Byte 0x1B ∷ Byte 0x24 ∷ Byte 0x42 ∷ Byte 0x21 ∷ Byte 0x21 ∷ Byte 0x1B ∷ Byte 0x28 ∷ Byte 0x42 ∷ [])
+  -- an entry that is the minus sign, with a pointer: the handler restores it, and then writes it as U+FF0D
+  pub minus : Differs (iso_2022_jp_encodes (0x2212 ∷ 0xFF0D ∷ []) (0x2212 ∷ [])) ascii (codecs.iso_2022_jp (0x2212 ∷ 0xFF0D ∷ []) (0x2212 ∷ [])) 0xFF61
+      (Byte 0x1B ∷ Byte 0x24 ∷ Byte 0x42 ∷ Byte 0x21 ∷ Byte 0x22 ∷ Byte 0x1B ∷ Byte 0x28 ∷ Byte 0x42 ∷ [])
+      (Byte 0x1B ∷ Byte 0x24 ∷ Byte 0x42 ∷ Byte 0x21 ∷ Byte 0x21 ∷ Byte 0x1B ∷ Byte 0x28 ∷ Byte 0x42 ∷ [])
+  -- an entry that is a half-width katakana, with a pointer: the handler restores it, and it has no entry of its own
+  pub half_width : Differs (iso_2022_jp_encodes (0xFF62 ∷ []) (0xFF62 ∷ [])) ascii (codecs.iso_2022_jp (0xFF62 ∷ []) (0xFF62 ∷ [])) 0xFF61
+      (Byte 0x1B ∷ Byte 0x24 ∷ Byte 0x42 ∷ Byte 0x1B ∷ Byte 0x28 ∷ Byte 0x42 ∷ Unmappable 0xFF62 ∷ [])
+      (Byte 0x1B ∷ Byte 0x24 ∷ Byte 0x42 ∷ Byte 0x21 ∷ Byte 0x21 ∷ Byte 0x1B ∷ Byte 0x28 ∷ Byte 0x42 ∷ [])
   -- a scalar whose only pointer is after the 94 rows: the handler's bytes decode to an error
   pub row : Differs (by_scalar (euc_jp_encodes (entry_at 8836 0x4E00))) tt (codecs.euc_jp (entry_at 8836 0x4E00) []) 0x4E00
       (Byte 0xFF ∷ Byte 0xA1 ∷ []) (Unmappable 0x4E00 ∷ [])

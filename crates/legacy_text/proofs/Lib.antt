@@ -2,6 +2,7 @@
 pub mod CodeUnits
 pub mod ShortScalars
 pub mod Ascii
+pub mod AsciiTail
 pub mod PastAscii
 pub mod Texts
 pub mod ScalarTurns

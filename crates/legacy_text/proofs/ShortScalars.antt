@@ -1,9 +1,9 @@
 -- Scalars that were written as one byte each, also by blocks, and the scalars of one and two bytes of UTF-8.
 use Rattle.std.proofs.Common.{◌≡◌, ℕ, ◌+◌, ◌-◌, ◌*◌, ◌≤◌, ◌<◌, List, [], ◌∷◌, ◌++◌, length, get_or, true, drop, sym, ap, arith, append_assoc, append-nil}
 use Rattle.std.proofs.{Common.{length-append, length-drop, take, IsAscii}, lemmas.{Bool.Decides.nat_tests, Grind.common_steps, List.get_or_append_left}}
-use Rattle.std.proofs.lemmas.{List.{get_or-append-add, get_or-drop, drop-drop, length-take-le, get_or-take, take_all}, Str.{encodes-chars, IsUtf8-from_is_utf8}}
+use Rattle.std.proofs.lemmas.{List.{get_or-append-add, get_or-drop, drop-drop, length-take-le, get_or-take, take-take, take_all}, Str.{encodes-chars, IsUtf8-from_is_utf8}}
 use lib.Utf8.{encodes}
-use Rattle.{std.{proofs.{lemmas.Option.slice_get-get_or, Math.Seq.take-add}, specs.Str.{chars, is_utf8}}, legacy_text.specs.EncodingForm.{Utf8, unit_count}}
+use Rattle.{std.{proofs.{lemmas.Option.slice_get-get_or, Math.Seq.{take-add, take-append-add}}, specs.Str.{chars, is_utf8}}, legacy_text.specs.EncodingForm.{Utf8, unit_count}}
 use Rattle.legacy_text.specs.{ShortScalars.{ReadsScalar, WritesScalars}, UnitCodes.{WritesCodes, IsNoSurrogate}}
 use Rattle.legacy_text.{specs.NextScalars.StandsAt, proofs.{CodeUnits.total_unit_count-append, Texts.{utf8_next, utf8_stands, by_first}}}
 
@@ -28,6 +28,16 @@ block_after {gives} {units} {copied} {r} block marks within few long codes ascii
   where
     past : (k : ℕ) → k < copied + r → copied ≤ k → IsNoSurrogate (get_or units k 0) × gives (get_or units k 0) (get_or block (k - copied) 0)
     past k h l = grind (arith, nat_tests, codes (k - copied), ascii (k - copied), get_or-take, take_all, length-drop, get_or-drop)
+
+-- the bytes of the first of several code units
+pub codes_before : {gives : ℕ → ℕ → Type 0} {units front : List ℕ} (out : List ℕ) (at m n : ℕ) → m ≤ n → length front ≡ at
+    → WritesCodes gives units n front (take (at + n) out) → WritesCodes gives units m front (take (at + m) out)
+codes_before {gives} {units} {front} out at m n le long writes = record {
+  bytes = take m writes.bytes;
+  new_is = grind (arith, writes.new_is, take-take (at + m) (at + n) out, take-append-add front writes.bytes m);
+  count = grind (arith, length-take-le, writes.count);
+  each = λ k h. grind (arith, writes.each k, get_or-take m writes.bytes k 0);
+}
 
 -- one scalar
 pub scalars_one : {gives : ℕ → ℕ → Type 0} {text : List ℕ} {place scalar past : ℕ} (byte : ℕ) {old new : List ℕ} → ReadsScalar text place scalar past

@@ -5,7 +5,7 @@ ghost use Rattle.legacy_text.specs.EncodingForm.{EncodingForm, Utf8, Utf16, code
 ghost use Rattle.legacy_text.specs.ByteUnits.{AreByteScalars, HaveScalars, scalars_of};
 ghost use Rattle.legacy_text.specs.UnitBytes.{AreShort, IsUtf8Entry};
 
-use crate::blocks::{ascii_count, copy_blocks, store_wide, wide_ascii_count};
+use crate::blocks::{copy_short_blocks, store_wide, wide_ascii_count, widen_short_blocks};
 use crate::byte_units::{store_bytes, store_scalars};
 use crate::eight_units::{first_units, put_eight_units, put_short_units};
 use crate::scalar_bytes::{put_byte, put_scalar, store_four};
@@ -105,7 +105,7 @@ pub trait Destination {
 
     /// Writes any number of ASCII bytes from the front of the slice, and returns the number.
     ///
-    /// It writes whole blocks, and then a part of one. As provided it writes none.
+    /// It writes blocks, of which the last may reach back and a part may be written. As provided it writes none.
     fn copy_ascii(&mut self, bytes: &[u8]) -> usize
         ensures read { result ≤ length bytes.now }
         ensures ascii { IsAscii (take result bytes.now) }
@@ -325,7 +325,7 @@ impl Destination for Utf8Destination<'_> {
 
     #[inline]
     fn copy_ascii(&mut self, bytes: &[u8]) -> usize {
-        let (count, _) = copy_blocks(bytes, self.buffer, self.filled, 16);
+        let count = copy_short_blocks(bytes, self.buffer, self.filled);
         self.filled += count;
         count
     }
@@ -408,24 +408,6 @@ impl<'a> Utf16Destination<'a> {
         self.buffer[at] = unit;
         self.filled = at + 1;
     }
-
-    /// Stores a block after what was written, keeps its ASCII front, and returns its length.
-    // It is always inlined, as `ascii_count` is.
-    #[inline(always)]
-    fn put_ascii_front(&mut self, block: u8x16) -> usize
-        requires { 16 ≤ utf16_free self.old }
-        ensures count { result ≤ 16 }
-        ensures ascii { IsAscii (take result block) }
-        ensures written { utf16_written self.new ≡ utf16_written self.old ++ take result block }
-        ensures free { utf16_free self.new + result ≡ utf16_free self.old }
-        ensures loan { utf16_loan self.new ≡ utf16_loan self.old }
-    {
-        let at = self.filled;
-        block.cast::<u16>().copy_to_slice(&mut self.buffer[at..]);
-        let count = ascii_count(block);
-        self.filled = at + count;
-        count
-    }
 }
 
 impl Destination for Utf16Destination<'_> {
@@ -486,17 +468,10 @@ impl Destination for Utf16Destination<'_> {
     }
 
     #[inline]
-    #[tactic(auto, using(crate::proofs::Ascii::ascii_next, crate::proofs::Ascii::written_next))]
     fn copy_ascii(&mut self, bytes: &[u8]) -> usize {
-        let mut at = 0;
-        while bytes.len() - at >= 16 && self.buffer.len() - self.filled >= 16 {
-            let count = self.put_ascii_front(u8x16::from_slice(&bytes[at..]));
-            at += count;
-            if count < 16 {
-                return at;
-            }
-        }
-        at
+        let count = widen_short_blocks(bytes, self.buffer, self.filled);
+        self.filled += count;
+        count
     }
 
     #[inline(always)]

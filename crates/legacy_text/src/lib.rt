@@ -3,6 +3,7 @@
 //! A source is UTF-8 or UTF-16, and is read one scalar at a time or by blocks.
 #![tactic(auto)]
 
+mod ascii_tail;
 mod blocks;
 mod byte_units;
 mod destination;

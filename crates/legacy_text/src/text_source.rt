@@ -361,7 +361,7 @@ impl TextCursor for Utf16Source<'_> {
     #[inline(always)]
     fn is_in_ascii(&self) -> bool {
         let units = self.units;
-        units.len() - self.place >= 2 && (units[self.place] | units[self.place + 1]) < 0x80
+        units.len() - self.place >= 8 && (units[self.place] | units[self.place + 1]) < 0x80
     }
 
     #[inline(always)]

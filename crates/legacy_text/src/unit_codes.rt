@@ -43,9 +43,40 @@ fn code_block<C: UnitCodes>(codes: &C, units: &[u16]) -> ([u8; 16], [u8; 16])
     (bytes, marks)
 }
 
+/// Writes the bytes of code units from the front to the place `at` on, by blocks.
+///
+/// Returns their number, and whether all code units of all blocks have a byte.
+#[inline(always)]
+fn copy_code_blocks<C: UnitCodes>(
+    codes: &C,
+    units: &[u16],
+    dst: &mut [u8],
+    at: usize,
+) -> (usize, bool)
+    requires { at ≤ length dst.old }
+    ensures read { result.0 ≤ length units.now }
+    ensures fits { at + result.0 ≤ length dst.old }
+    ensures bmp { (k : ℕ) → k < result.0 → IsNoSurrogate (slice_index units.now k) }
+    ensures writes { WritesCodes (C.gives codes.now) units.now result.0 (take at dst.old)
+        (take (at + result.0) dst.new) }
+{
+    let most = dst.len() - at;
+    let mut copied = 0;
+    while units.len() - copied >= 16 && most - copied >= 16 {
+        let (bytes, marks) = code_block(codes, &units[copied..]);
+        store(dst, at + copied, u8x16::from_array(bytes));
+        let count = ascii_count(u8x16::from_array(marks));
+        copied += count;
+        if count < 16 {
+            return (copied, false);
+        }
+    }
+    (copied, true)
+}
+
 /// Writes the bytes of code units from the front to the place `at` on, and returns their number.
 ///
-/// It works in blocks, up to the first code unit without a byte.
+/// It works in blocks, up to the first code unit without a byte. The last block may overlap the one before.
 #[inline]
 pub(crate) fn copy_unit_codes<C: UnitCodes>(
     codes: &C,
@@ -60,16 +91,13 @@ pub(crate) fn copy_unit_codes<C: UnitCodes>(
     ensures writes { WritesCodes (C.gives codes.now) units.now result (take at dst.old)
         (take (at + result) dst.new) }
 {
-    let most = dst.len() - at;
-    let mut copied = 0;
-    while units.len() - copied >= 16 && most - copied >= 16 {
-        let (bytes, marks) = code_block(codes, &units[copied..]);
-        store(dst, at + copied, u8x16::from_array(bytes));
-        let count = ascii_count(u8x16::from_array(marks));
-        copied += count;
-        if count < 16 {
-            return copied;
-        }
+    let (copied, are_known) = copy_code_blocks(codes, units, dst, at);
+    let end = units.len().min(dst.len() - at);
+    if !are_known || end < 16 || end == copied {
+        return copied;
     }
-    copied
+    let back = (end - 16).min(copied);
+    let (bytes, marks) = code_block(codes, &units[back..]);
+    store(dst, at + back, u8x16::from_array(bytes));
+    back + ascii_count(u8x16::from_array(marks))
 }

@@ -21,20 +21,26 @@ pub record HoldsEucKr (text : List ℕ) (owned : OwnedIndexes) : Type 0 where
   pub of_file : IsEucKrFile text owned.euc_kr.items
   pub only : owned_lists owned ≡ only_euc_kr owned.euc_kr.items
 
-pub holds_euc_kr : {T : Type 0} {text : List ℕ} {before after : OwnedIndexes} {result : Result T IndexFileError} {table : T} → HoldsTexts no_text before →
-    before.katakana.items ≡ [] → HoldsFile EucKr text before after →
-    ((n : ℕ) → (result ≡ Err (reading.Line n)) ↔ (first_malformed EucKr 1 (lines text) ≡ Some n)) → result ≡ Ok table → HoldsEucKr text after
-holds_euc_kr {text = text} {before = before} {after = after} {result = result} {table = table} none katakana read line ok =
+-- by a file without a malformed line
+pub holds_well_formed : {text : List ℕ} {before after : OwnedIndexes} → HoldsTexts no_text before → before.katakana.items ≡ [] →
+    first_malformed EucKr 1 (lines text) ≡ None → HoldsFile EucKr text before after → HoldsEucKr text after
+holds_well_formed {text = text} {before = before} {after = after} none katakana well_formed read =
     go read.table read.is_table read.place
   where
     go : (table : FileTable) → IsTableOf EucKr (entries_of EucKr (lines text)) table → after ≡ with_table before EucKr table → HoldsEucKr text after
     go (Narrow values) is place =
         rw place
         (record {
-          of_file = record { well_formed = well_formed_ok (Of EucKr) text result line table ok; says = is };
+          of_file = record { well_formed = well_formed; says = is };
           only = grind (arith, empty, none.big5, none.jis0208, none.jis0212, none.gb18030, none.ranges);
         })
     go _ is place = absurd is
+
+pub holds_euc_kr : {T : Type 0} {text : List ℕ} {before after : OwnedIndexes} {result : Result T IndexFileError} {table : T} → HoldsTexts no_text before →
+    before.katakana.items ≡ [] → HoldsFile EucKr text before after →
+    ((n : ℕ) → (result ≡ Err (reading.Line n)) ↔ (first_malformed EucKr 1 (lines text) ≡ Some n)) → result ≡ Ok table → HoldsEucKr text after
+holds_euc_kr {text = text} {result = result} {table = table} none katakana read line ok =
+    holds_well_formed none katakana (well_formed_ok (Of EucKr) text result line table ok) read
 
 -- why the file was not read
 pub euc_kr_fault_of : {T : Type 0} (text input : List ℕ) (result : Result T IndexFileError)

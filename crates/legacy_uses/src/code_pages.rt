@@ -46,12 +46,10 @@ pub fn decode_two(
         × IsFaultBySingleByteFile files.now.windows_1252.now western.now error)) }
 {
     let mut registry = Registry::new(alloc);
-    registry
-        .indexes
-        .read(alloc, FileIndex::EucKr, files.euc_kr)?;
+    registry.read_index(alloc, FileIndex::EucKr, files.euc_kr)?;
     registry.read_single_byte(alloc, Encoding::Windows1252, files.windows_1252)?;
     let coders = registry.coders()?;
     let korean_text = coders.decode(alloc, "EUC-KR", korean)?;
     let western_text = coders.decode(alloc, "windows-1252", western)?;
-    Ok((korean_text, western_text))
+    Ok((korean_text.text, western_text.text))
 }

@@ -6,5 +6,7 @@
 pub mod browser;
 pub mod checker;
 pub mod code_pages;
+pub mod decoded_events;
+pub mod encoded_events;
 pub mod mail;
 pub mod transcoder;

@@ -2,10 +2,10 @@
 ghost use Rattle.std.specs.Prelude.{◌≡◌, MatchResult};
 ghost use Rattle.legacy_encodings.specs.Registries.{IsTranscoded, IsTranscodeError};
 
-use legacy_encodings::{Coders, RegistryError};
+use legacy_encodings::{Coders, TranscodeError, Transcoded};
 use std::alloc::Global;
 
-/// Transcodes a file from the encoding of one name to that of another.
+/// Transcodes a file from the encoding with one label to that with another.
 ///
 /// Each malformed sequence becomes U+FFFD. Each character that the new encoding lacks becomes a numeric
 /// character reference.
@@ -15,12 +15,11 @@ pub fn transcode_file(
     from: &str,
     to: &str,
     file: &[u8],
-) -> Result<Vec<u8>, RegistryError>
+) -> Result<Transcoded, TranscodeError>
     ensures { MatchResult result
-        (λ bytes. IsTranscoded coders.now.tables.flat coders.now.single_bytes.now from.now to.now
-        file.now bytes.items)
-        (λ error. IsTranscodeError coders.now.tables.flat coders.now.single_bytes.now from.now to.now
-        file.now error) }
+        (λ transcoded. IsTranscoded coders.now from.now to.now file.now
+        transcoded.bytes.items transcoded.malformed transcoded.unmappable)
+        (λ error. IsTranscodeError coders.now from.now to.now file.now error) }
 {
     coders.transcode(alloc, from, to, file)
 }

@@ -9,5 +9,6 @@
 
 pub mod beginning;
 pub mod character_list;
+pub mod letters;
 #[cfg(test)]
 mod tests;

@@ -3,6 +3,7 @@ mod callers;
 mod compared;
 mod encode_program;
 mod encodings;
+mod host;
 mod index_file;
 mod own_texts;
 mod owned_indexes;

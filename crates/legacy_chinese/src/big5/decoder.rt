@@ -2,11 +2,11 @@
 ghost use Rattle.std.specs.Prelude.{◌*◌, ℕ, [], ◌∷◌};
 ghost use Rattle.legacy_base.specs.{Big5.big5_scalars, Grammar.big5, States.is_lead};
 ghost use Rattle.legacy_decoder_engine.{specs.{Feeding.Took, LeadMachines.lead_first, Steps.trail_step}, proofs.{LeadHeld.ascii, TwoByteMeets.is_lead-in}};
-ghost use Rattle.legacy_chinese.specs.{Big5Shown.{big5_codec, big5_pair_scalars}, PairPlaces.pair_place};
+ghost use Rattle.legacy_chinese.specs.{Big5Forms.IsMarkedForm, Big5Shown.{big5_codec, big5_pair_scalars}, PairPlaces.pair_place};
 
 use super::places::{ROWS_OF_157, TRAILS};
 use legacy_base::{IndexName, Tables};
-use legacy_decoder_engine::common_forms::CommonForm;
+use legacy_decoder_engine::forms::Form;
 use legacy_decoder_engine::held_lead::Lead;
 use legacy_decoder_engine::lane_codec::LaneCodec;
 use legacy_decoder_engine::lane_places::{lead_places, place_sums, trail_places};
@@ -15,6 +15,7 @@ use legacy_decoder_engine::lead_decoder::{LeadCodec, LeadDecoder};
 use legacy_decoder_engine::moves::{Fed, Need};
 use legacy_decoder_engine::places::pair_pointer;
 use legacy_tables::{DecoderTables, FlatTables};
+use std::cell::Cell;
 use std::simd::prelude::*;
 
 /// The codec of Big5.
@@ -51,6 +52,20 @@ fn read_pointer(tables: &Tables<'_>, pointer: usize, trail: u8) -> Fed
     }
 }
 
+/// Returns the letter and the combining mark of a pointer, or no form.
+#[inline(always)]
+fn marked_form(pointer: usize) -> Form
+    ensures { IsMarkedForm pointer result }
+{
+    match pointer {
+        1133 => Form::Marked('\u{CA}', '\u{304}'),
+        1135 => Form::Marked('\u{CA}', '\u{30C}'),
+        1164 => Form::Marked('\u{EA}', '\u{304}'),
+        1166 => Form::Marked('\u{EA}', '\u{30C}'),
+        _ => Form::Other,
+    }
+}
+
 impl LaneCodec for Big5 {
     ghost grammar = { λ flat. big5 flat.big5 };
 
@@ -63,16 +78,19 @@ impl LaneCodec for Big5 {
     ghost ascii = { ascii big5_codec };
 
     #[inline(always)]
-    fn is_uncommon(byte: u8) -> bool {
-        byte >= 0x80 && Lead::new(byte).is_none()
-    }
-
-    #[inline]
-    fn front(tables: &FlatTables<'_>, lead: u8, trail: u8) -> CommonForm {
-        let pointer = pair_pointer(&ROWS_OF_157, &TRAILS, lead, trail);
+    fn form_at(
+        tables: &FlatTables<'_>,
+        guess: &Cell<usize>,
+        first: u8,
+        second: u8,
+        third: u8,
+        fourth: u8,
+    ) -> Form {
+        let _ = (guess.get(), third, fourth);
+        let pointer = pair_pointer(&ROWS_OF_157, &TRAILS, first, second);
         match tables.idx(IndexName::Big5, pointer) {
-            Some(scalar) if scalar <= '\u{FFFF}' => CommonForm::Pair(scalar),
-            _ => CommonForm::Other,
+            Some(scalar) => Form::Pair(scalar),
+            None => marked_form(pointer),
         }
     }
 

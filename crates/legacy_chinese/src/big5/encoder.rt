@@ -15,14 +15,18 @@ use legacy_tables::{EncoderTables, Marks, PackedPart, Tables};
 /// pointer there; the pointers below 5024 belong to the Hong Kong supplement. For U+2550, U+255E,
 /// U+2561, U+256A, U+5341 and U+5345 it is the last such pointer, and for all others the first. All
 /// other scalars are unmappable.
-pub type Big5Encoder<'a> = PairEncoder<'a, Big5, Tables<'a>>;
+pub type Big5Encoder<'a> = PairEncoder<'a, Big5>;
 
 /// Returns the lead and the trail of a scalar in index Big5, or `None`.
 #[inline(always)]
-fn pair<V: EncoderTables>(tables: &V, c: char) -> Option<(u8, u8)>
+#[tactic(auto, using(crate::proofs::AbsentScalars::big5_absent))]
+fn pair(tables: &Tables<'_>, c: char) -> Option<(u8, u8)>
     ensures { option_map (λ pair. pair.0 ∷ pair.1 ∷ []) result ≡ option_map big5_bytes
-        (big5_pointer_of (V.indexes tables.now).flat.big5 c) }
+        (big5_pointer_of tables.now.flat.big5 c) }
 {
+    if c > '\u{FFFF}' && c < '\u{20000}' {
+        return None;
+    }
     let p = tables.big5_pointer(c)?;
     let offset = if p % 157 < 0x3F { 0x40 } else { 0x62 };
     Some(((p / 157 + 0x81) as u8, (p % 157 + offset) as u8))
@@ -48,7 +52,7 @@ impl PairCodec for Big5 {
 
     #[inline]
     #[tactic(auto, unfolding(legacy_base::specs::Big5::big5_code))]
-    fn code_of<V: EncoderTables>(tables: &V, c: char) -> EncoderMove {
+    fn code_of(tables: &Tables<'_>, c: char) -> EncoderMove {
         let scalar = c as u32;
         if scalar < 0x80 {
             return EncoderMove::One(scalar as u8);
@@ -58,13 +62,19 @@ impl PairCodec for Big5 {
 
     #[inline(always)]
     #[tactic(auto, unfolding(legacy_base::specs::Big5::big5_code))]
-    fn pair_of<V: EncoderTables>(tables: &V, c: char) -> Option<(u8, u8)> {
+    fn pair_of(tables: &Tables<'_>, c: char) -> Option<(u8, u8)> {
         pair(tables, c)
+    }
+
+    #[inline(always)]
+    #[tactic(auto, unfolding(legacy_base::specs::Big5::big5_code))]
+    fn code_past_pairs(c: char) -> EncoderMove {
+        EncoderMove::Unmappable(c)
     }
 }
 
 impl FillsPairs for Big5 {
-    fn fill<V: EncoderTables>(encoder: &PairEncoder<'_, Self, V>, entries: &mut [u16]) {
+    fn fill(encoder: &PairEncoder<'_, Self>, entries: &mut [u16]) {
         encoder.tables.fill(PackedPart::Big5Order, &Big5, entries);
         ask_pairs(encoder, entries, 0, 0x80);
     }

@@ -14,7 +14,7 @@ use legacy_decoder_engine::held_lead::Lead;
 use legacy_decoder_engine::lane_blocks::read_by_tables;
 use legacy_decoder_engine::lead_and_trail::{malformed_through, read_trail};
 use legacy_decoder_engine::moves::{DecoderMoves, Fed, Need};
-use legacy_decoder_engine::near_malformed::AFTER_MALFORMED;
+use legacy_decoder_engine::pace::Pace;
 use legacy_tables::DecoderTables;
 use std::cell::Cell;
 
@@ -46,14 +46,16 @@ enum Held {
 ///   not a digit (1 byte); the digit is then a scalar, and the next sequence begins after it;
 /// - four bytes that do not map (4 bytes);
 /// - an incomplete sequence at the end of the input (1 to 3 bytes).
+///
+/// It keeps the range of gb18030 that was used last in a `Cell`, so it is not `Sync`. Threads can share
+/// the tables, and each makes a decoder of its own.
 #[derive(Drop)]
 pub struct Gb18030Decoder<'a> {
     tables: &'a Tables<'a>,
     held: Held,
     /// The place of the last range that was used. The next sequence of four bytes tries it first.
     guess: Cell<usize>,
-    /// The number of bytes that are to be read without lanes, because a malformed sequence came before them.
-    without_lanes: usize,
+    pace: Pace,
 }
 
 /// Returns what a byte leads to if nothing is held back.
@@ -175,7 +177,7 @@ impl<'a> Gb18030Decoder<'a> {
             tables,
             held: Held::Nothing,
             guess: Cell::new(0),
-            without_lanes: 0,
+            pace: Pace::new(),
         }
     }
 
@@ -185,6 +187,14 @@ impl<'a> Gb18030Decoder<'a> {
         ensures { result ≡ is_neutral (gb18030_state self.now) }
     {
         matches!(self.held, Held::Nothing)
+    }
+
+    /// Returns the number of held-back bytes, at most 3.
+    #[inline]
+    pub fn held_count(&self) -> usize
+        ensures { result ≡ length (gb18030_state self.now).held }
+    {
+        usize::from(held_length(self.held))
     }
 
     /// Returns the number of bytes plus that of held-back bytes, or `None` if that overflows.
@@ -253,7 +263,7 @@ impl DecoderMoves for Gb18030Decoder<'_> {
 
     #[inline(always)]
     fn after_malformed(&mut self) {
-        self.without_lanes = AFTER_MALFORMED;
+        self.pace.after_malformed();
     }
 
     #[inline]
@@ -299,7 +309,7 @@ impl DecoderMoves for Gb18030Decoder<'_> {
         if !matches!(self.held, Held::Nothing) {
             return 0;
         }
-        read_by_tables::<Gb18030, T>(self.tables, &self.guess, &mut self.without_lanes, src, dst)
+        read_by_tables::<Gb18030, T>(self.tables, &self.guess, &self.pace, src, dst)
     }
 }
 

@@ -3,20 +3,18 @@ ghost use Rattle.std.specs.Prelude.{◌≡◌, ◌≢◌, ℕ, ◌+◌, ◌*◌,
 ghost use Rattle.legacy_tables.specs.{Pointers.range_pointer_of, RangeParts.IsRangePart};
 ghost use Rattle.legacy_base.specs.Gb18030.{gb18030_pair_code, gb18030_range_bytes, gb18030_code, gbk_code};
 ghost use Rattle.legacy_base.specs.{Encoders.{encoder_profile, new_encoder}, Lengths.{answer, number, ◌⊕◌, ◌⊗◌}};
-ghost use Rattle.legacy_encoder_engine.specs.{CachedPairs.AreAllPairsOf, Moves.IsCode, UnfinishedCall.EncodesFrom};
+ghost use Rattle.legacy_encoder_engine.specs.{CachedPairs.IsNoPair, Moves.IsCode};
 ghost use Rattle.legacy_chinese.specs.{Gb18030Codec.{gb18030_codec, gb18030_encoder_state}, Gb18030Codes.gb18030_plain};
 
 use super::four_byte_blocks::Gb18030;
 use super::list::ask_rows;
 use legacy_base::{EncoderStep, PackedPart, RawEncoder, Source, Tables};
 use legacy_encoder_engine::asked_pairs::ask_pairs;
-use legacy_encoder_engine::cached::{EncodesPairs, PastPairs, WithPairs};
+use legacy_encoder_engine::cached::EncodesPairs;
 use legacy_encoder_engine::drive::drive_encoder;
 use legacy_encoder_engine::moves::EncoderMove;
-use legacy_encoder_engine::plain::PlainEncoder;
 use legacy_encoder_engine::plain_codes::PlainCodes;
-use legacy_encoder_engine::read_ahead::read_common;
-use legacy_tables::{DecoderTables, EncoderTables, FlatTables, RangePart};
+use legacy_tables::{DecoderTables, EncoderTables, RangePart};
 
 /// The encoder of GB18030 or of GBK (Encoding Standard, "gb18030 encoder").
 ///
@@ -24,7 +22,7 @@ use legacy_tables::{DecoderTables, EncoderTables, FlatTables, RangePart};
 /// index gb18030 is the lead and the trail of its first pointer. In GB18030 any other scalar with a
 /// range pointer is its four bytes. In GBK these are unmappable, and U+20AC is 80. U+E5E5 is
 /// unmappable in both.
-#[derive(Drop)]
+#[derive(Clone, Copy)]
 pub struct Gb18030Encoder<'a> {
     tables: &'a Tables<'a>,
     extended_range: bool,
@@ -47,13 +45,17 @@ impl<'a> Gb18030Encoder<'a> {
 
 /// Returns the lead and the trail of a scalar past ASCII, if it has them.
 #[inline(always)]
-fn pair_of<V: EncoderTables>(tables: &V, c: char) -> Option<(u8, u8)>
+#[tactic(auto, using(crate::proofs::AbsentScalars::gb18030_absent))]
+fn pair_of(tables: &Tables<'_>, c: char) -> Option<(u8, u8)>
     ensures { option_map (λ pair. pair.0 ∷ pair.1 ∷ []) result
-        ≡ gb18030_pair_code (V.indexes tables.now).flat.gb18030_pua
-        (V.indexes tables.now).flat.gb18030 c }
+        ≡ gb18030_pair_code tables.now.flat.gb18030_pua
+        tables.now.flat.gb18030 c }
 {
     if let Some(row) = tables.gb18030_pua_bytes(c) {
         return Some(row);
+    }
+    if c > '\u{FFFF}' {
+        return None;
     }
     let p = tables.gb18030_pointer(c)?;
     let offset = if p % 190 < 0x3F { 0x40 } else { 0x41 };
@@ -98,11 +100,11 @@ fn range_bytes(pointer: usize) -> (u8, u8, u8, u8)
 
 /// Returns the pointer of a scalar outside the range of `guess`, and sets `guess` to its range.
 #[tactic(auto, using(crate::proofs::Gb18030Walk::pointer_bound))]
-fn far_pointer<V: EncoderTables>(tables: &V, guess: &mut RangePart, c: char) -> Option<usize>
+fn far_pointer(tables: &Tables<'_>, guess: &mut RangePart, c: char) -> Option<usize>
     requires { c ≢ 0xE7C7 }
-    ensures pointer { result ≡ range_pointer_of (V.indexes tables.now).flat.ranges c }
+    ensures pointer { result ≡ range_pointer_of tables.now.flat.ranges c }
     ensures within { IfSome result (λ p. p < 1237576) }
-    ensures guess { IsRangePart (V.indexes tables.now).flat.ranges guess.new }
+    ensures guess { IsRangePart tables.now.flat.ranges guess.new }
 {
     let ranges = tables.ranges();
     *guess = ranges.part_with(c);
@@ -117,20 +119,20 @@ fn far_pointer<V: EncoderTables>(tables: &V, guess: &mut RangePart, c: char) -> 
 /// The index is not searched. The result may be `None` for any scalar. `guess` keeps the range.
 #[inline(always)]
 #[tactic(auto, using(crate::proofs::Gb18030Walk::pointer_bound), unfolding(legacy_base::specs::Gb18030::gb18030_code))]
-fn four_past_pairs_of<V: EncoderTables>(
-    tables: &V,
+fn four_past_pairs_of(
+    tables: &Tables<'_>,
     guess: &mut RangePart,
     c: char,
 ) -> Option<(u8, u8, u8, u8)>
     requires past { 0x80 ≤ c }
-    requires none { (lead trail : ℕ) → gb18030_code (V.indexes tables.now).flat.gb18030
-        (V.indexes tables.now).flat.ranges (V.indexes tables.now).flat.gb18030_pua c
+    requires none { (lead trail : ℕ) → gb18030_code tables.now.flat.gb18030
+        tables.now.flat.ranges tables.now.flat.gb18030_pua c
         ≡ Some (lead ∷ trail ∷ []) → lead + trail ≡ 0 }
-    requires guess { IsRangePart (V.indexes tables.now).flat.ranges guess.old }
-    ensures code { IfSome result (λ four. gb18030_code (V.indexes tables.now).flat.gb18030
-        (V.indexes tables.now).flat.ranges (V.indexes tables.now).flat.gb18030_pua c
+    requires guess { IsRangePart tables.now.flat.ranges guess.old }
+    ensures code { IfSome result (λ four. gb18030_code tables.now.flat.gb18030
+        tables.now.flat.ranges tables.now.flat.gb18030_pua c
         ≡ Some (four.0 ∷ four.1 ∷ four.2 ∷ four.3 ∷ [])) }
-    ensures guess { IsRangePart (V.indexes tables.now).flat.ranges guess.new }
+    ensures guess { IsRangePart tables.now.flat.ranges guess.new }
 {
     if is_private_use(c) || tables.gb18030_pua_bytes(c).is_some() {
         return None;
@@ -145,9 +147,9 @@ fn four_past_pairs_of<V: EncoderTables>(
 /// Returns the four bytes of a scalar past ASCII, or the scalar as unmappable.
 #[inline(always)]
 #[tactic(auto, using(std::proofs::lemmas::Grind::common_steps))]
-fn four_or_unmappable<V: EncoderTables>(tables: &V, c: char) -> EncoderMove
+fn four_or_unmappable(tables: &Tables<'_>, c: char) -> EncoderMove
     ensures { IsCode (option_map gb18030_range_bytes
-        (range_pointer_of (V.indexes tables.now).flat.ranges c)) c result }
+        (range_pointer_of tables.now.flat.ranges c)) c result }
 {
     match tables.ranges().pointer(c) {
         Some(pointer) => {
@@ -161,8 +163,8 @@ fn four_or_unmappable<V: EncoderTables>(tables: &V, c: char) -> EncoderMove
 /// Returns what GB18030 or GBK writes for a scalar.
 #[inline(always)]
 #[tactic(auto, using(std::proofs::lemmas::Grind::common_steps), unfolding(legacy_base::specs::Gb18030::gb18030_code, legacy_base::specs::Gb18030::gbk_code))]
-fn any_code_of<V: EncoderTables>(tables: &V, extended_range: bool, c: char) -> EncoderMove
-    ensures { IsCode ((encoder_profile (gb18030_codec (V.indexes tables.now).flat
+fn any_code_of(tables: &Tables<'_>, extended_range: bool, c: char) -> EncoderMove
+    ensures { IsCode ((encoder_profile (gb18030_codec tables.now.flat
         extended_range)).code c) c result }
 {
     let scalar = c as u32;
@@ -182,6 +184,30 @@ fn any_code_of<V: EncoderTables>(tables: &V, extended_range: bool, c: char) -> E
         return EncoderMove::One(0x80);
     }
     EncoderMove::of_pair(pair_of(tables, c), c)
+}
+
+/// Returns what GB18030 or GBK writes for a scalar past ASCII that has no lead and trail in index gb18030.
+#[inline(always)]
+#[tactic(auto, using(std::proofs::lemmas::Grind::common_steps), unfolding(legacy_base::specs::Gb18030::gb18030_code, legacy_base::specs::Gb18030::gbk_code))]
+fn code_without_pair(tables: &Tables<'_>, extended_range: bool, c: char) -> EncoderMove
+    requires past { 0x80 ≤ c }
+    requires none { IsNoPair (gb18030_codec tables.now.flat extended_range) c }
+    ensures { IsCode ((encoder_profile (gb18030_codec tables.now.flat
+        extended_range)).code c) c result }
+{
+    if c == '\u{E5E5}' {
+        return EncoderMove::Unmappable(c);
+    }
+    if !extended_range && c == '\u{20AC}' {
+        return EncoderMove::One(0x80);
+    }
+    if let Some((lead, trail)) = tables.gb18030_pua_bytes(c) {
+        return EncoderMove::Two(lead, trail);
+    }
+    if extended_range {
+        return four_or_unmappable(tables, c);
+    }
+    EncoderMove::Unmappable(c)
 }
 
 /// Returns two more than twice the length.
@@ -207,104 +233,8 @@ impl PlainCodes for Gb18030Encoder<'_> {
     fn code_of(&self, c: char) -> EncoderMove {
         any_code_of(self.tables, self.extended_range, c)
     }
-}
 
-impl PlainEncoder for Gb18030Encoder<'_> {
-    #[inline]
-    fn read_codes<S: Source>(&self, src: &mut S, dst: &mut [u8], start: usize) -> usize {
-        match self.tables.flat() {
-            Some(tables) => {
-                read_unlisted_by::<FlatTables<'_>, S>(tables, self.extended_range, src, dst, start)
-            }
-            None => read_unlisted_by::<Tables<'_>, S>(
-                self.tables,
-                self.extended_range,
-                src,
-                dst,
-                start,
-            ),
-        }
-    }
-}
-
-/// The codes of GB18030 or of GBK by one kind of tables, alone or beside a list of the pairs.
-#[derive(Drop)]
-struct Gb18030Codes<'a, V: EncoderTables, const EXTENDED: bool, const LISTED: bool> {
-    tables: &'a V,
-}
-
-impl<V: EncoderTables, const EXTENDED: bool, const LISTED: bool> PlainCodes
-    for Gb18030Codes<'_, V, EXTENDED, LISTED> {
-    ghost codec = { λ e. gb18030_codec (V.indexes e.tables.now).flat EXTENDED };
-
-    ghost past = { 4 };
-
-    ghost plain = { λ e. gb18030_plain (V.indexes e.tables.now).flat EXTENDED };
-
-    #[inline]
-    fn past_need(&self) -> usize {
-        4
-    }
-
-    #[inline(always)]
-    fn code_of(&self, c: char) -> EncoderMove {
-        any_code_of(self.tables, EXTENDED, c)
-    }
-
-    // With a list, `four_past_pairs` has the codes of four bytes, and other codes are uncommon.
-    const GOES_PAST_PAIRS: bool = !LISTED;
-}
-
-/// Reads ahead in GB18030 or GBK by one kind of tables, and returns the place after the bytes.
-// Each has its own loop. One loop for both would test for four bytes at each character.
-#[inline(always)]
-fn read_unlisted_by<V: EncoderTables, S: Source>(
-    tables: &V,
-    extended_range: bool,
-    src: &mut S,
-    dst: &mut [u8],
-    start: usize,
-) -> usize
-    requires { start ≤ length dst.old }
-    ensures { EncodesFrom S.Source (new_encoder (gb18030_codec (V.indexes tables.now).flat extended_range))
-        src.old dst.old start src.new dst.new result }
-{
-    if extended_range {
-        read_common(&Gb18030Codes::<V, true, false> { tables }, src, dst, start)
-    } else {
-        read_common(&Gb18030Codes::<V, false, false> { tables }, src, dst, start)
-    }
-}
-
-impl PastPairs for Gb18030Encoder<'_> {}
-
-impl<V: EncoderTables, const EXTENDED: bool, const LISTED: bool> PastPairs
-    for Gb18030Codes<'_, V, EXTENDED, LISTED> {
-    #[inline(always)]
-    fn four_past_pairs(&self, guess: &mut RangePart, c: char) -> Option<(u8, u8, u8, u8)> {
-        if !EXTENDED {
-            return None;
-        }
-        four_past_pairs_of(self.tables, guess, c)
-    }
-}
-
-/// Reads ahead in GB18030 or GBK by the pairs of a list, and returns the place after the bytes.
-#[inline(always)]
-fn read_listed_by<V: EncoderTables, S: Source, const EXTENDED: bool>(
-    tables: &V,
-    pairs: &[u16],
-    src: &mut S,
-    dst: &mut [u8],
-    start: usize,
-) -> usize
-    requires pairs { AreAllPairsOf (gb18030_codec (V.indexes tables.now).flat EXTENDED) pairs.now }
-    requires start { start ≤ length dst.old }
-    ensures { EncodesFrom S.Source (new_encoder (gb18030_codec (V.indexes tables.now).flat EXTENDED))
-        src.old dst.old start src.new dst.new result }
-{
-    let codes = Gb18030Codes::<V, EXTENDED, true> { tables };
-    read_common(&WithPairs::new(&codes, pairs), src, dst, start)
+    const GOES_PAST_PAIRS: bool = true;
 }
 
 impl EncodesPairs for Gb18030Encoder<'_> {
@@ -312,32 +242,28 @@ impl EncodesPairs for Gb18030Encoder<'_> {
 
     ghost same = { λ e. refl };
 
+    #[inline(always)]
+    fn four_past_pairs(&self, guess: &mut RangePart, c: char) -> Option<(u8, u8, u8, u8)> {
+        if !self.extended_range {
+            return None;
+        }
+        four_past_pairs_of(self.tables, guess, c)
+    }
+
+    #[inline(always)]
+    fn code_past_pairs(&self, c: char) -> EncoderMove {
+        code_without_pair(self.tables, self.extended_range, c)
+    }
+
+    // The codes of four bytes are made above, and others than pairs are uncommon.
+    const HAS_UNLISTED: bool = false;
+
     fn fill_pairs(&self, pairs: &mut [u16]) {
         self.tables.fill(PackedPart::Gb18030Order, &Gb18030, pairs);
         ask_pairs(self, pairs, 0, 0x80);
         ask_pairs(self, pairs, 0x20AC, 0x20AD);
         ask_pairs(self, pairs, 0xE5E5, 0xE5E6);
         ask_rows(self, self.tables.gb18030_rows(), pairs);
-    }
-
-    // The tables give the codes of four bytes. GBK has none.
-    #[inline]
-    fn read_with<S: Source>(
-        &self,
-        pairs: &[u16],
-        src: &mut S,
-        dst: &mut [u8],
-        start: usize,
-    ) -> usize {
-        if !self.extended_range {
-            return read_listed_by::<Tables<'_>, S, false>(self.tables, pairs, src, dst, start);
-        }
-        match self.tables.flat() {
-            Some(tables) => {
-                read_listed_by::<FlatTables<'_>, S, true>(tables, pairs, src, dst, start)
-            }
-            None => read_listed_by::<Tables<'_>, S, true>(self.tables, pairs, src, dst, start),
-        }
     }
 }
 

@@ -1,7 +1,7 @@
 //! The pointer of four bytes of GB18030, by two tables of the parts of their bytes.
 //!
 //! A byte that is not allowed there has a part past all pointers. So one test of the pointer tests all four bytes.
-ghost use Rattle.std.specs.Prelude.{◌≡◌, ◌+◌, ◌<◌, ◌≤◌, length, slice_index};
+ghost use Rattle.std.specs.Prelude.{◌≡◌, ◌<◌};
 ghost use Rattle.legacy_chinese.specs.FourForms.{four_place};
 
 use legacy_decoder_engine::place_table;
@@ -21,15 +21,4 @@ pub fn four_pointer(first: u8, second: u8, third: u8, fourth: u8) -> usize
     let high = LEADS[usize::from(first)] as usize + DIGITS[usize::from(second)] as usize;
     let low = LEADS[usize::from(third)] as usize + DIGITS[usize::from(fourth)] as usize;
     1260 * high + low
-}
-
-/// Returns the pointer of the four bytes at a place, or a number past all pointers if one of them is not allowed there.
-#[inline(always)]
-pub fn pointer_at(src: &[u8], at: usize) -> usize
-    requires { at + 4 ≤ length src.now }
-    ensures place { result ≡ four_place (slice_index src.now at) (slice_index src.now (at + 1))
-        (slice_index src.now (at + 2)) (slice_index src.now (at + 3)) }
-    ensures small { result < 0x1_0000_0000 }
-{
-    four_pointer(src[at], src[at + 1], src[at + 2], src[at + 3])
 }

@@ -1,8 +1,8 @@
 //! The decoder of EUC-JP.
-ghost use Rattle.std.specs.{Prelude.{◌+◌, ◌*◌, ◌/◌, ◌^◌, ◌≡◌, ◌≤◌, [], length, option_to_list, IfSome, MatchOption}, Char.IsScalar};
+ghost use Rattle.std.specs.{Prelude.{ℕ, ◌+◌, ◌*◌, ◌/◌, ◌^◌, ◌≡◌, ◌≤◌, [], length, option_to_list, IfSome, MatchOption}, Char.IsScalar};
 ghost use Rattle.legacy_base.specs.{EucJp.euc_jp_scalars, Grammar.euc_jp, States.{is_neutral, new_state}};
 ghost use Rattle.legacy_tables.specs.Tables.{index_list};
-ghost use Rattle.legacy_decoder_engine.specs.{Feeding.Took, LanePlaces.row_place};
+ghost use Rattle.legacy_decoder_engine.specs.{Feeding.Took, LanePlaces.row_place, ReadAhead.IsFrontForm};
 ghost use Rattle.legacy_japanese.specs.{EucJpShown.ascii, EucJpMachine.euc_jp_step, EucJpDecoder.{euc_jp_state, held_bytes}};
 
 mod resume;
@@ -10,14 +10,14 @@ mod resume;
 use super::held_lead::EucJpLead;
 use crate::shift_jis::decoder::katakana;
 use legacy_base::{DecoderStep, Destination, IndexName, RawDecoder, Tables};
-use legacy_decoder_engine::common_forms::CommonForm;
 use legacy_decoder_engine::drive::{count_malformed_bytes, drive_decoder};
+use legacy_decoder_engine::forms::Form;
 use legacy_decoder_engine::lane_blocks::read_by_tables;
 use legacy_decoder_engine::lane_codec::LaneCodec;
 use legacy_decoder_engine::lane_places::{late_places, lead_places, place_sums};
 use legacy_decoder_engine::lead_and_trail::{malformed_through, read_trail, unmapped};
 use legacy_decoder_engine::moves::{DecoderMoves, Fed, Need};
-use legacy_decoder_engine::near_malformed::AFTER_MALFORMED;
+use legacy_decoder_engine::pace::Pace;
 use legacy_tables::{DecoderTables, FlatTables};
 use std::cell::Cell;
 use std::simd::prelude::*;
@@ -54,8 +54,7 @@ enum Held {
 pub struct EucJpDecoder<'a> {
     tables: &'a Tables<'a>,
     held: Held,
-    /// The number of bytes that are to be read without lanes, because a malformed sequence came before them.
-    without_lanes: usize,
+    pace: Pace,
 }
 
 /// Returns the scalar of a lead and a trail in the index, or `None`.
@@ -148,7 +147,7 @@ impl<'a> EucJpDecoder<'a> {
         EucJpDecoder {
             tables,
             held: Held::Nothing,
-            without_lanes: 0,
+            pace: Pace::new(),
         }
     }
 
@@ -158,6 +157,18 @@ impl<'a> EucJpDecoder<'a> {
         ensures { result ≡ is_neutral (euc_jp_state self.now) }
     {
         matches!(self.held, Held::Nothing)
+    }
+
+    /// Returns the number of held-back bytes, at most 2.
+    #[inline]
+    pub fn held_count(&self) -> usize
+        ensures { result ≡ length (euc_jp_state self.now).held }
+    {
+        match self.held {
+            Held::Nothing => 0,
+            Held::Katakana | Held::Jis0212 | Held::Lead(_) => 1,
+            Held::Jis0212Lead(_) => 2,
+        }
     }
 
     /// Returns the number of bytes, plus one if bytes are held back, or `None` if that overflows.
@@ -207,7 +218,7 @@ impl DecoderMoves for EucJpDecoder<'_> {
 
     #[inline(always)]
     fn after_malformed(&mut self) {
-        self.without_lanes = AFTER_MALFORMED;
+        self.pace.after_malformed();
     }
 
     #[inline]
@@ -240,7 +251,7 @@ impl DecoderMoves for EucJpDecoder<'_> {
         match self.held {
             Held::Nothing => {
                 let guess = Cell::new(0);
-                read_by_tables::<EucJp, T>(self.tables, &guess, &mut self.without_lanes, src, dst)
+                read_by_tables::<EucJp, T>(self.tables, &guess, &self.pace, src, dst)
             }
             _ => 0,
         }
@@ -249,6 +260,26 @@ impl DecoderMoves for EucJpDecoder<'_> {
 
 /// The codec of EUC-JP.
 pub struct EucJp;
+
+/// Returns the form that begins with 8E or 8F, or no form.
+#[inline(always)]
+fn shifted_form(tables: &FlatTables<'_>, first: u8, second: u8, third: u8) -> Form
+    ensures { (fourth : ℕ) → IsFrontForm (euc_jp tables.now.flat.jis0208 tables.now.flat.jis0212) first second third fourth result }
+{
+    if first == 0x8E && second >= 0xA1 && second <= 0xDF {
+        return Form::Pair(katakana(second));
+    }
+    if first != 0x8F {
+        return Form::Other;
+    }
+    let Some(lead) = EucJpLead::new(second) else {
+        return Form::Other;
+    };
+    match pair_scalar(tables, IndexName::Jis0212, lead, third) {
+        Some(scalar) => Form::Triple(scalar),
+        None => Form::Other,
+    }
+}
 
 impl LaneCodec for EucJp {
     ghost grammar = { λ flat. euc_jp flat.jis0208 flat.jis0212 };
@@ -262,17 +293,20 @@ impl LaneCodec for EucJp {
     ghost ascii = { ascii };
 
     #[inline(always)]
-    fn is_uncommon(byte: u8) -> bool {
-        byte >= 0x80 && EucJpLead::new(byte).is_none()
-    }
-
-    #[inline(always)]
-    #[tactic(auto, using(crate::proofs::EucJpHeld::pair, legacy_decoder_engine::proofs::CommonPairs::common_pair))]
-    fn front(tables: &FlatTables<'_>, lead: u8, trail: u8) -> CommonForm {
-        let Some(lead) = EucJpLead::new(lead) else {
-            return CommonForm::Other;
-        };
-        CommonForm::of_pair(pair_scalar(tables, IndexName::Jis0208, lead, trail))
+    #[tactic(auto, using(crate::proofs::EucJpHeld::pair_read, legacy_decoder_engine::proofs::FrontForms::pair_is))]
+    fn form_at(
+        tables: &FlatTables<'_>,
+        guess: &Cell<usize>,
+        first: u8,
+        second: u8,
+        third: u8,
+        fourth: u8,
+    ) -> Form {
+        let _ = (guess.get(), fourth);
+        match EucJpLead::new(first) {
+            Some(lead) => Form::of_pair(pair_scalar(tables, IndexName::Jis0208, lead, second)),
+            None => shifted_form(tables, first, second, third),
+        }
     }
 
     #[inline(always)]
@@ -288,11 +322,6 @@ impl LaneCodec for EucJp {
     #[inline(always)]
     fn places(codes: u16x8) -> u16x8 {
         place_sums(lead_places(codes, 0xA1, 94), late_places(codes, 0xA1))
-    }
-
-    #[inline(always)]
-    fn has_eights() -> bool {
-        true
     }
 }
 

@@ -17,14 +17,17 @@ use legacy_tables::{EncoderTables, Marks, PackedPart, Tables};
 /// and a byte A1 to DF. Another scalar of index jis0208 is the lead and the trail of its first
 /// pointer below 8836. The minus sign U+2212 is encoded as U+FF0D. All other scalars are
 /// unmappable: the encoder does not use index jis0212.
-pub type EucJpEncoder<'a> = PairEncoder<'a, EucJp, Tables<'a>>;
+pub type EucJpEncoder<'a> = PairEncoder<'a, EucJp>;
 
 /// Returns the lead and the trail of a scalar in index jis0208, or `None`.
 #[inline(always)]
-fn pair<V: EncoderTables>(tables: &V, c: char) -> Option<(u8, u8)>
+fn pair(tables: &Tables<'_>, c: char) -> Option<(u8, u8)>
     ensures { option_map (λ pair. pair.0 ∷ pair.1 ∷ []) result ≡ option_map euc_jp_bytes
-        (euc_jp_pointer_of (V.indexes tables.now).flat.jis0208 (minus_as_hyphen c)) }
+        (euc_jp_pointer_of tables.now.flat.jis0208 (minus_as_hyphen c)) }
 {
+    if c > '\u{FFFF}' {
+        return None;
+    }
     let p = tables.euc_jp_pointer(minus_as_hyphen(c))?;
     Some(((p / 94 + 0xA1) as u8, (p % 94 + 0xA1) as u8))
 }
@@ -51,7 +54,7 @@ impl PairCodec for EucJp {
 
     #[inline]
     #[tactic(auto, unfolding(legacy_base::specs::EucJp::euc_jp_code))]
-    fn code_of<V: EncoderTables>(tables: &V, c: char) -> EncoderMove {
+    fn code_of(tables: &Tables<'_>, c: char) -> EncoderMove {
         let scalar = c as u32;
         if scalar < 0x80 {
             EncoderMove::One(scalar as u8)
@@ -68,16 +71,27 @@ impl PairCodec for EucJp {
 
     #[inline(always)]
     #[tactic(auto, unfolding(legacy_base::specs::EucJp::euc_jp_code))]
-    fn pair_of<V: EncoderTables>(tables: &V, c: char) -> Option<(u8, u8)> {
+    fn pair_of(tables: &Tables<'_>, c: char) -> Option<(u8, u8)> {
         if !is_by_index(c) {
             return None;
         }
         pair(tables, c)
     }
+
+    // Half-width katakana have a lead and a trail.
+    #[inline(always)]
+    #[tactic(auto, unfolding(legacy_base::specs::EucJp::euc_jp_code))]
+    fn code_past_pairs(c: char) -> EncoderMove {
+        match c {
+            '\u{A5}' => EncoderMove::One(0x5C),
+            '\u{203E}' => EncoderMove::One(0x7E),
+            _ => EncoderMove::Unmappable(c),
+        }
+    }
 }
 
 impl FillsPairs for EucJp {
-    fn fill<V: EncoderTables>(encoder: &PairEncoder<'_, Self, V>, entries: &mut [u16]) {
+    fn fill(encoder: &PairEncoder<'_, Self>, entries: &mut [u16]) {
         encoder.tables.fill(PackedPart::EucJpOrder, &EucJp, entries);
         ask_others(encoder, entries);
     }

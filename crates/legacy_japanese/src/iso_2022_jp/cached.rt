@@ -1,10 +1,13 @@
 //! The encoder of ISO-2022-JP that reads pairs from a list, in memory that the caller lends.
 ghost use Rattle.std.specs.Prelude.{◌≡◌, ◌≢◌, ◌<◌, ◌≤◌, ℕ, length, slice_index, MatchOption};
-ghost use Rattle.legacy_japanese.specs.Iso2022JpEncoder.{IsListedEntry, iso_2022_jp_mark, iso_2022_jp_mark-some, state_in};
+ghost use Rattle.legacy_japanese.specs.Iso2022JpEncoder.{HasNoPair, IsListedEntry, IsWholeEntry, iso_2022_jp_mark, iso_2022_jp_mark-some, state_in};
+ghost use Rattle.std.specs.Char.{IsScalar};
 ghost use Rattle.legacy_base.specs.declared.modes.EncoderMode.TheVariants.{TwoByte};
 
 use crate::asked_scalars::ask_others;
-use crate::iso_2022_jp::encoder::{EncoderBy, FindsPairs, Iso2022JpEncoder, TablePairs};
+use crate::iso_2022_jp::encoder::{
+    EncoderBy, FindsPairs, Iso2022JpEncoder, TablePairs, asked_past_pairs, pair_of,
+};
 use legacy_base::{EncoderMode, PackedPart, Source};
 use legacy_encoder_engine::ahead_codes::AheadCodes;
 use legacy_encoder_engine::asked_pairs::PairEntries;
@@ -18,16 +21,19 @@ use legacy_tables::{EncoderTables, Marks, RangePart};
 impl PairEntries for TablePairs<'_> {
     ghost use Rattle.std.proofs.Common.{refl};
 
-    ghost right = { λ pairs. IsListedEntry pairs.tables.now.flat };
+    ghost right = { λ pairs. IsWholeEntry pairs.tables.now.flat };
 
     fn pair_entry(&self, c: char) -> u16 {
-        match self.asked(EncoderMode::TwoByte, c) {
-            (_, EncoderMove::Two(lead, trail)) => u16::from(lead) + 256 * u16::from(trail),
-            _ => 0,
+        match pair_of(self.tables, c) {
+            Some((lead, trail)) => u16::from(lead) + 256 * u16::from(trail),
+            None => 0,
         }
     }
 
-    ghost others = { λ _ _ _ n. absurd (n refl) };
+    ghost others = { λ _ _ never. record {
+      told = λ n. absurd (n refl);
+      whole = λ scalar. absurd (never scalar);
+    } };
 }
 
 // The lead and the trail of a pointer, as one number.
@@ -50,13 +56,16 @@ pub struct ListedPairs<'a, 'b> {
     ghost all: { length listed.now ≡ 65536 },
     ghost told: { (c : ℕ) → c < 65536 →
         IsListedEntry found.tables.now.flat c (slice_index listed.now c) },
+    ghost whole: { (c : ℕ) → c < 65536 → IsScalar c → slice_index listed.now c ≡ 0 →
+        HasNoPair found.tables.now.flat c },
 }
 
 impl ListedPairs<'_, '_> {
     /// Returns the listed pair of a scalar as one number, the lead in the low byte, or 0.
     #[inline(always)]
     fn entry_of(&self, c: char) -> u16
-        ensures { IsListedEntry self.now.found.tables.now.flat c result }
+        ensures told { IsListedEntry self.now.found.tables.now.flat c result }
+        ensures whole { c < 65536 → result ≡ 0 → HasNoPair self.now.found.tables.now.flat c }
     {
         let scalar = c as usize;
         if scalar >= PAIR_ROOM {
@@ -72,9 +81,12 @@ impl FindsPairs for ListedPairs<'_, '_> {
     #[inline]
     #[tactic(auto, using(crate::proofs::Iso2022JpEncoderMoves::asks_listed))]
     fn asked(&self, mode: EncoderMode, c: char) -> (EncoderMode, EncoderMove) {
+        if c > '\u{FFFF}' {
+            return self.found.asked(mode, c);
+        }
         let entry = self.entry_of(c);
         if entry == 0 {
-            return self.found.asked(mode, c);
+            return asked_past_pairs(mode, c);
         }
         let pair = EncoderMove::Two((entry % 256) as u8, (entry / 256) as u8);
         (EncoderMode::TwoByte, pair)

@@ -1,5 +1,5 @@
 //! The decoder of ISO-2022-JP.
-ghost use Rattle.std.specs.Prelude.{◌≡◌, true};
+ghost use Rattle.std.specs.Prelude.{◌≡◌, true, length};
 ghost use Rattle.{legacy_base.specs.{Grammar.iso_2022_jp, declared.modes.DecoderMode.TheVariants.Ascii, States.{is_neutral, new_state}}, legacy_japanese.specs.Iso2022JpMachine.is_held};
 
 mod resume;
@@ -60,6 +60,13 @@ impl<'a> Iso2022JpDecoder<'a> {
         ensures { result ≡ is_neutral (iso_2022_jp_state self.now) }
     {
         matches!(self.mode, DecoderMode::Ascii) && self.held.is_nothing()
+    }
+
+    /// Returns the number of held-back bytes, at most 5. An escape with nothing after it is held back.
+    pub fn held_count(&self) -> usize
+        ensures { result ≡ length (iso_2022_jp_state self.now).held }
+    {
+        usize::from(self.held.count())
     }
 }
 

@@ -1,8 +1,8 @@
 //! The encoder of ISO-2022-JP.
-ghost use Rattle.std.specs.{Prelude.{◌≡◌, ◌==◌, ◌||◌, ◌+◌, ◌%◌, ◌<◌, ◌≤◌, length, IfSome}, List.{list_any}};
+ghost use Rattle.std.specs.{Prelude.{◌≡◌, ◌==◌, ◌||◌, ◌+◌, ◌%◌, ◌<◌, ◌≤◌, [], ◌∷◌, length, Some, None, IfSome}, List.{list_any}};
 ghost use Rattle.{legacy_tables.specs.Indexes.{FlatIndexes}, legacy_encoder_engine.specs.UnfinishedCall.{EncodesBy, EncodesFrom}};
-ghost use Rattle.legacy_base.specs.{Encoders.{iso_2022_jp, is_pending, new_encoder}, Iso2022Jp.{iso_2022_jp_pointer_of, is_mode_control}};
-ghost use Rattle.{legacy_base.specs.declared.modes.EncoderMode.TheVariants.Ascii, legacy_japanese.specs.Iso2022JpEncoder.{Asks, state_in}};
+ghost use Rattle.legacy_base.specs.{Encoders.{iso_2022_jp, is_pending, new_encoder}, Iso2022Jp.{iso_2022_jp_code, iso_2022_jp_pointer_of, is_mode_control}};
+ghost use Rattle.{legacy_base.specs.declared.modes.EncoderMode.TheVariants.Ascii, legacy_japanese.specs.Iso2022JpEncoder.{Asks, HasNoPair, state_in}};
 
 mod resume;
 
@@ -147,6 +147,9 @@ fn pointer(tables: &Tables<'_>, c: char) -> Option<usize>
     ensures value { result ≡ iso_2022_jp_pointer_of tables.now.flat.jis0208 tables.now.flat.katakana c }
     ensures within { IfSome result (λ p. p < 8836) }
 {
+    if c > '\u{FFFF}' {
+        return None;
+    }
     let scalar = c as u32;
     if scalar >= 0xFF61 && scalar <= 0xFF9F {
         let entry = tables.idx(IndexName::Katakana, (scalar - 0xFF61) as usize)?;
@@ -155,33 +158,54 @@ fn pointer(tables: &Tables<'_>, c: char) -> Option<usize>
     tables.euc_jp_pointer(minus_as_hyphen(c))
 }
 
+/// Returns the lead and the trail of a scalar, or `None` if it has none.
+#[inline]
+#[tactic(auto, using(crate::proofs::Iso2022JpEncoderMoves::asked_steps))]
+pub(crate) fn pair_of(tables: &Tables<'_>, c: char) -> Option<(u8, u8)>
+    ensures some { IfSome result (λ pair. iso_2022_jp_code tables.now.flat.jis0208 tables.now.flat.katakana c
+        ≡ Some (pair.0 ∷ pair.1 ∷ [])) }
+    ensures none { result ≡ None → HasNoPair tables.now.flat c }
+{
+    if matches!(c, '\0'..='\u{7F}' | '\u{A5}' | '\u{203E}') {
+        return None;
+    }
+    let p = pointer(tables, c)?;
+    Some(((p / 94 + 0x21) as u8, (p % 94 + 0x21) as u8))
+}
+
+/// Returns the mode that a scalar without a lead and a trail needs after this one, and the move that reads it there.
+#[inline]
+#[tactic(auto, using(crate::proofs::Iso2022JpEncoderMoves::asked_steps))]
+pub(crate) fn asked_past_pairs(mode: EncoderMode, c: char) -> (EncoderMode, EncoderMove)
+    ensures { (flat : FlatIndexes) → HasNoPair flat c → Asks flat mode c result.0 result.1 }
+{
+    let scalar = c as u32;
+    // The mode after a scalar that is in both ASCII and Roman mode, or has no bytes.
+    let settled = if let EncoderMode::Roman = mode {
+        mode
+    } else {
+        EncoderMode::Ascii
+    };
+    match scalar {
+        _ if is_control(scalar) => (settled, EncoderMove::Unmappable('\u{FFFD}')),
+        // In Roman mode these two bytes are other scalars.
+        0x5C | 0x7E => (EncoderMode::Ascii, EncoderMove::One(c as u8)),
+        0..0x80 => (settled, EncoderMove::One(c as u8)),
+        0xA5 => (EncoderMode::Roman, EncoderMove::One(0x5C)),
+        0x203E => (EncoderMode::Roman, EncoderMove::One(0x7E)),
+        _ => (settled, EncoderMove::Unmappable(c)),
+    }
+}
+
 impl FindsPairs for TablePairs<'_> {
     ghost flat = { λ pairs. pairs.tables.now.flat };
 
     #[inline]
-    #[tactic(auto, using(crate::proofs::Iso2022JpEncoderMoves::asked_steps))]
+    #[tactic(auto, using(crate::proofs::Iso2022JpEncoderMoves::asks_pair))]
     fn asked(&self, mode: EncoderMode, c: char) -> (EncoderMode, EncoderMove) {
-        let scalar = c as u32;
-        // The mode after a scalar that is in both ASCII and Roman mode, or has no bytes.
-        let settled = if let EncoderMode::Roman = mode {
-            mode
-        } else {
-            EncoderMode::Ascii
-        };
-        match scalar {
-            _ if is_control(scalar) => (settled, EncoderMove::Unmappable('\u{FFFD}')),
-            // In Roman mode these two bytes are other scalars.
-            0x5C | 0x7E => (EncoderMode::Ascii, EncoderMove::One(c as u8)),
-            0..0x80 => (settled, EncoderMove::One(c as u8)),
-            0xA5 => (EncoderMode::Roman, EncoderMove::One(0x5C)),
-            0x203E => (EncoderMode::Roman, EncoderMove::One(0x7E)),
-            _ => match pointer(self.tables, c) {
-                Some(p) => (
-                    EncoderMode::TwoByte,
-                    EncoderMove::Two((p / 94 + 0x21) as u8, (p % 94 + 0x21) as u8),
-                ),
-                None => (settled, EncoderMove::Unmappable(c)),
-            },
+        match pair_of(self.tables, c) {
+            Some((lead, trail)) => (EncoderMode::TwoByte, EncoderMove::Two(lead, trail)),
+            None => asked_past_pairs(mode, c),
         }
     }
 

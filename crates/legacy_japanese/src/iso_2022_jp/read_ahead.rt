@@ -1,12 +1,13 @@
-//! What the decoder reads ahead: ASCII text in ASCII mode, pairs of index jis0208 in two-byte mode, and the
-//! escapes between them.
+//! What the decoder reads ahead: ASCII text in ASCII mode, pairs of index jis0208 in two-byte mode, single bytes in
+//! the other modes, and the escapes between them.
 // Functions that run for each sequence or block are always inlined, and so are their callers. A call would pass vectors
 // through memory, and keep the destination's place there.
-ghost use Rattle.std.specs.Prelude.{◌≡◌, ◌≤◌, All, IfSome, length, take, true};
+ghost use Rattle.std.specs.Prelude.{◌≡◌, ◌≢◌, ◌≤◌, All, IfSome, Some, length, take, true};
 ghost use Rattle.{legacy_base.specs.{Grammar.iso_2022_jp, declared.modes.DecoderMode.TheVariants.{Ascii, TwoByte}, States.new_state}, legacy_decoder_engine.specs.ReadAhead.{ReadsAhead, ReadsInto}};
+ghost use Rattle.{legacy_base.specs.Iso2022Jp.esc, legacy_japanese.specs.Iso2022JpMachine.single};
 ghost use Rattle.legacy_japanese.specs.Iso2022JpAhead.{BeginsEscape, HasEscape, IsAsciiText, ReadsModes};
 
-use super::bytes::{DOLLAR, ESCAPE, Escape, PAREN, Start, completed};
+use super::bytes::{DOLLAR, ESCAPE, Escape, PAREN, Start, completed, single_scalar};
 use super::places::{LEADS, TRAILS};
 use legacy_base::{DecoderMode, Destination, IndexName, Tables, Utf8Destination};
 use legacy_decoder_engine::common_forms::{CommonForm, FrontForms, read_forms};
@@ -162,6 +163,41 @@ fn read_ascii_text<T: Destination>(tables: &Tables, src: &[u8], dst: &mut T) -> 
     blocks + read_ascii_text_bytes(tables, rest, rest.len(), dst)
 }
 
+/// Returns the scalar of a byte outside two-byte mode, or `None` if it has none or is the escape byte.
+#[inline(always)]
+fn text_scalar(mode: DecoderMode, byte: u8) -> Option<char>
+    ensures { IfSome result (λ c. (byte ≢ esc) × (single mode byte ≡ Some c)) }
+{
+    if byte == ESCAPE {
+        return None;
+    }
+    single_scalar(mode, byte)
+}
+
+/// Reads bytes one by one from the front outside two-byte mode, up to an escape byte or one without a scalar.
+///
+/// Returns the number of bytes read, which may be 0. If it reads any, three code units stay free.
+#[inline(always)]
+fn read_single_bytes<T: Destination>(
+    tables: &Tables,
+    mode: DecoderMode,
+    src: &[u8],
+    dst: &mut T,
+) -> usize
+    ensures { ReadsModes T.Destination tables.now.flat.jis0208 mode mode src.now result dst.old dst.new }
+{
+    let _ = tables;
+    let mut at = 0;
+    while at < src.len() && dst.free() >= 3 + SLACK {
+        match text_scalar(mode, src[at]) {
+            Some(scalar) => dst.put(scalar),
+            None => return at,
+        }
+        at += 1;
+    }
+    at
+}
+
 /// Checks whether the first byte is of ASCII text.
 #[inline(always)]
 fn begins_ascii_text(src: &[u8]) -> bool {
@@ -177,8 +213,9 @@ fn read_begun<T: Destination>(tables: &Tables, mode: DecoderMode, src: &[u8], ds
 {
     match mode {
         DecoderMode::Ascii if begins_ascii_text(src) => read_ascii_text(tables, src, dst),
+        DecoderMode::Ascii => 0,
         DecoderMode::TwoByte => read_any_pairs(tables, src, dst),
-        _ => 0,
+        DecoderMode::Roman | DecoderMode::Katakana => read_single_bytes(tables, mode, src, dst),
     }
 }
 

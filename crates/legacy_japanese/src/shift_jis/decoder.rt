@@ -1,13 +1,14 @@
 //! The decoder of Shift_JIS.
-ghost use Rattle.std.specs.{Prelude.{◌*◌, ◌≡◌, ◌≤◌, [], option_to_list, IfSome, if◌then◌else◌}, Char.IsScalar};
+ghost use Rattle.std.specs.{Prelude.{ℕ, ◌*◌, ◌≡◌, ◌≤◌, [], option_to_list, IfSome, if◌then◌else◌}, Char.IsScalar};
 ghost use Rattle.{legacy_tables.specs.Unicode.katakana_of, legacy_base.specs.{ShiftJis.{is_shift_jis_lead, shift_jis_scalars}, Grammar.shift_jis}};
 ghost use Rattle.legacy_japanese.specs.{ShiftJisPlaces.shift_jis_place, ShiftJisShown.{shift_jis_codec, shift_jis_first, shift_jis_pair_scalars}};
-ghost use Rattle.legacy_decoder_engine.{proofs.LeadHeld.ascii, specs.{Feeding.Took, LeadCodecs.held_bytes}};
+ghost use Rattle.legacy_decoder_engine.{proofs.LeadHeld.ascii, specs.{Feeding.Took, LeadCodecs.held_bytes, ReadAhead.IsFrontForm}};
+ghost use Rattle.legacy_tables.specs.AcceptedTables.{AcceptedIndexes};
 
 use super::held_lead::ShiftJisLead;
 use super::places::{LEADS, TRAILS};
 use legacy_base::{IndexName, Tables};
-use legacy_decoder_engine::common_forms::CommonForm;
+use legacy_decoder_engine::forms::Form;
 use legacy_decoder_engine::lane_codec::LaneCodec;
 use legacy_decoder_engine::lane_places::{lead_places, place_sums, trail_places};
 use legacy_decoder_engine::lead_and_trail::{malformed_through, read_trail};
@@ -15,6 +16,7 @@ use legacy_decoder_engine::lead_decoder::{LeadCodec, LeadDecoder};
 use legacy_decoder_engine::moves::{Fed, Need};
 use legacy_decoder_engine::places::pair_pointer;
 use legacy_tables::{DecoderTables, FlatTables};
+use std::cell::Cell;
 use std::simd::prelude::*;
 
 /// The codec of Shift_JIS.
@@ -94,6 +96,20 @@ fn form_scalar<V: DecoderTables>(tables: &V, lead: u8, trail: u8) -> Option<char
     pointer_scalar(tables, pair_pointer(&LEADS, &TRAILS, lead, trail))
 }
 
+/// Returns the form of a byte past ASCII that has a scalar by itself, or no form.
+#[inline(always)]
+fn single_form(byte: u8) -> Form
+    ensures { (tables : AcceptedIndexes) (second third fourth : ℕ) → IsFrontForm (shift_jis tables.flat.jis0208) byte second third fourth result }
+{
+    if byte >= 0xA1 && byte <= 0xDF {
+        Form::Single(katakana(byte))
+    } else if byte == 0x80 {
+        Form::Single('\u{80}')
+    } else {
+        Form::Other
+    }
+}
+
 impl LaneCodec for ShiftJis {
     ghost grammar = { λ flat. shift_jis flat.jis0208 };
 
@@ -106,22 +122,19 @@ impl LaneCodec for ShiftJis {
     ghost ascii = { ascii shift_jis_codec };
 
     #[inline(always)]
-    fn is_uncommon(byte: u8) -> bool {
-        byte == 0xA0 || byte >= 0xFD
-    }
-
-    #[inline(always)]
-    #[tactic(auto, using(crate::proofs::ShiftJisPlaces::pair_form))]
-    fn front(tables: &FlatTables<'_>, lead: u8, trail: u8) -> CommonForm {
-        match form_scalar(tables, lead, trail) {
-            Some(scalar) => CommonForm::Pair(scalar),
-            None => {
-                if lead >= 0xA1 && lead <= 0xDF {
-                    CommonForm::Single(katakana(lead))
-                } else {
-                    CommonForm::Other
-                }
-            }
+    #[tactic(auto, using(crate::proofs::ShiftJisPlaces::pair_read))]
+    fn form_at(
+        tables: &FlatTables<'_>,
+        guess: &Cell<usize>,
+        first: u8,
+        second: u8,
+        third: u8,
+        fourth: u8,
+    ) -> Form {
+        let _ = (guess.get(), third, fourth);
+        match form_scalar(tables, first, second) {
+            Some(scalar) => Form::Pair(scalar),
+            None => single_form(first),
         }
     }
 

@@ -6,7 +6,7 @@ ghost use Rattle.legacy_korean.specs.EucKrShown.{euc_kr_codec};
 
 use super::places::TRAILS;
 use legacy_base::{IndexName, Tables};
-use legacy_decoder_engine::common_forms::CommonForm;
+use legacy_decoder_engine::forms::Form;
 use legacy_decoder_engine::held_lead::Lead;
 use legacy_decoder_engine::lane_codec::LaneCodec;
 use legacy_decoder_engine::lane_places::{late_places, lead_places, place_sums};
@@ -15,6 +15,7 @@ use legacy_decoder_engine::lead_decoder::{LeadCodec, LeadDecoder};
 use legacy_decoder_engine::moves::{Fed, Need};
 use legacy_decoder_engine::places::{ROWS_OF_190, pair_pointer};
 use legacy_tables::{DecoderTables, FlatTables};
+use std::cell::Cell;
 use std::simd::prelude::*;
 
 /// The codec of EUC-KR.
@@ -59,14 +60,17 @@ impl LaneCodec for EucKr {
     ghost ascii = { ascii euc_kr_codec };
 
     #[inline(always)]
-    fn is_uncommon(byte: u8) -> bool {
-        byte >= 0x80 && Lead::new(byte).is_none()
-    }
-
-    #[inline]
-    #[tactic(auto, using(crate::proofs::EucKrPlaces::pair_form, legacy_decoder_engine::proofs::CommonPairs::common_pair))]
-    fn front(tables: &FlatTables<'_>, lead: u8, trail: u8) -> CommonForm {
-        CommonForm::of_pair(form_scalar(tables, lead, trail))
+    #[tactic(auto, using(crate::proofs::EucKrPlaces::pair_read, legacy_decoder_engine::proofs::FrontForms::pair_is))]
+    fn form_at(
+        tables: &FlatTables<'_>,
+        guess: &Cell<usize>,
+        first: u8,
+        second: u8,
+        third: u8,
+        fourth: u8,
+    ) -> Form {
+        let _ = (guess.get(), third, fourth);
+        Form::of_pair(form_scalar(tables, first, second))
     }
 
     #[inline(always)]

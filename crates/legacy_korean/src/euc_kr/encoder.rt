@@ -15,15 +15,18 @@ use legacy_tables::{EncoderTables, Marks, PackedPart, Tables};
 ///
 /// ASCII is itself. A scalar of index EUC-KR is the lead and the trail of its first pointer. All
 /// other scalars are unmappable.
-pub type EucKrEncoder<'a> = PairEncoder<'a, EucKr, Tables<'a>>;
+pub type EucKrEncoder<'a> = PairEncoder<'a, EucKr>;
 
 /// Returns the lead and the trail of a scalar in index EUC-KR, or `None`.
 #[inline(always)]
 #[tactic(auto, using(std::proofs::lemmas::Grind::common_steps))]
-fn pair<V: EncoderTables>(tables: &V, c: char) -> Option<(u8, u8)>
+fn pair(tables: &Tables<'_>, c: char) -> Option<(u8, u8)>
     ensures { option_map (λ pair. pair.0 ∷ pair.1 ∷ []) result ≡ option_map euc_kr_bytes
-        (index_pointer_of (V.indexes tables.now).flat.euc_kr c) }
+        (index_pointer_of tables.now.flat.euc_kr c) }
 {
+    if c > '\u{FFFF}' {
+        return None;
+    }
     let p = tables.euc_kr_pointer(c)?;
     Some(((p / 190 + 0x81) as u8, (p % 190 + 0x41) as u8))
 }
@@ -47,7 +50,7 @@ impl PairCodec for EucKr {
 
     #[inline]
     #[tactic(auto, unfolding(legacy_base::specs::EucKr::euc_kr_code))]
-    fn code_of<V: EncoderTables>(tables: &V, c: char) -> EncoderMove {
+    fn code_of(tables: &Tables<'_>, c: char) -> EncoderMove {
         let scalar = c as u32;
         if scalar < 0x80 {
             return EncoderMove::One(scalar as u8);
@@ -57,13 +60,19 @@ impl PairCodec for EucKr {
 
     #[inline(always)]
     #[tactic(auto, unfolding(legacy_base::specs::EucKr::euc_kr_code))]
-    fn pair_of<V: EncoderTables>(tables: &V, c: char) -> Option<(u8, u8)> {
+    fn pair_of(tables: &Tables<'_>, c: char) -> Option<(u8, u8)> {
         pair(tables, c)
+    }
+
+    #[inline(always)]
+    #[tactic(auto, unfolding(legacy_base::specs::EucKr::euc_kr_code))]
+    fn code_past_pairs(c: char) -> EncoderMove {
+        EncoderMove::Unmappable(c)
     }
 }
 
 impl FillsPairs for EucKr {
-    fn fill<V: EncoderTables>(encoder: &PairEncoder<'_, Self, V>, entries: &mut [u16]) {
+    fn fill(encoder: &PairEncoder<'_, Self>, entries: &mut [u16]) {
         encoder.tables.fill(PackedPart::EucKrOrder, &EucKr, entries);
         ask_pairs(encoder, entries, 0, 0x80);
     }

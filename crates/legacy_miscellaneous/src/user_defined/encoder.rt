@@ -6,15 +6,13 @@ ghost use Rattle.legacy_miscellaneous.specs.UserDefinedCodes.{user_defined_encod
 use legacy_base::{EncoderStep, RawEncoder, Source};
 use legacy_encoder_engine::drive::drive_encoder;
 use legacy_encoder_engine::moves::EncoderMove;
-use legacy_encoder_engine::plain::PlainEncoder;
 use legacy_encoder_engine::plain_codes::PlainCodes;
-use legacy_encoder_engine::read_ahead::read_common;
 
 /// The encoder of x-user-defined (Encoding Standard, "x-user-defined encoder").
 ///
 /// ASCII is itself, and the private-use scalars U+F780 to U+F7FF are the bytes 80 to FF. All other
 /// scalars are unmappable.
-#[derive(Drop)]
+#[derive(Clone, Copy)]
 pub struct UserDefinedEncoder {
     _made_by_new: (),
 }
@@ -67,13 +65,6 @@ impl PlainCodes for UserDefinedEncoder {
         } else {
             (0, false)
         }
-    }
-}
-
-impl PlainEncoder for UserDefinedEncoder {
-    #[inline]
-    fn read_codes<S: Source>(&self, src: &mut S, dst: &mut [u8], start: usize) -> usize {
-        read_common(self, src, dst, start)
     }
 }
 

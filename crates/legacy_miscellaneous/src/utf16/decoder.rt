@@ -1,17 +1,17 @@
 //! The decoder of UTF-16.
-ghost use Rattle.std.specs.Prelude.{◌≡◌};
-ghost use Rattle.legacy_base.specs.{Grammar.utf16, States.{additional_from_state, new_state}, Lengths.{answer, most_code_units}};
+ghost use Rattle.std.specs.Prelude.{◌≡◌, length};
+ghost use Rattle.legacy_base.specs.{Grammar.utf16, States.{additional_from_state, is_neutral, new_state}, Lengths.{answer, most_code_units}};
 ghost use Rattle.legacy_miscellaneous.specs.Utf16Decoder.{utf16_state};
 
 mod resume;
 
 use super::held_bytes::Held;
+use super::near_surrogates::read_text;
 use super::unit_blocks::Units;
 use super::unit_steps::read_byte;
 use legacy_base::{DecoderStep, Destination, RawDecoder};
 use legacy_decoder_engine::drive::drive_decoder;
 use legacy_decoder_engine::moves::{DecoderMoves, Fed, Need};
-use legacy_decoder_engine::read_ahead::read_blocks;
 
 /// The decoder of UTF-16 in either byte order (Encoding Standard, "shared UTF-16 decoder").
 ///
@@ -24,6 +24,10 @@ use legacy_decoder_engine::read_ahead::read_blocks;
 ///
 /// The unit after an unpaired high surrogate is read and held back, so the result is `Malformed(2,
 /// 2)`.
+///
+/// Each byte is read only if 4 bytes, or 2 code units of UTF-16, are free. So 84 5C A5 85 in little
+/// endian order, to an output of 2 code units of UTF-16, gives `OutputFull` after 2 bytes, although
+/// its text has 2 code units. An output of 3 bytes, or 1 code unit, more than the text is enough.
 #[derive(Drop)]
 pub struct Utf16Decoder {
     big_endian: bool,
@@ -55,6 +59,22 @@ impl Utf16Decoder {
             Held::High(_) | Held::Pending(_) => 3,
             Held::HighOdd(_, _) => 4,
         }
+    }
+
+    /// Checks whether no byte is held back.
+    #[inline]
+    pub fn in_neutral_state(&self) -> bool
+        ensures { result ≡ is_neutral (utf16_state self.now) }
+    {
+        matches!(self.held, Held::Nothing)
+    }
+
+    /// Returns the number of held-back bytes, at most 3.
+    #[inline]
+    pub fn held_count(&self) -> usize
+        ensures { result ≡ length (utf16_state self.now).held }
+    {
+        self.additional_from_state() - 1
     }
 
     /// Returns the most code units of `byte_length` more bytes and those held back.
@@ -128,9 +148,9 @@ impl DecoderMoves for Utf16Decoder {
         if !matches!(self.held, Held::Nothing) {
             0
         } else if self.big_endian {
-            read_blocks(&Units { big_endian: true }, src, dst)
+            read_text(Units { big_endian: true }, src, dst)
         } else {
-            read_blocks(&Units { big_endian: false }, src, dst)
+            read_text(Units { big_endian: false }, src, dst)
         }
     }
 }

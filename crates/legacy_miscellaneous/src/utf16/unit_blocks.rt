@@ -1,14 +1,13 @@
-//! Blocks of UTF-16 code units without surrogates: to UTF-8 by 64, 32 or eight, to UTF-16 by sixteen, and one by one.
+//! Blocks of UTF-16 code units: by vectors, to UTF-8 64, 32 or eight and to UTF-16 sixteen or eight at a time, near
+//! surrogates eight at a time with the pair after them, and at the end of the input one scalar after the other.
 // Functions that run for each block are always inlined. A call would pass vectors through memory, and
 // keep the destination's place there.
 ghost use Rattle.std.specs.{Prelude.{◌≡◌, ◌+◌, ◌*◌, ◌%◌, ◌<◌, ◌≤◌, ℕ, length, true, false, slice_index}, Char.IsScalar};
 ghost use Rattle.{legacy_text.specs.EncodingForm.bmp_need, legacy_base.specs.{Grammar.utf16, States.new_state}};
 ghost use Rattle.{legacy_decoder_engine.specs.ReadAhead.ReadsAhead, legacy_miscellaneous.specs.Utf16Decoder.{HasAsciiUnits, KeepsAscii, AreUnitsBelow}};
 
-use super::unit_steps::unit;
 use super::vectors::{eight_units, sixteen_units};
 use legacy_base::Destination;
-use legacy_decoder_engine::common_forms::{CommonForm, FrontForms, read_forms};
 use legacy_decoder_engine::read_ahead::{BlockReader, SLACK, read_blocks};
 use legacy_text::are_all_below;
 
@@ -16,17 +15,6 @@ use legacy_text::are_all_below;
 #[derive(Drop)]
 pub struct Units {
     pub big_endian: bool,
-}
-
-impl FrontForms for Units {
-    ghost grammar = { λ units. utf16 units.big_endian };
-
-    #[inline(always)]
-    #[tactic(auto, using(crate::proofs::Utf16Ahead::unit_pair))]
-    fn form(&self, first: u8, second: u8) -> CommonForm {
-        let unit = unit(self.big_endian, first, second);
-        CommonForm::of_pair(char::from_u32(u32::from(unit)))
-    }
 }
 
 /// Checks whether any of the units is a surrogate.
@@ -189,6 +177,18 @@ impl Units {
         16 * eights
     }
 
+    /// Decodes eight units, or none if one of them is a surrogate. Returns the number of bytes read.
+    #[inline(always)]
+    fn read_eight<T: Destination>(&self, src: &[u8], dst: &mut T) -> usize
+        ensures { ReadsAhead T.Destination (new_state (utf16 self.now.big_endian)) src.now result dst.old dst.new }
+    {
+        if src.len() < 16 || dst.free() < 32 + SLACK {
+            return 0;
+        }
+        let is_short = self.are_below(src, 1, 0x800);
+        self.read_eights(src, dst, 1, is_short)
+    }
+
     /// Decodes sixteen units, or none if one of them is a surrogate. Returns the number of bytes read.
     ///
     /// Each unit is written as one code unit.
@@ -235,14 +235,19 @@ impl Units {
         at
     }
 
-    /// Decodes units from the front by vectors, up to a surrogate. Returns the number of bytes read.
+    /// Decodes units from the front by vectors, up to eight with a surrogate. Returns the number of bytes read.
     // The numbers of groups are constants, so that the compiler unrolls the loops over them.
     #[inline(always)]
     fn read_vectors<T: Destination>(&self, src: &[u8], dst: &mut T) -> usize
         ensures { ReadsAhead T.Destination (new_state (utf16 self.now.big_endian)) src.now result dst.old dst.new }
     {
         if T::narrow() == 1 {
-            return self.read_sixteens(src, dst);
+            let read = self.read_sixteens(src, dst);
+            return if read > 0 {
+                read
+            } else {
+                self.read_eight(src, dst)
+            };
         }
         let eights = (src.len() / 16).min(dst.free().saturating_sub(8 + SLACK) / 24);
         if eights >= 8 {
@@ -250,7 +255,7 @@ impl Units {
         } else if eights >= 4 {
             self.read_groups(src, dst, 4)
         } else {
-            self.read_eights(src, dst, eights, false)
+            self.read_eight(src, dst)
         }
     }
 }
@@ -258,14 +263,10 @@ impl Units {
 impl BlockReader for Units {
     ghost grammar = { λ units. utf16 units.big_endian };
 
-    /// Decodes units by vectors, or up to eight one by one if no vector can be read.
+    /// Decodes units by vectors.
     #[inline(always)]
     fn read_block<T: Destination>(&self, src: &[u8], dst: &mut T) -> (usize, bool) {
-        let at = self.read_vectors(src, dst);
-        if at > 0 {
-            return (at, true);
-        }
-        let read = read_forms(self, src, 16, dst);
+        let read = self.read_vectors(src, dst);
         (read, read > 0)
     }
 }

@@ -19,6 +19,7 @@ pub fn unit(big_endian: bool, first: u8, second: u8) -> u16
     }
 }
 
+/// Returns whether the unit is a high surrogate.
 #[inline]
 pub fn is_high(unit: u16) -> bool
     ensures { result ≡ is_high_surrogate unit }
@@ -26,11 +27,21 @@ pub fn is_high(unit: u16) -> bool
     unit >= 0xD800 && unit < 0xDC00
 }
 
+/// Returns whether the unit is a low surrogate.
 #[inline]
 pub fn is_low(unit: u16) -> bool
     ensures { result ≡ is_low_surrogate unit }
 {
     unit >= 0xDC00 && unit < 0xE000
+}
+
+/// Returns whether the units are a high surrogate and a low one.
+#[inline]
+pub fn is_pair(high: u16, low: u16) -> bool
+    ensures high { result ≡ true → is_high_surrogate high ≡ true }
+    ensures low { result ≡ true → is_low_surrogate low ≡ true }
+{
+    is_high(high) && is_low(low)
 }
 
 /// Returns what the second byte of a unit leads to if no high surrogate is before the unit.
@@ -51,7 +62,7 @@ fn read_second(big_endian: bool, first: OddByte, byte: u8) -> (Fed, Held)
 
 /// Returns the scalar of a high and a low surrogate.
 #[inline]
-fn pair(high: HighSurrogate, low: u16) -> char
+pub fn pair(high: HighSurrogate, low: u16) -> char
     requires { is_low_surrogate low ≡ true }
     ensures { result ≡ surrogate_pair_char high.unit low }
 {

@@ -9,9 +9,7 @@ use super::run::{SingleByteRun, SingleByteRunError, check_run};
 use legacy_base::{EncoderStep, RawEncoder, SingleByteTable, Source};
 use legacy_encoder_engine::drive::drive_encoder;
 use legacy_encoder_engine::moves::EncoderMove;
-use legacy_encoder_engine::plain::PlainEncoder;
 use legacy_encoder_engine::plain_codes::PlainCodes;
-use legacy_encoder_engine::read_ahead::read_common;
 
 /// The encoder of a single-byte encoding (Encoding Standard, "single-byte encoder").
 ///
@@ -178,15 +176,6 @@ impl PlainCodes for SingleByteEncoder<'_> {
             if unit < 0x80 { unit as u8 } else { past },
             (unit < 0x80) | is_in_run,
         )
-    }
-}
-
-impl PlainEncoder for SingleByteEncoder<'_> {
-    // Through a reference the compiler would load the run again after each byte that is stored.
-    #[inline]
-    fn read_codes<S: Source>(&self, src: &mut S, dst: &mut [u8], start: usize) -> usize {
-        let encoder = *self;
-        read_common(&encoder, src, dst, start)
     }
 }
 

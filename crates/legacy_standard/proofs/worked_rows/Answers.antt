@@ -115,6 +115,8 @@ returns-clause-without_pointers c = record {
   iso_2022_jp = (refl, refl);
   katakana = (refl, refl);
   overline = (refl, refl);
+  minus = (refl, refl);
+  half_width = (refl, refl);
   row = past_rows 8836 (omega arith);
   gb18030 = (refl, past_ranges);
 }

@@ -6,7 +6,9 @@ use legacy_codecs::{
     RawDecoder, RawEncoder, SingleByteRun, SingleByteTable, Tables, UserDefinedEncoder,
     decode_piece, decode_whole, encode_whole, malformed_sequences, transcode,
 };
-use legacy_encodings::{Coders, Registry, RegistryError};
+use legacy_encodings::{
+    Coders, Encoded, OutputEncoding, Registry, RegistryError, TranscodeError, Transcoded,
+};
 use legacy_index_files::{Encoding, FileIndex};
 use legacy_uses::browser::show_piece;
 use legacy_uses::checker::is_well_formed;
@@ -188,7 +190,7 @@ fn read(
     index: FileIndex,
     file: &[u8],
 ) -> Result<(), RegistryError> {
-    Ok(registry.indexes.read(alloc, index, file)?)
+    registry.read_index(alloc, index, file)
 }
 
 /// Returns a registry with the first line of index EUC-KR and with windows-1252.
@@ -201,15 +203,37 @@ fn registry_of(alloc: Global) -> Result<Registry, RegistryError> {
     Ok(registry)
 }
 
+/// Encodes a text.
+fn encoded(alloc: Global, coders: &Coders, name: &str, text: &str) -> Option<Encoded> {
+    coders.encode(alloc, name, text).ok()
+}
+
 /// Checks whether the text is encoded to the bytes.
 fn is_encoded(alloc: Global, coders: &Coders, name: &str, text: &str, bytes: &[u8]) -> bool {
-    coders.encode(alloc, name, text).as_deref() == Ok(bytes)
+    match encoded(alloc, coders, name, text) {
+        Some(encoded) => encoded.bytes.as_slice() == bytes,
+        None => false,
+    }
+}
+
+/// Checks whether the bytes are decoded to the text, and whether U+FFFD was written for one of them.
+fn is_decoded_by_name(
+    alloc: Global,
+    coders: &Coders,
+    name: &str,
+    bytes: &[u8],
+    (text, replaced): (&str, bool),
+) -> bool {
+    match coders.decode(alloc, name, bytes) {
+        Ok(decoded) => decoded.text.as_str() == text && decoded.replaced == replaced,
+        Err(_) => false,
+    }
 }
 
 /// Checks whether the bytes are decoded to the text, and the text encoded to the bytes.
 fn goes_both_ways(alloc: Global, coders: &Coders, name: &str, bytes: &[u8], text: &str) -> bool {
-    let decoded = coders.decode(alloc, name, bytes);
-    decoded.as_deref() == Ok(text) && is_encoded(alloc, coders, name, text, bytes)
+    is_decoded_by_name(alloc, coders, name, bytes, (text, false))
+        && is_encoded(alloc, coders, name, text, bytes)
 }
 
 /// Returns the error of decoding no bytes by this name, if there is one.
@@ -222,9 +246,15 @@ type Both<'a> = (&'a str, &'a [u8], &'a str);
 
 const BOTH: &[Both] = &[
     ("EUC-KR", b"a\x81\x41", "a\u{AC02}"),
+    // By labels.
+    (" Korean\n", b"a\x81\x41", "a\u{AC02}"),
+    ("latin1", b"a\x80", "a\u{20AC}"),
     ("windows-1252", b"a\x80", "a\u{20AC}"),
     ("x-user-defined", b"a\x80", "a\u{F780}"),
 ];
+
+/// Encodings of which that registry lacks an index.
+const LACKING: &[&str] = &["windows-1251", "Big5", "GBK", "EUC-JP", "ISO-2022-JP"];
 
 #[test]
 fn a_registry_goes_by_names(rt: HostRuntime) {
@@ -236,8 +266,12 @@ fn a_registry_goes_by_names(rt: HostRuntime) {
     }
     let unknown = refusal(rt.alloc(), &coders, "latin");
     holds(&rt, "latin", unknown == Some(RegistryError::Unknown));
-    let lacking = refusal(rt.alloc(), &coders, "windows-1251");
-    holds(&rt, "windows-1251", lacking == Some(RegistryError::NoIndex));
+    let unknown = refusal(rt.alloc(), &coders, "utf-8");
+    holds(&rt, "utf-8", unknown == Some(RegistryError::Unknown));
+    for name in LACKING {
+        let lacking = refusal(rt.alloc(), &coders, *name);
+        holds(&rt, *name, lacking == Some(RegistryError::NoIndex));
+    }
 }
 
 #[test]
@@ -277,9 +311,7 @@ fn runs(entries: &[u16; 128], scalar: u16, start: u8, count: u8) -> bool {
 fn japanese(alloc: Global) -> Result<Registry, RegistryError> {
     let mut registry = Registry::new(alloc);
     read(&mut registry, alloc, FileIndex::Jis0208, b"2 0x3002\n")?;
-    registry
-        .indexes
-        .read_katakana(alloc, b"0 0x3002\n1 0x300C\n62 0x0\n")?;
+    registry.read_katakana(alloc, b"0 0x3002\n1 0x300C\n62 0x0\n")?;
     Ok(registry)
 }
 
@@ -329,34 +361,190 @@ fn places(alloc: Global, coders: &Coders, message: &[u8]) -> Option<(usize, bool
     Some((found.len(), is_so))
 }
 
-/// Checks whether the input gives these bytes by both ways to transcode by names.
+/// Transcodes an input.
+fn transcoded(
+    alloc: Global,
+    coders: &Coders,
+    (from, to): (&str, &str),
+    input: &[u8],
+) -> Result<Transcoded, TranscodeError> {
+    transcode_file(alloc, coders, from, to, input)
+}
+
+/// Checks whether the input gives these bytes, and whether it was malformed and its text unmappable.
 fn transcodes(
     alloc: Global,
     coders: &Coders,
-    from: &str,
-    to: &str,
+    names: (&str, &str),
     input: &[u8],
-    wanted: &[u8],
+    (wanted, malformed, unmappable): (&[u8], bool, bool),
 ) -> bool {
-    let file = transcode_file(alloc, coders, from, to, input);
-    let bytes = coders.transcode(alloc, from, to, input);
-    file.as_deref() == Ok(wanted) && bytes.as_deref() == Ok(wanted)
+    match transcoded(alloc, coders, names, input) {
+        Ok(came) => {
+            came.bytes.as_slice() == wanted
+                && came.malformed == malformed
+                && came.unmappable == unmappable
+        }
+        Err(_) => false,
+    }
 }
 
-/// The names of two encodings, bytes in the first one, and bytes in the second one.
-type Transcoded<'a> = (&'a str, &'a str, &'a [u8], &'a [u8]);
+/// The labels of two encodings, bytes in the first one, and bytes in the second one.
+///
+/// Beside them is whether the input is malformed, and whether its text is unmappable.
+type FromTo<'a> = ((&'a str, &'a str), &'a [u8], (&'a [u8], bool, bool));
 
-const TRANSCODED: &[Transcoded] = &[
-    ("windows-1252", "EUC-KR", b"a\x80", b"a&#8364;"),
+const TRANSCODED: &[FromTo] = &[
+    (
+        ("windows-1252", "EUC-KR"),
+        b"a\x80",
+        (b"a&#8364;", false, true),
+    ),
+    (
+        ("EUC-KR", "x-user-defined"),
+        b"\x81\x41\xFF",
+        (b"&#44034;&#65533;", true, true),
+    ),
+    (
+        ("korean", "EUC-KR"),
+        b"\x81\x41",
+        (b"\x81\x41", false, false),
+    ),
+];
+
+/// The labels of two encodings, and the error of transcoding from the first one to the second one.
+type Untranscoded<'a> = ((&'a str, &'a str), TranscodeError);
+
+const UNTRANSCODED: &[Untranscoded] = &[
+    (("x-user-defined", "UTF-16LE"), TranscodeError::NoEncoder),
+    (("x-user-defined", "replacement"), TranscodeError::NoEncoder),
+    (
+        ("latin", "EUC-KR"),
+        TranscodeError::From(RegistryError::Unknown),
+    ),
+    (
+        ("EUC-KR", "latin"),
+        TranscodeError::To(RegistryError::Unknown),
+    ),
+    (
+        ("Big5", "EUC-KR"),
+        TranscodeError::From(RegistryError::NoIndex),
+    ),
+    (
+        ("EUC-KR", "Big5"),
+        TranscodeError::To(RegistryError::NoIndex),
+    ),
+];
+
+#[test]
+fn an_error_says_which_encoding_it_means(rt: HostRuntime) {
+    let registry = registry_of(rt.alloc()).expect(&rt, "registry");
+    let coders = registry.coders().expect(&rt, "coders");
+    for (names, error) in UNTRANSCODED {
+        let came = transcoded(rt.alloc(), &coders, *names, b"a").err();
+        holds(&rt, names.0, came.as_ref() == Some(error));
+    }
+}
+
+/// Checks whether the text is encoded to the bytes, in this output encoding, with a reference or not.
+fn gives(
+    alloc: Global,
+    coders: &Coders,
+    name: &str,
+    text: &str,
+    (bytes, encoding, replaced): (&[u8], OutputEncoding, bool),
+) -> bool {
+    match encoded(alloc, coders, name, text) {
+        Some(encoded) => {
+            encoded.bytes.as_slice() == bytes
+                && encoded.encoding == encoding
+                && encoded.replaced == replaced
+        }
+        None => false,
+    }
+}
+
+/// The label of an encoding, a text, its bytes, their encoding, and whether a reference is among them.
+type Told<'a> = (&'a str, &'a str, (&'a [u8], OutputEncoding, bool));
+
+const TOLD: &[Told] = &[
     (
         "EUC-KR",
-        "x-user-defined",
-        b"\x81\x41\xFF",
-        b"&#44034;&#65533;",
+        "a\u{AC02}",
+        (b"a\x81\x41", OutputEncoding::Legacy(Encoding::EucKr), false),
     ),
-    // Of UTF-16LE the encoder is that of UTF-8.
-    ("x-user-defined", "UTF-16LE", b"a\x80", b"a\xEF\x9E\x80"),
+    (
+        "EUC-KR",
+        "\u{AC03}",
+        (b"&#44035;", OutputEncoding::Legacy(Encoding::EucKr), true),
+    ),
+    // The output encoding of UTF-16 is UTF-8.
+    (
+        "UTF-16LE",
+        "\u{AC02}",
+        (b"\xEA\xB0\x82", OutputEncoding::Utf8, false),
+    ),
 ];
+
+#[test]
+fn what_was_replaced_is_told(rt: HostRuntime) {
+    let registry = registry_of(rt.alloc()).expect(&rt, "registry");
+    let coders = registry.coders().expect(&rt, "coders");
+    for (name, text, wanted) in TOLD {
+        holds(
+            &rt,
+            *text,
+            gives(rt.alloc(), &coders, *name, *text, *wanted),
+        );
+    }
+    let wanted = ("\u{FFFD}", true);
+    let is_so = is_decoded_by_name(rt.alloc(), &coders, "EUC-KR", b"\xFF", wanted);
+    holds(&rt, "a malformed sequence", is_so);
+}
+
+/// Reads a file of a single-byte encoding, and tells the error.
+fn refusal_of_table(alloc: Global, encoding: Encoding) -> Option<RegistryError> {
+    let mut registry = Registry::new(alloc);
+    registry
+        .read_single_byte(alloc, encoding, b"0\t0x20AC\n")
+        .err()
+}
+
+/// Reads a file as an index, and tells the error.
+fn refusal_of_index(alloc: Global, index: FileIndex) -> Option<RegistryError> {
+    let mut registry = Registry::new(alloc);
+    read(&mut registry, alloc, index, b"0\t0x20AC\n").err()
+}
+
+#[test]
+fn a_file_of_another_kind_is_refused(rt: HostRuntime) {
+    let of_pairs = refusal_of_table(rt.alloc(), Encoding::EucKr);
+    holds(&rt, "EUC-KR", of_pairs == Some(RegistryError::WrongKind));
+    let of_one = refusal_of_index(rt.alloc(), FileIndex::SingleByte);
+    holds(&rt, "single-byte", of_one == Some(RegistryError::WrongKind));
+    holds(
+        &rt,
+        "jis0208",
+        refusal_of_index(rt.alloc(), FileIndex::Jis0208) == None,
+    );
+}
+
+/// Reads an empty index of EUC-KR, and tells the error of decoding by it.
+fn refusal_by_empty_index(alloc: Global) -> Option<RegistryError> {
+    let mut registry = Registry::new(alloc);
+    if let Err(error) = read(&mut registry, alloc, FileIndex::EucKr, b"") {
+        return Some(error);
+    }
+    match registry.coders() {
+        Ok(coders) => refusal(alloc, &coders, "EUC-KR"),
+        Err(fault) => Some(RegistryError::Tables(fault)),
+    }
+}
+
+#[test]
+fn an_index_may_be_empty_on_purpose(rt: HostRuntime) {
+    holds(&rt, "EUC-KR", refusal_by_empty_index(rt.alloc()) == None);
+}
 
 #[test]
 fn messages_are_checked_and_files_transcoded(rt: HostRuntime) {
@@ -364,8 +552,8 @@ fn messages_are_checked_and_files_transcoded(rt: HostRuntime) {
     let coders = registry.coders().expect(&rt, "coders");
     assert!(rt; places(rt.alloc(), &coders, b"a\x81\x41") == Some((0, true)));
     assert!(rt; places(rt.alloc(), &coders, b"a\xFF\x81") == Some((2, false)));
-    for (from, to, bytes, wanted) in TRANSCODED {
-        let is_so = transcodes(rt.alloc(), &coders, *from, *to, *bytes, *wanted);
-        holds(&rt, *from, is_so);
+    for (names, bytes, wanted) in TRANSCODED {
+        let is_so = transcodes(rt.alloc(), &coders, *names, *bytes, *wanted);
+        holds(&rt, names.0, is_so);
     }
 }

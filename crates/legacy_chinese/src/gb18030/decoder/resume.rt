@@ -1,9 +1,9 @@
 //! A decoder that continues from held-back bytes.
-ghost use Rattle.std.specs.Prelude.{◌≡◌, true, false, length, IfNone, IfSome};
+ghost use Rattle.std.specs.Prelude.{◌≡◌, true, false, IfNone, IfSome};
 ghost use Rattle.legacy_base.specs.{Grammar.gb18030, States.{may_hold, state_of, gb18030_may_hold}};
 ghost use Rattle.legacy_chinese.specs.Gb18030Decoder.{gb18030_state, held_bytes};
 
-use super::{Digit, Gb18030Decoder, Held, Lead, held_length};
+use super::{Digit, Gb18030Decoder, Held, Lead};
 use legacy_base::Tables;
 
 /// Returns these held-back bytes, or `None` if no decoder may hold them back.
@@ -45,13 +45,5 @@ impl<'a> Gb18030Decoder<'a> {
         let mut decoder = Gb18030Decoder::new(tables);
         decoder.held = kept;
         Some(decoder)
-    }
-
-    /// Returns the number of held-back bytes.
-    #[inline]
-    pub fn held_count(&self) -> usize
-        ensures { result ≡ length (gb18030_state self.now).held }
-    {
-        usize::from(held_length(self.held))
     }
 }

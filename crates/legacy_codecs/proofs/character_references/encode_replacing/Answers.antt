@@ -3,7 +3,8 @@ use Rattle.std.proofs.lemmas.List.{length-take, length-take-le}
 use Rattle.legacy_base.specs.declared.results.EncoderResult.TheVariants.{OutputFull}
 use Rattle.legacy_codecs.specs.References.{reference}
 use Rattle.legacy_codecs.specs.declared.results.CoderResult.TheVariants as coder
-use Rattle.legacy_codecs.proofs.ReferencingCalls.{referencing_start, referencing_step, referencing_less, referencing_end, referencing_done, nothing_reported}
+use Rattle.legacy_codecs.proofs.ReferencingCalls.{referencing_start, referencing_step, referencing_less, referencing_end}
+use Rattle.legacy_codecs.proofs.ReferencingCalls.{referencing_done, referencing_stops, nothing_reported}
 use Rattle.legacy_codecs.proofs.ReferencingCalls.{nothing_left}
 use Rattle.legacy_codecs.proofs.character_references.encode_replacing.Goals as goal
 
@@ -54,6 +55,12 @@ calls-preserved g c =
     }
 
 -- a reference has no room
+
+pub returns-then-is_some-clause-call : goal.returns-then-is_some-clause-call
+returns-then-is_some-clause-call g c =
+    let long = length-take-le c.calls.written c.calls.dst c.calls.invariant.within in
+    let some = sym (ap is_some c.peek.ensures) ∙ sym c.is_some.ensures ∙ c.if-is_some.true in
+    referencing_stops c.calls.invariant.calls (omega (arith, long, c.calls.auto.dst, c.calls-test.false)) some
 
 pub returns-in-InputEmpty-0₀-clause-call : goal.returns-in-InputEmpty-0₀-clause-call
 returns-in-InputEmpty-0₀-clause-call g c =

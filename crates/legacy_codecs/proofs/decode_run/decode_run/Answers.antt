@@ -10,4 +10,8 @@ run_calls-requires g c = record {
 }
 
 pub returns : goal.returns
-returns g c = record { run = c.run_calls.ensures; too_long = ((λ e. cc), (λ h. let e = c.in_ok-events.ensures.too_long.1 h in cc)); unchanged = tt }
+returns g c = record {
+  run = (c.in_ok-events.ensures.sound, c.run_calls.ensures);
+  too_long = ((λ e. cc), (λ h. let e = c.in_ok-events.ensures.too_long.1 h in cc));
+  unchanged = tt;
+}

@@ -3,4 +3,4 @@ use Rattle.legacy_codecs.proofs.RunResults.{run_decodes}
 use Rattle.legacy_codecs.proofs.decode_run.decode_run_utf8.Goals as goal
 
 pub returns-clause-run : goal.returns-clause-run
-returns-clause-run g c = IfOk-weaker c.decode_run.result _ _ (λ run calls. run_decodes calls) c.decode_run.ensures.run
+returns-clause-run g c = IfOk-weaker c.decode_run.result _ _ (λ run made. run_decodes made.0 made.1) c.decode_run.ensures.run

@@ -10,7 +10,7 @@ loop-calls-init g c =
     let none = c.args.events.ok.0 ∙ ap length c.requires.empty in
     let state = g.E.RawEncoder.state c.args.encoder.now in
     let split = c.split_pieces-first.ensures in
-    let first = place_split g.T.Text.scalars state c.args.pieces.now c.empty.ensures split.first split.later in
+    let first = place_split g.T.Piece.items state c.args.pieces.now c.empty.ensures split.first split.later in
     record {
       reaches = rw (c.requires.empty, c.cursor-unread.ensures, first) begun;
       room = let r = c.requires.room in omega arith;
@@ -36,10 +36,10 @@ returns-then-last g c =
     let call = c.call_once.ensures.call in
     let few = c.loop-calls-test.true in
     let given = slice_get-get_or c.args.lengths.now c.loop-calls.calls 0 few in
-    let last = c.is_empty-last.ensures ∙ none_is g.T.Text.scalars c.loop-calls.later.now in
+    let last = c.is_empty-last.ensures ∙ none_is g.T.Piece.items c.loop-calls.later.now in
     let emptied = sym c.if-call_once.true ∙ call.3 in
     record {
-      place = place_before after (map g.T.Text.scalars c.loop-calls.later.now);
+      place = place_before after (map g.T.Piece.items c.loop-calls.later.now);
       reaches = reaches_call i.reaches given call.2 last emptied call.4 (sym c.if-last.true ∙ last) refl;
       state = place_before-state after _;
       few = omega arith;
@@ -57,7 +57,7 @@ loop-calls-preserved g c =
     let after = g.E.RawEncoder.state c.call_once.new.encoder in
     let call = c.call_once.ensures.call in
     let few = c.loop-calls-test.true in
-    let last = c.is_empty-last.ensures ∙ none_is g.T.Text.scalars c.loop-calls.later.now in
+    let last = c.is_empty-last.ensures ∙ none_is g.T.Piece.items c.loop-calls.later.now in
     let given = slice_get-get_or c.args.lengths.now c.loop-calls.calls 0 few in
     let room = room_later c.args.lengths.now few _ i.room c.call_once.ensures.capacity c.call_once.ensures.len in
     elim c.if-call_once.branch [
@@ -65,7 +65,7 @@ loop-calls-preserved g c =
           let goes = sym w.if-last.false ∙ last in
           let emptied = sym w.if-call_once.true ∙ call.3 in
           let split = w.split_pieces-next.ensures in
-          let next = place_split g.T.Text.scalars after c.loop-calls.later.now w.empty-then-call_once.ensures split.first split.later in
+          let next = place_split g.T.Piece.items after c.loop-calls.later.now w.empty-then-call_once.ensures split.first split.later in
           rw (w.unread-is, w.later-is, w.cursor-unread-then-call_once.ensures) record {
             reaches = reaches_call i.reaches given call.2 last emptied call.4 goes next;
             room = room;

@@ -1,4 +1,3 @@
-use Rattle.std.proofs.Common.{arith}
 use Rattle.legacy_decoder_engine.proofs.{JoinedReads.reads_more}
 use Rattle.legacy_decoder_engine.proofs.WrittenReads.{reads_none}
 use Rattle.legacy_decoder_engine.proofs.lane_blocks.read_short.Goals as goal
@@ -11,7 +10,7 @@ returns-then-not-goes_on g c = reads_more c.loop-codes.invariant c.read_front-re
 
 pub returns-then-begins_many : goal.returns-then-begins_many
 returns-then-begins_many g c =
-    reads_more (reads_more c.loop-codes.invariant c.read_front-read.ensures.ahead) (rw c.copied-copied.ensures at c.read_long.ensures)
+    reads_more (reads_more c.loop-codes.invariant c.read_front-read.ensures.ahead) c.read_long.ensures
 
 pub loop-codes-init : goal.loop-codes-init
 loop-codes-init g c = reads_none g.T.Destination _ _ _

@@ -1,9 +1,9 @@
 //! A decoder that continues from held-back bytes.
-ghost use Rattle.std.specs.Prelude.{◌≡◌, true, false, length, IfNone, IfSome};
+ghost use Rattle.std.specs.Prelude.{◌≡◌, true, false, IfNone, IfSome};
 ghost use Rattle.legacy_base.specs.{Grammar.euc_jp, States.{may_hold, state_of}};
 ghost use Rattle.legacy_japanese.specs.EucJpDecoder.{euc_jp_state};
 
-use super::{EucJpDecoder, EucJpLead, Held, held_length};
+use super::{EucJpDecoder, EucJpLead, Held};
 use legacy_base::Tables;
 
 impl<'a> EucJpDecoder<'a> {
@@ -27,13 +27,5 @@ impl<'a> EucJpDecoder<'a> {
         let mut decoder = EucJpDecoder::new(tables);
         decoder.held = kept;
         Some(decoder)
-    }
-
-    /// Returns the number of held-back bytes.
-    #[inline]
-    pub fn held_count(&self) -> usize
-        ensures { result ≡ length (euc_jp_state self.now).held }
-    {
-        usize::from(held_length(self.held))
     }
 }

@@ -1,5 +1,5 @@
 //! A decoder that continues from a mode and held-back bytes.
-ghost use Rattle.std.specs.Prelude.{◌≡◌, ◌∷◌, [], true, false, length, IfNone, IfSome, MatchOption, Some};
+ghost use Rattle.std.specs.Prelude.{◌≡◌, ◌∷◌, [], true, false, IfNone, IfSome, MatchOption, Some};
 ghost use Rattle.legacy_base.specs.{Grammar.iso_2022_jp, Iso2022Jp.iso_2022_jp_may_hold};
 ghost use Rattle.legacy_base.specs.States.{may_hold, state_of, is_escape_start, is_iso_2022_jp_byte, is_whole_escape};
 ghost use Rattle.legacy_japanese.specs.{Iso2022JpDecoder.iso_2022_jp_state, Iso2022JpMachine.{bytes_held, escape_bytes, is_held, start_bytes}};
@@ -92,13 +92,5 @@ impl<'a> Iso2022JpDecoder<'a> {
         ensures { (iso_2022_jp_state self.now).grammar ≡ iso_2022_jp self.now.tables.now.flat.jis0208 result }
     {
         self.mode
-    }
-
-    /// Returns the number of held-back bytes.
-    #[inline]
-    pub fn held_count(&self) -> usize
-        ensures { result ≡ length (iso_2022_jp_state self.now).held }
-    {
-        usize::from(self.held.count())
     }
 }

@@ -1,5 +1,5 @@
 //! A decoder that continues from held-back bytes.
-ghost use Rattle.std.specs.{Prelude.{◌≡◌, [], ◌∷◌, true, false, Bool, length, IfNone, IfSome}, Char.Utf16.is_low_surrogate};
+ghost use Rattle.std.specs.{Prelude.{◌≡◌, [], ◌∷◌, true, false, Bool, IfNone, IfSome}, Char.Utf16.is_low_surrogate};
 ghost use Rattle.legacy_base.specs.{Grammar.utf16, States.{may_hold, state_of}};
 ghost use Rattle.legacy_miscellaneous.specs.Utf16Decoder.{first_byte, second_byte, held_bytes, utf16_state};
 
@@ -46,13 +46,5 @@ impl Utf16Decoder {
         let mut decoder = Utf16Decoder::new(big_endian);
         decoder.held = kept;
         Some(decoder)
-    }
-
-    /// Returns the number of held-back bytes.
-    #[inline]
-    pub fn held_count(&self) -> usize
-        ensures { result ≡ length (utf16_state self.now).held }
-    {
-        self.additional_from_state() - 1
     }
 }

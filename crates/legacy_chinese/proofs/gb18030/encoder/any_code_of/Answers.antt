@@ -4,16 +4,16 @@ use Rattle.legacy_chinese.proofs.gb18030.encoder.any_code_of.Goals as goal
 
 pub returns-in-Some : goal.returns-in-Some
 unfolding gb18030_code gbk_code
-returns-in-Some g c = search rules
+returns-in-Some c = search rules
 
 pub returns-in-None : goal.returns-in-None
 unfolding gb18030_code gbk_code
-returns-in-None g c = search rules
+returns-in-None c = search rules
 
 pub returns-then-scalar-eq8364 : goal.returns-then-scalar-eq8364
 unfolding gb18030_code gbk_code
-returns-then-scalar-eq8364 g c = search rules
+returns-then-scalar-eq8364 c = search rules
 
 pub returns : goal.returns
 unfolding gb18030_code gbk_code
-returns g c = search rules
+returns c = search rules

@@ -4,8 +4,8 @@ use Rattle.legacy_chinese.proofs.gb18030.encoder.four_or_unmappable.Goals as goa
 
 pub returns-in-Some : goal.returns-in-Some
 unfolding gb18030_code
-returns-in-Some g c = search rules
+returns-in-Some c = search rules
 
 pub returns-in-None : goal.returns-in-None
 unfolding gb18030_code
-returns-in-None g c = search rules
+returns-in-None c = search rules

@@ -1,20 +1,34 @@
-use Rattle.std.proofs.{Common.{ℕ, List, Result, Ok, Err, MatchResult, inr, string_bytes}, lemmas.Str.IsUtf8-string_bytes}
+use Rattle.std.proofs.Common.{ℕ, List, Bool, Result, Ok, Err, Some, MatchResult, ◌≡◌, string_bytes, refl}
+use Rattle.std.proofs.lemmas.Str.{IsUtf8-string_bytes}
 use Rattle.std.specs.Str.{chars, IsUtf8}
-use Rattle.legacy_tables.specs.Indexes.{FlatIndexes}
-use Rattle.legacy_encodings.specs.declared.registry.{EncodingTable.EncodingTable, RegistryError.RegistryError}
-use Rattle.legacy_encodings.specs.Registries.{AreEncodedBytes, IsEncodeError, IsText, IsTranscoded, IsTranscodeError}
+use Rattle.legacy_base.specs.Encoders.{EncoderState}
+use Rattle.legacy_codecs.specs.declared.whole.SizedError.TheVariants.{Memory}
+use Rattle.legacy_encodings.specs.declared.registry.{Coders.Coders, TranscodeError.TranscodeError, Transcoded.Transcoded}
+use Rattle.legacy_encodings.specs.declared.registry.TranscodeError.TheVariants.{To}
+use Rattle.legacy_encodings.specs.declared.registry.RegistryError.TheVariants.{Sized}
+use Rattle.legacy_encodings.specs.Registries.{bytes_by, replaced_by, IsEncoderOf, IsText, IsTranscoded, IsTranscodeError}
 use Rattle.legacy_encodings.proofs.registry.Coders.transcode.Goals as goal
 
--- a text was encoded, or not
-encoded_of : {Bytes : Type 0} {flat : FlatIndexes} {tables : List EncodingTable} (from to input : List ℕ) (items : Bytes → List ℕ) (text : List ℕ) →
-    IsUtf8 text → IsText flat tables from input (chars text) → (result : Result Bytes RegistryError) →
-    MatchResult result (λ bytes. AreEncodedBytes flat tables to text (items bytes)) (λ error. IsEncodeError flat tables to error) →
-    MatchResult result (λ bytes. IsTranscoded flat tables from to input (items bytes)) (λ error. IsTranscodeError flat tables from to input error)
-encoded_of from to input items text utf8 decoded (Ok bytes) is = record { text = text; utf8 = utf8; decoded = decoded; encoded = is }
-encoded_of from to input items text utf8 decoded (Err error) is = inr (chars text, decoded, is)
+-- the text of the input was encoded, or not
+encoded_of : {coders : Coders} (from to input : List ℕ) {malformed : Bool} (text : List ℕ) (state : EncoderState) → IsUtf8 text →
+    IsEncoderOf coders to (Some state) → IsText coders from input (chars text) malformed → (result : Result Transcoded TranscodeError) →
+    MatchResult result
+    (λ t. (t.bytes.items ≡ bytes_by (Some state) text) × (t.malformed ≡ malformed) × (t.unmappable ≡ replaced_by (Some state) text))
+    (λ error. error ≡ To (Sized Memory)) →
+    MatchResult result (λ t. IsTranscoded coders from to input t.bytes.items t.malformed t.unmappable) (λ error. IsTranscodeError coders from to input error)
+encoded_of from to input text state utf8 encoder decoded (Ok t) is = record {
+  text = text;
+  utf8 = utf8;
+  decoded = rw is.1 decoded;
+  state = state;
+  encoder = encoder;
+  encoded = is.0;
+  told = is.2;
+}
+encoded_of from to input text state utf8 encoder decoded (Err error) is = rw is ((state, encoder), (chars text, (_, decoded)))
 
-pub returns : goal.returns
-returns c =
-    let text = c.in_ok-text.text in
-    encoded_of c.args.from.now c.args.to.now c.args.input.now _ (string_bytes text) (IsUtf8-string_bytes text) c.in_ok-text.ensures c.encode.result
-    (rw c.as_str.ensures.value at c.encode.ensures)
+pub returns-in-Ok : goal.returns-in-Ok
+returns-in-Ok c =
+    let text = c.in-Ok.decoded.text in
+    encoded_of c.args.from.now c.args.to.now c.args.input.now (string_bytes text) _ (IsUtf8-string_bytes text) (rw c.in-Ok-Some.field-0-is at c.in-Ok-Some.ensures) c.in-Ok.ensures _
+    c.encode_decoded.ensures

@@ -1,17 +1,18 @@
-use Rattle.std.proofs.{Common.refl, lemmas.Result.err_from_is_err_and}
+use Rattle.std.proofs.{Common.{refl, rules}, lemmas.Result.err_from_is_err_and}
 use Rattle.legacy_encodings.proofs.ReadTables.{single_byte_file, single_byte_fault_of}
 use Rattle.legacy_encodings.proofs.registry.Registry.read_single_byte.Goals as goal
 
 pub returns-in_err-read-clause-table : goal.returns-in_err-read-clause-table
 returns-in_err-read-clause-table c =
     let p = err_from_is_err_and c.from_residual.result c.from_residual.ensures.1 in
-    rw (p.1, p.2) (single_byte_fault_of c.args.text.now _ c.in_err-read.ensures.line (c.in_err-read.ensures.memory refl) _ refl)
+    rw (p.1, p.2)
+    (search rules, single_byte_fault_of c.args.text.now _ c.in_err-read.ensures.line (c.in_err-read.ensures.memory refl) _ refl)
 
 pub returns-in_err-table-clause-table : goal.returns-in_err-table-clause-table
 returns-in_err-table-clause-table c =
     let p = err_from_is_err_and c.from_residual-in_err-table.result c.from_residual-in_err-table.ensures.1 in
     let file = single_byte_file c.args.text.now _ c.in_ok-read.ensures.line _ _ c.in_ok-read.ensures.table _ refl in
-    rw (p.1, p.2) (c.read.new.self.single_byte, file, c.in_err-table.ensures)
+    rw (p.1, p.2) (search rules, (c.read.new.self.single_byte, file, c.in_err-table.ensures))
 
 -- the table of the file comes first
 pub returns-in-Ok-clause-table : goal.returns-in-Ok-clause-table
@@ -22,21 +23,10 @@ returns-in-Ok-clause-table c =
       of = refl;
       of_file = rw c.in_ok-table.ensures file;
       first = c.in-Ok.ensures.items;
+      single_byte = search rules;
     }
 
 pub returns-clause-table : goal.returns-clause-table
 returns-clause-table c =
     let file = single_byte_file c.args.text.now _ c.in_ok-read.ensures.line _ _ c.in_ok-read.ensures.table _ refl in
-    (c.in_ok-table.table.entries, rw c.in_ok-table.ensures file, c.in_ok-table.table.accepted)
-
-pub returns-in_err-read-clause-indexes : goal.returns-in_err-read-clause-indexes
-returns-in_err-read-clause-indexes c = refl
-
-pub returns-in_err-table-clause-indexes : goal.returns-in_err-table-clause-indexes
-returns-in_err-table-clause-indexes c = refl
-
-pub returns-in-Ok-clause-indexes : goal.returns-in-Ok-clause-indexes
-returns-in-Ok-clause-indexes c = refl
-
-pub returns-clause-indexes : goal.returns-clause-indexes
-returns-clause-indexes c = refl
+    (search rules, (c.in_ok-table.table.entries, rw c.in_ok-table.ensures file, c.in_ok-table.table.accepted))

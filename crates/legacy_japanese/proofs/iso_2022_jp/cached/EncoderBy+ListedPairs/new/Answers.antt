@@ -10,4 +10,5 @@ invariant_of-result c =
     let tables = c.args.encoder.now.pairs.tables.now in
     let long = c.fill.auto.entries ∙ length-take-le 65536 c.args.room.now c.if-room-lt-PAIR_ROOM.false in
     let walked = walked-listed tables.flat tables.accepted c.fill.new.entries long c.fill.ensures in
-    record { all = c.ask_others.auto.pairs ∙ long; told = c.ask_others.ensures walked }
+    let entries = c.ask_others.ensures walked in
+    record { all = c.ask_others.auto.pairs ∙ long; told = λ k h. (entries k h).told; whole = λ k h. (entries k h).whole }

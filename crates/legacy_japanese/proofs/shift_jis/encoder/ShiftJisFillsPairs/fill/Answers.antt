@@ -3,7 +3,7 @@ use Rattle.legacy_japanese.proofs.PointerWalks.{all-listed, shift-jis-by-pointer
 use Rattle.legacy_japanese.proofs.shift_jis.encoder.ShiftJisFillsPairs.fill.Goals as goal
 
 pub returns : goal.returns
-returns g c =
-    let tables = g.V.DecoderTables.indexes c.args.encoder.now.tables.now in
+returns c =
+    let tables = c.args.encoder.now.tables.now in
     all-listed (shift-jis-by-pointers tables.flat tables.accepted) c.fill.new.entries _ (c.fill.auto.entries ∙ c.requires) c.fill.ensures
     c.ask_others.auto.pairs c.ask_others.ensures

@@ -2,8 +2,8 @@ use Rattle.{std.proofs.Common.◌∙◌, legacy_encoder_engine.proofs.WalkedPair
 use Rattle.legacy_korean.proofs.euc_kr.encoder.EucKrFillsPairs.fill.Goals as goal
 
 pub returns : goal.returns
-returns g c =
-    let goes = goes-by-pointers (g.V.DecoderTables.indexes c.args.encoder.now.tables.now) in
+returns c =
+    let goes = goes-by-pointers (c.args.encoder.now.tables.now) in
     let ask = c.ask_pairs.ensures in
     all-past-ascii goes c.fill.new.entries _ (c.fill.auto.entries ∙ c.requires) c.fill.ensures
     c.ask_pairs.auto.pairs ask.inside ask.outside

@@ -1,20 +1,9 @@
-use Rattle.std.proofs.Common.{◌∙◌, sym}
+use Rattle.std.proofs.Common.{◌∙◌, sym, arith}
+use Rattle.legacy_decoder_engine.proofs.JoinedReads.{reads_first}
 use Rattle.legacy_miscellaneous.proofs.utf16.unit_blocks.Units.read_vectors.Goals as goal
 
-pub read_sixteens-requires : goal.read_sixteens-requires
-read_sixteens-requires g c = sym c.narrow.ensures ∙ c.if-narrow-eq1.true
+pub read_sixteens-read-requires : goal.read_sixteens-read-requires
+read_sixteens-read-requires g c = sym c.narrow.ensures ∙ c.if-narrow-eq1.true
 
-pub returns-then-narrow-eq1 : goal.returns-then-narrow-eq1
-returns-then-narrow-eq1 g c = c.read_sixteens.ensures
-
-pub read_eights-requires-clause-short : goal.read_eights-requires-clause-short
-read_eights-requires-clause-short g c = λ h. cc
-
-pub returns-then-eights-ge8 : goal.returns-then-eights-ge8
-returns-then-eights-ge8 g c = c.read_groups.ensures
-
-pub returns-then-eights-ge4 : goal.returns-then-eights-ge4
-returns-then-eights-ge4 g c = c.read_groups-then-eights-ge4.ensures
-
-pub returns-else-eights-ge4 : goal.returns-else-eights-ge4
-returns-else-eights-ge4 g c = c.read_eights.ensures
+pub returns-else-read-gt0 : goal.returns-else-read-gt0
+returns-else-read-gt0 g c = reads_first (omega arith) c.read_sixteens-read.ensures c.read_eight.ensures

@@ -1,0 +1,11 @@
+use Rattle.legacy_decoder_engine.proofs.{JoinedReads.reads_more, WrittenReads.reads_none}
+use Rattle.legacy_miscellaneous.proofs.utf16.unit_blocks.Units.read_near_surrogates.Goals as goal
+
+pub loop-at-init : goal.loop-at-init
+loop-at-init g c = reads_none g.T.Destination _ c.args.src.now c.args.dst.now
+
+pub loop-at-preserved : goal.loop-at-preserved
+loop-at-preserved g c = reads_more c.loop-at.invariant c.read_window-read.ensures.ahead
+
+pub returns-then-not-goes_on : goal.returns-then-not-goes_on
+returns-then-not-goes_on g c = record { ahead = reads_more c.loop-at.invariant c.read_window-read.ensures.ahead }

@@ -1,0 +1,12 @@
+use Rattle.std.proofs.Common.{◌≡◌, ◌+◌, ◌-◌, ◌≤◌, ◌++◌, length, take, IsAscii}
+use Rattle.legacy_text.proofs.blocks.copy_unit_blocks.Given as goal
+
+-- the code units passed are copied, and are ASCII
+abbrev pub invariant-loop-copied : goal.invariant-loop-copied
+invariant-loop-copied l = (l.copied ≤ length l.units)
+    × (l.copied ≤ l.most)
+    × IsAscii (take l.copied l.units)
+    × (take (l.at + l.copied) l.dst ≡ take l.at l.fn.dst ++ take l.copied l.units)
+
+abbrev pub decreases-loop-copied : goal.decreases-loop-copied
+decreases-loop-copied l = length l.units - l.copied

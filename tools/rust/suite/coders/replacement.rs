@@ -1,0 +1,1 @@
+decoder!(ReplacementDecoder, Replacement, legacy_codecs::ReplacementDecoder, () legacy_codecs::ReplacementDecoder::new(), {});
