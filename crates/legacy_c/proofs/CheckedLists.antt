@@ -1,5 +1,5 @@
 -- Indexes that passed their check pass it without their ranges.
-use Rattle.std.proofs.Common.{arith, ◌≡◌, [], None, refl}
+use Rattle.std.proofs.Common.{arith, ◌≡◌, [], None}
 use Rattle.legacy_tables.specs.Indexes.{FlatIndexes}
 use Rattle.legacy_c.specs.Faults.{indexes_of}
 use Rattle.legacy_c.specs.declared.index_tables.IndexTables.{IndexTables}

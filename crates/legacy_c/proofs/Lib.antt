@@ -3,3 +3,4 @@ pub mod SavedStates
 pub mod CheckedLists
 pub mod SavedEncoders
 pub mod WholeTexts
+pub mod Refusals

@@ -1,5 +1,5 @@
 -- The numbers of an encoder's state, before and after a call.
-use Rattle.std.proofs.Common.{arith, ◌≡◌, ℕ, true, false, Option, Some, None, if◌then◌else◌, ◌==◌, option_map}
+use Rattle.std.proofs.Common.{arith, ◌≡◌, ℕ, false, Option, Some, None, if◌then◌else◌, ◌==◌, option_map}
 use Rattle.legacy_base.specs.Encoders.{Codec, EncoderState, iso_2022_jp}
 use Rattle.legacy_base.specs.declared.modes.EncoderMode.{EncoderMode, TheVariants.{Ascii, Roman, TwoByte}}
 use Rattle.legacy_c.specs.SavedEncoder.{encoder_in, encoder_mode, encoder_mode_number, encoder_of, has_modes, plain_encoder_of}

@@ -1,9 +1,9 @@
 -- The numbers of a decoder's state, before and after a call.
-use Rattle.std.proofs.Common.{arith, ◌≡◌, ◌≢◌, ◌⊎◌, ◌∙◌, ℕ, ◌+◌, ◌-◌, ◌≤◌, List, [], ◌∷◌, ◌++◌, length, drop, take, refl, sym, ap, ap₂, Bool, true, false, IsTrue, Option, Some, None, if◌then◌else◌, ◌==◌, option_map}
+use Rattle.std.proofs.Common.{arith, ◌≡◌, ◌∙◌, ℕ, ◌+◌, ◌-◌, ◌≤◌, List, [], ◌∷◌, ◌++◌, length, drop, take, refl, sym, ap, ap₂, Bool, true, false, IsTrue, Option, Some, None, if◌then◌else◌, ◌==◌, option_map}
 use Rattle.std.specs.Prelude.{IfNone, IfSome, MatchOption}
 use Rattle.std.proofs.Common.{append_assoc, length-append, length-drop, length-take}
 use Rattle.std.proofs.lemmas.List.{append_cancel_right, take-append-drop, drop-append-le}
-use Rattle.legacy_base.specs.{Grammar.{Grammar, as_new, single_byte, user_defined, replacement, utf16, big5, lead_trail, shift_jis, euc_jp, gb18030, iso_2022_jp}, States.{DecoderState, begins_in_ascii, may_hold, state_of}, DecoderActs.has_reported, Calls.{Progress, DecoderCall}}
+use Rattle.legacy_base.specs.{Grammar.{Grammar, as_new, single_byte, user_defined, replacement, utf16, big5, lead_trail, shift_jis, euc_jp, gb18030, iso_2022_jp}, States.{DecoderState, begins_in_ascii, may_hold, state_of}, DecoderActs.has_reported, Calls.{Progress}}
 use Rattle.legacy_base.specs.declared.results.DecodeEvent.{DecodeEvent}
 use Rattle.legacy_base.specs.declared.modes.DecoderMode.{DecoderMode, TheVariants.{Ascii, Roman, Katakana, TwoByte}}
 use Rattle.legacy_c.specs.Saved.{decoder_mode, grammar_mode, grammar_of, mode_number, plain_grammar, replacement_of, Saves, SavesNone}
@@ -235,3 +235,12 @@ pub resumed : {D : Type 0} (state : D → DecoderState) (decoder : Option D) (ta
     → MatchOption decoder (SavesNone tables saved) (λ d. Saves tables saved (state d))
 resumed state None tables saved g held e few is s n t = saves_none g held e is n
 resumed state (Some d) tables saved g held e few is s n t = saves g held (state d) e few is t s
+
+-- a decoder of ISO-2022-JP that was made of the mode of a number
+pub iso_resumed : {D : Type 0} (state : D → DecoderState) (decoder : Option D) (tables : IndexTables) (saved : SavedDecoder) (j : List ℕ) (mode : DecoderMode) (held : List ℕ)
+    → saved.codec ≡ 6 → decoder_mode saved.mode ≡ Some mode → j ≡ tables.jis0208.now → saved.count ≤ 5 → held ≡ take saved.count saved.held
+    → IfSome decoder (λ d. state d ≡ state_of (iso_2022_jp j mode) held) → IfNone decoder (may_hold (iso_2022_jp j mode) held ≡ false)
+    → IfSome decoder (λ _. may_hold (iso_2022_jp j mode) held ≡ true)
+    → MatchOption decoder (SavesNone tables saved) (λ d. Saves tables saved (state d))
+iso_resumed state decoder tables saved j mode held six number same few is s n t =
+    resumed state decoder tables saved (iso_2022_jp j mode) held (grind (arith, six, number, same)) few is s n t

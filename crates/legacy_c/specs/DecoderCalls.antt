@@ -10,7 +10,7 @@ use Rattle.legacy_codecs.specs.Replacing.{ReplacingDecoderCall}
 use Rattle.legacy_codecs.specs.declared.results.CoderResult.{CoderResult}
 use Rattle.legacy_codecs.specs.declared.results.CoderResult.TheVariants as replacing
 use Rattle.legacy_text.specs.EncodingForm.{EncodingForm}
-use Rattle.legacy_c.specs.Saved.{Saves, SavesNone}
+use Rattle.legacy_c.specs.Saved.{Saves}
 use Rattle.legacy_c.specs.declared.index_tables.IndexTables.{IndexTables}
 use Rattle.legacy_c.specs.declared.saved.{DecoderAnswer.DecoderAnswer, SavedDecoder.SavedDecoder, Length.Length}
 

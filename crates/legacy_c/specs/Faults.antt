@@ -1,5 +1,5 @@
 -- The faults of a caller's indexes, as numbers.
-use Rattle.std.specs.Prelude.{◌≡◌, ℕ, List, length, Option, Some, None, map, nat_lt, if◌then◌else◌, ◌==◌}
+use Rattle.std.specs.Prelude.{◌≡◌, ℕ, length, Option, Some, None, nat_lt, if◌then◌else◌, ◌==◌}
 use Rattle.legacy_tables.specs.Indexes.{FlatIndexes}
 use Rattle.legacy_tables.specs.TableChecks.{table_fault, single_byte_fault}
 use Rattle.legacy_tables.specs.declared.tables.IndexName.{IndexName}

@@ -1,5 +1,5 @@
 -- The state of a decoder as the numbers that a caller keeps.
-use Rattle.std.specs.Prelude.{◌≡◌, ◌≢◌, ◌⊎◌, ℕ, ◌≤◌, List, Bool, true, false, Option, Some, None, take, map, if◌then◌else◌, ◌==◌, option_map, not}
+use Rattle.std.specs.Prelude.{◌≡◌, ◌≢◌, ◌⊎◌, ℕ, ◌≤◌, Bool, true, false, Option, Some, None, take, map, if◌then◌else◌, ◌==◌, option_map}
 use Rattle.legacy_base.specs.Grammar.{Grammar, single_byte, user_defined, replacement, utf16, big5, shift_jis, euc_jp, gb18030, iso_2022_jp}
 use Rattle.legacy_base.specs.EucKr.{euc_kr}
 use Rattle.legacy_base.specs.States.{DecoderState, may_hold}

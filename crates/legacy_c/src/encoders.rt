@@ -107,20 +107,19 @@ fn with_indexes<R, T: EncoderTask<R>>(
     let Some(lists) = tables_of(tables) else {
         return None;
     };
-    let answer = match saved.codec {
-        4 => run(Big5Encoder::new(&lists), tables, saved, task, output),
-        5 => run(EucJpEncoder::new(&lists), tables, saved, task, output),
-        7 => run(ShiftJisEncoder::new(&lists), tables, saved, task, output),
-        8 => run(EucKrEncoder::new(&lists), tables, saved, task, output),
-        _ => {
-            let Some(mode) = mode_of(saved.mode) else {
-                return None;
-            };
-            let encoder = Iso2022JpEncoder::resume(&lists, mode);
-            run(encoder, tables, saved, task, output)
-        }
-    };
-    Some(answer)
+    match saved.codec {
+        4 => Some(run(Big5Encoder::new(&lists), tables, saved, task, output)),
+        5 => Some(run(EucJpEncoder::new(&lists), tables, saved, task, output)),
+        7 => Some(run(ShiftJisEncoder::new(&lists), tables, saved, task, output)),
+        8 => Some(run(EucKrEncoder::new(&lists), tables, saved, task, output)),
+        _ => match mode_of(saved.mode) {
+            Some(mode) => {
+                let encoder = Iso2022JpEncoder::resume(&lists, mode);
+                Some(run(encoder, tables, saved, task, output))
+            }
+            None => None,
+        },
+    }
 }
 
 /// Makes the encoder that the numbers are of, does a task with it, and keeps its mode.
