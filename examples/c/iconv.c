@@ -36,7 +36,7 @@ static size_t decode(struct converter *c, const uint8_t *in, size_t in_left, uin
 {
     struct legacy_decoder before = c->decoder; /* the state is numbers, so a copy goes back to it */
     struct legacy_decoded done = legacy_decode_to_utf8_raw(c->tables, &c->decoder, in, in_left, out, out_left, false);
-    int error = done.status == LEGACY_OUTPUT_FULL ? E2BIG : 0;
+    int error = done.status == LEGACY_REFUSED ? EBADF : done.status == LEGACY_OUTPUT_FULL ? E2BIG : 0;
     size_t held;
 
     if (done.status == LEGACY_MALFORMED) {
@@ -61,6 +61,7 @@ static size_t encode(struct converter *c, const uint8_t *in, size_t in_left, uin
 
     *read = done.read;
     *written = done.written;
+    if (done.status == LEGACY_REFUSED) error = EBADF;
     if (done.status == LEGACY_OUTPUT_FULL) error = E2BIG;
     if (done.status == LEGACY_NOT_UTF8) error = EILSEQ;
     if (done.status == LEGACY_INPUT_EMPTY && done.read < in_left) error = EINVAL;
@@ -83,9 +84,7 @@ static size_t converter_run(struct converter *c, const uint8_t **in, size_t *in_
         else converter_open(c, c->tables, 0, c->decoder.codec);
         written = done.written;
         if (done.status == LEGACY_OUTPUT_FULL) errno = E2BIG, result = (size_t)-1;
-    } else if (legacy_decoder_utf8_length(c->tables, &c->decoder, 0).status == LEGACY_REFUSED) {
-        errno = EBADF;
-        return (size_t)-1;
+        if (done.status == LEGACY_REFUSED) errno = EBADF, result = (size_t)-1;
     } else {
         result = (c->encodes ? encode : decode)(c, *in, *in_left, *out, *out_left, &read, &written);
         *in += read;

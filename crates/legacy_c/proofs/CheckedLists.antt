@@ -9,5 +9,6 @@ pub without_ranges : (flat : FlatIndexes) → table_fault flat ≡ None → tabl
 unfolding table_fault range_order_fault range_value_fault
 without_ranges flat h = grind arith
 
-pub checked_without : (tables : IndexTables) (flat : FlatIndexes) → tables.checked ≡ 1 → flat ≡ record (indexes_of tables) { ranges = [] } → table_fault flat ≡ None
+pub checked_without : (tables : IndexTables) (flat : FlatIndexes) → tables.checked ≡ 1 → flat ≡ record (indexes_of tables) { ranges = [] }
+    → table_fault flat ≡ None
 checked_without tables flat h e = rw e (without_ranges (indexes_of tables) (tables.accepted h).1)

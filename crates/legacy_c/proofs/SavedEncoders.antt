@@ -19,7 +19,8 @@ module _ (iso : Codec) (p : Option EncoderState) (no_mode : (s : EncoderState) �
   stays codec mode b c n Roman e same plain = grind (arith, e, same, plain, no_mode (encoder_in b n))
   stays codec mode b c n TwoByte e same plain = grind (arith, e, same, plain, no_mode (encoder_in b n))
 
-plain_has_no_mode : (tables : IndexTables) (codec : ℕ) (s : EncoderState) → plain_encoder_of tables codec ≡ Some s → (has_modes s.codec ≡ false) × (s.mode ≡ Ascii)
+plain_has_no_mode : (tables : IndexTables) (codec : ℕ) (s : EncoderState) → plain_encoder_of tables codec ≡ Some s
+    → (has_modes s.codec ≡ false) × (s.mode ≡ Ascii)
 plain_has_no_mode tables codec s e = grind (arith, e)
 
 -- the codec stays, and the mode is that of the state after

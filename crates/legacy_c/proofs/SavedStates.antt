@@ -1,9 +1,11 @@
 -- The numbers of a decoder's state, before and after a call.
-use Rattle.std.proofs.Common.{arith, ◌≡◌, ◌∙◌, ℕ, ◌+◌, ◌-◌, ◌≤◌, List, [], ◌∷◌, ◌++◌, length, drop, take, refl, sym, ap, ap₂, Bool, true, false, IsTrue, Option, Some, None, if◌then◌else◌, ◌==◌, option_map}
+use Rattle.std.proofs.Common.{arith, ◌≡◌, ◌∙◌, ℕ, ◌+◌, ◌-◌, ◌≤◌, List, [], ◌∷◌, ◌++◌, length, drop, take, refl, sym, ap, ap₂}
+use Rattle.std.proofs.Common.{Bool, true, false, IsTrue, Option, Some, None, if◌then◌else◌, ◌==◌, option_map}
 use Rattle.std.specs.Prelude.{IfNone, IfSome, MatchOption}
 use Rattle.std.proofs.Common.{append_assoc, length-append, length-drop, length-take}
 use Rattle.std.proofs.lemmas.List.{append_cancel_right, take-append-drop, drop-append-le}
-use Rattle.legacy_base.specs.{Grammar.{Grammar, as_new, single_byte, user_defined, replacement, utf16, big5, lead_trail, shift_jis, euc_jp, gb18030, iso_2022_jp}, States.{DecoderState, begins_in_ascii, may_hold, state_of}, DecoderActs.has_reported, Calls.{Progress}}
+use Rattle.legacy_base.specs.Grammar.{Grammar, as_new, single_byte, user_defined, replacement, utf16, big5, lead_trail, shift_jis, euc_jp, gb18030, iso_2022_jp}
+use Rattle.legacy_base.specs.{States.{DecoderState, begins_in_ascii, may_hold, state_of}, DecoderActs.has_reported, Calls.{Progress}}
 use Rattle.legacy_base.specs.declared.results.DecodeEvent.{DecodeEvent}
 use Rattle.legacy_base.specs.declared.modes.DecoderMode.{DecoderMode, TheVariants.{Ascii, Roman, Katakana, TwoByte}}
 use Rattle.legacy_c.specs.Saved.{decoder_mode, grammar_mode, grammar_of, mode_number, plain_grammar, replacement_of, Saves, SavesNone}
@@ -86,8 +88,8 @@ module _ (j : List ℕ) (p : Option Grammar) (no_mode : (g : Grammar) → p ≡ 
 no_mode : (tables : IndexTables) (codec : ℕ) (g : Grammar) → plain_grammar tables codec ≡ Some g → has_mode g ≡ false
 no_mode tables codec g e = grind (arith, e)
 
-plain_grammar_stays : (tables : IndexTables) (codec mode : ℕ) (g g' : Grammar) → has_mode g ≡ false → grammar_of tables codec mode ≡ Some g → as_new g' ≡ as_new g
-    → grammar_of tables codec (grammar_mode g') ≡ Some g'
+plain_grammar_stays : (tables : IndexTables) (codec mode : ℕ) (g g' : Grammar) → has_mode g ≡ false → grammar_of tables codec mode ≡ Some g
+    → as_new g' ≡ as_new g → grammar_of tables codec (grammar_mode g') ≡ Some g'
 plain_grammar_stays tables codec mode g g' plain e h =
     let same = plain_same g g' plain h in
     let zero = ap grammar_mode same ∙ plain_zero g plain in
@@ -171,8 +173,10 @@ module _ {before : DecoderState} {source : List ℕ} {after : DecoderState} {rea
   pub held_is : after.held ≡ drop (length before.held + read - length after.held) (before.held ++ take read source)
   held_is =
       let seen = before.held ++ take read source in
-      let e : seen ++ drop read source ≡ before.held ++ source = append_assoc before.held (take read source) (drop read source) ∙ ap (λ (t : List ℕ). before.held ++ t) (take-append-drop read source) in
-      let n : length seen ≡ length before.held + read = let a = length-append before.held (take read source) in let b = length-take read source in omega (arith, a, b, r.within) in
+      let e : seen ++ drop read source ≡ before.held ++ source =
+      append_assoc before.held (take read source) (drop read source) ∙ ap (λ (t : List ℕ). before.held ++ t) (take-append-drop read source) in
+      let n : length seen ≡ length before.held + read =
+      let a = length-append before.held (take read source) in let b = length-take read source in omega (arith, a, b, r.within) in
       let k : r.passed ≡ length before.held + read - length after.held = omega (arith, counted) in
       let low : r.passed ≤ length seen = omega (arith, counted, n) in
       let d : drop r.passed seen ++ drop read source ≡ after.held ++ drop read source =
@@ -187,7 +191,8 @@ pub saves_after : {tables : IndexTables} {old new : SavedDecoder} {before after 
     → Saves tables new after
 saves_after {tables} {old} {new} {before} {after} {source} {read} k s r long codec mode count is held =
     let few = few_after s r in
-    let n : length before.held ≡ old.count = let a = length-take old.count old.held in let b = ap length s.held in let c = s.few in omega (arith, a, b, c, long) in
+    let n : length before.held ≡ old.count =
+    let a = length-take old.count old.held in let b = ap length s.held in let c = s.few in omega (arith, a, b, c, long) in
     let t : length (take read source) ≡ read = let a = length-take read source in let b = r.within in omega (arith, a, b) in
     let m : length before.held + read - length after.held ≡ old.count + length (take read source) - k = omega (arith, n, t, is) in
     let e : after.held ≡ drop (length before.held + read - length after.held) (before.held ++ take read source) = held_is r in
@@ -237,7 +242,8 @@ resumed state None tables saved g held e few is s n t = saves_none g held e is n
 resumed state (Some d) tables saved g held e few is s n t = saves g held (state d) e few is t s
 
 -- a decoder of ISO-2022-JP that was made of the mode of a number
-pub iso_resumed : {D : Type 0} (state : D → DecoderState) (decoder : Option D) (tables : IndexTables) (saved : SavedDecoder) (j : List ℕ) (mode : DecoderMode) (held : List ℕ)
+pub iso_resumed : {D : Type 0} (state : D → DecoderState) (decoder : Option D) (tables : IndexTables) (saved : SavedDecoder)
+    (j : List ℕ) (mode : DecoderMode) (held : List ℕ)
     → saved.codec ≡ 6 → decoder_mode saved.mode ≡ Some mode → j ≡ tables.jis0208.now → saved.count ≤ 5 → held ≡ take saved.count saved.held
     → IfSome decoder (λ d. state d ≡ state_of (iso_2022_jp j mode) held) → IfNone decoder (may_hold (iso_2022_jp j mode) held ≡ false)
     → IfSome decoder (λ _. may_hold (iso_2022_jp j mode) held ≡ true)

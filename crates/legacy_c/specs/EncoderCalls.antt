@@ -90,7 +90,8 @@ RawUtf8Call source last free before after numbers bytes =
 abbrev pub ReplacingUtf8Call : List ℕ → Bool → ℕ → EncoderState → EncoderState → EncoderAnswer → List ℕ → Type 0
 ReplacingUtf8Call source last free before after numbers bytes =
     (result : CoderResult)
-    × ReplacingEncoderCall before (chars (valid_text source)) (last && is_whole source) free after result (chars (drop numbers.read (valid_text source))) bytes numbers.replaced
+    × ReplacingEncoderCall before (chars (valid_text source)) (last && is_whole source) free after result
+    (chars (drop numbers.read (valid_text source))) bytes numbers.replaced
     × (numbers ≡ with_rest source last (replacing_encoder_numbers result numbers.replaced numbers.read numbers.written))
 
 -- ---- text in UTF-16, in which an unpaired surrogate is U+FFFD

@@ -148,7 +148,7 @@ fn with_single_byte<U, R, T: DecoderTask<U, R>>(
 }
 
 /// Does a task with a decoder that reads the indexes, and no ranges.
-#[tactic(auto, using(crate::proofs::SavedStates::resumed, crate::proofs::SavedStates::saves, crate::proofs::SavedStates::saves_none, crate::proofs::SavedStates::no_grammar))]
+#[tactic(auto, using(crate::proofs::SavedStates::saves, crate::proofs::SavedStates::saves_none, crate::proofs::SavedStates::no_grammar))]
 fn with_indexes<U, R, T: DecoderTask<U, R>>(
     tables: &IndexTables,
     saved: &mut SavedDecoder,

@@ -9,6 +9,7 @@ returns g c =
       before = g.D.RawDecoder.state c.args.decoder;
       after = g.D.RawDecoder.state c.run-result.new.decoder;
       saved_before = c.requires;
-      saved_after = saves_after _ c.requires c.run-result.ensures.reads c.keep.ensures.long c.keep.ensures.codec (c.keep.ensures.mode ∙ c.mode_number.ensures) c.keep.ensures.count c.held_count.ensures held;
+      saved_after = saves_after _ c.requires c.run-result.ensures.reads c.keep.ensures.long c.keep.ensures.codec
+          (c.keep.ensures.mode ∙ c.mode_number.ensures) c.keep.ensures.count c.held_count.ensures held;
       between = c.run-result.ensures.gives;
     }
