@@ -2,7 +2,7 @@
 ghost use Rattle.std.specs.Prelude.{◌≡◌, false};
 ghost use Rattle.legacy_c.specs.SavedEncoder.{encoder_mode_number, has_modes};
 
-use legacy_base::{EncoderMode, RawEncoder, Tables};
+use legacy_base::{EncoderMode, RawEncoder};
 use legacy_chinese::Gb18030Encoder;
 use legacy_encoder_engine::pair_encoder::{PairCodec, PairEncoder};
 use legacy_japanese::Iso2022JpEncoder;
@@ -29,7 +29,7 @@ impl KeptEncoder for Gb18030Encoder<'_> {
     }
 }
 
-impl<'a, C: PairCodec> KeptEncoder for PairEncoder<'a, C, Tables<'a>> {
+impl<'a, C: PairCodec> KeptEncoder for PairEncoder<'a, C> {
     fn mode_number(&self) -> u8 {
         0
     }
