@@ -225,10 +225,10 @@ fn count_labels(alloc: Global, encoding: Encoding, labels: &str) -> Option<usize
 
 #[test]
 fn each_label_of_the_standard_names_its_encoding(rt: HostRuntime) {
-    let mut count = 0;
+    let mut count = 0usize;
     for (encoding, labels) in LABELLED {
         match count_labels(rt.alloc(), *encoding, *labels) {
-            Some(found) => count += found,
+            Some(found) => count = count.saturating_add(found),
             None => holds(&rt, *labels, false),
         }
     }
